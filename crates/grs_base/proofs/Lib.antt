@@ -1,0 +1,5 @@
+pub mod Picks
+pub mod SameLaws
+pub mod NameLaws
+pub mod ListLaws
+pub mod StateLaws

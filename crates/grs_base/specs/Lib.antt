@@ -1,0 +1,5 @@
+pub mod Same
+pub mod Names
+pub mod Printed
+pub mod Lists
+pub mod State

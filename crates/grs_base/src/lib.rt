@@ -1,0 +1,21 @@
+//! Names, resources, the lists of elements that wait for them, and the codes that are answered.
+//! Every other crate stands on this one; it knows nothing of decks, systems at work or messages.
+#![tactic(auto)]
+
+mod decision;
+mod fault;
+mod line;
+mod list;
+mod name;
+mod print;
+mod queues;
+mod resource;
+
+pub use decision::{Code, Decision, Effect, Standing};
+pub use fault::{DeckFault, Kind, NameFault, NoMemory, ReadError};
+pub use line::{Item, Line, Scope};
+pub use list::List;
+pub use name::{Qname, Rname};
+pub use print::print_name;
+pub use queues::Queues;
+pub use resource::{Ctl, Elem, Res, Ret, Row, SysId, TaskId, is_same_res, is_same_task};

@@ -1,0 +1,200 @@
+//! Names of resources.
+ghost use Rattle.std.specs.Prelude.{◌≡◌, ◌<◌, ◌≤◌, ◌↔◌, length, List, ℕ, IfOk, IsOk, OnOk, Err, true, false};
+ghost use Rattle.grs_base.specs.Names.{trim_blanks, is_qname, is_rname};
+
+use super::fault::{NameFault, NoMemory};
+use std::alloc::Global;
+use std::hash::{Hash, Hasher};
+use std::marker::Model;
+
+/// The first name of a resource, seen as its bytes without trailing blanks.
+#[derive(Drop)]
+pub struct Qname {
+    bytes: Vec<u8>,
+}
+
+impl Model for Qname {
+    ghost use Rattle.std.specs.Prelude.{List, ℕ, length, ◌≤◌};
+
+    ghost Value = { List ℕ };
+
+    ghost view = { λ a. a.bytes.items };
+
+    ghost invariant = { λ a. length a.bytes.items ≤ 8 };
+}
+
+/// How many bytes stand before the trailing blanks.
+#[tactic(auto, using(crate::proofs::NameLaws::trims))]
+fn trimmed_len(bytes: &[u8]) -> usize
+    ensures len { result ≡ length (trim_blanks bytes.now) }
+    ensures within { result ≤ length bytes.now }
+{
+    let mut end = 0;
+    for (i, b) in bytes.iter().enumerate() {
+        if *b != b' ' {
+            end = i + 1;
+        }
+    }
+    end
+}
+
+/// A copy of bytes.
+fn copy_of(alloc: Global, bytes: &[u8]) -> Result<Vec<u8>, NoMemory>
+    ensures { IfOk result (λ v. v.items ≡ bytes.now) }
+{
+    match Vec::from_slice(alloc, bytes) {
+        Ok(v) => Ok(v),
+        Err(_) => Err(NoMemory),
+    }
+}
+
+impl Qname {
+    /// A qname, without the trailing blanks.
+    #[tactic(auto, using(crate::proofs::NameLaws::trims))]
+    pub fn new(alloc: Global, bytes: &[u8]) -> Result<Qname, NameFault>
+        ensures value { IfOk result (λ q. q ≡ trim_blanks bytes.now) }
+        ensures good { OnOk result (is_qname bytes.now ≡ true) }
+        ensures bad { (result ≡ Err NameFault.BadLength) ↔ (is_qname bytes.now ≡ false) }
+    {
+        let end = trimmed_len(bytes);
+        if bytes.len() > 8 || end == 0 {
+            return Err(NameFault::BadLength);
+        }
+        match copy_of(alloc, &bytes[..end]) {
+            Ok(bytes) => Ok(Qname { bytes }),
+            Err(_) => Err(NameFault::NoMemory),
+        }
+    }
+
+    pub fn copy(&self, alloc: Global) -> Result<Qname, NoMemory>
+        ensures { IfOk result (λ q. q ≡ self.now) }
+    {
+        Ok(Qname {
+            bytes: copy_of(alloc, self.bytes())?,
+        })
+    }
+
+    pub fn bytes(&self) -> &[u8]
+        ensures bytes { result.now ≡ self.now }
+        ensures short { length self.now ≤ 8 }
+    {
+        self.bytes.as_slice()
+    }
+}
+
+impl PartialEq for Qname {
+    ghost use Rattle.std.specs.Str.{bytes_eq};
+    ghost use Rattle.std.proofs.Common.{rules};
+    ghost use Rattle.std.specs.Cmp.Rules.{comparing};
+
+    ghost eq = { bytes_eq };
+
+    ghost laws = { Prim.search (comparing, rules) };
+
+    fn eq(&self, other: &Qname) -> bool {
+        self.bytes() == other.bytes()
+    }
+}
+
+impl Eq for Qname {
+    ghost use Rattle.std.proofs.Common.{rules};
+    ghost use Rattle.std.specs.Cmp.Rules.{comparing};
+
+    ghost laws = { Prim.search (comparing, rules) };
+}
+
+impl Hash for Qname {
+    ghost use Rattle.std.specs.Hash as fed;
+    ghost use Rattle.std.proofs.Common.{rules};
+    ghost use Rattle.std.specs.Cmp.Rules.{comparing, hashing};
+
+    ghost hash_input = { fed.slice fed.u8 };
+
+    ghost respects_eq = { Prim.search (hashing, rules) };
+
+    fn hash<H: Hasher>(&self, state: &mut H) {
+        self.bytes().hash(state);
+    }
+}
+
+/// The second name of a resource, seen as its bytes.
+#[derive(Drop)]
+pub struct Rname {
+    bytes: Vec<u8>,
+}
+
+impl Model for Rname {
+    ghost use Rattle.std.specs.Prelude.{List, ℕ, length, ◌≤◌};
+
+    ghost Value = { List ℕ };
+
+    ghost view = { λ a. a.bytes.items };
+
+    ghost invariant = { λ a. length a.bytes.items ≤ 255 };
+}
+
+impl Rname {
+    pub fn new(alloc: Global, bytes: &[u8]) -> Result<Rname, NameFault>
+        ensures value { IfOk result (λ r. r ≡ bytes.now) }
+        ensures good { OnOk result (is_rname bytes.now ≡ true) }
+        ensures bad { (result ≡ Err NameFault.BadLength) ↔ (is_rname bytes.now ≡ false) }
+    {
+        if bytes.is_empty() || bytes.len() > 255 {
+            return Err(NameFault::BadLength);
+        }
+        match copy_of(alloc, bytes) {
+            Ok(bytes) => Ok(Rname { bytes }),
+            Err(_) => Err(NameFault::NoMemory),
+        }
+    }
+
+    pub fn copy(&self, alloc: Global) -> Result<Rname, NoMemory>
+        ensures { IfOk result (λ r. r ≡ self.now) }
+    {
+        Ok(Rname {
+            bytes: copy_of(alloc, self.bytes())?,
+        })
+    }
+
+    pub fn bytes(&self) -> &[u8]
+        ensures bytes { result.now ≡ self.now }
+        ensures short { length self.now ≤ 255 }
+    {
+        self.bytes.as_slice()
+    }
+}
+
+impl PartialEq for Rname {
+    ghost use Rattle.std.specs.Str.{bytes_eq};
+    ghost use Rattle.std.proofs.Common.{rules};
+    ghost use Rattle.std.specs.Cmp.Rules.{comparing};
+
+    ghost eq = { bytes_eq };
+
+    ghost laws = { Prim.search (comparing, rules) };
+
+    fn eq(&self, other: &Rname) -> bool {
+        self.bytes() == other.bytes()
+    }
+}
+
+impl Eq for Rname {
+    ghost use Rattle.std.proofs.Common.{rules};
+    ghost use Rattle.std.specs.Cmp.Rules.{comparing};
+
+    ghost laws = { Prim.search (comparing, rules) };
+}
+
+impl Hash for Rname {
+    ghost use Rattle.std.specs.Hash as fed;
+    ghost use Rattle.std.proofs.Common.{rules};
+    ghost use Rattle.std.specs.Cmp.Rules.{comparing, hashing};
+
+    ghost hash_input = { fed.slice fed.u8 };
+
+    ghost respects_eq = { Prim.search (hashing, rules) };
+
+    fn hash<H: Hasher>(&self, state: &mut H) {
+        self.bytes().hash(state);
+    }
+}

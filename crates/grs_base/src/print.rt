@@ -1,0 +1,85 @@
+//! Prints the name of a resource.
+ghost use Rattle.std.specs.Prelude.{◌≡◌, ◌<◌, ◌++◌, ◌∷◌, [], length, OnOk, OnErr, IfOk};
+ghost use Rattle.std.specs.List.{list_all};
+ghost use Rattle.grs_base.specs.Printed.{is_plain_byte, is_printable, quotes_doubled, hex_digit, hex_digits, quoted, hexed, printed_name};
+
+use super::NoMemory;
+use super::list::List;
+use std::alloc::Global;
+
+fn is_plain_byte(b: u8) -> bool
+    ensures { result ≡ is_plain_byte b }
+{
+    b.is_ascii_alphanumeric() || matches!(b, b'$' | b'#' | b'@' | b'.' | b'_' | b'-' | b'*' | b'?')
+}
+
+fn is_printable(b: u8) -> bool
+    ensures { result ≡ is_printable b }
+{
+    32 <= b && b <= 126
+}
+
+fn all_plain(bytes: &[u8]) -> bool
+    ensures { result ≡ list_all is_plain_byte bytes.now }
+{
+    bytes.iter().all(|b| is_plain_byte(*b))
+}
+
+fn all_printable(bytes: &[u8]) -> bool
+    ensures { result ≡ list_all is_printable bytes.now }
+{
+    bytes.iter().all(|b| is_printable(*b))
+}
+
+/// The name between quotes, with each quote in it doubled.
+fn quoted(alloc: Global, bytes: &[u8]) -> Result<List<u8>, NoMemory>
+    ensures { IfOk result (λ text. text ≡ quoted bytes.now) }
+{
+    let mut text = List::from_bytes(alloc, b"'")?;
+    for b in bytes {
+        if *b == b'\'' {
+            text.push(b'\'')?;
+        }
+        text.push(*b)?;
+    }
+    text.push(b'\'')?;
+    Ok(text)
+}
+
+fn hex_digit(n: u8) -> u8
+    requires { n < 16 }
+    ensures { result ≡ hex_digit n }
+{
+    if n < 10 { b'0' + n } else { b'A' - 10 + n }
+}
+
+/// The name as two hexadecimal digits for each byte.
+fn hexed(alloc: Global, bytes: &[u8]) -> Result<List<u8>, NoMemory>
+    ensures { IfOk result (λ text. text ≡ hexed bytes.now) }
+{
+    let mut text = List::from_bytes(alloc, b"X'")?;
+    for b in bytes {
+        text.push(hex_digit(*b / 16))?;
+        text.push(hex_digit(*b % 16))?;
+    }
+    text.push(b'\'')?;
+    Ok(text)
+}
+
+/// Puts a resource's name behind a text: as it is where each byte is a letter, a digit or one of
+/// `$ # @ . _ - * ?`, else between quotes where each byte is printable, else as hexadecimal digits.
+pub fn print_name(alloc: Global, bytes: &[u8], out: &mut List<u8>) -> Result<(), NoMemory>
+    requires { 0 < length bytes.now }
+    ensures ok { OnOk result (out.new ≡ out.old ++ printed_name bytes.now) }
+    ensures err { OnErr result (out.new ≡ out.old) }
+{
+    if all_plain(bytes) {
+        return out.append(bytes);
+    }
+    let text = if all_printable(bytes) {
+        quoted(alloc, bytes)?
+    } else {
+        hexed(alloc, bytes)?
+    };
+    out.append(text.as_slice())
+}

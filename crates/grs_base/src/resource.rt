@@ -1,0 +1,122 @@
+//! Systems, tasks, resources, and the elements that tasks have in their lists.
+ghost use Rattle.std.specs.Prelude.{◌≡◌, IfOk};
+ghost use Rattle.grs_base.specs.Same.{same_res, same_task};
+
+use super::NoMemory;
+use super::list::List;
+use super::name::{Qname, Rname};
+use std::alloc::Global;
+
+/// A system, by its place among the systems of the deck, from 0.
+#[derive(Clone, Copy, Debug, PartialEq, Eq, Hash)]
+pub struct SysId(pub u8);
+
+/// A task: `job` is the job's place in its system, `task` the task's place among all tasks of its
+/// system, both from 0.
+#[derive(Clone, Copy, Debug, PartialEq, Eq, Hash)]
+pub struct TaskId {
+    pub system: SysId,
+    pub job: u16,
+    pub task: u16,
+}
+
+/// Control of a resource, exclusive or shared.
+#[derive(Clone, Copy, Debug, PartialEq, Eq)]
+pub enum Ctl {
+    E,
+    S,
+}
+
+/// How an ENQ asks: the values of its RET operand, or ECB.
+#[derive(Clone, Copy, Debug, PartialEq, Eq)]
+pub enum Ret {
+    RetNone,
+    RetUse,
+    RetHave,
+    RetTest,
+    RetChng,
+    RetEcb,
+}
+
+/// A request that stands in the list of a resource.
+#[derive(Clone, Copy, Debug, PartialEq, Eq)]
+pub struct Elem {
+    pub task: TaskId,
+    pub ctl: Ctl,
+}
+
+/// A resource. The same names under another kind, system or job are another resource.
+#[derive(PartialEq, Eq, Hash, Drop)]
+pub enum Res {
+    Step {
+        system: SysId,
+        job: u16,
+        q: Qname,
+        r: Rname,
+    },
+    System {
+        system: SysId,
+        q: Qname,
+        r: Rname,
+    },
+    Systems {
+        q: Qname,
+        r: Rname,
+    },
+}
+
+impl Res {
+    /// An equal resource.
+    pub fn copy(&self, alloc: Global) -> Result<Res, NoMemory>
+        ensures { IfOk result (λ r. r ≡ self.now) }
+    {
+        match self {
+            Res::Step { system, job, q, r } => {
+                let q = q.copy(alloc)?;
+                let r = r.copy(alloc)?;
+                Ok(Res::Step {
+                    system: *system,
+                    job: *job,
+                    q,
+                    r,
+                })
+            }
+            Res::System { system, q, r } => {
+                let q = q.copy(alloc)?;
+                let r = r.copy(alloc)?;
+                Ok(Res::System {
+                    system: *system,
+                    q,
+                    r,
+                })
+            }
+            Res::Systems { q, r } => {
+                let q = q.copy(alloc)?;
+                let r = r.copy(alloc)?;
+                Ok(Res::Systems { q, r })
+            }
+        }
+    }
+}
+
+/// A resource with its list: the first `owners` elements own it, the others wait.
+#[derive(Drop)]
+pub struct Row {
+    pub res: Res,
+    pub elems: List<Elem>,
+    pub owners: u32,
+}
+
+/// Whether two resources are one.
+pub fn is_same_res(a: &Res, b: &Res) -> bool
+    ensures { result ≡ same_res a.now b.now }
+{
+    a == b
+}
+
+/// Whether two tasks are one.
+pub fn is_same_task(a: TaskId, b: TaskId) -> bool
+    ensures { result ≡ same_task a b }
+{
+    a == b
+}

@@ -1,0 +1,15 @@
+//! Plain data that passes between the parts: what a deck says, the events of a run, requests and
+//! their answers, the history, and what is told.
+#![tactic(auto)]
+
+mod deck;
+mod history;
+mod request;
+mod seen;
+mod told;
+
+pub use deck::{Choice, Deck, Event, JobDef, Name, SystemDef, TaskDef};
+pub use history::HistEntry;
+pub use request::{Answer, Fixed, Req, Want};
+pub use seen::{Seen, TaskEnd};
+pub use told::{Told, ToldLine, Verb};
