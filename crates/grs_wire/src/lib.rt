@@ -4,6 +4,7 @@
 
 mod deck;
 mod history;
+pub mod laws;
 mod request;
 mod seen;
 mod told;

@@ -1,0 +1,2 @@
+pub mod WantLaws
+pub mod HistoryLaws
