@@ -1,0 +1,81 @@
+-- What the lines of a task ask.
+use Rattle.std.specs.Prelude.{ℕ, zero, suc, Bool, true, false, ◌&&◌, ◌==◌, List, [], ◌∷◌, ◌++◌, map, cond, Option, Some, None, slice_get, is_some, ◌+◌}
+use Rattle.grs_base.specs.declared.resource.Ctl.{Ctl}
+use Rattle.grs_base.specs.declared.resource.Ret.{Ret}
+use Rattle.grs_base.specs.declared.resource.Res.{Res}
+use Rattle.grs_base.specs.declared.resource.Res.TheVariants as kinds
+use Rattle.grs_base.specs.declared.resource.TaskId.{TaskId}
+use Rattle.grs_base.specs.declared.line.Scope.{Scope}
+use Rattle.grs_base.specs.declared.line.Scope.TheVariants.{Step, System, Systems}
+use Rattle.grs_base.specs.declared.line.Line.{Line}
+use Rattle.grs_base.specs.declared.line.Line.TheVariants.{Enq, Deq, Wait}
+use Rattle.grs_base.specs.declared.line.Item.{Item}
+use Rattle.grs_wire.specs.declared.deck.Deck.{Deck}
+use Rattle.grs_wire.specs.declared.deck.SystemDef.{SystemDef}
+use Rattle.grs_wire.specs.declared.deck.JobDef.{JobDef}
+use Rattle.grs_wire.specs.declared.deck.TaskDef.{TaskDef}
+
+-- what is asked, without its answer
+pub data Ask : Type 0 where
+  AsksEnq : (res : Res) → (ctl : Ctl) → (ret : Ret) → Ask
+  AsksDeq : (res : Res) → (have : Bool) → Ask
+  AsksRelease : (res : Res) → Ask
+
+-- the resource of two names in a task's line
+abbrev pub resolved : TaskId → Scope → List ℕ → List ℕ → Res
+resolved t Step q r = kinds.Step t.system t.job q r
+resolved t System q r = kinds.System t.system q r
+resolved t Systems q r = kinds.Systems q r
+
+-- what a line asks: a WAIT asks nothing
+abbrev pub ask_of : TaskId → Line → Option Ask
+ask_of t (Enq [] ret rnl) = None
+ask_of t (Enq (i ∷ more) ret rnl) = Some (AsksEnq (resolved t i.scope i.q i.r) i.ctl ret)
+ask_of t (Deq q r scope have unit rnl) = Some (AsksDeq (resolved t scope q r) have)
+ask_of t (Wait q r scope rnl) = None
+
+-- what is asked, before the rest
+abbrev pub before_asks : Option Ask → List Ask → List Ask
+before_asks None rest = rest
+before_asks (Some a) rest = a ∷ rest
+
+-- what these lines ask, in order
+abbrev pub asks_of : TaskId → List Line → List Ask
+asks_of t [] = []
+asks_of t (l ∷ ls) = before_asks (ask_of t l) (asks_of t ls)
+
+-- the place of a task's job, and the task's lines
+pub record Script : Type 0 where
+  pub job : ℕ
+  pub lines : List Line
+
+-- the scripts of the tasks of one job
+abbrev pub scripts_in : ℕ → List TaskDef → List Script
+scripts_in job tasks = map (λ x. record { job = job; lines = x.lines }) tasks
+
+-- the scripts of the tasks of these jobs, of which the first has this place
+abbrev pub scripts_from : ℕ → List JobDef → List Script
+scripts_from job [] = []
+scripts_from job (j ∷ js) = scripts_in job j.tasks ++ scripts_from (suc job) js
+
+-- the scripts of a system's tasks
+abbrev pub scripts_at : Option SystemDef → List Script
+scripts_at None = []
+scripts_at (Some s) = scripts_from 0 s.jobs
+
+-- the scripts of all tasks of a system, in order
+abbrev pub scripts_of : Deck → ℕ → List Script
+scripts_of deck n = scripts_at (slice_get deck.systems n)
+
+-- the lines of a script, where its job has this place
+abbrev pub lines_at : ℕ → Option Script → Option (List Line)
+lines_at job None = None
+lines_at job (Some s) = cond (s.job == job) (Some s.lines) None
+
+-- the lines of a task among the scripts of its system
+abbrev pub lines_in : List Script → TaskId → Option (List Line)
+lines_in scripts t = lines_at t.job (slice_get scripts t.task)
+
+-- the lines of a task of the deck
+abbrev pub lines_of : Deck → TaskId → Option (List Line)
+lines_of deck t = lines_in (scripts_of deck t.system.0) t

@@ -1,0 +1,181 @@
+-- What is told agrees with the history.
+use Rattle.std.specs.Prelude.{◌≡◌, ◌<◌, ℕ, suc, Bool, true, false, not, ◌&&◌, ◌||◌, ◌==◌, nat_lt, ◌-◌, List, [], ◌∷◌, ◌++◌, length, take, cond, Option, Some, None, slice_get, is_some, unwrap_or}
+use Rattle.std.specs.List.{list_all, list_any}
+use Rattle.grs_base.specs.Same.{same_res, same_task}
+use Rattle.grs_base.specs.Lists.{owns, has_task}
+use Rattle.grs_base.specs.State.{State, list_of, queued_by}
+use Rattle.grs_base.specs.declared.resource.Res.{Res}
+use Rattle.grs_base.specs.declared.resource.Ret.{Ret}
+use Rattle.grs_base.specs.declared.resource.Ret.TheVariants.{RetNone, RetUse, RetHave, RetTest, RetChng, RetEcb}
+use Rattle.grs_base.specs.declared.resource.TaskId.{TaskId}
+use Rattle.grs_base.specs.declared.decision.Code.{Code}
+use Rattle.grs_base.specs.declared.decision.Code.TheVariants.{C00, C04, C08, C14, C18, Wait, End}
+use Rattle.grs_base.specs.declared.line.Line.{Line}
+use Rattle.grs_base.specs.declared.line.Line.TheVariants as lines
+use Rattle.grs_wire.specs.declared.deck.Deck.{Deck}
+use Rattle.grs_wire.specs.declared.deck.Event.{Event}
+use Rattle.grs_wire.specs.declared.history.HistEntry.{HistEntry}
+use Rattle.grs_wire.specs.declared.history.HistEntry.TheVariants.{Enq, Deq, Release}
+use Rattle.grs_wire.specs.declared.told.Verb.{Verb}
+use Rattle.grs_wire.specs.declared.told.Verb.TheVariants as verbs
+use Rattle.grs_wire.specs.declared.told.Told.{Told}
+use Rattle.grs_wire.specs.declared.told.ToldLine.{ToldLine}
+use Rattle.grs_wire.specs.declared.told.ToldLine.TheVariants.{Coded, Post, Ended}
+use Rattle.grs_wire.specs.History.{replay}
+use Rattle.grs_legal.specs.Asks.{ask_of, asks_of, resolved, lines_of}
+use Rattle.grs_legal.specs.Legal.{Legal, line_entries, end_code, next_ask}
+use Rattle.grs_world.specs.World.{hist, told}
+
+-- the entry at a place among these, where the line is there and asks something
+abbrev pub asked_at : TaskId → Option Line → Option HistEntry → Option HistEntry
+asked_at t None entry = None
+asked_at t (Some l) entry = cond (is_some (ask_of t l)) entry None
+
+-- the entry of a task's line, lines numbered from 1: the one at the place that the line has among the
+-- asking lines
+abbrev pub entry_of_line : TaskId → List Line → List HistEntry → ℕ → Option HistEntry
+entry_of_line t ls history k =
+    asked_at t (slice_get ls (k - 1)) (slice_get (line_entries t history) (length (asks_of t (take (k - 1) ls))))
+
+-- a reply as it is told: one that waited is told 00, when control is told
+abbrev pub told_as : Code → Code
+told_as Wait = C00
+told_as C00 = C00
+told_as C04 = C04
+told_as C08 = C08
+told_as C14 = C14
+told_as C18 = C18
+told_as (End n) = End n
+
+-- whether an ENQ gets control when it is told this code: TEST gets none
+abbrev pub gets_control : Ret → Code → Bool
+gets_control RetTest code = false
+gets_control RetNone C00 = true
+gets_control RetUse C00 = true
+gets_control RetHave C00 = true
+gets_control RetChng C00 = true
+gets_control RetEcb C00 = true
+gets_control _ _ = false
+
+-- a line tells a task the code of an ENQ or RESERVE: the reply of its entry; and control only to an owner
+abbrev pub TellsEnq : State → TaskId → Code → Option HistEntry → Type 0
+TellsEnq s t code None = ⊥
+TellsEnq s t code (Some (Enq u r c ret reply)) = (told_as reply ≡ code) × (gets_control ret code ≡ true → owns (list_of s r) t ≡ true)
+TellsEnq s t code (Some (Deq u r have reply)) = ⊥
+TellsEnq s t code (Some (Release u r)) = ⊥
+
+-- a line tells a task the code of a DEQ
+abbrev pub TellsDeq : Code → Option HistEntry → Type 0
+TellsDeq code None = ⊥
+TellsDeq code (Some (Enq u r c ret reply)) = ⊥
+TellsDeq code (Some (Deq u r have reply)) = reply ≡ code
+TellsDeq code (Some (Release u r)) = ⊥
+
+-- whether an ENQ entry is of this resource, and its task gets control when it is told this code
+abbrev pub is_control_of : Res → Code → Option HistEntry → Bool
+is_control_of r code None = false
+is_control_of r code (Some (Enq u q c ret reply)) = same_res r q && gets_control ret code
+is_control_of r code (Some (Deq u q have reply)) = false
+is_control_of r code (Some (Release u q)) = false
+
+-- whether a line tells a task control of a resource
+abbrev pub tells_control : TaskId → List Line → List HistEntry → Res → ToldLine → Bool
+tells_control t ls history r (Coded u k part verbs.Enq code) = same_task t u && is_control_of r code (entry_of_line t ls history k)
+tells_control t ls history r (Coded u k part verbs.Deq code) = false
+tells_control t ls history r (Coded u k part verbs.Wait code) = false
+tells_control t ls history r (Post u k) = same_task t u && is_control_of r C00 (entry_of_line t ls history k)
+tells_control t ls history r (Ended u code) = false
+
+-- a WAIT is told 00 by an owner that was told control before, and 08 by a task without an element
+abbrev pub TellsWaitOf : TaskId → List Line → List HistEntry → List ToldLine → State → Res → Code → Type 0
+TellsWaitOf t ls history before s r C00 = (owns (list_of s r) t ≡ true) × (list_any (tells_control t ls history r) before ≡ true)
+TellsWaitOf t ls history before s r C08 = has_task (list_of s r) t ≡ false
+TellsWaitOf t ls history before s r C04 = ⊥
+TellsWaitOf t ls history before s r C14 = ⊥
+TellsWaitOf t ls history before s r C18 = ⊥
+TellsWaitOf t ls history before s r Wait = ⊥
+TellsWaitOf t ls history before s r (End n) = ⊥
+
+abbrev pub TellsWait : TaskId → List Line → List HistEntry → List ToldLine → State → Code → Option Line → Type 0
+TellsWait t ls history before s code None = ⊥
+TellsWait t ls history before s code (Some (lines.Enq items ret rnl)) = ⊥
+TellsWait t ls history before s code (Some (lines.Deq q r scope have unit rnl)) = ⊥
+TellsWait t ls history before s code (Some (lines.Wait q r scope rnl)) = TellsWaitOf t ls history before s (resolved t scope q r) code
+
+-- an ECB is posted to an owner whose ENQ had one and was answered 04
+abbrev pub Posts : State → TaskId → Option HistEntry → Type 0
+Posts s t None = ⊥
+Posts s t (Some (Enq u r c ret reply)) = (ret ≡ RetEcb) × (reply ≡ C04) × (owns (list_of s r) t ≡ true)
+Posts s t (Some (Deq u r have reply)) = ⊥
+Posts s t (Some (Release u r)) = ⊥
+
+-- whether a line is no code of the task, or one of an earlier line
+abbrev pub is_code_before : TaskId → ℕ → ToldLine → Bool
+is_code_before t k (Coded u j part verb code) = not (same_task t u) || nat_lt j k
+is_code_before t k (Post u j) = true
+is_code_before t k (Ended u code) = true
+
+-- whether a line tells the code of a task's line
+abbrev pub is_code_of : TaskId → ℕ → ToldLine → Bool
+is_code_of t k (Coded u j part verb code) = same_task t u && (j == k)
+is_code_of t k (Post u j) = false
+is_code_of t k (Ended u code) = false
+
+-- whether a line posts the ECB of a task's line
+abbrev pub is_post_of : TaskId → ℕ → ToldLine → Bool
+is_post_of t k (Coded u j part verb code) = false
+is_post_of t k (Post u j) = same_task t u && (j == k)
+is_post_of t k (Ended u code) = false
+
+-- whether a line tells that a task has ended
+abbrev pub is_end_of : TaskId → ToldLine → Bool
+is_end_of t (Coded u j part verb code) = false
+is_end_of t (Post u j) = false
+is_end_of t (Ended u code) = same_task t u
+
+-- a code line agrees by its verb
+abbrev pub CodeAgrees : ℕ → TaskId → List Line → List HistEntry → List ToldLine → ℕ → Code → Verb → Type 0
+CodeAgrees limit t ls history before k code verbs.Enq = TellsEnq (replay limit history) t code (entry_of_line t ls history k)
+CodeAgrees limit t ls history before k code verbs.Deq = TellsDeq code (entry_of_line t ls history k)
+CodeAgrees limit t ls history before k code verbs.Wait = TellsWait t ls history before (replay limit history) code (slice_get ls (k - 1))
+
+-- A line that tells a task of these lines something agrees with the history up to its event, behind the
+-- lines told before. Code lines come in the order of their lines, an ECB is posted once, behind its code,
+-- and the end comes last, where nothing is left and nothing more is asked.
+abbrev pub LineAgrees : ℕ → List Line → List HistEntry → List ToldLine → ToldLine → Type 0
+LineAgrees limit ls history before (Coded t k part verb code) =
+    (0 < k) × CodeAgrees limit t ls history before k code verb
+    × (list_all (is_code_before t k) before ≡ true) × (list_any (is_end_of t) before ≡ false)
+LineAgrees limit ls history before (Post t k) =
+    (0 < k) × Posts (replay limit history) t (entry_of_line t ls history k)
+    × (list_any (is_code_of t k) before ≡ true) × (list_any (is_post_of t k) before ≡ false) × (list_any (is_end_of t) before ≡ false)
+LineAgrees limit ls history before (Ended t code) =
+    (queued_by (replay limit history) t ≡ []) × (next_ask limit t ls history ≡ None)
+    × (code ≡ unwrap_or (end_code t history) 0) × (list_any (is_end_of t) before ≡ false)
+
+-- the task to which a line is told
+abbrev pub told_task : ToldLine → TaskId
+told_task (Coded t k part verb code) = t
+told_task (Post t k) = t
+told_task (Ended t code) = t
+
+-- a line told to a task of the deck agrees; a task that the deck lacks is told nothing
+abbrev pub Agrees : ℕ → Option (List Line) → List HistEntry → List ToldLine → ToldLine → Type 0
+Agrees limit None history before line = ⊥
+Agrees limit (Some ls) history before line = LineAgrees limit ls history before line
+
+-- each of these lines agrees with the history up to its event, behind those told before
+abbrev pub AllAgree : Deck → List Event → List ToldLine → List Told → Type 0
+AllAgree deck es before [] = Unit {0}
+AllAgree deck es before (x ∷ xs) =
+    Agrees deck.limit (lines_of deck (told_task x.line)) (hist deck (take x.event es)) before x.line
+    × AllAgree deck es (before ++ x.line ∷ []) xs
+
+-- What a run tells agrees with its history.
+abbrev pub Agree : Deck → List Event → Type 0
+Agree deck es = AllAgree deck es [] (told deck es)
+
+-- A run is sound: its history is legal, and what it tells agrees with that history.
+pub record Sound (deck : Deck) (es : List Event) : Type 0 where
+  pub legal : Legal deck (hist deck es)
+  pub agree : Agree deck es

@@ -1,0 +1,7 @@
+//! The tasks of one system: how far each is in its lines, what it waits for, its requests on record, and
+//! what was told. It knows nothing of the lists that grant control.
+#![tactic(auto)]
+
+mod state;
+
+pub use state::{Phase, Rec, TaskState};

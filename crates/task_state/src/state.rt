@@ -1,0 +1,45 @@
+//! How one task stands.
+use grs_base::{Ctl, List, Res};
+use grs_wire::Req;
+
+/// A request of a task that stands in the list of a resource. `told` tells whether the task was told
+/// control, `rank` its place among all requests of a lock entry (0 where nothing is ranked), `unit` the
+/// device of a hardware reserve, `line` the number of the line that asked, from 1.
+#[derive(Drop)]
+pub struct Rec {
+    pub res: Res,
+    pub ctl: Ctl,
+    pub rank: u64,
+    pub told: bool,
+    pub unit: Option<u16>,
+    pub line: u32,
+}
+
+/// What a task does next.
+#[derive(Drop)]
+pub enum Phase {
+    /// It takes its next line, or ends where there is none.
+    Ready,
+    /// Its request waits to be put into the message or sent.
+    ToSend,
+    /// Its request isn't answered yet.
+    Sent,
+    /// It waits for control of what its last line asked for.
+    HeldAnswer,
+    /// It waits at a WAIT line for control of this resource.
+    HeldLine(Res),
+    /// It releases what it has, and then ends with this code.
+    Ending(u16),
+    Ended,
+}
+
+/// A task: the number of lines that it has taken, its phase, its end code (0 at first), its requests on
+/// record in the order in which they were queued, and the request that isn't answered yet.
+#[derive(Drop)]
+pub struct TaskState {
+    pub line: u32,
+    pub phase: Phase,
+    pub code: u16,
+    pub records: List<Rec>,
+    pub outstanding: Option<Req>,
+}
