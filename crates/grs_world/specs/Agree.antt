@@ -31,11 +31,11 @@ abbrev pub asked_at : TaskId → Option Line → Option HistEntry → Option His
 asked_at t None entry = None
 asked_at t (Some l) entry = cond (is_some (ask_of t l)) entry None
 
--- the entry of a task's line, lines numbered from 1: the one at the place that the line has among the
--- asking lines
+-- the entry of a task's line, lines numbered from 1, among the entries that the task's lines asked for: the
+-- one at the place that the line has among the asking lines
 abbrev pub entry_of_line : TaskId → List Line → List HistEntry → ℕ → Option HistEntry
-entry_of_line t ls history k =
-    asked_at t (slice_get ls (k - 1)) (slice_get (line_entries t history) (length (asks_of t (take (k - 1) ls))))
+entry_of_line t ls entries k =
+    asked_at t (slice_get ls (k - 1)) (slice_get entries (length (asks_of t (take (k - 1) ls))))
 
 -- a reply as it is told: one that waited is told 00, when control is told
 abbrev pub told_as : Code → Code
@@ -80,27 +80,27 @@ is_control_of r code (Some (Release u q)) = false
 
 -- whether a line tells a task control of a resource
 abbrev pub tells_control : TaskId → List Line → List HistEntry → Res → ToldLine → Bool
-tells_control t ls history r (Coded u k part verbs.Enq code) = same_task t u && is_control_of r code (entry_of_line t ls history k)
-tells_control t ls history r (Coded u k part verbs.Deq code) = false
-tells_control t ls history r (Coded u k part verbs.Wait code) = false
-tells_control t ls history r (Post u k) = same_task t u && is_control_of r C00 (entry_of_line t ls history k)
-tells_control t ls history r (Ended u code) = false
+tells_control t ls entries r (Coded u k part verbs.Enq code) = same_task t u && is_control_of r code (entry_of_line t ls entries k)
+tells_control t ls entries r (Coded u k part verbs.Deq code) = false
+tells_control t ls entries r (Coded u k part verbs.Wait code) = false
+tells_control t ls entries r (Post u k) = same_task t u && is_control_of r C00 (entry_of_line t ls entries k)
+tells_control t ls entries r (Ended u code) = false
 
 -- a WAIT is told 00 by an owner that was told control before, and 08 by a task without an element
 abbrev pub TellsWaitOf : TaskId → List Line → List HistEntry → List ToldLine → State → Res → Code → Type 0
-TellsWaitOf t ls history before s r C00 = (owns (list_of s r) t ≡ true) × (list_any (tells_control t ls history r) before ≡ true)
-TellsWaitOf t ls history before s r C08 = has_task (list_of s r) t ≡ false
-TellsWaitOf t ls history before s r C04 = ⊥
-TellsWaitOf t ls history before s r C14 = ⊥
-TellsWaitOf t ls history before s r C18 = ⊥
-TellsWaitOf t ls history before s r Wait = ⊥
-TellsWaitOf t ls history before s r (End n) = ⊥
+TellsWaitOf t ls entries before s r C00 = (owns (list_of s r) t ≡ true) × (list_any (tells_control t ls entries r) before ≡ true)
+TellsWaitOf t ls entries before s r C08 = has_task (list_of s r) t ≡ false
+TellsWaitOf t ls entries before s r C04 = ⊥
+TellsWaitOf t ls entries before s r C14 = ⊥
+TellsWaitOf t ls entries before s r C18 = ⊥
+TellsWaitOf t ls entries before s r Wait = ⊥
+TellsWaitOf t ls entries before s r (End n) = ⊥
 
 abbrev pub TellsWait : TaskId → List Line → List HistEntry → List ToldLine → State → Code → Option Line → Type 0
-TellsWait t ls history before s code None = ⊥
-TellsWait t ls history before s code (Some (lines.Enq items ret rnl)) = ⊥
-TellsWait t ls history before s code (Some (lines.Deq q r scope have unit rnl)) = ⊥
-TellsWait t ls history before s code (Some (lines.Wait q r scope rnl)) = TellsWaitOf t ls history before s (resolved t scope q r) code
+TellsWait t ls entries before s code None = ⊥
+TellsWait t ls entries before s code (Some (lines.Enq items ret rnl)) = ⊥
+TellsWait t ls entries before s code (Some (lines.Deq q r scope have unit rnl)) = ⊥
+TellsWait t ls entries before s code (Some (lines.Wait q r scope rnl)) = TellsWaitOf t ls entries before s (resolved t scope q r) code
 
 -- an ECB is posted to an owner whose ENQ had one and was answered 04
 abbrev pub Posts : State → TaskId → Option HistEntry → Type 0
@@ -135,9 +135,9 @@ is_end_of t (Ended u code) = same_task t u
 
 -- a code line agrees by its verb
 abbrev pub CodeAgrees : ℕ → TaskId → List Line → List HistEntry → List ToldLine → ℕ → Code → Verb → Type 0
-CodeAgrees limit t ls history before k code verbs.Enq = TellsEnq (replay limit history) t code (entry_of_line t ls history k)
-CodeAgrees limit t ls history before k code verbs.Deq = TellsDeq code (entry_of_line t ls history k)
-CodeAgrees limit t ls history before k code verbs.Wait = TellsWait t ls history before (replay limit history) code (slice_get ls (k - 1))
+CodeAgrees limit t ls history before k code verbs.Enq = TellsEnq (replay limit history) t code (entry_of_line t ls (line_entries t history) k)
+CodeAgrees limit t ls history before k code verbs.Deq = TellsDeq code (entry_of_line t ls (line_entries t history) k)
+CodeAgrees limit t ls history before k code verbs.Wait = TellsWait t ls (line_entries t history) before (replay limit history) code (slice_get ls (k - 1))
 
 -- A line that tells a task of these lines something agrees with the history up to its event, behind the
 -- lines told before. Code lines come in the order of their lines, an ECB is posted once, behind its code,
@@ -147,7 +147,7 @@ LineAgrees limit ls history before (Coded t k part verb code) =
     (0 < k) × CodeAgrees limit t ls history before k code verb
     × (list_all (is_code_before t k) before ≡ true) × (list_any (is_end_of t) before ≡ false)
 LineAgrees limit ls history before (Post t k) =
-    (0 < k) × Posts (replay limit history) t (entry_of_line t ls history k)
+    (0 < k) × Posts (replay limit history) t (entry_of_line t ls (line_entries t history) k)
     × (list_any (is_code_of t k) before ≡ true) × (list_any (is_post_of t k) before ≡ false) × (list_any (is_end_of t) before ≡ false)
 LineAgrees limit ls history before (Ended t code) =
     (queued_by (replay limit history) t ≡ []) × (next_ask limit t ls history ≡ None)

@@ -1,0 +1,86 @@
+-- The entries of a task, and of its lines, in a history that grows.
+use Rattle.std.proofs.Common.{◌≡◌, ◌<◌, ◌≤◌, ◌-◌, ◌+◌, ℕ, zero, suc, Bool, true, false, cond, not, ◌&&◌, ◌||◌, List, [], ◌∷◌, ◌++◌, map, length, take, drop, Option, Some, None, refl, ap, sym, ◌∙◌, subst, arith, append-nil, length-append}
+use Rattle.std.specs.Prelude.{filter, slice_get, is_some}
+use Rattle.std.specs.List.{list_any, list_all}
+use Rattle.std.proofs.lemmas.Bool.{and_parts, cases_Bool}
+use Rattle.std.proofs.lemmas.Bool.Decides.{nat_tests}
+use Rattle.grs_base.specs.Same.{same_task}
+use Rattle.grs_base.specs.declared.resource.TaskId.{TaskId}
+use Rattle.grs_base.specs.declared.decision.Code.{Code}
+use Rattle.grs_base.specs.declared.decision.Code.TheVariants as codes
+use Rattle.grs_base.specs.declared.line.Line.{Line}
+use Rattle.grs_base.proofs.SameLaws.{same_task-itself}
+use Rattle.grs_wire.specs.declared.history.HistEntry.{HistEntry}
+use Rattle.grs_wire.specs.History.{asker, code_of}
+use Rattle.grs_legal.specs.Asks.{Ask, ask_of, asks_of, before_asks}
+use Rattle.grs_legal.specs.Legal.{entries_of, is_of_line, line_entries, end_or, end_among, end_code, last_entry, passed_behind, passed_lines, lets_pass}
+use Rattle.grs_world.specs.Agree.{asked_at, entry_of_line}
+
+pub filter-append : {X : Type 0} (p : X → Bool) (xs ys : List X) → filter p (xs ++ ys) ≡ filter p xs ++ filter p ys
+filter-append p [] ys = refl
+filter-append p (x ∷ xs) ys = grind (arith, filter-append p xs ys)
+
+-- what an item adds to a filtered list
+pub filter-push_kept : {X : Type 0} (p : X → Bool) (xs : List X) (x : X) → p x ≡ true → filter p (xs ++ x ∷ []) ≡ filter p xs ++ x ∷ []
+filter-push_kept p xs x h = grind (arith, h, filter-append p xs (x ∷ []))
+
+pub filter-push_left : {X : Type 0} (p : X → Bool) (xs : List X) (x : X) → p x ≡ false → filter p (xs ++ x ∷ []) ≡ filter p xs
+filter-push_left p xs x h = grind (arith, h, append-nil, filter-append p xs (x ∷ []))
+
+-- another task's entry adds nothing
+pub line_entries-other : (t : TaskId) (hist : List HistEntry) (h : HistEntry) → same_task t (asker h) ≡ false → line_entries t (hist ++ h ∷ []) ≡ line_entries t hist
+line_entries-other t hist h apart = filter-push_left (λ g. same_task t (asker g) && is_of_line g) hist h (grind (arith, apart))
+
+pub entries_of-other : (t : TaskId) (hist : List HistEntry) (h : HistEntry) → same_task t (asker h) ≡ false → entries_of t (hist ++ h ∷ []) ≡ entries_of t hist
+entries_of-other t hist h apart = filter-push_left (λ g. same_task t (asker g)) hist h apart
+
+-- an own entry goes last
+pub line_entries-own : (t : TaskId) (hist : List HistEntry) (h : HistEntry) → same_task t (asker h) ≡ true → is_of_line h ≡ true → line_entries t (hist ++ h ∷ []) ≡ line_entries t hist ++ h ∷ []
+line_entries-own t hist h mine asked = filter-push_kept (λ g. same_task t (asker g) && is_of_line g) hist h (grind (arith, mine, asked))
+
+pub line_entries-release : (t : TaskId) (hist : List HistEntry) (h : HistEntry) → is_of_line h ≡ false → line_entries t (hist ++ h ∷ []) ≡ line_entries t hist
+line_entries-release t hist h asked = filter-push_left (λ g. same_task t (asker g) && is_of_line g) hist h (cases (same_task t (asker h)))
+  where
+    cases : (b : Bool) → (b && is_of_line h) ≡ false
+    cases true = asked
+    cases false = refl
+
+pub entries_of-own : (t : TaskId) (hist : List HistEntry) (h : HistEntry) → same_task t (asker h) ≡ true → entries_of t (hist ++ h ∷ []) ≡ entries_of t hist ++ h ∷ []
+entries_of-own t hist h mine = filter-push_kept (λ g. same_task t (asker g)) hist h mine
+
+pub last_entry-push : (xs : List HistEntry) (h : HistEntry) → last_entry (xs ++ h ∷ []) ≡ Some h
+last_entry-push [] h = refl
+last_entry-push (x ∷ []) h = refl
+last_entry-push (x ∷ y ∷ ys) h = last_entry-push (y ∷ ys) h
+
+-- an entry that is no end changes nothing, one that is an end counts where there was none
+pub end_among-push : (xs : List HistEntry) (h : HistEntry) → end_among xs ≡ None → end_among (xs ++ h ∷ []) ≡ end_or (code_of h) None
+end_among-push [] h none = refl
+end_among-push (x ∷ xs) h none = by_code (code_of x) (end_among-push xs h) none
+  where
+    by_code : (c : Code) → (end_among xs ≡ None → end_among (xs ++ h ∷ []) ≡ end_or (code_of h) None) → end_or c (end_among xs) ≡ None → end_or c (end_among (xs ++ h ∷ [])) ≡ end_or (code_of h) None
+    by_code (codes.End n) more e = cc
+    by_code codes.C00 more e = more e
+    by_code codes.C04 more e = more e
+    by_code codes.C08 more e = more e
+    by_code codes.C14 more e = more e
+    by_code codes.C18 more e = more e
+    by_code codes.Wait more e = more e
+
+pub slice_get-append : {X : Type 0} (xs ys : List X) (i : ℕ) (x : X) → slice_get xs i ≡ Some x → slice_get (xs ++ ys) i ≡ Some x
+slice_get-append [] ys i x h = cc
+slice_get-append (y ∷ xs) ys zero x h = h
+slice_get-append (y ∷ xs) ys (suc i) x h = slice_get-append xs ys i x h
+
+pub slice_get-end : {X : Type 0} (xs : List X) (y : X) (ys : List X) → slice_get (xs ++ y ∷ ys) (length xs) ≡ Some y
+slice_get-end [] y ys = refl
+slice_get-end (x ∷ xs) y ys = slice_get-end xs y ys
+
+-- an entry of a line keeps its place when the history grows
+pub asked_at-grows : (t : TaskId) (l : Option Line) (xs ys : List HistEntry) (i : ℕ) (e : HistEntry) → asked_at t l (slice_get xs i) ≡ Some e → asked_at t l (slice_get (xs ++ ys) i) ≡ Some e
+asked_at-grows t None xs ys i e h = cc
+asked_at-grows t (Some l) xs ys i e h = cases (is_some (ask_of t l)) h
+  where
+    cases : (b : Bool) → cond b (slice_get xs i) None ≡ Some e → cond b (slice_get (xs ++ ys) i) None ≡ Some e
+    cases true k = slice_get-append xs ys i e k
+    cases false k = cc
