@@ -202,3 +202,55 @@ module _ (ls : List Line) (p : Past) (T : List ToldLine) (t : TaskId) (n code0 :
   -- the task after its ENQ was decided
   pub task-enq : (full : Bool) → is_apart (list_of p.lists r) ≡ true → AfterEnq (decide_enq (list_of p.lists r) t c ret full).code (decide_enq (list_of p.lists r) t c ret full).effect
   task-enq full apart = by_case (decide_enq (list_of p.lists r) t c ret full) apart (enq_case (standing_of (list_of p.lists r) t) ret full (can_have (list_of p.lists r) c))
+
+deq_granted : (st : Standing) (have : Bool) → is_granted (deq_code st have) ≡ is_owner st
+deq_granted Exclusive have = refl
+deq_granted OnlyShared have = refl
+deq_granted AmongShared have = refl
+deq_granted Waits true = refl
+deq_granted Waits false = refl
+deq_granted Absent true = refl
+deq_granted Absent false = refl
+
+-- what a task knows of other resources when its element of one is taken out
+pub other-without : (s : State) (t : TaskId) (r : Res) (xs : List Rec) → is_distinct xs ≡ true → (q : Res) → has_res q (without_first xs r) ≡ true → by_lists (without same_res s r t) t q ≡ by_lists s t q
+other-without s t r xs d q has = by_res q r _
+    (λ same. absurd (no_both (ap (λ z. has_res z (without_first xs r)) same ∙ gone-without r xs d) has))
+    (λ apart. ap (λ es. owns es t) (list_at-without_other same_res res_equality s q r t apart))
+  where
+    no_both : has_res q (without_first xs r) ≡ false → has_res q (without_first xs r) ≡ true → ⊥
+    no_both a b = let e : false ≡ true = sym a ∙ b in absurd (cc)
+
+pub keys_taken : (s : State) (t : TaskId) (r : Res) (xs : List Rec) → map key xs ≡ own s t → is_distinct xs ≡ true → map key (without_first xs r) ≡ own (without same_res s r t) t
+keys_taken s t r xs keys d = keys-without r xs d ∙ ap (filter (λ k. not (same_res r k.0))) keys ∙ sym (own-without s r t)
+
+module _ (ls : List Line) (p : Past) (T : List ToldLine) (t : TaskId) (n code0 : ℕ) (xs : List Rec) (o : Option Req) (l : Line) (r : Res) (have : Bool)
+    (k : Asks ls p T (by_lists p.lists t) t n code0 xs o l (AsksDeq r have)) where
+  -- the task after its DEQ: the code, and whether its element was taken out
+  abbrev pub AfterDeq : Code → Bool → Type 0
+  AfterDeq code taken =
+      IsTask ls (record { lists = cond taken (without same_res p.lists r t) p.lists; asked = p.asked ++ Deq t r have code ∷ []; last = Some (Deq t r have code) }) (told_after T t (suc n) verbs.Deq code)
+      (by_lists (cond taken (without same_res p.lists r t) p.lists) t) t
+      (record { line = suc n; phase = phase_after code; code = code_in (phase_after code) code0; records = cond taken (without_first xs r) xs; outstanding = o })
+
+  after_deq : (code : Code) (taken : Bool) → AfterDeq code taken
+  after_deq code true = task-asked ls p T (by_lists p.lists t) t n code0 xs o l (AsksDeq r have) k (without same_res p.lists r t) (Deq t r have code) verbs.Deq code (by_lists (without same_res p.lists r t) t) (without_first xs r) refl refl
+      (keys_taken p.lists t r xs k.before.keys k.before.distinct) (distinct-without r xs k.before.distinct)
+      (recs-asked ls p.asked (Deq t r have code) t T (by_lists p.lists t) (by_lists (without same_res p.lists r t) t) n (suc n) verbs.Deq code (phase_after code) (without_first xs r) (other-without p.lists t r xs k.before.distinct)
+      (each-without (IsRec ls p.asked T (by_lists p.lists t) t n phases.Ready) r xs k.before.records))
+  after_deq code false = task-asked ls p T (by_lists p.lists t) t n code0 xs o l (AsksDeq r have) k p.lists (Deq t r have code) verbs.Deq code (by_lists p.lists t) xs refl refl
+      k.before.keys k.before.distinct
+      (recs-asked ls p.asked (Deq t r have code) t T (by_lists p.lists t) (by_lists p.lists t) n (suc n) verbs.Deq code (phase_after code) xs (λ q e. refl) k.before.records)
+
+  -- the task after its DEQ was decided
+  pub task-deq :
+      let st = standing_of (list_of p.lists r) t in
+      IsTask ls (record { lists = cond (is_owner st) (without same_res p.lists r t) p.lists; asked = p.asked ++ Deq t r have (deq_code st have) ∷ []; last = Some (Deq t r have (deq_code st have)) }) (told_after T t (suc n) verbs.Deq (deq_code st have))
+      (by_lists (cond (is_owner st) (without same_res p.lists r t) p.lists) t) t
+      (record { line = suc n; phase = phase_after (deq_code st have); code = code_in (phase_after (deq_code st have)) code0; records = cond (is_granted (deq_code st have)) (without_first xs r) xs; outstanding = o })
+  task-deq =
+      let st : Standing = standing_of (list_of p.lists r) t in
+      subst (λ b. IsTask ls (record { lists = cond (is_owner st) (without same_res p.lists r t) p.lists; asked = p.asked ++ Deq t r have (deq_code st have) ∷ []; last = Some (Deq t r have (deq_code st have)) }) (told_after T t (suc n) verbs.Deq (deq_code st have))
+      (by_lists (cond (is_owner st) (without same_res p.lists r t) p.lists) t) t
+      (record { line = suc n; phase = phase_after (deq_code st have); code = code_in (phase_after (deq_code st have)) code0; records = cond b (without_first xs r) xs; outstanding = o }))
+      (sym (deq_granted st have)) (after_deq (deq_code st have) (is_owner st))

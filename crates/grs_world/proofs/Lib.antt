@@ -12,3 +12,7 @@ pub mod EnqCases
 pub mod Keys
 pub mod Asked
 pub mod Decided
+pub mod Steps
+pub mod Good
+pub mod Did
+pub mod Events

@@ -1,0 +1,262 @@
+-- A system after a history: its lists are those of the history, and its tasks stand as they should.
+use Rattle.std.proofs.Common.{◌≡◌, ◌≢◌, ◌<◌, ◌≤◌, ◌-◌, ◌+◌, ℕ, zero, suc, Bool, true, false, cond, not, ◌&&◌, ◌||◌, List, [], ◌∷◌, ◌++◌, map, length, take, Option, Some, None, refl, ap, sym, ◌∙◌, subst, arith, inl, inr, add-one}
+use Rattle.std.specs.Prelude.{filter, slice_get, is_some, ◌⊎◌, IfSome, unwrap_or, ◌==◌, nat_lt, nat_le}
+use Rattle.std.specs.List.{list_any, list_all}
+use Rattle.std.proofs.lemmas.Bool.{and_parts, cases_Bool, eqb-true, eq-eqb, ne_eqb, lt-ltb, ltb-true}
+use Rattle.grs_base.specs.Same.{same_res, same_task}
+use Rattle.grs_base.specs.Lists.{owns, owners, has_task, is_apart}
+use Rattle.grs_base.specs.State.{pick, State, list_of, queued_by, is_full, without, with_exclusive, after_effect, is_at}
+use Rattle.grs_base.specs.declared.resource.Res.{Res}
+use Rattle.grs_base.specs.declared.resource.Elem.{Elem}
+use Rattle.grs_base.specs.declared.resource.TaskId.{TaskId}
+use Rattle.grs_base.specs.declared.decision.Code.{Code}
+use Rattle.grs_base.specs.declared.decision.Code.TheVariants.{C00, C04, C08, C14, C18, Wait, End}
+use Rattle.grs_base.specs.declared.line.Line.{Line}
+use Rattle.grs_base.proofs.SameLaws.{same_res-exact, same_res-itself, same_task-exact, same_task-itself}
+use Rattle.grs_base.proofs.ListLaws.{same_task-sym}
+use Rattle.grs_wire.specs.declared.deck.Deck.{Deck}
+use Rattle.grs_wire.specs.declared.history.HistEntry.{HistEntry}
+use Rattle.grs_wire.specs.declared.request.Want.{Want}
+use Rattle.grs_wire.specs.declared.told.Verb.{Verb}
+use Rattle.grs_wire.specs.declared.told.ToldLine.{ToldLine}
+use Rattle.grs_wire.specs.declared.told.ToldLine.TheVariants.{Coded}
+use Rattle.grs_wire.specs.History.{asker, code_of, res_of, replay, step, want_of, entry_for}
+use Rattle.grs_wire.specs.Wants.{answer_to, after_want, res_wanted, became_owners}
+use Rattle.grs_wire.proofs.WantLaws.{owns-want, list_of-want_other, by_res}
+use Rattle.grs_wire.proofs.HistoryLaws.{replay_from-append, none_twice}
+use Rattle.grs_legal.specs.Asks.{lines_of}
+use Rattle.grs_legal.specs.Legal.{line_entries, entries_of, last_entry}
+use Rattle.task_state.specs.declared.state.TaskState.{TaskState}
+use Rattle.task_state.specs.View.{TasksView, is_task, state_of}
+use Rattle.grs_world.specs.Node.{Node, tell_all}
+use Rattle.grs_world.specs.Agree.{Agrees, told_task}
+use Rattle.grs_world.proofs.Own.{own, queued_by-own, has_task-own}
+use Rattle.grs_world.proofs.Owners.{is_among, is_among-became, owns-front}
+use Rattle.grs_world.proofs.Entries.{line_entries-other, entries_of-other}
+use Rattle.grs_world.proofs.Invariant.{Each, IsMine, key, has_res, IsRec, Past, IsTask}
+use Rattle.grs_world.proofs.Others.{KeepsTask, keeps-want, task-kept, task-told, recs-knows}
+use Rattle.grs_world.proofs.Granted.{past, or_right}
+use Rattle.grs_world.proofs.Views.{IsOurs, Holds, IsChanged, holds-changed, Agreed, none, more}
+use Rattle.grs_world.proofs.Telling.{are_apart, learns_all, learns_all-is, learned_all, LearnedAll, IsHome}
+use Rattle.grs_world.proofs.Asked.{told_after}
+use Rattle.grs_world.proofs.Decided.{by_lists}
+
+-- whether a task is of the deck and of this system
+abbrev pub is_home : Deck → TaskId → Bool
+is_home deck t = (t.system.0 == 0) && is_some (lines_of deck t)
+
+-- what each task owns by the lists after a history
+abbrev pub owned : Deck → List HistEntry → Res → TaskId → Bool
+owned deck P r t = owns (list_of (replay deck.limit P) r) t
+
+pub record IsGood (deck : Deck) (P : List HistEntry) (n : Node) : Type 0 where
+  -- the local lists are those that the history leads to
+  pub held : n.held ≡ replay deck.limit P
+  -- each task stands as it should, and was told exactly the control that it has
+  pub tasks : Holds deck P (owned deck P) n.tasks
+  -- each element is of a task of the deck
+  pub elems : list_all (λ h. is_home deck h.1.task) (replay deck.limit P) ≡ true
+  -- each task of the deck is here
+  pub here : (t : TaskId) → is_home deck t ≡ true → is_task n.tasks t ≡ true
+
+pub replay-push : (limit : ℕ) (P : List HistEntry) (h : HistEntry) → replay limit (P ++ h ∷ []) ≡ step limit (replay limit P) h
+replay-push limit P h = replay_from-append limit [] P (h ∷ [])
+
+-- a task's last entry is its own
+last-of : (t : TaskId) (xs : List HistEntry) (h : HistEntry) → list_all (λ g. same_task t (asker g)) xs ≡ true → last_entry xs ≡ Some h → asker h ≡ t
+last-of t [] h all e = cc
+last-of t (x ∷ []) h all e = let same : x ≡ h = cc in subst (λ z. asker z ≡ t) same (sym (same_task-exact t (asker x) (grind (arith, all))))
+last-of t (x ∷ y ∷ ys) h all e = last-of t (y ∷ ys) h (and_parts _ _ all).1 e
+
+filter-all : {X : Type 0} (p : X → Bool) (xs : List X) → list_all p (filter p xs) ≡ true
+filter-all p [] = refl
+filter-all p (x ∷ xs) = grind (arith, filter-all p xs, cases_Bool (p x))
+
+pub last-mine : (limit : ℕ) (P : List HistEntry) (t : TaskId) → IsMine (past limit P t) t
+last-mine limit P t h e = last-of t (entries_of t P) h (filter-all (λ g. same_task t (asker g)) P) e
+
+-- an owner is of the deck
+pub has_task-home : (p : TaskId → Bool) (s : State) (r : Res) (t : TaskId) → list_all (λ h. p h.1.task) s ≡ true → has_task (list_of s r) t ≡ true → p t ≡ true
+has_task-home p [] r t all h = cc
+has_task-home p (x ∷ s) r t all h = grind (arith, all, h, has_task-home p s r t, same_task-exact t x.1.task, cases_Bool (same_res r x.0), cases_Bool (same_task t x.1.task))
+
+pub owns-has : (es : List Elem) (t : TaskId) → owns es t ≡ true → has_task es t ≡ true
+owns-has es t h = any-front es (owners es) t (sym (owns-front es t) ∙ h)
+  where
+    any-front : (xs : List Elem) (n : ℕ) (u : TaskId) → list_any (λ e. same_task u e.task) (take n xs) ≡ true → has_task xs u ≡ true
+    any-front [] zero u e = cc
+    any-front [] (suc n) u e = cc
+    any-front (x ∷ xs) zero u e = cc
+    any-front (x ∷ xs) (suc n) u e = grind (arith, e, any-front xs n u, cases_Bool (same_task u x.task))
+
+some_of : {X : Type 0} (o : Option X) → is_some o ≡ true → (x : X) × (o ≡ Some x)
+some_of None h = absurd (cc)
+some_of (Some x) h = (x, refl)
+
+pub home-ours : (deck : Deck) (v : TasksView) (t : TaskId) → is_home deck t ≡ true → is_task v t ≡ true → IsHome deck v t
+home-ours deck v t h here = let s = some_of (lines_of deck t) (and_parts _ _ h).1 in record { lines = s.0; ours = record { lines = s.1; home = eqb-true _ _ (and_parts _ _ h).0; here = here } }
+
+pub ours-home : (deck : Deck) (v : TasksView) (t : TaskId) (ls : List Line) → IsOurs deck v t ls → is_home deck t ≡ true
+ours-home deck v t ls o = let a : (t.system.0 == 0) ≡ true = eq-eqb _ _ o.home in rw (a, o.lines) refl
+
+-- no task became owner twice
+pick-none : (p : TaskId → Bool) (es : List Elem) (t : TaskId) → has_task es t ≡ false → is_among t (pick (λ e. p e.task) (λ e. e.task) es) ≡ false
+pick-none p [] t h = refl
+pick-none p (e ∷ es) t h = grind (arith, h, pick-none p es t, cases_Bool (p e.task))
+
+pick-apart : (p : TaskId → Bool) (es : List Elem) → is_apart es ≡ true → are_apart (pick (λ e. p e.task) (λ e. e.task) es) ≡ true
+pick-apart p [] h = refl
+pick-apart p (e ∷ es) h = grind (arith, h, pick-apart p es, pick-none p es e.task, cases_Bool (p e.task))
+
+apart-take : (n : ℕ) (es : List Elem) → is_apart es ≡ true → is_apart (take n es) ≡ true
+apart-take zero es h = grind (arith)
+apart-take (suc n) [] h = refl
+apart-take (suc n) (e ∷ es) h = grind (arith, h, apart-take n es, has-take n es e.task)
+  where
+    has-take : (m : ℕ) (xs : List Elem) (t : TaskId) → has_task xs t ≡ false → has_task (take m xs) t ≡ false
+    has-take zero xs t f = grind (arith)
+    has-take (suc m) [] t f = refl
+    has-take (suc m) (x ∷ xs) t f = grind (arith, f, has-take m xs t)
+
+pub became-apart : (before after : List Elem) (t : TaskId) → is_apart after ≡ true → are_apart (became_owners before after t) ≡ true
+became-apart before after t h = pick-apart (λ u. not (owns before u) && not (same_task t u)) (take (owners after) after) (apart-take (owners after) after h)
+
+-- elements stay of the deck's tasks
+pub all-filter : {X : Type 0} (p q : X → Bool) (xs : List X) → list_all p xs ≡ true → list_all p (filter q xs) ≡ true
+all-filter p q [] h = refl
+all-filter p q (x ∷ xs) h = grind (arith, h, all-filter p q xs, cases_Bool (q x))
+
+-- knowledge that is the same
+pub holds-knows : (deck : Deck) (P : List HistEntry) (knows knows' : Res → TaskId → Bool) (v : TasksView) → ((q : Res) (u : TaskId) → knows' q u ≡ knows q u) → Holds deck P knows v → Holds deck P knows' v
+holds-knows deck P knows knows' v same h = record {
+  each = λ u ms o. let k = h.each u ms o in record {
+    keys = k.keys;
+    distinct = k.distinct;
+    within = k.within;
+    count = k.count;
+    records = recs-knows ms (line_entries u P) v.told u (state_of v u).line (state_of v u).phase (λ q. knows q u) (λ q. knows' q u) (state_of v u).records (λ q e. same q u) k.records;
+    codes = k.codes;
+    posts = k.posts;
+    phase = k.phase;
+    emptied = k.emptied;
+  };
+}
+
+pub task-knows : (ls : List Line) (p : Past) (T : List ToldLine) (knows knows' : Res → Bool) (t : TaskId) (x : TaskState) → ((q : Res) → knows' q ≡ knows q) → IsTask ls p T knows t x → IsTask ls p T knows' t x
+task-knows ls p T knows knows' t x same k = record {
+  keys = k.keys;
+  distinct = k.distinct;
+  within = k.within;
+  count = k.count;
+  records = recs-knows ls p.asked T t x.line x.phase knows knows' x.records (λ q e. same q) k.records;
+  codes = k.codes;
+  posts = k.posts;
+  phase = k.phase;
+  emptied = k.emptied;
+}
+
+-- another task's past after an entry
+pub past-other : (limit : ℕ) (P : List HistEntry) (h : HistEntry) (u : TaskId) → same_task u (asker h) ≡ false → past limit (P ++ h ∷ []) u ≡ record (past limit P u) { lists = replay limit (P ++ h ∷ []) }
+past-other limit P h u apart = rw (line_entries-other u P h apart, entries_of-other u P h apart) refl
+
+-- a code told to one task leaves the others
+pub task-told_after : (ls : List Line) (p : Past) (T : List ToldLine) (knows : Res → Bool) (u : TaskId) (x : TaskState) (t : TaskId) (k : ℕ) (verb : Verb) (c : Code) → same_task u t ≡ false → IsTask ls p T knows u x → IsTask ls p (told_after T t k verb c) knows u x
+task-told_after ls p T knows u x t k verb Wait apart h = h
+task-told_after ls p T knows u x t k verb C00 apart h = task-told ls p T knows u x _ apart h
+task-told_after ls p T knows u x t k verb C04 apart h = task-told ls p T knows u x _ apart h
+task-told_after ls p T knows u x t k verb C08 apart h = task-told ls p T knows u x _ apart h
+task-told_after ls p T knows u x t k verb C14 apart h = task-told ls p T knows u x _ apart h
+task-told_after ls p T knows u x t k verb C18 apart h = task-told ls p T knows u x _ apart h
+task-told_after ls p T knows u x t k verb (End n) apart h = task-told ls p T knows u x _ apart h
+
+-- A request of task t decided: what is known before the tasks that became owners are told.
+module _ (deck : Deck) (P : List HistEntry) (t : TaskId) (w : Want) (h : HistEntry)
+    (mine : asker h ≡ t) (after : replay deck.limit (P ++ h ∷ []) ≡ after_want (replay deck.limit P) t w) where
+  S0 : State
+  S0 = replay deck.limit P
+
+  -- who became owner
+  abbrev pub became : List TaskId
+  became = became_owners (list_of (replay deck.limit P) (res_wanted w)) (list_of (after_want (replay deck.limit P) t w) (res_wanted w)) t
+
+  -- control that was told before these are
+  abbrev pub before_telling : Res → TaskId → Bool
+  before_telling q u = owns (list_of (after_want (replay deck.limit P) t w) q) u && not (same_res (res_wanted w) q && is_among u (became_owners (list_of (replay deck.limit P) (res_wanted w)) (list_of (after_want (replay deck.limit P) t w) (res_wanted w)) t))
+
+  bools : (a b c : Bool) → (a ≡ true → b ≡ true) → c ≡ false → (b && not ((not a && not c) && b)) ≡ a
+  bools true true c f g = refl
+  bools true false c f g = let e : false ≡ true = f refl in absurd (cc)
+  bools false true true f g = absurd (cc)
+  bools false true false f g = refl
+  bools false false c f g = refl
+
+  -- the others knew what they owned
+  before-others : (q : Res) (u : TaskId) → same_task u t ≡ false → before_telling q u ≡ owned deck P q u
+  before-others q u apart = by_res q (res_wanted w) _
+      (λ same. subst (λ z. before_telling z u ≡ owned deck P z u) (sym same) at)
+      (λ other. rw (ap (λ es. owns es u) (list_of-want_other (replay deck.limit P) t w q other), unlike q other) (and_true (owns (list_of (replay deck.limit P) q) u)))
+    where
+      and_true : (b : Bool) → (b && true) ≡ b
+      and_true true = refl
+      and_true false = refl
+
+      unlike : (z : Res) → same_res z (res_wanted w) ≡ false → same_res (res_wanted w) z ≡ false
+      unlike z e = go (same_res (res_wanted w) z) refl
+        where
+          go : (b : Bool) → same_res (res_wanted w) z ≡ b → b ≡ false
+          go true f = let g : true ≡ false = sym (same_res-itself z) ∙ ap (λ y. same_res z y) (sym (same_res-exact (res_wanted w) z f)) ∙ e in absurd (cc)
+          go false f = refl
+
+      at : before_telling (res_wanted w) u ≡ owned deck P (res_wanted w) u
+      at = rw (same_res-itself (res_wanted w), is_among-became (list_of (replay deck.limit P) (res_wanted w)) (list_of (after_want (replay deck.limit P) t w) (res_wanted w)) t u)
+          (bools (owns (list_of (replay deck.limit P) (res_wanted w)) u) _ (same_task t u) (owns-want (replay deck.limit P) t w (res_wanted w) u apart) (same_task-sym t u ∙ apart))
+
+  pub before-own : (q : Res) → before_telling q t ≡ by_lists (after_want (replay deck.limit P) t w) t q
+  before-own q = rw (is_among-became (list_of (replay deck.limit P) (res_wanted w)) (list_of (after_want (replay deck.limit P) t w) (res_wanted w)) t t, same_task-itself t) (pieces _ _ _ _)
+    where
+      pieces : (a b c d : Bool) → (a && not (b && ((c && false) && d))) ≡ a
+      pieces true true true d = refl
+      pieces true true false d = refl
+      pieces true false c d = refl
+      pieces false b c d = refl
+
+  -- once they are told, everybody knows what it owns
+  pub told-all : (q : Res) (u : TaskId) → learns_all before_telling (res_wanted w) became q u ≡ owned deck (P ++ h ∷ []) q u
+  told-all q u = learns_all-is before_telling (res_wanted w) became q u ∙ by_res q (res_wanted w) ((before_telling q u || (same_res (res_wanted w) q && is_among u became)) ≡ owned deck (P ++ h ∷ []) q u)
+      (λ same. subst (λ z. (before_telling z u || (same_res (res_wanted w) z && is_among u became)) ≡ owned deck (P ++ h ∷ []) z u) (sym same) at)
+      (λ other. rw (unlike q other) (ends (owns (list_of (after_want (replay deck.limit P) t w) q) u)) ∙ ap (λ s. owns (list_of s q) u) (sym after))
+    where
+      ends : (b : Bool) → ((b && true) || false) ≡ b
+      ends true = refl
+      ends false = refl
+
+      unlike : (z : Res) → same_res z (res_wanted w) ≡ false → same_res (res_wanted w) z ≡ false
+      unlike z e = go (same_res (res_wanted w) z) refl
+        where
+          go : (b : Bool) → same_res (res_wanted w) z ≡ b → b ≡ false
+          go true f = let g : true ≡ false = sym (same_res-itself z) ∙ ap (λ y. same_res z y) (sym (same_res-exact (res_wanted w) z f)) ∙ e in absurd (cc)
+          go false f = refl
+
+      pieces : (a b : Bool) → (b ≡ true → a ≡ true) → ((a && not b) || b) ≡ a
+      pieces true true f = refl
+      pieces true false f = refl
+      pieces false true f = let e : false ≡ true = f refl in absurd (cc)
+      pieces false false f = refl
+
+      owner : is_among u became ≡ true → owns (list_of (after_want (replay deck.limit P) t w) (res_wanted w)) u ≡ true
+      owner e = (and_parts (not (owns (list_of (replay deck.limit P) (res_wanted w)) u) && not (same_task t u)) (owns (list_of (after_want (replay deck.limit P) t w) (res_wanted w)) u) (sym (is_among-became (list_of (replay deck.limit P) (res_wanted w)) (list_of (after_want (replay deck.limit P) t w) (res_wanted w)) t u) ∙ e)).1
+
+      at : (before_telling (res_wanted w) u || (same_res (res_wanted w) (res_wanted w) && is_among u became)) ≡ owned deck (P ++ h ∷ []) (res_wanted w) u
+      at = rw (same_res-itself (res_wanted w)) (pieces (owns (list_of (after_want (replay deck.limit P) t w) (res_wanted w)) u) (is_among u became) owner) ∙ ap (λ s. owns (list_of s (res_wanted w)) u) (sym after)
+
+  -- another task after the entry, before those that became owners are told
+  pub other-decided : (ls : List Line) (T T' : List ToldLine) (u : TaskId) (x : TaskState) → same_task u t ≡ false →
+      IsTask ls (past deck.limit P u) T (λ q. owned deck P q u) u x →
+      ((q : Past) (knows : Res → Bool) → IsTask ls q T knows u x → IsTask ls q T' knows u x) →
+      IsTask ls (past deck.limit (P ++ h ∷ []) u) T' (λ q. before_telling q u) u x
+  other-decided ls T T' u x apart k told =
+      let apart_h : same_task u (asker h) ≡ false = subst (λ z. same_task u z ≡ false) (sym mine) apart in
+      let keeps : KeepsTask (replay deck.limit P) (replay deck.limit (P ++ h ∷ [])) u = subst (λ s. KeepsTask (replay deck.limit P) s u) (sym after) (keeps-want (replay deck.limit P) t w u apart) in
+      told (past deck.limit (P ++ h ∷ []) u) (λ q. before_telling q u)
+      (subst (λ p. IsTask ls p T (λ q. before_telling q u) u x) (sym (past-other deck.limit P h u apart_h))
+      (task-kept ls (past deck.limit P u) T (λ q. owned deck P q u) (λ q. before_telling q u) (replay deck.limit (P ++ h ∷ [])) u x keeps (last-mine deck.limit P u) (λ q e. before-others q u apart) k))
