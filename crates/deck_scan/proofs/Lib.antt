@@ -1,2 +1,3 @@
 pub mod ScanLemmas
 pub mod Loop
+pub mod Said

@@ -14,14 +14,14 @@ is_hex b = is_between 48 57 b || is_between 65 70 b || is_between 97 102 b
 unfoldable pub digit : ℕ → ℕ
 digit b = if is_between 48 57 b then b - 48 else if is_between 65 70 b then b - 55 else if is_between 97 102 b then b - 87 else 0
 
--- Whether a text begins with LF.
-abbrev pub begins_lf : List ℕ → Bool
-begins_lf [] = false
-begins_lf (b ∷ rest) = b == 10
+-- Whether a text begins with this byte.
+abbrev pub begins : ℕ → List ℕ → Bool
+begins n [] = false
+begins n (b ∷ rest) = b == n
 
 -- A deck may have the bytes 20 to 7E, LF, and CR directly before LF.
 unfoldable pub is_allowed : ℕ → List ℕ → Bool
-is_allowed b rest = is_printable b || b == 10 || (b == 13 && begins_lf rest)
+is_allowed b rest = is_printable b || b == 10 || (b == 13 && begins 10 rest)
 
 -- The line of the first byte that a deck may not have, where the text begins on this line.
 unfoldable pub bad_line : ℕ → List ℕ → Option ℕ

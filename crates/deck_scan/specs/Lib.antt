@@ -1,4 +1,5 @@
 pub mod Gives
 pub mod Bytes
+pub mod Pieces
 pub mod Scan
 pub mod Reading

@@ -8,6 +8,7 @@ use Rattle.deck_scan.specs.declared.scan.Scan.{Scan}
 use Rattle.deck_scan.specs.declared.scan.Mode.{Mode}
 use Rattle.deck_scan.specs.declared.scan.Mode.TheVariants.{InBlank, AfterSlash, InWord, InQuote, AfterQuote, InHex, InHexLow, InBadHex, InComment, AfterStar}
 use Rattle.deck_scan.specs.Bytes.{is_word, is_hex, digit}
+use Rattle.deck_scan.specs.Pieces.{lines_with}
 
 -- The token ends what stood open. Directly behind the first word it joins it.
 unfoldable pub put : Token → Scan → Scan
@@ -20,10 +21,6 @@ put_word s = record (put (Word s.part) s) { near = length s.tokens == 0 }
 -- An opening parenthesis joins no word.
 unfoldable pub put_open : Scan → Scan
 put_open s = record (put Open s) { joined = s.joined }
-
--- The lines so far; nothing is kept of a blank one.
-abbrev pub lines_with : ℕ → List Token → Bool → List TokenLine → List TokenLine
-lines_with at tokens joined lines = if length tokens == 0 then lines else lines ++ record { at = at; tokens = tokens; joined = joined } ∷ []
 
 -- The line ends.
 unfoldable pub end_line : Scan → Scan
