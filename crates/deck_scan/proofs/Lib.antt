@@ -1,3 +1,4 @@
 pub mod ScanLemmas
 pub mod Loop
 pub mod Said
+pub mod Found

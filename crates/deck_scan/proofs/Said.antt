@@ -14,7 +14,7 @@ use Rattle.deck_scan.specs.declared.scan.Mode.{Mode}
 use Rattle.deck_scan.specs.declared.scan.Mode.TheVariants.{InBlank, AfterSlash, InWord, InQuote, AfterQuote, InHex, InHexLow, InBadHex, InComment, AfterStar}
 use Rattle.deck_scan.specs.Bytes.{begins, is_word, is_hex, digit}
 use Rattle.deck_scan.specs.Scan.{put, put_word, put_open, end_line, break_off, begin_word, begin, step_in, step, scan_from, finish_in, is_x}
-use Rattle.deck_scan.specs.Pieces.{Piece, Plain, Quoted, Hexed, Sign, Blank, Comment, LineEnd, LoneSlash, StrayByte, OpenQuote, OpenHexed, OpenComment, sign, spelling, spelled, has_no_end, is_in_comment, is_between_quotes, is_sign, is_mark, is_piece, may_follow, followed_by, are_pieces, is_hexed, unhex, hex_token, Place, next_line, apart, over, past, past_all}
+use Rattle.deck_scan.specs.Pieces.{Piece, Plain, Quoted, Hexed, Sign, Blank, Comment, LineEnd, LoneSlash, StrayByte, OpenQuote, OpenHexed, OpenComment, sign, spelling, spelled, has_no_end, is_in_comment, is_between_quotes, is_sign, is_mark, is_piece, may_follow, followed_by, are_pieces, is_hexed, unhex, hex_token, Place, next_line, apart, with_token, over, past, past_all}
 
 -- ---- tests
 
@@ -350,3 +350,158 @@ enters Blank b r cr h = rw cr refl
 enters (Comment c) b r cr h = rw cr refl
 enters LineEnd b r cr h = rw cr refl
 enters (StrayByte c) b r cr h = rw cr refl
+
+begins_word : (b : ℕ) (r : Scan) → is_word b ≡ true → begin (state InBlank [] r) b ≡ state InWord (b ∷ []) r
+unfolding begin begin_word
+begins_word b r h = rw (test_not is_word b 32 h word_32, test_not is_word b 10 h word_10, test_not is_word b 39 h word_39, test_not is_word b 47 h word_47, test_not is_word b 40 h word_40, test_not is_word b 41 h word_41, test_not is_word b 44 h word_44, test_not is_word b 61 h word_61, h) refl
+
+begins_stray : (b : ℕ) (r : Scan) → is_printable b ≡ true → is_word b ≡ false → is_mark b ≡ false → begin (state InBlank [] r) b ≡ state InBlank [] (with Stray r)
+unfolding begin begin_word put
+begins_stray b r printable word mark =
+    rw (other 32 refl, test_not is_printable b 10 printable refl, other 39 refl, other 47 refl, other 40 refl, other 41 refl, other 44 refl, other 61 refl, word) refl
+  where
+    other : (n : ℕ) → is_mark n ≡ true → eqb b n ≡ false
+    other n is = ne_eqb b n (λ e. let P : ℕ → Type 0 = λ m. is_mark m ≡ false in let k : is_mark n ≡ false = subst P e mark in let z : false ≡ true = sym k ∙ is in cc)
+
+-- what is read of one piece
+record Read (p q : Piece) (r : Scan) (rest : List ℕ) : Type 0 where
+  after : Scan
+  same : scan_from (sits p r) (spelling q ++ rest) ≡ scan_from (sits q after) rest
+  place : place_of (settle q after) ≡ past q (place_of (settle p r))
+
+-- the first byte of a piece, and then its others
+first : (p : Piece) (b : ℕ) (bs : List ℕ) (r next : Scan) → eqb b 13 ≡ false → may_follow p b ≡ true → begin (state InBlank [] (settle p r)) b ≡ next → scan_from (sits p r) (b ∷ bs) ≡ scan_from next bs
+unfolding scan_from
+first p b bs r next cr h e = ap (λ (x : Scan). scan_from x bs) (enters p b r cr h ∙ e)
+
+sign_run : (p : Piece) (t : Token) (r : Scan) (rest : List ℕ) → is_sign t ≡ true → followed_by p (spelling (Sign t) ++ rest) ≡ true → Read p (Sign t) r rest
+unfolding begin put put_open
+sign_run p Open r rest h f = record { after = record (with Open (settle p r)) { joined = (settle p r).joined }; same = first p 40 rest r _ refl f refl; place = refl }
+sign_run p Close r rest h f = record { after = with Close (settle p r); same = first p 41 rest r _ refl f refl; place = refl }
+sign_run p Comma r rest h f = record { after = with Comma (settle p r); same = first p 44 rest r _ refl f refl; place = refl }
+sign_run p Equals r rest h f = record { after = with Equals (settle p r); same = first p 61 rest r _ refl f refl; place = refl }
+sign_run p _ r rest h f = absurd cc
+
+word_next : (p : Piece) (w rest : List ℕ) (r : Scan) → is_piece (Plain w) ≡ true → followed_by p (w ++ rest) ≡ true → Read p (Plain w) r rest
+word_next p [] rest r h f = absurd cc
+word_next p (b ∷ bs) rest r h f =
+    let k = and_parts (is_word b) (list_all is_word bs) h in
+    record {
+      after = settle p r;
+      same = first p b (bs ++ rest) r (state InWord (b ∷ []) (settle p r)) (test_not is_word b 13 k.0 word_13) f (begins_word b (settle p r) k.0) ∙ word_run (b ∷ []) bs rest (settle p r) k.1;
+      place = refl;
+    }
+
+-- X and a quote begin a hexadecimal name
+hex_begin : (p : Piece) (bs : List ℕ) (r : Scan) → may_follow p 88 ≡ true → scan_from (sits p r) (88 ∷ 39 ∷ bs) ≡ scan_from (state InHex [] (settle p r)) bs
+unfolding scan_from step step_in begin begin_word is_word
+hex_begin p bs r f = first p 88 (39 ∷ bs) r (state InWord (88 ∷ []) (settle p r)) refl f refl
+
+quote_begin : (p : Piece) (bs : List ℕ) (r : Scan) → may_follow p 39 ≡ true → scan_from (sits p r) (39 ∷ bs) ≡ scan_from (state InQuote [] (settle p r)) bs
+unfolding begin
+quote_begin p bs r f = first p 39 bs r (state InQuote [] (settle p r)) refl f refl
+
+-- the scan in a comment that begins here
+abbrev commented : Scan → Scan
+commented r = record r { begun = r.line; near = false }
+
+comment_begin : (p : Piece) (bs : List ℕ) (r : Scan) → may_follow p 47 ≡ true → scan_from (sits p r) (47 ∷ 42 ∷ bs) ≡ scan_from (state InComment [] (commented (settle p r))) bs
+unfolding scan_from step step_in begin
+comment_begin p bs r f = first p 47 (42 ∷ bs) r (state AfterSlash [] (settle p r)) refl f refl
+
+inside_from : (c : List ℕ) → is_piece (Comment c) ≡ true → Inside false c
+inside_from c h = (refl, (and_parts (has_no_end c) (list_all is_in_comment c) h).0)
+
+-- a comment that is not closed, from where the text stands at its end
+abbrev over_from : Place → ℕ → Place
+over_from p n = record (with_token Unclosed (next_line p)) { line = n }
+
+unclosed : (c : List ℕ) (s : Scan) → place_of (settle (OpenComment c) s) ≡ over_from (place_of s) s.begun
+unfolding end_line
+unclosed c s = refl
+
+piece_run : (p q : Piece) (r : Scan) (rest : List ℕ) → is_piece q ≡ true → followed_by p (spelling q ++ rest) ≡ true → Read p q r rest
+unfolding begin put scan_from step step_in
+piece_run p (Plain w) r rest h f = word_next p w rest r h f
+piece_run p (Quoted n) r rest h f = record {
+  after = settle p r;
+  same = quote_begin p ((quotes_doubled n ++ 39 ∷ []) ++ rest) r f
+      ∙ ap (scan_from (state InQuote [] (settle p r))) (append_assoc (quotes_doubled n) (39 ∷ []) rest) ∙ quote_run [] n (39 ∷ rest) (settle p r) h;
+  place = refl;
+}
+piece_run p (OpenQuote n) r rest h f = record { after = settle p r; same = quote_begin p (quotes_doubled n ++ rest) r f ∙ quote_run [] n rest (settle p r) h; place = refl }
+piece_run p (Hexed ds) r rest h f =
+    let k = hex_run [] ds (39 ∷ rest) (settle p r) h in
+    let s : Scan = record (settle p r) { high = k.0 } in
+    record {
+      after = with (hex_token ds) s;
+      same = hex_begin p ((ds ++ 39 ∷ []) ++ rest) r f ∙ ap (scan_from (state InHex [] (settle p r))) (append_assoc ds (39 ∷ []) rest) ∙ k.1
+          ∙ ap (λ (x : Scan). scan_from x rest) (hex_close [] ds s);
+      place = refl;
+    }
+piece_run p (OpenHexed ds) r rest h f =
+    let k = hex_run [] ds rest (settle p r) h in
+    record { after = record (settle p r) { high = k.0 }; same = hex_begin p (ds ++ rest) r f ∙ k.1; place = refl }
+piece_run p (Sign t) r rest h f = sign_run p t r rest h f
+piece_run p Blank r rest h f = record { after = record (settle p r) { near = false }; same = first p 32 rest r _ refl f refl; place = refl }
+piece_run p LineEnd r rest h f = record { after = end_line (settle p r); same = first p 10 rest r _ refl f (end_line-state InBlank [] (settle p r)); place = place-end_line (settle p r) }
+piece_run p LoneSlash r rest h f = record { after = settle p r; same = first p 47 rest r _ refl f refl; place = refl }
+piece_run p (StrayByte b) r rest h f =
+    let k = and_parts (is_printable b) (not (is_word b || is_mark b)) h in
+    let e : (is_word b || is_mark b) ≡ false = not_true (is_word b || is_mark b) k.1 in
+    record {
+      after = with Stray (settle p r);
+      same = first p b rest r _ (test_not is_printable b 13 k.0 refl) f (begins_stray b (settle p r) k.0 (neither (is_word b) (is_mark b) e).0 (neither (is_word b) (is_mark b) e).1);
+      place = refl;
+    }
+  where
+    neither : (x y : Bool) → (x || y) ≡ false → (x ≡ false) × (y ≡ false)
+    neither true y e = absurd cc
+    neither false y e = (refl, e)
+piece_run p (Comment c) r rest h f =
+    let k = comment_run false c (42 ∷ 47 ∷ rest) (commented (settle p r)) (inside_from c h) (and_parts (has_no_end c) (list_all is_in_comment c) h).1 in
+    record {
+      after = k.after;
+      same = comment_begin p ((c ++ 42 ∷ 47 ∷ []) ++ rest) r f ∙ ap (scan_from (state InComment [] (commented (settle p r)))) (append_assoc c (42 ∷ 47 ∷ []) rest) ∙ k.same
+          ∙ comment_close (star_after false c) rest k.after;
+      place = k.place;
+    }
+piece_run p (OpenComment c) r rest h f =
+    let k = comment_run false c rest (commented (settle p r)) (inside_from c h) (and_parts (has_no_end c) (list_all is_in_comment c) h).1 in
+    record {
+      after = k.after;
+      same = comment_begin p (c ++ rest) r f ∙ k.same;
+      place = unclosed c k.after ∙ ap (λ (x : Place). over_from x (k.after.begun)) k.place ∙ ap (over_from (over c (apart (place_of (settle p r))))) k.begun;
+    }
+
+-- the lines at the end of the text
+abbrev pub at_end : Scan → List TokenLine
+at_end s = (end_line (finish_in s.mode s)).lines
+
+ends_there : (p : Piece) (r : Scan) → at_end (sits p r) ≡ (next_line (place_of (settle p r))).lines
+unfolding finish_in put put_word end_line
+ends_there (Plain w) r = refl
+ends_there (Quoted n) r = refl
+ends_there (Hexed ds) r = refl
+ends_there (Sign t) r = refl
+ends_there Blank r = refl
+ends_there (Comment c) r = refl
+ends_there LineEnd r = refl
+ends_there LoneSlash r = refl
+ends_there (StrayByte b) r = refl
+ends_there (OpenQuote n) r = refl
+ends_there (OpenHexed ds) r = ap (λ (x : Scan). (end_line x).lines) (hex_finish ds (sits (OpenHexed ds) r))
+ends_there (OpenComment c) r = go (star_after false c)
+  where
+    go : (star : Bool) → at_end (state (comment_mode star) [] r) ≡ (next_line (place_of (settle (OpenComment c) r))).lines
+    go true = refl
+    go false = refl
+
+pub all_run : (p : Piece) (qs : List Piece) (r : Scan) → followed_by p (spelled qs) ≡ true → are_pieces qs ≡ true → at_end (scan_from (sits p r) (spelled qs)) ≡ (next_line (past_all qs (place_of (settle p r)))).lines
+unfolding scan_from
+all_run p [] r f h = ends_there p r
+all_run p (q ∷ qs) r f h =
+    let here = and_parts (is_piece q) (followed_by q (spelled qs) && are_pieces qs) h in
+    let behind = and_parts (followed_by q (spelled qs)) (are_pieces qs) here.1 in
+    let k = piece_run p q r (spelled qs) here.0 f in
+    ap at_end k.same ∙ all_run q qs k.after behind.0 behind.1 ∙ ap (λ (x : Place). (next_line (past_all qs x)).lines) k.place
