@@ -2,3 +2,5 @@ pub mod ScanLemmas
 pub mod Loop
 pub mod Said
 pub mod Found
+pub mod Pieced
+pub mod Names

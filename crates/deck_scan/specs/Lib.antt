@@ -3,3 +3,4 @@ pub mod Bytes
 pub mod Pieces
 pub mod Scan
 pub mod Reading
+pub mod Named

@@ -1,7 +1,7 @@
 //! Goes through the bytes once and keeps what stands open between two of them.
 //! It knows no statement; its lines are judged by the crates above.
-ghost use Rattle.std.specs.Prelude.{◌≡◌, ◌<◌, ◌+◌, ◌^◌, [], OnOk};
-ghost use Rattle.deck_scan.specs.Reading.{lines_or_fault};
+ghost use Rattle.std.specs.Prelude.{◌≡◌, ◌<◌, ◌≤◌, ◌+◌, ◌^◌, [], length, OnOk};
+ghost use Rattle.deck_scan.specs.Reading.{lines_or_fault, Answers};
 ghost use Rattle.deck_scan.specs.Gives.{Gives};
 ghost use Rattle.deck_scan.specs.Scan.{put, put_word, put_open, end_line, break_off, begin_word, begin, step_in, step, finish_in, start};
 
@@ -375,22 +375,11 @@ impl Scan {
     }
 }
 
-/// The lines of a deck that have a token, in order, with a line of its own for a comment that is
-/// not closed.
-///
-/// A deck of more than 1,048,576 bytes is `TooLong`, with line 0. A byte that no deck may have,
-/// which is each but blank to `~`, LF and a CR directly before an LF, is `BadByte`, with the line
-/// of the first one.
-#[tactic(auto, unfolding(crate::specs::Reading::lines_or_fault, crate::specs::Scan::lines_of))]
-pub fn lines(alloc: Global, text: &[u8]) -> Result<List<TokenLine>, ReadError>
-    ensures read { Gives result (lines_or_fault text.now) }
+/// The lines of a text that is not too long.
+fn scan_lines(alloc: Global, text: &[u8]) -> Result<List<TokenLine>, ReadError>
+    requires { length text.now ≤ MAX_TEXT }
+    ensures { Gives result (lines_or_fault text.now) }
 {
-    if text.len() > MAX_TEXT {
-        return Err(ReadError::Fault(DeckFault {
-            line: 0,
-            kind: Kind::TooLong,
-        }));
-    }
     let mut scan = Scan::new(alloc);
     let mut rest = text;
     while let Some((b, tail)) = rest.split_first() {
@@ -406,4 +395,25 @@ pub fn lines(alloc: Global, text: &[u8]) -> Result<List<TokenLine>, ReadError>
     scan.finish(alloc)?;
     scan.end_line(alloc)?;
     Ok(scan.lines)
+}
+
+/// The lines of a deck that have a token, in order, with a line of its own at the end for a comment
+/// that is not closed. It is told which lines the text spells, and also how they are read, for the
+/// layers above.
+///
+/// A deck of more than 1,048,576 bytes is `TooLong`, with line 0. A byte that no deck may have,
+/// which is each but blank to `~`, LF and a CR directly before an LF, is `BadByte`, with the line
+/// of the first one.
+#[tactic(auto, unfolding(crate::specs::Reading::lines_or_fault))]
+pub fn lines(alloc: Global, text: &[u8]) -> Result<List<TokenLine>, ReadError>
+    ensures exact { Answers result text.now }
+    ensures read { Gives result (lines_or_fault text.now) }
+{
+    if text.len() > MAX_TEXT {
+        return Err(ReadError::Fault(DeckFault {
+            line: 0,
+            kind: Kind::TooLong,
+        }));
+    }
+    scan_lines(alloc, text)
 }

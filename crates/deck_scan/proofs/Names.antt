@@ -1,0 +1,83 @@
+-- A printed name is read as its bytes.
+use Rattle.std.proofs.Common.{◌≡◌, ℕ, ◌+◌, ◌*◌, ◌/◌, ◌%◌, ◌<◌, Bool, true, false, cond, not, eqb, ltb, List, [], ◌∷◌, ◌++◌, None, refl, sym, ap, ◌∙◌, arith}
+use Rattle.std.specs.Prelude.{◌&&◌, ◌||◌}
+use Rattle.std.specs.List.{list_all}
+use Rattle.std.proofs.lemmas.Bool.{eqb-true, and_from, and_parts, ltb-true}
+use Rattle.std.proofs.lemmas.Bool.Decides.{nat_tests}
+use Rattle.std.proofs.lemmas.List.{append-nil}
+use Rattle.std.proofs.lemmas.List.Folds.{list_all-append}
+use Rattle.grs_base.specs.Printed.{is_plain_byte, is_printable, quotes_doubled, hex_digit, hex_digits, printed_name}
+use Rattle.deck_scan.specs.declared.token.TokenLine.{TokenLine}
+use Rattle.deck_scan.specs.declared.token.Token.TheVariants.{Word, Name}
+use Rattle.deck_scan.specs.Bytes.{is_allowed, bad_line, is_word, is_hex, digit}
+use Rattle.deck_scan.specs.Pieces.{Piece, Plain, Quoted, Hexed, spelling, spelled, is_nonempty, is_between_quotes, is_piece, is_hexed, unhex, hex_token, Place, past, first_place, next_line, with_token, with_word, without_cr, SpellsLines}
+use Rattle.deck_scan.specs.Named.{are_bytes, name_piece, name_token, past_name}
+
+-- ---- digits
+
+digit-hex : (n : ℕ) → n < 16 → is_hex (hex_digit n) ≡ true
+unfolding is_hex
+digit-hex n h = grind (arith, nat_tests)
+
+digit-hex_digit : (n : ℕ) → n < 16 → digit (hex_digit n) ≡ n
+unfolding digit
+digit-hex_digit n h = grind (arith, nat_tests)
+
+digit-between : (n : ℕ) → n < 16 → is_between_quotes (hex_digit n) ≡ true
+digit-between n h = grind (arith, nat_tests)
+
+two_digits : (b : ℕ) → b < 256 → 16 * digit (hex_digit (b / 16)) + digit (hex_digit (b % 16)) ≡ b
+two_digits b h = rw (digit-hex_digit (b / 16) (omega arith), digit-hex_digit (b % 16) (omega arith)) (omega arith)
+
+is_hexed-digits : (bs : List ℕ) → are_bytes bs ≡ true → is_hexed (hex_digits bs) ≡ true
+is_hexed-digits [] h = refl
+is_hexed-digits (b ∷ bs) h =
+    let k = and_parts (ltb b 256) (are_bytes bs) h in
+    let small : b < 256 = ltb-true b 256 k.0 in
+    rw (digit-hex (b / 16) (omega arith), digit-hex (b % 16) (omega arith)) (is_hexed-digits bs k.1)
+
+unhex-digits : (bs : List ℕ) → are_bytes bs ≡ true → unhex (hex_digits bs) ≡ bs
+unhex-digits [] h = refl
+unhex-digits (b ∷ bs) h =
+    let k = and_parts (ltb b 256) (are_bytes bs) h in
+    rw (two_digits b (ltb-true b 256 k.0), unhex-digits bs k.1) refl
+
+digits-between : (bs : List ℕ) → are_bytes bs ≡ true → list_all is_between_quotes (hex_digits bs) ≡ true
+digits-between [] h = refl
+digits-between (b ∷ bs) h =
+    let k = and_parts (ltb b 256) (are_bytes bs) h in
+    let small : b < 256 = ltb-true b 256 k.0 in
+    rw (digit-between (b / 16) (omega arith), digit-between (b % 16) (omega arith)) (digits-between bs k.1)
+
+words : (bs : List ℕ) → list_all is_plain_byte bs ≡ list_all is_word bs
+unfolding is_word
+words bs = refl
+
+-- ---- the piece
+
+pub piece-spelling : (bs : List ℕ) → spelling (name_piece bs) ≡ printed_name bs
+piece-spelling bs = go (list_all is_plain_byte bs) (list_all is_printable bs)
+  where
+    go : (x y : Bool) → spelling (cond x (Plain bs) (cond y (Quoted bs) (Hexed (hex_digits bs)))) ≡ cond x bs (cond y (39 ∷ (quotes_doubled bs ++ 39 ∷ [])) (88 ∷ 39 ∷ (hex_digits bs ++ 39 ∷ [])))
+    go true y = refl
+    go false true = refl
+    go false false = refl
+
+pub piece-is : (bs : List ℕ) → is_nonempty bs ≡ true → are_bytes bs ≡ true → is_piece (name_piece bs) ≡ true
+piece-is bs h bytes = go (list_all is_plain_byte bs) (list_all is_printable bs) refl refl
+  where
+    go : (x y : Bool) → list_all is_plain_byte bs ≡ x → list_all is_printable bs ≡ y → is_piece (cond x (Plain bs) (cond y (Quoted bs) (Hexed (hex_digits bs)))) ≡ true
+    go true y e f = and_from (is_nonempty bs) (list_all is_word bs) h (sym (words bs) ∙ e)
+    go false true e f = f
+    go false false e f = digits-between bs bytes
+
+pub piece-past : (bs : List ℕ) → are_bytes bs ≡ true → (p : Place) → past (name_piece bs) p ≡ past_name bs p
+piece-past bs bytes p = go (list_all is_plain_byte bs) (list_all is_printable bs)
+  where
+    hexed : hex_token (hex_digits bs) ≡ Name bs
+    hexed = rw (is_hexed-digits bs bytes, unhex-digits bs bytes) refl
+
+    go : (x y : Bool) → past (cond x (Plain bs) (cond y (Quoted bs) (Hexed (hex_digits bs)))) p ≡ cond x (with_word bs p) (with_token (Name bs) p)
+    go true y = refl
+    go false true = refl
+    go false false = ap (λ t. with_token t p) hexed
