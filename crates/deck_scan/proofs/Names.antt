@@ -11,7 +11,8 @@ use Rattle.deck_scan.specs.declared.token.TokenLine.{TokenLine}
 use Rattle.deck_scan.specs.declared.token.Token.TheVariants.{Word, Name}
 use Rattle.deck_scan.specs.Bytes.{is_allowed, bad_line, is_word, is_hex, digit}
 use Rattle.deck_scan.specs.Pieces.{Piece, Plain, Quoted, Hexed, spelling, spelled, is_nonempty, is_between_quotes, is_piece, is_hexed, unhex, hex_token, Place, past, first_place, next_line, with_token, with_word, without_cr, SpellsLines}
-use Rattle.deck_scan.specs.Named.{are_bytes, name_piece, name_token, past_name}
+use Rattle.deck_scan.specs.Named.{are_bytes, name_piece, name_token, name_line, past_name}
+use Rattle.deck_scan.proofs.Said.{test_not}
 
 -- ---- digits
 
@@ -81,3 +82,61 @@ piece-past bs bytes p = go (list_all is_plain_byte bs) (list_all is_printable bs
     go true y = refl
     go false true = refl
     go false false = ap (λ t. with_token t p) hexed
+
+-- ---- a printed name alone
+
+-- a text of printable bytes has no CR and no byte that isn't allowed
+printable-no_cr : (t : List ℕ) → list_all is_printable t ≡ true → without_cr t ≡ t
+printable-no_cr [] h = refl
+printable-no_cr (b ∷ bs) h =
+    let k = and_parts (is_printable b) (list_all is_printable bs) h in
+    rw (test_not is_printable b 13 k.0 refl) (ap (λ (t : List ℕ). b ∷ t) (printable-no_cr bs k.1))
+
+printable-allowed : (t : List ℕ) (n : ℕ) → list_all is_printable t ≡ true → bad_line n t ≡ None
+unfolding bad_line is_allowed
+printable-allowed [] n h = refl
+printable-allowed (b ∷ bs) n h =
+    let k = and_parts (is_printable b) (list_all is_printable bs) h in
+    rw (k.0, test_not is_printable b 10 k.0 refl) (printable-allowed bs n k.1)
+
+plain_printable : (b : ℕ) → is_plain_byte b ≡ true → is_printable b ≡ true
+plain_printable b h = grind (arith, nat_tests, h)
+
+all_kept : (p q : ℕ → Bool) → ((b : ℕ) → p b ≡ true → q b ≡ true) → (bs : List ℕ) → list_all p bs ≡ true → list_all q bs ≡ true
+all_kept p q f [] h = refl
+all_kept p q f (b ∷ bs) h = let k = and_parts (p b) (list_all p bs) h in and_from (q b) (list_all q bs) (f b k.0) (all_kept p q f bs k.1)
+
+doubled_printable : (bs : List ℕ) → list_all is_printable bs ≡ true → list_all is_printable (quotes_doubled bs) ≡ true
+doubled_printable [] h = refl
+doubled_printable (b ∷ bs) h = let k = and_parts (is_printable b) (list_all is_printable bs) h in go (eqb b 39) k.0 (doubled_printable bs k.1)
+  where
+    go : (x : Bool) → is_printable b ≡ true → list_all is_printable (quotes_doubled bs) ≡ true → list_all is_printable (cond x (39 ∷ 39 ∷ quotes_doubled bs) (b ∷ quotes_doubled bs)) ≡ true
+    go true e f = f
+    go false e f = and_from (is_printable b) (list_all is_printable (quotes_doubled bs)) e f
+
+closed_printable : (bs : List ℕ) → list_all is_printable bs ≡ true → list_all is_printable (bs ++ 39 ∷ []) ≡ true
+closed_printable bs h = list_all-append is_printable bs (39 ∷ []) ∙ rw h refl
+
+printed-printable : (bs : List ℕ) → are_bytes bs ≡ true → list_all is_printable (printed_name bs) ≡ true
+printed-printable bs bytes = go (list_all is_plain_byte bs) (list_all is_printable bs) refl refl
+  where
+    go : (x y : Bool) → list_all is_plain_byte bs ≡ x → list_all is_printable bs ≡ y → list_all is_printable (cond x bs (cond y (39 ∷ (quotes_doubled bs ++ 39 ∷ [])) (88 ∷ 39 ∷ (hex_digits bs ++ 39 ∷ [])))) ≡ true
+    go true y e f = all_kept is_plain_byte is_printable plain_printable bs e
+    go false true e f = closed_printable (quotes_doubled bs) (doubled_printable bs f)
+    go false false e f = closed_printable (hex_digits bs) (all_kept is_between_quotes is_printable (λ b h. (and_parts (is_printable b) (not (eqb b 39)) h).0) (hex_digits bs) (digits-between bs bytes))
+
+-- A text that is one printed name spells one line of that name.
+pub printed_spells : (bs : List ℕ) → is_nonempty bs ≡ true → are_bytes bs ≡ true → SpellsLines (printed_name bs) (name_line bs ∷ [])
+printed_spells bs h bytes =
+    let printable = printed-printable bs bytes in
+    record {
+      allowed = printable-allowed (printed_name bs) 1 printable;
+      pieces = name_piece bs ∷ [];
+      spells = printable-no_cr (printed_name bs) printable ∙ sym (piece-spelling bs) ∙ sym (append-nil (spelling (name_piece bs)));
+      are = and_from (is_piece (name_piece bs)) true (piece-is bs h bytes) refl;
+      says = says (list_all is_plain_byte bs) ∙ sym (ap (λ (p : Place). (next_line p).lines) (piece-past bs bytes first_place));
+    }
+  where
+    says : (x : Bool) → record { at = 1; tokens = cond x (Word bs) (Name bs) ∷ []; joined = false } ∷ [] ≡ (next_line (cond x (with_word bs first_place) (with_token (Name bs) first_place))).lines
+    says true = refl
+    says false = refl

@@ -3,8 +3,10 @@
 #![tactic(auto)]
 
 mod bytes;
+mod laws;
 mod scan;
 mod token;
 
+pub use laws::{printed_names, spelled_lines};
 pub use scan::lines;
 pub use token::{Token, TokenLine};
