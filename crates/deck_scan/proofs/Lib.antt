@@ -4,3 +4,4 @@ pub mod Said
 pub mod Found
 pub mod Pieced
 pub mod Names
+pub mod Samples

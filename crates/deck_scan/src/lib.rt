@@ -10,3 +10,6 @@ mod token;
 pub use laws::{printed_names, spelled_lines};
 pub use scan::lines;
 pub use token::{Token, TokenLine};
+
+#[cfg(test)]
+mod tests;
