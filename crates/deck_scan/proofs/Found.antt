@@ -1,14 +1,13 @@
 -- Pieces spell each text of bytes that a deck may have.
-use Rattle.std.proofs.Common.{◌≡◌, inl, inr, ◌⊎◌, ℕ, Bool, true, false, not, eqb, List, [], ◌∷◌, ◌++◌, refl, sym, ap, subst, ◌∙◌, append_assoc, arith}
+use Rattle.std.proofs.Common.{◌≡◌, inl, inr, ◌⊎◌, ℕ, Bool, true, false, eqb, List, [], ◌∷◌, ◌++◌, refl, sym, ap, subst, ◌∙◌, append_assoc, arith}
 use Rattle.std.specs.Prelude.{◌&&◌, ◌||◌}
 use Rattle.std.specs.List.{list_all}
-use Rattle.std.specs.Str.{bytes_eq}
 use Rattle.std.proofs.lemmas.Bool.{eqb-true, and_from, and_parts}
 use Rattle.grs_base.specs.Printed.{is_printable, quotes_doubled}
 use Rattle.deck_scan.specs.declared.token.Token.{Token}
 use Rattle.deck_scan.specs.declared.token.Token.TheVariants.{Open, Close, Comma, Equals}
 use Rattle.deck_scan.specs.Bytes.{begins, is_word}
-use Rattle.deck_scan.specs.Pieces.{Piece, Plain, Quoted, Hexed, Sign, Blank, Comment, LineEnd, LoneSlash, StrayByte, OpenQuote, OpenHexed, OpenComment, sign, spelled, has_no_end, is_in_comment, is_between_quotes, is_sign, is_mark, is_piece, followed_by, are_pieces}
+use Rattle.deck_scan.specs.Pieces.{Piece, Plain, Quoted, Hexed, Sign, Blank, Comment, LineEnd, LoneSlash, StrayByte, OpenQuote, OpenHexed, OpenComment, sign, spelled, has_no_end, is_in_comment, is_between_quotes, is_sign, is_piece, followed_by, are_pieces}
 
 by_test : {A : Type 0} (x : Bool) → (x ≡ true → A) → (x ≡ false → A) → A
 by_test true p q = p refl
@@ -283,8 +282,8 @@ module _ (b : ℕ) (bs : List ℕ) (ok : is_in_comment b ≡ true) (here : Any b
       by_test (eqb b 10) (λ e. record { n = []; tail = b ∷ bs; is = refl; every = refl; ends = inr (breaks e) })
       (λ not_10. by_test (eqb b 39)
       (λ e. at Quotes 39 e (by_head (λ t. Quotes (39 ∷ t)) 39 bs later
-          (λ t k. record { n = 39 ∷ k.quotes.n; tail = k.quotes.tail; is = ap (λ (u : List ℕ). 39 ∷ 39 ∷ u) k.quotes.is; every = k.quotes.every; ends = k.quotes.ends })
-          (λ other. record { n = []; tail = 39 ∷ bs; is = refl; every = refl; ends = inl (record { ps = here.blanks.ps; is = ap (λ (u : List ℕ). 39 ∷ u) here.blanks.is; behind = subst (λ (t : List ℕ). begins 39 t ≡ false) here.blanks.is other; are = here.blanks.are }) })))
+      (λ t k. record { n = 39 ∷ k.quotes.n; tail = k.quotes.tail; is = ap (λ (u : List ℕ). 39 ∷ 39 ∷ u) k.quotes.is; every = k.quotes.every; ends = k.quotes.ends })
+      (λ other. record { n = []; tail = 39 ∷ bs; is = refl; every = refl; ends = inl (record { ps = here.blanks.ps; is = ap (λ (u : List ℕ). 39 ∷ u) here.blanks.is; behind = subst (λ (t : List ℕ). begins 39 t ≡ false) here.blanks.is other; are = here.blanks.are }) })))
       (λ other. let k = here.quotes in record {
         n = b ∷ k.n;
         tail = k.tail;
@@ -310,15 +309,15 @@ module _ (b : ℕ) (bs : List ℕ) (ok : is_in_comment b ≡ true) (here : Any b
   comments_more =
       by_test (eqb b 42)
       (λ e. at Comments 42 e (by_head (λ t. Comments (42 ∷ t)) 47 bs later
-          (λ t k. record { c = []; tail = 42 ∷ 47 ∷ t; is = refl; no_end = refl; every = refl; ends = inl (record { ps = k.blanks.ps; is = ap (λ (u : List ℕ). 42 ∷ 47 ∷ u) k.blanks.is; are = k.blanks.are }) })
-          (λ other. let k = here.comments in record {
-            c = 42 ∷ k.c;
-            tail = k.tail;
-            is = ap (λ (u : List ℕ). 42 ∷ u) k.is;
-            no_end = rw (begins_front k.c k.tail (subst (λ (u : List ℕ). begins 47 u ≡ false) k.is other)) k.no_end;
-            every = k.every;
-            ends = k.ends;
-          })))
+      (λ t k. record { c = []; tail = 42 ∷ 47 ∷ t; is = refl; no_end = refl; every = refl; ends = inl (record { ps = k.blanks.ps; is = ap (λ (u : List ℕ). 42 ∷ 47 ∷ u) k.blanks.is; are = k.blanks.are }) })
+      (λ other. let k = here.comments in record {
+        c = 42 ∷ k.c;
+        tail = k.tail;
+        is = ap (λ (u : List ℕ). 42 ∷ u) k.is;
+        no_end = rw (begins_front k.c k.tail (subst (λ (u : List ℕ). begins 47 u ≡ false) k.is other)) k.no_end;
+        every = k.every;
+        ends = k.ends;
+      })))
       (λ other. let k = here.comments in record {
         c = b ∷ k.c;
         tail = k.tail;

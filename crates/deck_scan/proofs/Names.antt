@@ -1,17 +1,15 @@
 -- A printed name is read as its bytes.
 use Rattle.std.proofs.Common.{◌≡◌, ℕ, ◌+◌, ◌*◌, ◌/◌, ◌%◌, ◌<◌, Bool, true, false, cond, not, eqb, ltb, List, [], ◌∷◌, ◌++◌, None, refl, sym, ap, ◌∙◌, arith}
-use Rattle.std.specs.Prelude.{◌&&◌, ◌||◌}
 use Rattle.std.specs.List.{list_all}
-use Rattle.std.proofs.lemmas.Bool.{eqb-true, and_from, and_parts, ltb-true}
+use Rattle.std.proofs.lemmas.Bool.{and_from, and_parts, ltb-true}
 use Rattle.std.proofs.lemmas.Bool.Decides.{nat_tests}
 use Rattle.std.proofs.lemmas.List.{append-nil}
 use Rattle.std.proofs.lemmas.List.Folds.{list_all-append}
 use Rattle.grs_base.specs.Printed.{is_plain_byte, is_printable, quotes_doubled, hex_digit, hex_digits, printed_name}
-use Rattle.deck_scan.specs.declared.token.TokenLine.{TokenLine}
 use Rattle.deck_scan.specs.declared.token.Token.TheVariants.{Word, Name}
 use Rattle.deck_scan.specs.Bytes.{is_allowed, bad_line, is_word, is_hex, digit}
-use Rattle.deck_scan.specs.Pieces.{Piece, Plain, Quoted, Hexed, spelling, spelled, is_nonempty, is_between_quotes, is_piece, is_hexed, unhex, hex_token, Place, past, first_place, next_line, with_token, with_word, without_cr, SpellsLines}
-use Rattle.deck_scan.specs.Named.{are_bytes, name_piece, name_token, name_line, past_name}
+use Rattle.deck_scan.specs.Pieces.{Plain, Quoted, Hexed, spelling, is_nonempty, is_between_quotes, is_piece, is_hexed, unhex, hex_token, Place, past, first_place, next_line, with_token, with_word, without_cr, SpellsLines}
+use Rattle.deck_scan.specs.Named.{are_bytes, name_piece, name_line, past_name}
 use Rattle.deck_scan.proofs.Said.{test_not}
 
 -- ---- digits

@@ -12,7 +12,7 @@ use Rattle.deck_scan.specs.declared.token.TokenLine.{TokenLine}
 use Rattle.deck_scan.specs.declared.scan.Scan.{Scan}
 use Rattle.deck_scan.specs.Bytes.{begins, is_allowed, bad_line}
 use Rattle.deck_scan.specs.Scan.{step, scan_from, start, lines_of}
-use Rattle.deck_scan.specs.Pieces.{Piece, Blank, is_in_comment, followed_by, spelled, without_cr, SpellsLines}
+use Rattle.deck_scan.specs.Pieces.{Blank, is_in_comment, followed_by, spelled, without_cr, SpellsLines}
 use Rattle.deck_scan.specs.Gives.{Gives}
 use Rattle.deck_scan.specs.Reading.{max_text, bad_byte, byte_fault, Answers, unless_fault, lines_or_fault}
 use Rattle.deck_scan.proofs.Said.{at_end, all_run}

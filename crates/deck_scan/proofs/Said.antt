@@ -2,7 +2,6 @@
 use Rattle.std.proofs.Common.{◌≡◌, ℕ, ◌+◌, ◌*◌, Bool, true, false, cond, not, eqb, List, [], ◌∷◌, ◌++◌, length, refl, sym, ap, subst, ◌∙◌, append_assoc, arith}
 use Rattle.std.specs.Prelude.{◌&&◌, ◌||◌}
 use Rattle.std.specs.List.{list_all}
-use Rattle.std.specs.Str.{bytes_eq}
 use Rattle.std.proofs.lemmas.Bool.{eqb-true, ne_eqb, and_parts}
 use Rattle.std.proofs.lemmas.List.{append-nil}
 use Rattle.grs_base.specs.Printed.{is_printable, quotes_doubled}
@@ -14,7 +13,7 @@ use Rattle.deck_scan.specs.declared.scan.Mode.{Mode}
 use Rattle.deck_scan.specs.declared.scan.Mode.TheVariants.{InBlank, AfterSlash, InWord, InQuote, AfterQuote, InHex, InHexLow, InBadHex, InComment, AfterStar}
 use Rattle.deck_scan.specs.Bytes.{begins, is_word, is_hex, digit}
 use Rattle.deck_scan.specs.Scan.{put, put_word, put_open, end_line, break_off, begin_word, begin, step_in, step, scan_from, finish_in, is_x}
-use Rattle.deck_scan.specs.Pieces.{Piece, Plain, Quoted, Hexed, Sign, Blank, Comment, LineEnd, LoneSlash, StrayByte, OpenQuote, OpenHexed, OpenComment, sign, spelling, spelled, has_no_end, is_in_comment, is_between_quotes, is_sign, is_mark, is_piece, may_follow, followed_by, are_pieces, is_hexed, unhex, hex_token, Place, next_line, apart, with_token, over, past, past_all}
+use Rattle.deck_scan.specs.Pieces.{Piece, Plain, Quoted, Hexed, Sign, Blank, Comment, LineEnd, LoneSlash, StrayByte, OpenQuote, OpenHexed, OpenComment, spelling, spelled, has_no_end, is_in_comment, is_between_quotes, is_sign, is_mark, is_piece, may_follow, followed_by, are_pieces, is_hexed, unhex, hex_token, Place, next_line, apart, with_token, over, past, past_all}
 
 -- ---- tests
 

@@ -76,18 +76,18 @@ pieces :
     × SpellsLines (codes "A/;'B" ++ 10 ∷ codes "X'1'X'2" ++ 10 ∷ codes "/* C") (line 1 (Word (codes "A") ∷ Stray ∷ Stray ∷ Stray ∷ []) true ∷ line 2 (Stray ∷ Stray ∷ []) false ∷ line 3 (Unclosed ∷ []) false ∷ [])
 unfolding is_word is_hex digit is_allowed bad_line
 pieces = (
-    record {
-      allowed = refl;
-      pieces = Plain (codes "Q") ∷ Blank ∷ Sign Open ∷ Quoted (codes "A'B") ∷ Sign Comma ∷ Hexed (codes "4a") ∷ Sign Close ∷ LineEnd ∷ Comment (codes " c ") ∷ Blank ∷ Plain (codes "D") ∷ [];
-      spells = refl;
-      are = refl;
-      says = refl;
-    },
-    record {
-      allowed = refl;
-      pieces = Plain (codes "A") ∷ LoneSlash ∷ StrayByte 59 ∷ OpenQuote (codes "B") ∷ LineEnd ∷ Hexed (codes "1") ∷ OpenHexed (codes "2") ∷ LineEnd ∷ OpenComment (codes " C") ∷ [];
-      spells = refl;
-      are = refl;
-      says = refl;
-    }
+  record {
+    allowed = refl;
+    pieces = Plain (codes "Q") ∷ Blank ∷ Sign Open ∷ Quoted (codes "A'B") ∷ Sign Comma ∷ Hexed (codes "4a") ∷ Sign Close ∷ LineEnd ∷ Comment (codes " c ") ∷ Blank ∷ Plain (codes "D") ∷ [];
+    spells = refl;
+    are = refl;
+    says = refl;
+  },
+  record {
+    allowed = refl;
+    pieces = Plain (codes "A") ∷ LoneSlash ∷ StrayByte 59 ∷ OpenQuote (codes "B") ∷ LineEnd ∷ Hexed (codes "1") ∷ OpenHexed (codes "2") ∷ LineEnd ∷ OpenComment (codes " C") ∷ [];
+    spells = refl;
+    are = refl;
+    says = refl;
+  },
 )

@@ -1,5 +1,5 @@
 -- Kinds of bytes, and the first byte that a deck may not have.
-use Rattle.std.specs.Prelude.{ℕ, Bool, true, false, ◌||◌, ◌&&◌, ◌==◌, ◌+◌, ◌-◌, List, [], ◌∷◌, Option, Some, None, if◌then◌else◌}
+use Rattle.std.specs.Prelude.{ℕ, Bool, false, ◌||◌, ◌&&◌, ◌==◌, ◌+◌, ◌-◌, List, [], ◌∷◌, Option, Some, None, if◌then◌else◌}
 use Rattle.grs_base.specs.Printed.{is_between, is_plain_byte, is_printable}
 
 -- A byte of a plain name: a letter of either case, a digit, or one of $ # @ . _ - * ?

@@ -14,8 +14,7 @@ pub fn spelled_lines()
     ensures read { (text : List ℕ) (lines : List Line) → SpellsLines text lines → lines_of text ≡ lines }
     ensures spells { (text : List ℕ) → bad_line 1 text ≡ None → SpellsLines text (lines_of text) }
     ensures one { (text : List ℕ) (a b : List Line) → SpellsLines text a → SpellsLines text b → a ≡ b }
-{
-}
+{}
 
 /// What prints a name of at least one byte is one piece, which says a token of the same bytes: a
 /// word where all are plain, else a name. Alone it is one line of that token.
@@ -24,5 +23,4 @@ pub fn printed_names()
     ensures piece { (bytes : List ℕ) → is_nonempty bytes ≡ true → are_bytes bytes ≡ true → is_piece (name_piece bytes) ≡ true }
     ensures says { (bytes : List ℕ) → are_bytes bytes ≡ true → (place : Place) → past (name_piece bytes) place ≡ past_name bytes place }
     ensures alone { (bytes : List ℕ) → is_nonempty bytes ≡ true → are_bytes bytes ≡ true → SpellsLines (printed_name bytes) (name_line bytes ∷ []) }
-{
-}
+{}

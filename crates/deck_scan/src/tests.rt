@@ -56,9 +56,18 @@ fn fault(alloc: Global, text: &[u8]) -> Option<(u32, Kind)> {
 fn reads_lines(rt: HostRuntime) -> Result<(), Fail> {
     let cases: [(&[u8], &[u8]); 6] = [
         (b"", b""),
-        (b"SYSTEM SYA\r\n\n/* two\nlines */ENQ (A,'it''s',X'4a')=", b"1 SYSTEM SYA;4 ENQ ( A , 'it's' , 'J' ) =;"),
-        (b"SYSTEM,SYA\nSYSTEM ,SYA", b"1+ SYSTEM , SYA;2 SYSTEM , SYA;"),
-        (b"'a /* b\nX'123' X'4G' X'41\nA /B;", b"1 !;2 ! ! !;3 A ! B !;"),
+        (
+            b"SYSTEM SYA\r\n\n/* two\nlines */ENQ (A,'it''s',X'4a')=",
+            b"1 SYSTEM SYA;4 ENQ ( A , 'it's' , 'J' ) =;",
+        ),
+        (
+            b"SYSTEM,SYA\nSYSTEM ,SYA",
+            b"1+ SYSTEM , SYA;2 SYSTEM , SYA;",
+        ),
+        (
+            b"'a /* b\nX'123' X'4G' X'41\nA /B;",
+            b"1 !;2 ! ! !;3 A ! B !;",
+        ),
         (b"JOB J /* open\nTASK", b"1 JOB J;1 ~;"),
         (b"/*/", b"1 ~;"),
     ];
