@@ -5,3 +5,4 @@ pub mod Found
 pub mod Pieced
 pub mod Names
 pub mod Samples
+pub mod BadBytes

@@ -1,9 +1,9 @@
 //! Laws of the grammar of lines: the relation between texts and lines is total and single-valued on
 //! the texts that a deck may have, and what prints a name spells it.
-ghost use Rattle.std.specs.Prelude.{◌≡◌, ℕ, List, [], ◌∷◌, None, true};
+ghost use Rattle.std.specs.Prelude.{◌≡◌, ℕ, List, [], ◌∷◌, Some, None, true};
 ghost use Rattle.grs_base.specs.Printed.{printed_name};
 ghost use Rattle.deck_scan.specs.declared.token.TokenLine.{TokenLine as Line};
-ghost use Rattle.deck_scan.specs.Bytes.{bad_line};
+ghost use Rattle.deck_scan.specs.Bytes.{bad_line, are_allowed, IsFirstBad};
 ghost use Rattle.deck_scan.specs.Scan.{lines_of};
 ghost use Rattle.deck_scan.specs.Pieces.{SpellsLines, Place, spelling, is_piece, is_nonempty, past};
 ghost use Rattle.deck_scan.specs.Named.{are_bytes, name_piece, name_line, past_name};
@@ -14,6 +14,15 @@ pub fn spelled_lines()
     ensures read { (text : List ℕ) (lines : List Line) → SpellsLines text lines → lines_of text ≡ lines }
     ensures spells { (text : List ℕ) → bad_line 1 text ≡ None → SpellsLines text (lines_of text) }
     ensures one { (text : List ℕ) (a b : List Line) → SpellsLines text a → SpellsLines text b → a ≡ b }
+{}
+
+/// The fault of bytes is told with the line of the first byte that a deck may not have, and exactly
+/// where there is one.
+pub fn bad_bytes()
+    ensures first { (text : List ℕ) (line : ℕ) → bad_line 1 text ≡ Some line → IsFirstBad 1 text line }
+    ensures only { (text : List ℕ) (line : ℕ) → IsFirstBad 1 text line → bad_line 1 text ≡ Some line }
+    ensures none { (text : List ℕ) → bad_line 1 text ≡ None → are_allowed text [] ≡ true }
+    ensures good { (text : List ℕ) → are_allowed text [] ≡ true → bad_line 1 text ≡ None }
 {}
 
 /// What prints a name of at least one byte is one piece, which says a token of the same bytes: a

@@ -7,7 +7,7 @@ mod laws;
 mod scan;
 mod token;
 
-pub use laws::{printed_names, spelled_lines};
+pub use laws::{bad_bytes, printed_names, spelled_lines};
 pub use scan::lines;
 pub use token::{Token, TokenLine};
 

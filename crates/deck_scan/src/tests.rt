@@ -1,5 +1,5 @@
 //! The public calls on their happy paths, and the faults.
-use crate::{Token, TokenLine, lines, printed_names, spelled_lines};
+use crate::{Token, TokenLine, bad_bytes, lines, printed_names, spelled_lines};
 use grs_base::{Kind, List, NoMemory, ReadError};
 use std::alloc::Global;
 use std::test::Fail;
@@ -79,6 +79,7 @@ fn reads_lines(rt: HostRuntime) -> Result<(), Fail> {
     assert_eq!(rt; fault(rt.alloc(), b"A\rB"), Some((1, Kind::BadByte)));
     assert_eq!(rt; fault(rt.alloc(), b"A\r\nB"), None);
     spelled_lines();
+    bad_bytes();
     printed_names();
     Ok(())
 }
