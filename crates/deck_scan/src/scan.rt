@@ -398,12 +398,12 @@ fn scan_lines(alloc: Global, text: &[u8]) -> Result<List<TokenLine>, ReadError>
 }
 
 /// The lines of a deck that have a token, in order, with a line of its own at the end for a comment
-/// that is not closed. It is told which lines the text spells, and also how they are read, for the
-/// layers above.
+/// that is not closed. The clause `exact` says by the grammar which lines these are, and `read` says
+/// it by the function on lists on which the layers above are built.
 ///
 /// A deck of more than 1,048,576 bytes is `TooLong`, with line 0. A byte that no deck may have,
 /// which is each but blank to `~`, LF and a CR directly before an LF, is `BadByte`, with the line
-/// of the first one.
+/// of the first one. Want of memory is `NoMemory`.
 #[tactic(auto, unfolding(crate::specs::Reading::lines_or_fault))]
 pub fn lines(alloc: Global, text: &[u8]) -> Result<List<TokenLine>, ReadError>
     ensures exact { Answers result text.now }
