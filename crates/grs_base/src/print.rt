@@ -7,13 +7,15 @@ use super::NoMemory;
 use super::list::List;
 use std::alloc::Global;
 
-fn is_plain_byte(b: u8) -> bool
+/// Whether a byte may stand in a plain name: a letter, a digit or one of `$ # @ . _ - * ?`.
+pub fn is_plain_byte(b: u8) -> bool
     ensures { result ≡ is_plain_byte b }
 {
     b.is_ascii_alphanumeric() || matches!(b, b'$' | b'#' | b'@' | b'.' | b'_' | b'-' | b'*' | b'?')
 }
 
-fn is_printable(b: u8) -> bool
+/// Whether a byte is one from blank to `~`.
+pub fn is_printable(b: u8) -> bool
     ensures { result ≡ is_printable b }
 {
     32 <= b && b <= 126

@@ -1,0 +1,6 @@
+pub mod Gives
+pub mod Bytes
+pub mod Pieces
+pub mod Scan
+pub mod Reading
+pub mod Named

@@ -1,0 +1,15 @@
+//! From the bytes of a deck to its lines of tokens, by one pass over the bytes.
+//! It knows what a token is, and nothing of what a statement is made of.
+#![tactic(auto)]
+
+mod bytes;
+mod laws;
+mod scan;
+mod token;
+
+pub use laws::{bad_bytes, printed_names, spelled_lines};
+pub use scan::lines;
+pub use token::{Token, TokenLine};
+
+#[cfg(test)]
+mod tests;
