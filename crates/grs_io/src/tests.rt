@@ -15,12 +15,42 @@ struct Case {
 }
 
 const CASES: [Case; 6] = [
-    Case { fails: 0, limit: 5, read: Some(5), written: (5, true) },
-    Case { fails: 0, limit: 3, read: Some(4), written: (5, true) },
-    Case { fails: 1, limit: 5, read: None, written: (0, false) },
-    Case { fails: 3, limit: 5, read: None, written: (4, false) },
-    Case { fails: 4, limit: 5, read: None, written: (5, true) },
-    Case { fails: 5, limit: 5, read: Some(5), written: (5, true) },
+    Case {
+        fails: 0,
+        limit: 5,
+        read: Some(5),
+        written: (5, true),
+    },
+    Case {
+        fails: 0,
+        limit: 3,
+        read: Some(4),
+        written: (5, true),
+    },
+    Case {
+        fails: 1,
+        limit: 5,
+        read: None,
+        written: (0, false),
+    },
+    Case {
+        fails: 3,
+        limit: 5,
+        read: None,
+        written: (4, false),
+    },
+    Case {
+        fails: 4,
+        limit: 5,
+        read: None,
+        written: (5, true),
+    },
+    Case {
+        fails: 5,
+        limit: 5,
+        read: Some(5),
+        written: (5, true),
+    },
 ];
 
 fn call_list(alloc: Global, call: u64) -> Result<List<u64>, NoMemory> {
@@ -48,7 +78,11 @@ fn written_of(alloc: Global, case: &Case) -> Result<(usize, bool), NoMemory> {
 fn sure_of(alloc: Global) -> Result<Option<usize>, NoMemory> {
     let mut source = SureSource::new(List::from_bytes(alloc, b"hello")?);
     match read_all(alloc, &mut source, 5) {
-        Ok(text) => Ok(write_all(&mut SureSink::new(), text.as_slice()).ok().map(|()| text.len())),
+        Ok(text) => Ok(
+            write_all(&mut SureSink::new(), text.as_slice())
+                .ok()
+                .map(|()| text.len()),
+        ),
         Err(_) => Ok(None),
     }
 }
