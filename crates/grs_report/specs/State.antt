@@ -21,12 +21,22 @@ unfoldable pub units_text : Names → List (SysId × ℕ × ℕ) → List ℕ
 units_text names units = line (codes "UNITS" ∷ []) ++ flat_map (unit_line names) units
 
 -- the name of a lock word's manager, whose number plus one this is
-abbrev pub manager_word : Names → ℕ → List ℕ
+unfoldable pub manager_word : Names → ℕ → List ℕ
 manager_word names m = if m == 0 then codes "NONE" else name_at names.systems (m - 1)
 
--- the lock word of an entry: eight bits of mask, four of manager, four of epoch
+-- the parts of a lock word: eight bits of mask, four of manager, four of epoch
+unfoldable pub mask_of : ℕ → ℕ
+mask_of w = w % 256
+
+unfoldable pub manager_of : ℕ → ℕ
+manager_of w = (w / 256) % 16
+
+unfoldable pub epoch_of : ℕ → ℕ
+epoch_of w = (w / 4096) % 16
+
+-- the lock word of an entry
 unfoldable pub word_line : Names → ℕ → ℕ → List ℕ
-word_line names e w = line (codes "W" ∷ decimal e ∷ codes "MASK" ∷ decimal (w % 256) ∷ codes "MANAGER" ∷ manager_word names ((w / 256) % 16) ∷ codes "EPOCH" ∷ decimal ((w / 4096) % 16) ∷ [])
+word_line names e w = line (codes "W" ∷ decimal e ∷ codes "MASK" ∷ decimal (mask_of w) ∷ codes "MANAGER" ∷ manager_word names (manager_of w) ∷ codes "EPOCH" ∷ decimal (epoch_of w) ∷ [])
 
 -- the words that aren't 0, of which the first is of this entry
 abbrev pub word_lines : Names → ℕ → List ℕ → List ℕ

@@ -2,7 +2,7 @@
 ghost use Rattle.std.specs.Prelude.{◌≡◌, ◌++◌, OnOk, IfOk};
 ghost use Rattle.std.specs.List.{flat_map};
 ghost use Rattle.grs_report.specs.Rows.{row_line};
-ghost use Rattle.grs_report.specs.State.{queues_text, unit_line, units_text, manager_word, word_line, word_lines, words_text, mode_line};
+ghost use Rattle.grs_report.specs.State.{queues_text, unit_line, units_text, mask_of, manager_of, epoch_of, manager_word, word_line, word_lines, words_text, mode_line};
 
 use super::lines::{number, put_line};
 use super::names::name_at;
@@ -79,6 +79,7 @@ pub(crate) fn put_units(
 }
 
 /// The name of a lock word's manager, whose number plus one is given.
+#[tactic(auto, unfolding(crate::specs::State::manager_word))]
 fn manager_word(names: &Names, manager: u32) -> &[u8]
     ensures { result.now ≡ manager_word names.now manager }
 {
@@ -87,6 +88,30 @@ fn manager_word(names: &Names, manager: u32) -> &[u8]
     } else {
         name_at(&names.systems, (manager - 1) as usize)
     }
+}
+
+/// The set of interested systems in a lock word.
+#[tactic(auto, unfolding(crate::specs::State::mask_of))]
+fn mask_of(word: u32) -> u64
+    ensures { result ≡ mask_of word }
+{
+    u64::from(word % 256)
+}
+
+/// The number of a lock word's manager plus one, 0 where it has none.
+#[tactic(auto, unfolding(crate::specs::State::manager_of))]
+fn manager_of(word: u32) -> u32
+    ensures { result ≡ manager_of word }
+{
+    (word / 256) % 16
+}
+
+/// The epoch of a lock word.
+#[tactic(auto, unfolding(crate::specs::State::epoch_of))]
+fn epoch_of(word: u32) -> u64
+    ensures { result ≡ epoch_of word }
+{
+    u64::from((word / 4096) % 16)
 }
 
 /// Puts a lock word behind a text.
@@ -101,9 +126,9 @@ fn put_lock_word(
     ensures { OnOk result (out.new ≡ out.old ++ word_line names.now entry word) }
 {
     let entry = number(alloc, entry)?;
-    let mask = number(alloc, u64::from(word % 256))?;
-    let manager = manager_word(names, (word / 256) % 16);
-    let epoch = number(alloc, u64::from((word / 4096) % 16))?;
+    let mask = number(alloc, mask_of(word))?;
+    let manager = manager_word(names, manager_of(word));
+    let epoch = number(alloc, epoch_of(word))?;
     put_line(
         out,
         &[
