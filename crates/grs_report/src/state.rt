@@ -115,7 +115,7 @@ fn epoch_of(word: u32) -> u64
 }
 
 /// Puts a lock word behind a text.
-#[tactic(auto, unfolding(crate::specs::State::word_line))]
+#[tactic(auto, unfolding(crate::specs::State::word_line, crate::specs::Lines::line))]
 fn put_lock_word(
     alloc: Global,
     names: &Names,
