@@ -1,15 +1,12 @@
 -- Worked reports, computed from the definitions.
-use Rattle.std.proofs.Common.{◌≡◌, ℕ, Bool, true, false, List, [], ◌∷◌, ◌++◌, refl}
+use Rattle.std.proofs.Common.{◌≡◌, ℕ, true, false, List, [], ◌∷◌, ◌++◌, refl}
 use Rattle.std.specs.Prelude.{codes}
 use Rattle.std.specs.Fmt.{digits}
-use Rattle.std.specs.List.{flat_map}
 use Rattle.grs_base.specs.declared.resource.TaskId.{TaskId}
 use Rattle.grs_base.specs.declared.resource.SysId.{SysId}
 use Rattle.grs_base.specs.declared.resource.Res.{Res}
 use Rattle.grs_base.specs.declared.resource.Res.TheVariants as kinds
 use Rattle.grs_base.specs.declared.resource.Elem.{Elem}
-use Rattle.grs_base.specs.declared.resource.Row.{Row}
-use Rattle.grs_base.specs.declared.resource.Ctl.{Ctl}
 use Rattle.grs_base.specs.declared.resource.Ctl.TheVariants.{E, S}
 use Rattle.grs_base.specs.declared.resource.Ret.TheVariants as rets
 use Rattle.grs_base.specs.declared.decision.Code.{Code}
@@ -19,12 +16,10 @@ use Rattle.grs_wire.specs.declared.deck.SystemDef.{SystemDef}
 use Rattle.grs_wire.specs.declared.deck.JobDef.{JobDef}
 use Rattle.grs_wire.specs.declared.deck.TaskDef.{TaskDef}
 use Rattle.grs_wire.specs.declared.deck.Event.{Event}
-use Rattle.grs_wire.specs.declared.deck.Choice.{Choice}
 use Rattle.grs_wire.specs.declared.deck.Choice.TheVariants as choices
 use Rattle.grs_wire.specs.declared.history.HistEntry.{HistEntry}
 use Rattle.grs_wire.specs.declared.history.HistEntry.TheVariants as entries
 use Rattle.grs_wire.specs.declared.told.Told.{Told}
-use Rattle.grs_wire.specs.declared.told.ToldLine.{ToldLine}
 use Rattle.grs_wire.specs.declared.told.ToldLine.TheVariants as lines
 use Rattle.grs_wire.specs.declared.told.Verb.{Verb}
 use Rattle.grs_wire.specs.declared.told.Verb.TheVariants as verbs
@@ -78,15 +73,15 @@ seen_of_one = record {
   events = goes_on (task_of 0 0) ∷ goes_on (task_of 0 0) ∷ goes_on (task_of 0 0) ∷ [];
   hist = entries.Enq (task_of 0 0) payroll E rets.RetNone replies.C00 ∷ entries.Deq (task_of 0 0) payroll false replies.C00 ∷ [];
   told =
-    told_code 1 (task_of 0 0) 1 verbs.Enq replies.C00
-    ∷ told_code 2 (task_of 0 0) 2 verbs.Deq replies.C00
-    ∷ (record { event = 3; system = system 0; line = lines.Ended (task_of 0 0) 0 })
-    ∷ [];
+      told_code 1 (task_of 0 0) 1 verbs.Enq replies.C00
+      ∷ told_code 2 (task_of 0 0) 2 verbs.Deq replies.C00
+      ∷ (record { event = 3; system = system 0; line = lines.Ended (task_of 0 0) 0 })
+      ∷ [];
   queues = [];
   units = [];
   words = [];
   star = false;
-  ended = (task_of 0 0, ends.Ended) ∷ []
+  ended = (task_of 0 0, ends.Ended) ∷ [];
 }
 
 reported_one :
@@ -131,20 +126,20 @@ abbrev seen_of_two : Seen
 seen_of_two = record {
   events = goes_on (task_of 0 0) ∷ goes_on (task_of 0 1) ∷ goes_on (task_of 0 0) ∷ goes_on (task_of 0 1) ∷ [];
   hist =
-    asks (task_of 0 0) (codes "X") replies.C00
-    ∷ asks (task_of 0 1) (codes "Y") replies.C00
-    ∷ asks (task_of 0 0) (codes "Y") replies.Wait
-    ∷ asks (task_of 0 1) (codes "X") replies.Wait
-    ∷ [];
+      asks (task_of 0 0) (codes "X") replies.C00
+      ∷ asks (task_of 0 1) (codes "Y") replies.C00
+      ∷ asks (task_of 0 0) (codes "Y") replies.Wait
+      ∷ asks (task_of 0 1) (codes "X") replies.Wait
+      ∷ [];
   told = told_code 1 (task_of 0 0) 1 verbs.Enq replies.C00 ∷ told_code 2 (task_of 0 1) 1 verbs.Enq replies.C00 ∷ [];
   queues =
-    (record { res = local_res (codes "X"); elems = exclusive (task_of 0 0) ∷ exclusive (task_of 0 1) ∷ []; owners = 1 })
-    ∷ (record { res = local_res (codes "Y"); elems = exclusive (task_of 0 1) ∷ exclusive (task_of 0 0) ∷ []; owners = 1 })
-    ∷ [];
+      (record { res = local_res (codes "X"); elems = exclusive (task_of 0 0) ∷ exclusive (task_of 0 1) ∷ []; owners = 1 })
+      ∷ (record { res = local_res (codes "Y"); elems = exclusive (task_of 0 1) ∷ exclusive (task_of 0 0) ∷ []; owners = 1 })
+      ∷ [];
   units = [];
   words = [];
   star = false;
-  ended = (task_of 0 0, ends.Waits) ∷ (task_of 0 1, ends.Waits) ∷ []
+  ended = (task_of 0 0, ends.Waits) ∷ (task_of 0 1, ends.Waits) ∷ [];
 }
 
 reported_two :
@@ -183,7 +178,7 @@ abbrev three : Names
 three = record {
   systems = codes "SYA" ∷ codes "SYB" ∷ codes "SYC" ∷ [];
   jobs = (codes "J1" ∷ []) ∷ (codes "J1" ∷ []) ∷ (codes "J1" ∷ []) ∷ [];
-  tasks = (codes "T1" ∷ codes "T2" ∷ []) ∷ (codes "T1" ∷ codes "T2" ∷ []) ∷ (codes "T1" ∷ codes "T2" ∷ []) ∷ []
+  tasks = (codes "T1" ∷ codes "T2" ∷ []) ∷ (codes "T1" ∷ codes "T2" ∷ []) ∷ (codes "T1" ∷ codes "T2" ∷ []) ∷ [];
 }
 
 -- lines of forms that the two reports do not show
@@ -191,7 +186,7 @@ parts :
     (row_line three 81 (record {
       res = kinds.Systems (codes "P") (codes "Q");
       elems = exclusive (task_of 2 0) ∷ exclusive (task_of 1 0) ∷ (record { task = task_of 2 1; ctl = S }) ∷ [];
-      owners = 1
+      owners = 1;
     }) ≡ ended (codes "Q SYSTEMS(P,Q) SYC.J1.T1:E* SYB.J1.T1:E SYC.J1.T2:S"))
     × (res_word three (kinds.Step (system 0) 0 (codes "APPL") (codes "it's")) ≡ codes "STEP(SYA,J1,APPL,'it''s')")
     × (units_text three ((system 0, 6657, 1) ∷ (system 0, 6659, 1) ∷ []) ≡ ended (codes "UNITS") ++ ended (codes "U SYA 1A01 1") ++ ended (codes "U SYA 1A03 1"))

@@ -5,7 +5,6 @@ use Rattle.grs_base.specs.declared.resource.TaskId.{TaskId}
 use Rattle.grs_wire.specs.declared.seen.Names.{Names}
 use Rattle.grs_wire.specs.declared.deck.TaskDef.{TaskDef}
 use Rattle.grs_wire.specs.declared.deck.JobDef.{JobDef}
-use Rattle.grs_wire.specs.declared.deck.SystemDef.{SystemDef}
 use Rattle.grs_wire.specs.declared.deck.Deck.{Deck}
 
 abbrev pub names_of_tasks : List TaskDef → List (List ℕ)
@@ -23,7 +22,7 @@ unfoldable pub names_of : Deck → Names
 names_of deck = record {
   systems = map (λ s. s.name) deck.systems;
   jobs = map (λ s. names_of_jobs s.jobs) deck.systems;
-  tasks = map (λ s. names_in_jobs s.jobs) deck.systems
+  tasks = map (λ s. names_in_jobs s.jobs) deck.systems;
 }
 
 -- the name at a place, and no byte where there is none

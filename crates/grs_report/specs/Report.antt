@@ -2,7 +2,6 @@
 use Rattle.std.specs.Prelude.{ℕ, Bool, List, [], ◌∷◌, ◌++◌, codes, if◌then◌else◌}
 use Rattle.grs_wire.specs.declared.deck.Deck.{Deck}
 use Rattle.grs_wire.specs.declared.seen.Seen.{Seen}
-use Rattle.grs_wire.specs.declared.seen.Names.{Names}
 use Rattle.grs_report.specs.Lines.{line}
 use Rattle.grs_report.specs.Names.{names_of}
 use Rattle.grs_report.specs.Schedule.{schedule_text}

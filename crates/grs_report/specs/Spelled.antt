@@ -1,5 +1,5 @@
 -- How controls, answers and numbers are written.
-use Rattle.std.specs.Prelude.{ℕ, ◌+◌, ◌/◌, ◌%◌, Bool, List, [], ◌∷◌, ◌++◌, codes, if◌then◌else◌}
+use Rattle.std.specs.Prelude.{ℕ, ◌+◌, ◌/◌, ◌%◌, Bool, List, [], ◌∷◌, codes, if◌then◌else◌}
 use Rattle.std.specs.Fmt.{decimal}
 use Rattle.grs_base.specs.Printed.{hex_digit}
 use Rattle.grs_base.specs.declared.resource.Ctl.{Ctl}

@@ -23,7 +23,13 @@ fn put_entry(
 {
     let n = number(alloc, number_of_entry)?;
     match entry {
-        HistEntry::Enq { task, res, ctl, ret, code } => {
+        HistEntry::Enq {
+            task,
+            res,
+            ctl,
+            ret,
+            code,
+        } => {
             let task = task_word(alloc, names, *task)?;
             let res = res_word(alloc, names, res)?;
             let code = code_word(alloc, *code)?;
@@ -41,7 +47,12 @@ fn put_entry(
                 ],
             )
         }
-        HistEntry::Deq { task, res, have, code } => {
+        HistEntry::Deq {
+            task,
+            res,
+            have,
+            code,
+        } => {
             let task = task_word(alloc, names, *task)?;
             let res = res_word(alloc, names, res)?;
             let code = code_word(alloc, *code)?;
@@ -61,7 +72,16 @@ fn put_entry(
         HistEntry::Release { task, res } => {
             let task = task_word(alloc, names, *task)?;
             let res = res_word(alloc, names, res)?;
-            put_line(out, &[b"H".as_slice(), n.as_slice(), task.as_slice(), b"RELEASE", res.as_slice()])
+            put_line(
+                out,
+                &[
+                    b"H".as_slice(),
+                    n.as_slice(),
+                    task.as_slice(),
+                    b"RELEASE",
+                    res.as_slice(),
+                ],
+            )
         }
     }
 }

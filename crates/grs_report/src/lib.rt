@@ -10,6 +10,8 @@ mod rows;
 mod schedule;
 mod spelled;
 mod state;
+#[cfg(test)]
+mod tests;
 mod told;
 mod whole;
 

@@ -44,7 +44,12 @@ fn put_event(alloc: Global, names: &Names, event: Event, out: &mut List<u8>) -> 
     }
 }
 
-fn put_events(alloc: Global, names: &Names, events: &[Event], out: &mut List<u8>) -> Result<(), NoMemory>
+fn put_events(
+    alloc: Global,
+    names: &Names,
+    events: &[Event],
+    out: &mut List<u8>,
+) -> Result<(), NoMemory>
     ensures { OnOk result (out.new ≡ out.old ++ flat_map (event_line names.now) events.now) }
 {
     for event in events {

@@ -88,7 +88,11 @@ pub(crate) fn three_digits(n: u16) -> [u8; 3]
 {
     let hundreds = (n / 100) % 10;
     let tens = (n / 10) % 10;
-    [b'0' + hundreds as u8, b'0' + tens as u8, b'0' + (n % 10) as u8]
+    [
+        b'0' + hundreds as u8,
+        b'0' + tens as u8,
+        b'0' + (n % 10) as u8,
+    ]
 }
 
 fn hex_digit(n: u16) -> u8
@@ -96,7 +100,11 @@ fn hex_digit(n: u16) -> u8
     ensures { result ≡ hex_digit n }
 {
     let digit = n as u8;
-    if digit < 10 { b'0' + digit } else { b'A' - 10 + digit }
+    if digit < 10 {
+        b'0' + digit
+    } else {
+        b'A' - 10 + digit
+    }
 }
 
 /// A unit's four hexadecimal digits.

@@ -144,7 +144,12 @@ fn put_lock_word(
     )
 }
 
-fn put_lock_words(alloc: Global, names: &Names, words: &[u32], out: &mut List<u8>) -> Result<(), NoMemory>
+fn put_lock_words(
+    alloc: Global,
+    names: &Names,
+    words: &[u32],
+    out: &mut List<u8>,
+) -> Result<(), NoMemory>
     ensures { OnOk result (out.new ≡ out.old ++ word_lines names.now 0 words.now) }
 {
     for (entry, word) in words.iter().enumerate() {
@@ -157,7 +162,12 @@ fn put_lock_words(alloc: Global, names: &Names, words: &[u32], out: &mut List<u8
 
 /// Puts the lock words that aren't 0 behind a text.
 #[tactic(auto, unfolding(crate::specs::State::words_text))]
-pub(crate) fn put_words(alloc: Global, names: &Names, words: &[u32], out: &mut List<u8>) -> Result<(), NoMemory>
+pub(crate) fn put_words(
+    alloc: Global,
+    names: &Names,
+    words: &[u32],
+    out: &mut List<u8>,
+) -> Result<(), NoMemory>
     ensures { OnOk result (out.new ≡ out.old ++ words_text names.now words.now) }
 {
     put_line(out, &[b"WORDS".as_slice()])?;

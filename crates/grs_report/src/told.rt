@@ -39,17 +39,32 @@ fn put_told_line(alloc: Global, told: Told, out: &mut List<u8>) -> Result<(), No
 {
     let event = event_word(alloc, told.event)?;
     match told.line {
-        ToldLine::Coded { task: _, k, part: _, verb, code } => {
+        ToldLine::Coded {
+            task: _,
+            k,
+            part: _,
+            verb,
+            code,
+        } => {
             let k = number(alloc, u64::from(k))?;
             let code = code_word(alloc, code)?;
             put_line(
                 out,
-                &[b"T".as_slice(), k.as_slice(), verb_word(verb), code.as_slice(), event.as_slice()],
+                &[
+                    b"T".as_slice(),
+                    k.as_slice(),
+                    verb_word(verb),
+                    code.as_slice(),
+                    event.as_slice(),
+                ],
             )
         }
         ToldLine::Post { task: _, k } => {
             let k = number(alloc, u64::from(k))?;
-            put_line(out, &[b"T".as_slice(), k.as_slice(), b"POST", event.as_slice()])
+            put_line(
+                out,
+                &[b"T".as_slice(), k.as_slice(), b"POST", event.as_slice()],
+            )
         }
         ToldLine::Ended { task: _, code } => {
             let code = three_digits(code);
@@ -92,7 +107,12 @@ fn told_by(alloc: Global, system: usize, told: &[Told]) -> Result<List<Told>, No
 }
 
 /// Puts what one task was told behind a text.
-fn put_told_to(alloc: Global, place: Place, told: &[Told], out: &mut List<u8>) -> Result<(), NoMemory>
+fn put_told_to(
+    alloc: Global,
+    place: Place,
+    told: &[Told],
+    out: &mut List<u8>,
+) -> Result<(), NoMemory>
     ensures { OnOk result (out.new ≡ out.old ++ flat_map told_line (told_to (task_at place.system place.job place.task) told.now)) }
 {
     for line in told {
@@ -150,7 +170,15 @@ fn put_tasks(
     let tasks = job.tasks.as_slice();
     let mut place = first;
     for task in tasks {
-        put_task(alloc, told, ended, job.name.as_slice(), place, task.name.as_slice(), out)?;
+        put_task(
+            alloc,
+            told,
+            ended,
+            job.name.as_slice(),
+            place,
+            task.name.as_slice(),
+            out,
+        )?;
         place = place.after(1)?;
     }
     Ok(())
@@ -167,7 +195,11 @@ fn put_jobs(
 ) -> Result<(), NoMemory>
     ensures { OnOk result (out.new ≡ out.old ++ jobs_text told.now ended.now system 0 0 jobs.now) }
 {
-    let mut first = Place { system, job: 0, task: 0 };
+    let mut first = Place {
+        system,
+        job: 0,
+        task: 0,
+    };
     for (job, def) in jobs.iter().enumerate() {
         put_tasks(alloc, told, ended, def, Place { job, ..first }, out)?;
         first = first.after(def.tasks.len())?;
@@ -189,7 +221,14 @@ fn put_system(
 {
     put_line(out, &[b"SYSTEM".as_slice(), def.name.as_slice()])?;
     let own = told_by(alloc, system, told)?;
-    put_jobs(alloc, own.as_slice(), ended, system, def.jobs.as_slice(), out)
+    put_jobs(
+        alloc,
+        own.as_slice(),
+        ended,
+        system,
+        def.jobs.as_slice(),
+        out,
+    )
 }
 
 fn put_systems(

@@ -45,7 +45,13 @@ pub fn report(alloc: Global, deck: &Deck, seen: &Seen) -> Result<List<u8>, NoMem
     put_head(&mut out)?;
     put_schedule(alloc, &names, seen.events.as_slice(), &mut out)?;
     put_history(alloc, &names, seen.hist.as_slice(), &mut out)?;
-    put_told(alloc, seen.told.as_slice(), ended, deck.systems.as_slice(), &mut out)?;
+    put_told(
+        alloc,
+        seen.told.as_slice(),
+        ended,
+        deck.systems.as_slice(),
+        &mut out,
+    )?;
     put_queues(alloc, &names, seen.queues.as_slice(), &mut out)?;
     put_units(alloc, &names, seen.units.as_slice(), &mut out)?;
     put_words(alloc, &names, seen.words.as_slice(), &mut out)?;
