@@ -13,7 +13,10 @@ pub struct StdSource {
 }
 
 impl StdSource {
-    pub fn new(stdin: Stdin) -> StdSource {
+    /// Standard input, of which no read has failed yet.
+    pub fn new(stdin: Stdin) -> StdSource
+        ensures { ⟦<StdSource as Source>⟧.faults result ≡ 0 }
+    {
         StdSource { stdin, faults: 0 }
     }
 }
@@ -44,7 +47,10 @@ pub struct StdSink {
 }
 
 impl StdSink {
-    pub fn new(stdout: Stdout) -> StdSink {
+    /// Standard output, of which no write has failed yet.
+    pub fn new(stdout: Stdout) -> StdSink
+        ensures { ⟦<StdSink as Sink>⟧.faults result ≡ 0 }
+    {
         StdSink { stdout, faults: 0 }
     }
 }

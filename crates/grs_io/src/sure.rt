@@ -1,4 +1,5 @@
-//! Streams that never fail. Their count of faults is 0 for good.
+//! Streams that never fail: their count of faults is 0 for good. They are for callers that have the bytes
+//! already, or need none.
 ghost use Rattle.std.specs.Prelude.{◌≡◌};
 
 use super::source::move_front;
@@ -53,6 +54,7 @@ impl Source for SureSource {
 pub struct SureSink;
 
 impl SureSink {
+    /// A sink to which nothing was written yet.
     pub fn new() -> SureSink {
         SureSink
     }

@@ -1,3 +1,5 @@
+ghost use Rattle.std.specs.Prelude.{◌≡◌, take, Err, IfOk};
+
 use super::{MemSink, MemSource, ReadFailure, SureSink, SureSource, read_all, write_all};
 use grs_base::{List, NoMemory};
 use std::alloc::Global;
@@ -75,9 +77,17 @@ fn written_of(alloc: Global, case: &Case) -> Result<(usize, bool), NoMemory> {
     Ok((sink.bytes().len(), whole))
 }
 
+/// What a source that never fails gives: its first ten bytes, or NoMemory.
+fn sure_text(alloc: Global, bytes: List<u8>) -> Result<List<u8>, ReadFailure>
+    ensures text { IfOk result (λ text. text ≡ take 10 bytes) }
+    ensures sure { result ≡ Err ReadFailure.Failed → ⊥ }
+{
+    let mut source = SureSource::new(bytes);
+    read_all(alloc, &mut source, 9)
+}
+
 fn sure_of(alloc: Global) -> Result<Option<usize>, NoMemory> {
-    let mut source = SureSource::new(List::from_bytes(alloc, b"hello")?);
-    match read_all(alloc, &mut source, 5) {
+    match sure_text(alloc, List::from_bytes(alloc, b"hello")?) {
         Ok(text) => Ok(
             write_all(&mut SureSink::new(), text.as_slice())
                 .ok()

@@ -19,10 +19,12 @@ fn read_piece<S: Source>(
     room: usize,
 ) -> Result<usize, ReadFailure>
     requires { 0 < room }
-    ensures added { IfOk result (λ n. AddsRead (S.left source.old) (S.left source.new) text.old text.new n) }
+    ensures added { IfOk result (λ n.
+        AddsRead (S.left source.old) (S.left source.new) text.old text.new n) }
     ensures within { IfOk result (λ n. n ≤ room) }
     ensures kept { OnOk result (S.faults source.new ≡ S.faults source.old) }
-    ensures failed { result ≡ Err ReadFailure.Failed → HasRisen (S.faults source.old) (S.faults source.new) }
+    ensures failed { result ≡ Err ReadFailure.Failed
+        → HasRisen (S.faults source.old) (S.faults source.new) }
     ensures memory { result ≡ Err ReadFailure.NoMemory → S.faults source.new ≡ S.faults source.old }
 {
     let mut buf = [0u8; PIECE];
@@ -45,10 +47,12 @@ pub fn read_all<S: Source>(
     limit: usize,
 ) -> Result<List<u8>, ReadFailure>
     requires { limit < 18446744073709551615 }
-    ensures text { IfOk result (λ text. TakesFirst (limit + 1) (S.left source.old) (S.left source.new) text) }
+    ensures text { IfOk result (λ text.
+        TakesFirst (limit + 1) (S.left source.old) (S.left source.new) text) }
     ensures within { IfOk result (λ text. length text ≤ limit + 1) }
     ensures kept { OnOk result (S.faults source.new ≡ S.faults source.old) }
-    ensures failed { result ≡ Err ReadFailure.Failed → HasRisen (S.faults source.old) (S.faults source.new) }
+    ensures failed { result ≡ Err ReadFailure.Failed
+        → HasRisen (S.faults source.old) (S.faults source.new) }
     ensures memory { result ≡ Err ReadFailure.NoMemory → S.faults source.new ≡ S.faults source.old }
 {
     let mut text = List::new(alloc);

@@ -11,9 +11,13 @@ use Rattle.grs_report.specs.Spelled.{ctl_word, ret_word, have_word, code_word}
 
 -- the entry of this number
 unfoldable pub history_line : Names → ℕ → HistEntry → List ℕ
-history_line names n (Enq t r c ret code) = line (codes "H" ∷ decimal n ∷ task_word names t ∷ codes "ENQ" ∷ res_word names r ∷ ctl_word c ∷ ret_word ret ∷ code_word code ∷ [])
-history_line names n (Deq t r have code) = line (codes "H" ∷ decimal n ∷ task_word names t ∷ codes "DEQ" ∷ res_word names r ∷ have_word have ∷ code_word code ∷ [])
-history_line names n (Release t r) = line (codes "H" ∷ decimal n ∷ task_word names t ∷ codes "RELEASE" ∷ res_word names r ∷ [])
+history_line names n (Enq t r c ret code) = line (
+    codes "H" ∷ decimal n ∷ task_word names t ∷ codes "ENQ" ∷ res_word names r ∷ ctl_word c ∷ ret_word ret
+    ∷ code_word code ∷ [])
+history_line names n (Deq t r have code) = line (
+    codes "H" ∷ decimal n ∷ task_word names t ∷ codes "DEQ" ∷ res_word names r ∷ have_word have ∷ code_word code ∷ [])
+history_line names n (Release t r) = line (
+    codes "H" ∷ decimal n ∷ task_word names t ∷ codes "RELEASE" ∷ res_word names r ∷ [])
 
 -- entries, the first of which has this number
 abbrev pub history_lines : Names → ℕ → List HistEntry → List ℕ

@@ -36,7 +36,9 @@ epoch_of w = (w / 4096) % 16
 
 -- the lock word of an entry
 unfoldable pub word_line : Names → ℕ → ℕ → List ℕ
-word_line names e w = line (codes "W" ∷ decimal e ∷ codes "MASK" ∷ decimal (mask_of w) ∷ codes "MANAGER" ∷ manager_word names (manager_of w) ∷ codes "EPOCH" ∷ decimal (epoch_of w) ∷ [])
+word_line names e w = line (
+    codes "W" ∷ decimal e ∷ codes "MASK" ∷ decimal (mask_of w) ∷ codes "MANAGER" ∷ manager_word names (manager_of w)
+    ∷ codes "EPOCH" ∷ decimal (epoch_of w) ∷ [])
 
 -- the words that aren't 0, of which the first is of this entry
 abbrev pub word_lines : Names → ℕ → List ℕ → List ℕ

@@ -1,4 +1,5 @@
-//! Whether a run is done with its tasks.
+//! Whether a run is done with its tasks. The status of a command and the last line of the report both go by
+//! it.
 ghost use Rattle.std.specs.Prelude.{◌≡◌};
 ghost use Rattle.grs_report.specs.Ends.{is_done, all_ended};
 

@@ -1,4 +1,4 @@
-//! Lines of words.
+//! Lines of words. What a word is made of is not known here.
 ghost use Rattle.std.specs.Prelude.{◌≡◌, ◌^◌, ◌<◌, ◌++◌, ◌∷◌, [], map, length, OnOk, IfOk};
 ghost use Rattle.std.specs.Fmt.{decimal};
 ghost use Rattle.grs_report.specs.Lines.{spaced, line};

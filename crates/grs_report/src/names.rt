@@ -1,4 +1,4 @@
-//! The names of a deck, and the words that are made of them.
+//! The names of a deck, and the words that are made of them. A place without a name gives no byte.
 ghost use Rattle.std.specs.Prelude.{◌≡◌, ◌++◌, ◌∷◌, [], map, OnOk, IfOk};
 ghost use Rattle.std.specs.List.{flat_map};
 ghost use Rattle.grs_report.specs.Names.{names_of_tasks, names_of_jobs, names_in_jobs, names_of, name_at, name_in, task_in_job, task_word};

@@ -1,4 +1,4 @@
-//! Resources and their lists as lines.
+//! Resources and their lists as lines. Names of resources are printed so that they can be read back.
 ghost use Rattle.std.specs.Prelude.{◌≡◌, ◌<◌, ◌++◌, ◌∷◌, [], OnOk, OnErr, IfOk};
 ghost use Rattle.grs_base.specs.Printed.{printed_name};
 ghost use Rattle.grs_report.specs.Lines.{spaced};

@@ -1,4 +1,4 @@
-//! How controls, answers and numbers are written.
+//! How controls, answers and numbers are written. No names are known here.
 ghost use Rattle.std.specs.Prelude.{◌≡◌, ◌<◌, IfOk};
 ghost use Rattle.grs_base.specs.Printed.{hex_digit};
 ghost use Rattle.grs_report.specs.Spelled.{ctl_word, ret_word, have_word, code_word, verb_word, end_word, event_word, three_digits, unit_word};

@@ -1,4 +1,5 @@
-//! How the lists, the units and the lock words stand at the end of a run.
+//! How the lists, the units and the lock words stand at the end of a run. They are printed in the order in
+//! which they are given.
 ghost use Rattle.std.specs.Prelude.{◌≡◌, ◌++◌, OnOk, IfOk};
 ghost use Rattle.std.specs.List.{flat_map};
 ghost use Rattle.grs_report.specs.Rows.{row_line};

@@ -1,4 +1,5 @@
-//! What was told, system by system and task by task.
+//! What was told, system by system and task by task. The lines of a system are picked out of all lines once,
+//! and those of a task out of its system's.
 ghost use Rattle.std.specs.Prelude.{◌≡◌, ◌++◌, ◌+◌, OnOk, IfOk};
 ghost use Rattle.std.specs.List.{flat_map};
 ghost use Rattle.grs_base.specs.Same.{same_task};
@@ -113,7 +114,8 @@ fn put_told_to(
     told: &[Told],
     out: &mut List<u8>,
 ) -> Result<(), NoMemory>
-    ensures { OnOk result (out.new ≡ out.old ++ flat_map told_line (told_to (task_at place.system place.job place.task) told.now)) }
+    ensures { OnOk result (out.new ≡ out.old
+        ++ flat_map told_line (told_to (task_at place.system place.job place.task) told.now)) }
 {
     for line in told {
         if stands_at(place, told_task(&line.line)) {

@@ -1,4 +1,4 @@
-//! The whole report.
+//! The whole report, part by part. Each part is put behind the text so far.
 ghost use Rattle.std.specs.Prelude.{◌≡◌, ◌++◌, OnOk, IfOk};
 ghost use Rattle.grs_report.specs.Report.{head_line, end_line, report};
 
