@@ -12,5 +12,5 @@ mod told;
 pub use deck::{Choice, Deck, Event, JobDef, Name, SystemDef, TaskDef};
 pub use history::HistEntry;
 pub use request::{Answer, Fixed, Req, Want};
-pub use seen::{Seen, TaskEnd};
+pub use seen::{Names, Seen, TaskEnd};
 pub use told::{Told, ToldLine, Verb};

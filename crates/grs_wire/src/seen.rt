@@ -1,8 +1,16 @@
 //! What a report shows of a run.
-use super::deck::Event;
+use super::deck::{Event, Name};
 use super::history::HistEntry;
 use super::told::Told;
 use grs_base::{List, Row, SysId, TaskId};
+
+/// The names of a deck: of its systems, and for each system of its jobs and of its tasks, in order.
+#[derive(Drop)]
+pub struct Names {
+    pub systems: List<Name>,
+    pub jobs: List<List<Name>>,
+    pub tasks: List<List<Name>>,
+}
 
 /// How a task stands at the end of a run.
 #[derive(Clone, Copy, Debug, PartialEq, Eq)]

@@ -1,0 +1,202 @@
+-- Worked reports, computed from the definitions.
+use Rattle.std.proofs.Common.{◌≡◌, ℕ, true, false, List, [], ◌∷◌, ◌++◌, refl}
+use Rattle.std.specs.Prelude.{codes}
+use Rattle.std.specs.Fmt.{digits}
+use Rattle.grs_base.specs.declared.resource.TaskId.{TaskId}
+use Rattle.grs_base.specs.declared.resource.SysId.{SysId}
+use Rattle.grs_base.specs.declared.resource.Res.{Res}
+use Rattle.grs_base.specs.declared.resource.Res.TheVariants as kinds
+use Rattle.grs_base.specs.declared.resource.Elem.{Elem}
+use Rattle.grs_base.specs.declared.resource.Ctl.TheVariants.{E, S}
+use Rattle.grs_base.specs.declared.resource.Ret.TheVariants as rets
+use Rattle.grs_base.specs.declared.decision.Code.{Code}
+use Rattle.grs_base.specs.declared.decision.Code.TheVariants as replies
+use Rattle.grs_wire.specs.declared.deck.Deck.{Deck}
+use Rattle.grs_wire.specs.declared.deck.SystemDef.{SystemDef}
+use Rattle.grs_wire.specs.declared.deck.JobDef.{JobDef}
+use Rattle.grs_wire.specs.declared.deck.TaskDef.{TaskDef}
+use Rattle.grs_wire.specs.declared.deck.Event.{Event}
+use Rattle.grs_wire.specs.declared.deck.Choice.TheVariants as choices
+use Rattle.grs_wire.specs.declared.history.HistEntry.{HistEntry}
+use Rattle.grs_wire.specs.declared.history.HistEntry.TheVariants as entries
+use Rattle.grs_wire.specs.declared.told.Told.{Told}
+use Rattle.grs_wire.specs.declared.told.ToldLine.TheVariants as lines
+use Rattle.grs_wire.specs.declared.told.Verb.{Verb}
+use Rattle.grs_wire.specs.declared.told.Verb.TheVariants as verbs
+use Rattle.grs_wire.specs.declared.seen.Seen.{Seen}
+use Rattle.grs_wire.specs.declared.seen.Names.{Names}
+use Rattle.grs_wire.specs.declared.seen.TaskEnd.TheVariants as ends
+use Rattle.grs_report.specs.Lines.{line}
+use Rattle.grs_report.specs.Names.{names_of, name_at, name_in, task_in_job, task_word}
+use Rattle.grs_report.specs.Rows.{names_word, res_word, elem_word, row_line}
+use Rattle.grs_report.specs.Schedule.{choice_words, event_line, schedule_text}
+use Rattle.grs_report.specs.History.{history_line, history_text}
+use Rattle.grs_report.specs.Told.{told_words, told_line, task_text, system_text, told_text}
+use Rattle.grs_report.specs.State.{queues_text, unit_line, units_text, manager_word, mask_of, manager_of, epoch_of, word_line, words_text, mode_line}
+use Rattle.grs_report.specs.Report.{head_line, end_line, report}
+
+-- a line with its end
+abbrev ended : List ℕ → List ℕ
+ended text = text ++ 10 ∷ []
+
+abbrev system : ℕ → SysId
+system n = record { 0 = n }
+
+-- a task of the first job of a system
+abbrev task_of : ℕ → ℕ → TaskId
+task_of s t = record { system = system s; job = 0; task = t }
+
+abbrev job_with : List TaskDef → JobDef
+job_with tasks = record { name = codes "J1"; tasks = tasks }
+
+abbrev task_named : List ℕ → TaskDef
+task_named name = record { name = name; lines = [] }
+
+abbrev deck_with : List SystemDef → Deck
+deck_with systems = record { star = false; entries = 64; limit = 4096; systems = systems; events = [] }
+
+abbrev goes_on : TaskId → Event
+goes_on t = record { system = t.system; choice = choices.Task t }
+
+abbrev told_code : ℕ → TaskId → ℕ → Verb → Code → Told
+told_code e t k verb code = record { event = e; system = t.system; line = lines.Coded t k 0 verb code }
+
+-- one task takes a resource, gives it back and ends
+abbrev one_task : Deck
+one_task = deck_with (record { name = codes "SYA"; jobs = job_with (task_named (codes "T1") ∷ []) ∷ [] } ∷ [])
+
+abbrev payroll : Res
+payroll = kinds.System (system 0) (codes "PAYROLL") (codes "MASTER")
+
+abbrev seen_of_one : Seen
+seen_of_one = record {
+  events = goes_on (task_of 0 0) ∷ goes_on (task_of 0 0) ∷ goes_on (task_of 0 0) ∷ [];
+  hist = entries.Enq (task_of 0 0) payroll E rets.RetNone replies.C00 ∷ entries.Deq (task_of 0 0) payroll false replies.C00 ∷ [];
+  told =
+      told_code 1 (task_of 0 0) 1 verbs.Enq replies.C00
+      ∷ told_code 2 (task_of 0 0) 2 verbs.Deq replies.C00
+      ∷ (record { event = 3; system = system 0; line = lines.Ended (task_of 0 0) 0 })
+      ∷ [];
+  queues = [];
+  units = [];
+  words = [];
+  star = false;
+  ended = (task_of 0 0, ends.Ended) ∷ [];
+}
+
+reported_one :
+    report one_task seen_of_one
+    ≡ ended (codes "GRS REPORT 1")
+    ++ ended (codes "SCHEDULE 3")
+    ++ ended (codes "SYA TASK J1.T1")
+    ++ ended (codes "SYA TASK J1.T1")
+    ++ ended (codes "SYA TASK J1.T1")
+    ++ ended (codes "HISTORY 2")
+    ++ ended (codes "H 1 SYA.J1.T1 ENQ SYSTEM(SYA,PAYROLL,MASTER) E NONE 00")
+    ++ ended (codes "H 2 SYA.J1.T1 DEQ SYSTEM(SYA,PAYROLL,MASTER) NONE 00")
+    ++ ended (codes "TOLD")
+    ++ ended (codes "SYSTEM SYA")
+    ++ ended (codes "TASK J1.T1")
+    ++ ended (codes "T 1 ENQ 00 @1")
+    ++ ended (codes "T 2 DEQ 00 @2")
+    ++ ended (codes "T END 000 @3")
+    ++ ended (codes "S ENDED")
+    ++ ended (codes "QUEUES")
+    ++ ended (codes "UNITS")
+    ++ ended (codes "WORDS")
+    ++ ended (codes "MODE RING")
+    ++ ended (codes "END DONE")
+unfolding digits line names_of name_at name_in task_in_job task_word names_word res_word elem_word row_line choice_words event_line schedule_text history_line history_text told_words told_line task_text system_text told_text queues_text unit_line units_text manager_word mask_of manager_of epoch_of word_line words_text mode_line head_line end_line report
+reported_one = refl
+
+-- two tasks hold what the other one asks for
+abbrev two_tasks : Deck
+two_tasks = deck_with (record { name = codes "SYA"; jobs = job_with (task_named (codes "T1") ∷ task_named (codes "T2") ∷ []) ∷ [] } ∷ [])
+
+abbrev local_res : List ℕ → Res
+local_res r = kinds.System (system 0) (codes "A") r
+
+abbrev exclusive : TaskId → Elem
+exclusive t = record { task = t; ctl = E }
+
+abbrev asks : TaskId → List ℕ → Code → HistEntry
+asks t r code = entries.Enq t (local_res r) E rets.RetNone code
+
+abbrev seen_of_two : Seen
+seen_of_two = record {
+  events = goes_on (task_of 0 0) ∷ goes_on (task_of 0 1) ∷ goes_on (task_of 0 0) ∷ goes_on (task_of 0 1) ∷ [];
+  hist =
+      asks (task_of 0 0) (codes "X") replies.C00
+      ∷ asks (task_of 0 1) (codes "Y") replies.C00
+      ∷ asks (task_of 0 0) (codes "Y") replies.Wait
+      ∷ asks (task_of 0 1) (codes "X") replies.Wait
+      ∷ [];
+  told = told_code 1 (task_of 0 0) 1 verbs.Enq replies.C00 ∷ told_code 2 (task_of 0 1) 1 verbs.Enq replies.C00 ∷ [];
+  queues =
+      (record { res = local_res (codes "X"); elems = exclusive (task_of 0 0) ∷ exclusive (task_of 0 1) ∷ []; owners = 1 })
+      ∷ (record { res = local_res (codes "Y"); elems = exclusive (task_of 0 1) ∷ exclusive (task_of 0 0) ∷ []; owners = 1 })
+      ∷ [];
+  units = [];
+  words = [];
+  star = false;
+  ended = (task_of 0 0, ends.Waits) ∷ (task_of 0 1, ends.Waits) ∷ [];
+}
+
+reported_two :
+    report two_tasks seen_of_two
+    ≡ ended (codes "GRS REPORT 1")
+    ++ ended (codes "SCHEDULE 4")
+    ++ ended (codes "SYA TASK J1.T1")
+    ++ ended (codes "SYA TASK J1.T2")
+    ++ ended (codes "SYA TASK J1.T1")
+    ++ ended (codes "SYA TASK J1.T2")
+    ++ ended (codes "HISTORY 4")
+    ++ ended (codes "H 1 SYA.J1.T1 ENQ SYSTEM(SYA,A,X) E NONE 00")
+    ++ ended (codes "H 2 SYA.J1.T2 ENQ SYSTEM(SYA,A,Y) E NONE 00")
+    ++ ended (codes "H 3 SYA.J1.T1 ENQ SYSTEM(SYA,A,Y) E NONE WAIT")
+    ++ ended (codes "H 4 SYA.J1.T2 ENQ SYSTEM(SYA,A,X) E NONE WAIT")
+    ++ ended (codes "TOLD")
+    ++ ended (codes "SYSTEM SYA")
+    ++ ended (codes "TASK J1.T1")
+    ++ ended (codes "T 1 ENQ 00 @1")
+    ++ ended (codes "S WAITS")
+    ++ ended (codes "TASK J1.T2")
+    ++ ended (codes "T 1 ENQ 00 @2")
+    ++ ended (codes "S WAITS")
+    ++ ended (codes "QUEUES")
+    ++ ended (codes "Q SYSTEM(SYA,A,X) SYA.J1.T1:E* SYA.J1.T2:E")
+    ++ ended (codes "Q SYSTEM(SYA,A,Y) SYA.J1.T2:E* SYA.J1.T1:E")
+    ++ ended (codes "UNITS")
+    ++ ended (codes "WORDS")
+    ++ ended (codes "MODE RING")
+    ++ ended (codes "END WAITS")
+unfolding digits line names_of name_at name_in task_in_job task_word names_word res_word elem_word row_line choice_words event_line schedule_text history_line history_text told_words told_line task_text system_text told_text queues_text unit_line units_text manager_word mask_of manager_of epoch_of word_line words_text mode_line head_line end_line report
+reported_two = refl
+
+-- the names of three systems with a job of two tasks each
+abbrev three : Names
+three = record {
+  systems = codes "SYA" ∷ codes "SYB" ∷ codes "SYC" ∷ [];
+  jobs = (codes "J1" ∷ []) ∷ (codes "J1" ∷ []) ∷ (codes "J1" ∷ []) ∷ [];
+  tasks = (codes "T1" ∷ codes "T2" ∷ []) ∷ (codes "T1" ∷ codes "T2" ∷ []) ∷ (codes "T1" ∷ codes "T2" ∷ []) ∷ [];
+}
+
+-- lines of forms that the two reports do not show
+parts :
+    (row_line three 81 (record {
+      res = kinds.Systems (codes "P") (codes "Q");
+      elems = exclusive (task_of 2 0) ∷ exclusive (task_of 1 0) ∷ (record { task = task_of 2 1; ctl = S }) ∷ [];
+      owners = 1;
+    }) ≡ ended (codes "Q SYSTEMS(P,Q) SYC.J1.T1:E* SYB.J1.T1:E SYC.J1.T2:S"))
+    × (res_word three (kinds.Step (system 0) 0 (codes "APPL") (codes "it's")) ≡ codes "STEP(SYA,J1,APPL,'it''s')")
+    × (units_text three ((system 0, 6657, 1) ∷ (system 0, 6659, 1) ∷ []) ≡ ended (codes "UNITS") ++ ended (codes "U SYA 1A01 1") ++ ended (codes "U SYA 1A03 1"))
+    × (words_text three (0 ∷ 263 ∷ 4096 ∷ []) ≡ ended (codes "WORDS") ++ ended (codes "W 1 MASK 7 MANAGER SYA EPOCH 0") ++ ended (codes "W 2 MASK 0 MANAGER NONE EPOCH 1"))
+    × (event_line three (record { system = system 1; choice = choices.Purge (system 2) }) ≡ ended (codes "SYB PURGE SYC"))
+    × (event_line three (record { system = system 0; choice = choices.Tell 15 }) ≡ ended (codes "SYA TELL 15"))
+    × (told_line (record { event = 18; system = system 2; line = lines.Post (task_of 2 0) 1 }) ≡ ended (codes "T 1 POST @18"))
+    × (told_line (record { event = 7; system = system 0; line = lines.Ended (task_of 0 1) 138 }) ≡ ended (codes "T END 138 @7"))
+    × (history_line three 5 (entries.Deq (task_of 0 1) (local_res (codes "C")) true replies.C08) ≡ ended (codes "H 5 SYA.J1.T2 DEQ SYSTEM(SYA,A,C) HAVE 08"))
+    × (history_line three 6 (entries.Enq (task_of 0 1) (local_res (codes "B")) E rets.RetChng (replies.End 138)) ≡ ended (codes "H 6 SYA.J1.T2 ENQ SYSTEM(SYA,A,B) E CHNG 138"))
+    × (history_line three 12 (entries.Release (task_of 0 1) (local_res (codes "B"))) ≡ ended (codes "H 12 SYA.J1.T2 RELEASE SYSTEM(SYA,A,B)"))
+unfolding digits line name_at name_in task_in_job task_word names_word res_word elem_word row_line choice_words event_line history_line told_words told_line unit_line units_text manager_word mask_of manager_of epoch_of word_line words_text
+parts = (refl, refl, refl, refl, refl, refl, refl, refl, refl, refl, refl)

@@ -1,0 +1,28 @@
+-- The history of a run as lines.
+use Rattle.std.specs.Prelude.{ℕ, ◌+◌, List, [], ◌∷◌, ◌++◌, length, codes}
+use Rattle.std.specs.Fmt.{decimal}
+use Rattle.grs_wire.specs.declared.seen.Names.{Names}
+use Rattle.grs_wire.specs.declared.history.HistEntry.{HistEntry}
+use Rattle.grs_wire.specs.declared.history.HistEntry.TheVariants.{Enq, Deq, Release}
+use Rattle.grs_report.specs.Lines.{line}
+use Rattle.grs_report.specs.Names.{task_word}
+use Rattle.grs_report.specs.Rows.{res_word}
+use Rattle.grs_report.specs.Spelled.{ctl_word, ret_word, have_word, code_word}
+
+-- the entry of this number
+unfoldable pub history_line : Names → ℕ → HistEntry → List ℕ
+history_line names n (Enq t r c ret code) = line (
+    codes "H" ∷ decimal n ∷ task_word names t ∷ codes "ENQ" ∷ res_word names r ∷ ctl_word c ∷ ret_word ret
+    ∷ code_word code ∷ [])
+history_line names n (Deq t r have code) = line (
+    codes "H" ∷ decimal n ∷ task_word names t ∷ codes "DEQ" ∷ res_word names r ∷ have_word have ∷ code_word code ∷ [])
+history_line names n (Release t r) = line (
+    codes "H" ∷ decimal n ∷ task_word names t ∷ codes "RELEASE" ∷ res_word names r ∷ [])
+
+-- entries, the first of which has this number
+abbrev pub history_lines : Names → ℕ → List HistEntry → List ℕ
+history_lines names n [] = []
+history_lines names n (h ∷ hs) = history_line names n h ++ history_lines names (n + 1) hs
+
+unfoldable pub history_text : Names → List HistEntry → List ℕ
+history_text names hs = line (codes "HISTORY" ∷ decimal (length hs) ∷ []) ++ history_lines names 1 hs

@@ -1,0 +1,10 @@
+pub mod Lines
+pub mod Names
+pub mod Spelled
+pub mod Rows
+pub mod Schedule
+pub mod History
+pub mod Told
+pub mod State
+pub mod Ends
+pub mod Report

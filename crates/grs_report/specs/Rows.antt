@@ -1,0 +1,34 @@
+-- Resources and their lists as lines.
+use Rattle.std.specs.Prelude.{ℕ, ◌-◌, nat_lt, Bool, List, [], ◌∷◌, ◌++◌, codes, if◌then◌else◌}
+use Rattle.grs_base.specs.Printed.{printed_name}
+use Rattle.grs_base.specs.declared.resource.Res.{Res}
+use Rattle.grs_base.specs.declared.resource.Res.TheVariants.{Step, System, Systems}
+use Rattle.grs_base.specs.declared.resource.Elem.{Elem}
+use Rattle.grs_base.specs.declared.resource.Row.{Row}
+use Rattle.grs_wire.specs.declared.seen.Names.{Names}
+use Rattle.grs_report.specs.Lines.{line}
+use Rattle.grs_report.specs.Names.{name_at, name_in, task_word}
+use Rattle.grs_report.specs.Spelled.{ctl_word}
+
+-- the two names of a resource, behind its other ones
+unfoldable pub names_word : List ℕ → List ℕ → List ℕ
+names_word q r = ((printed_name q ++ 44 ∷ []) ++ printed_name r) ++ 41 ∷ []
+
+-- SYSTEMS(q,r), SYSTEM(s,q,r) or STEP(s,j,q,r)
+unfoldable pub res_word : Names → Res → List ℕ
+res_word names (Systems q r) = codes "SYSTEMS(" ++ names_word q r
+res_word names (System s q r) = ((codes "SYSTEM(" ++ name_at names.systems s.0) ++ 44 ∷ []) ++ names_word q r
+res_word names (Step s j q r) = ((((codes "STEP(" ++ name_at names.systems s.0) ++ 44 ∷ []) ++ name_in names.jobs s.0 j) ++ 44 ∷ []) ++ names_word q r
+
+-- an element of a list: its task, its control, and a star where it owns the resource
+unfoldable pub elem_word : Names → Bool → Elem → List ℕ
+elem_word names owns e = ((task_word names e.task ++ 58 ∷ []) ++ ctl_word e.ctl) ++ (if owns then 42 ∷ [] else [])
+
+-- the elements of a list, of which so many own the resource
+abbrev pub elem_words : Names → ℕ → List Elem → List (List ℕ)
+elem_words names owners [] = []
+elem_words names owners (e ∷ es) = elem_word names (nat_lt 0 owners) e ∷ elem_words names (owners - 1) es
+
+-- a letter, the resource, and its elements in order
+unfoldable pub row_line : Names → ℕ → Row → List ℕ
+row_line names letter row = line ((letter ∷ []) ∷ res_word names row.res ∷ elem_words names row.owners row.elems)

@@ -1,0 +1,64 @@
+-- How controls, answers and numbers are written.
+use Rattle.std.specs.Prelude.{ℕ, ◌+◌, ◌/◌, ◌%◌, Bool, List, [], ◌∷◌, codes, if◌then◌else◌}
+use Rattle.std.specs.Fmt.{decimal}
+use Rattle.grs_base.specs.Printed.{hex_digit}
+use Rattle.grs_base.specs.declared.resource.Ctl.{Ctl}
+use Rattle.grs_base.specs.declared.resource.Ctl.TheVariants.{E, S}
+use Rattle.grs_base.specs.declared.resource.Ret.{Ret}
+use Rattle.grs_base.specs.declared.resource.Ret.TheVariants.{RetNone, RetUse, RetHave, RetTest, RetChng, RetEcb}
+use Rattle.grs_base.specs.declared.decision.Code.{Code}
+use Rattle.grs_base.specs.declared.decision.Code.TheVariants.{C00, C04, C08, C14, C18, Wait, End}
+use Rattle.grs_wire.specs.declared.told.Verb.{Verb}
+use Rattle.grs_wire.specs.declared.told.Verb.TheVariants as verbs
+use Rattle.grs_wire.specs.declared.seen.TaskEnd.{TaskEnd}
+use Rattle.grs_wire.specs.declared.seen.TaskEnd.TheVariants as ends
+
+abbrev pub ctl_word : Ctl → List ℕ
+ctl_word E = codes "E"
+ctl_word S = codes "S"
+
+abbrev pub ret_word : Ret → List ℕ
+ret_word RetNone = codes "NONE"
+ret_word RetUse = codes "USE"
+ret_word RetHave = codes "HAVE"
+ret_word RetTest = codes "TEST"
+ret_word RetChng = codes "CHNG"
+ret_word RetEcb = codes "ECB"
+
+-- RET=HAVE or RET=NONE of a DEQ
+abbrev pub have_word : Bool → List ℕ
+have_word have = if have then codes "HAVE" else codes "NONE"
+
+-- an answer
+abbrev pub code_word : Code → List ℕ
+code_word C00 = codes "00"
+code_word C04 = codes "04"
+code_word C08 = codes "08"
+code_word C14 = codes "14"
+code_word C18 = codes "18"
+code_word Wait = codes "WAIT"
+code_word (End n) = decimal n
+
+abbrev pub verb_word : Verb → List ℕ
+verb_word verbs.Enq = codes "ENQ"
+verb_word verbs.Deq = codes "DEQ"
+verb_word verbs.Wait = codes "WAIT"
+
+-- how a task stands at the end of a run
+abbrev pub end_word : TaskEnd → List ℕ
+end_word ends.Ended = codes "ENDED"
+end_word ends.Removed = codes "REMOVED"
+end_word ends.Waits = codes "WAITS"
+end_word ends.Open = codes "OPEN"
+
+-- the number of the event in which something was told
+abbrev pub event_word : ℕ → List ℕ
+event_word e = 64 ∷ decimal e
+
+-- the last three digits of a number
+abbrev pub three_digits : ℕ → List ℕ
+three_digits n = (48 + (n / 100) % 10) ∷ (48 + (n / 10) % 10) ∷ (48 + n % 10) ∷ []
+
+-- a unit's four hexadecimal digits
+abbrev pub unit_word : ℕ → List ℕ
+unit_word n = hex_digit ((n / 4096) % 16) ∷ hex_digit ((n / 256) % 16) ∷ hex_digit ((n / 16) % 16) ∷ hex_digit (n % 16) ∷ []

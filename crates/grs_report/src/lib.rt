@@ -1,0 +1,21 @@
+//! The report of a run as text: schedule, history, what was told, and how lists, units and lock words
+//! stand at the end. It prints what it is given, and knows nothing of how a run comes about.
+#![tactic(auto)]
+
+mod ends;
+mod history;
+mod lines;
+mod names;
+mod rows;
+mod schedule;
+mod spelled;
+mod state;
+#[cfg(test)]
+mod tests;
+mod told;
+mod whole;
+
+pub use ends::all_ended;
+pub use names::names_of;
+pub use rows::print_row;
+pub use whole::report;

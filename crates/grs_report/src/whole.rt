@@ -1,0 +1,61 @@
+//! The whole report, part by part. Each part is put behind the text so far.
+ghost use Rattle.std.specs.Prelude.{◌≡◌, ◌++◌, OnOk, IfOk};
+ghost use Rattle.grs_report.specs.Report.{head_line, end_line, report};
+
+use super::ends::all_ended;
+use super::history::put_history;
+use super::lines::put_line;
+use super::names::names_of;
+use super::schedule::put_schedule;
+use super::state::{put_mode, put_queues, put_units, put_words};
+use super::told::put_told;
+use grs_base::{List, NoMemory};
+use grs_wire::{Deck, Seen};
+use std::alloc::Global;
+
+/// Puts the last line behind a text.
+#[tactic(auto, unfolding(crate::specs::Report::end_line))]
+fn put_end(done: bool, out: &mut List<u8>) -> Result<(), NoMemory>
+    ensures { OnOk result (out.new ≡ out.old ++ end_line done) }
+{
+    let end: &[u8] = if done { b"DONE" } else { b"WAITS" };
+    put_line(out, &[b"END".as_slice(), end])
+}
+
+#[tactic(auto, unfolding(crate::specs::Report::head_line))]
+fn put_head(out: &mut List<u8>) -> Result<(), NoMemory>
+    ensures { OnOk result (out.new ≡ out.old ++ head_line) }
+{
+    put_line(out, &[b"GRS".as_slice(), b"REPORT", b"1"])
+}
+
+/// The report of what a run of a deck shows. Nothing is written for the name of a system, job or task that
+/// the deck does not have, and a task without an entry in `ended` counts as open.
+///
+/// # Errors
+///
+/// `NoMemory` where there was no memory for the text.
+#[tactic(auto, unfolding(crate::specs::Report::report))]
+pub fn report(alloc: Global, deck: &Deck, seen: &Seen) -> Result<List<u8>, NoMemory>
+    ensures { IfOk result (λ text. text ≡ report deck.now seen.now) }
+{
+    let names = names_of(alloc, deck)?;
+    let ended = seen.ended.as_slice();
+    let mut out = List::new(alloc);
+    put_head(&mut out)?;
+    put_schedule(alloc, &names, seen.events.as_slice(), &mut out)?;
+    put_history(alloc, &names, seen.hist.as_slice(), &mut out)?;
+    put_told(
+        alloc,
+        seen.told.as_slice(),
+        ended,
+        deck.systems.as_slice(),
+        &mut out,
+    )?;
+    put_queues(alloc, &names, seen.queues.as_slice(), &mut out)?;
+    put_units(alloc, &names, seen.units.as_slice(), &mut out)?;
+    put_words(alloc, &names, seen.words.as_slice(), &mut out)?;
+    put_mode(seen.star, &mut out)?;
+    put_end(all_ended(ended), &mut out)?;
+    Ok(out)
+}
