@@ -51,9 +51,18 @@ fn order_of_groups(a: &Res, b: &Res) -> Ordering
         (Res::Step { system: s, .. }, Res::System { system: t, .. }) => {
             s.0.cmp(&t.0).then(Ordering::Greater)
         }
-        (Res::Step { system: s, job: j, .. }, Res::Step { system: t, job: k, .. }) => {
-            s.0.cmp(&t.0).then(j.cmp(k))
-        }
+        (
+            Res::Step {
+                system: s,
+                job: j,
+                ..
+            },
+            Res::Step {
+                system: t,
+                job: k,
+                ..
+            },
+        ) => { s.0.cmp(&t.0).then(j.cmp(k)) }
     }
 }
 
