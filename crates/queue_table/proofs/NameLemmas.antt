@@ -1,26 +1,25 @@
 -- Numbers and names.
-use Rattle.std.proofs.Common.{◌≡◌, ◌≢◌, ℕ, Bool, true, false, cond, not, ◌&&◌, ◌||◌, List, [], ◌∷◌, ◌++◌, map, length, Option, Some, None, is_some, refl, ap, sym, ◌∙◌, subst, arith, eqb, nat_eq, append-nil}
+use Rattle.std.proofs.Common.{◌≡◌, ℕ, Bool, true, false, cond, not, ◌&&◌, ◌||◌, List, [], ◌∷◌, ◌++◌, map, length, Option, Some, None, is_some, refl, ap, sym, ◌∙◌, subst, arith, eqb, nat_eq}
 use Rattle.std.specs.Prelude.{filter, slice_get, IfSome}
-use Rattle.std.proofs.Common.{◌<◌, ◌≤◌, suc, zero}
+use Rattle.std.proofs.Common.{◌<◌, ◌≤◌, suc}
 use Rattle.grs_base.specs.Lists.{place_of, decide_enq, has_task, is_owner, standing_of}
 use Rattle.grs_base.specs.declared.resource.Ctl.{Ctl}
 use Rattle.grs_base.specs.declared.resource.Ret.{Ret}
-use Rattle.grs_base.specs.declared.decision.Effect.{Effect}
-use Rattle.grs_base.specs.declared.decision.Effect.TheVariants.{Nothing, Append, MakeExclusive}
+use Rattle.grs_base.specs.declared.decision.Effect.TheVariants.{Append, MakeExclusive}
 use Rattle.grs_base.proofs.ListLaws.{place-le, owners-le, has_task-place, is_owner-standing, owns-place}
 use Rattle.grs_base.proofs.StateLaws.{appends_absent, only_owner}
-use Rattle.grs_base.proofs.SameLaws.{same_task-exact, same_task-itself}
+use Rattle.grs_base.proofs.SameLaws.{same_task-exact}
 use Rattle.std.specs.Option.{option_map_or}
 use Rattle.std.specs.Prelude.{Result, Ok, Err, IsOk, OnOk}
-use Rattle.std.specs.Map.{lookup, remove_entry}
+use Rattle.std.specs.Map.{remove_entry}
 use Rattle.std.proofs.lemmas.Bool.{eqb-true, eq-eqb, ne_eqb}
 use Rattle.std.proofs.lemmas.Bool.Decides.{nat_tests}
 use Rattle.grs_base.specs.Same.{same_res, same_task}
-use Rattle.grs_base.specs.State.{pick, Held, State, list_at, list_at_some, list_of, queued_by, is_at, without, with_exclusive}
+use Rattle.grs_base.specs.State.{Held, State, list_at, list_at_some, list_of, queued_by, is_at, without, with_exclusive}
 use Rattle.grs_base.specs.declared.resource.Res.{Res}
 use Rattle.grs_base.specs.declared.resource.Elem.{Elem}
 use Rattle.grs_base.specs.declared.resource.TaskId.{TaskId}
-use Rattle.grs_base.specs.declared.resource.Ctl.TheVariants.{E, S}
+use Rattle.grs_base.specs.declared.resource.Ctl.TheVariants.{E}
 use Rattle.grs_base.proofs.SameLaws.{same_res-exact, same_res-itself}
 use Rattle.queue_table.specs.Names.{Numbers, number_of, name_of, named, is_paired, all_numbers, all_named, IsTable}
 

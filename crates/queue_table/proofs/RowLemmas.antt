@@ -1,15 +1,14 @@
 -- Lists in the order in which they are shown.
-use Rattle.std.proofs.Common.{◌≡◌, ◌≢◌, ◌<◌, ◌≤◌, ◌+◌, ℕ, zero, suc, Bool, true, false, cond, not, ◌&&◌, ◌||◌, T, List, [], ◌∷◌, ◌++◌, map, length, drop, Option, Some, None, refl, ap, sym, ◌∙◌, subst, arith, nat_eq, append_assoc}
+use Rattle.std.proofs.Common.{◌≡◌, ◌≢◌, ◌≤◌, ◌+◌, ℕ, zero, suc, Bool, true, false, cond, T, List, [], ◌∷◌, ◌++◌, length, drop, Option, Some, None, refl, ap, sym, ◌∙◌, arith, nat_eq, append_assoc}
 use Rattle.std.specs.Prelude.{slice_get}
 use Rattle.std.specs.declared.cmp.Ordering.{Ordering}
-use Rattle.std.specs.declared.cmp.Ordering.TheVariants.{Less, Equal, Greater}
-use Rattle.std.specs.Ordering.{on, match_ordering, eq_by_cmp}
+use Rattle.std.specs.Ordering.{on, eq_by_cmp}
 use Rattle.std.specs.Cmp.{IsTotalOrder}
 use Rattle.std.specs.FinMap.{put, find, is_sorted, IsAntisymmetric}
 use Rattle.std.specs.FinMap.Entries.{is_sorted-put, find-put, same_entries}
 use Rattle.std.specs.BTreeMap.{insert_entry}
 use Rattle.grs_base.specs.Same.{same_res}
-use Rattle.grs_base.specs.State.{pick, Held, State, list_at, list_at_some, list_of}
+use Rattle.grs_base.specs.State.{Held, State, list_at, list_at_some, list_of}
 use Rattle.grs_base.specs.ResOrder.{res_order}
 use Rattle.grs_base.specs.Rows.{lists_from, lists_of}
 use Rattle.grs_base.specs.declared.resource.Res.{Res}
@@ -18,7 +17,7 @@ use Rattle.grs_base.proofs.SameLaws.{same_res-exact}
 use Rattle.grs_base.proofs.OrderLaws.{res_total, res_order-IsAntisymmetric, same_res-tie}
 use Rattle.ret_codes.proofs.Steps.{drop_at_get}
 use Rattle.queue_table.specs.declared.placed.Placed.{Placed}
-use Rattle.queue_table.specs.Names.{Numbers, number_of, named, is_paired, IsTable}
+use Rattle.queue_table.specs.Names.{Numbers, number_of, named, is_paired}
 use Rattle.queue_table.specs.Shown.{plain, with_list, with_lists}
 use Rattle.queue_table.proofs.NameLemmas.{list_of-some}
 

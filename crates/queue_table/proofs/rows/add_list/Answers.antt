@@ -1,4 +1,4 @@
-use Rattle.std.proofs.Common.{◌≡◌, ◌∙◌, nat_eq}
+use Rattle.std.proofs.Common.{◌∙◌, nat_eq}
 use Rattle.grs_base.specs.State.{list_at}
 use Rattle.queue_table.proofs.RowLemmas.{with_list-some}
 use Rattle.queue_table.proofs.rows.add_list.Goals as goal

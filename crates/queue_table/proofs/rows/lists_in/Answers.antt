@@ -1,4 +1,4 @@
-use Rattle.std.proofs.Common.{◌≡◌, ◌∙◌, sym, arith}
+use Rattle.std.proofs.Common.{◌∙◌, sym, arith}
 use Rattle.queue_table.proofs.PurgeLemmas.{number_at-live}
 use Rattle.queue_table.proofs.RowLemmas.{with_lists-more, with_lists-named, with_lists-end}
 use Rattle.queue_table.proofs.rows.lists_in.Goals as goal
