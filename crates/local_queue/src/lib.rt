@@ -1,0 +1,8 @@
+//! The lists of the Step and System resources of one system. A request is answered at once, with the
+//! tasks that got control by it; nothing here knows of other systems.
+#![tactic(auto)]
+
+mod local;
+mod owners;
+
+pub use local::{Local, Outcome};
