@@ -32,7 +32,10 @@ fn settle(
             table.enq(res, *task, *ctl, *ret, full);
         }
         HistEntry::Deq {
-            task, res, have, ..
+            task,
+            res,
+            have,
+            ..
         } => {
             table.deq(res, *task, *have);
         }
@@ -46,11 +49,7 @@ fn settle(
 /// The lists that aren't empty after a history, where a task may have `limit` elements: Systems
 /// resources by name, then system by system its System resources by name and, job by job, its Step
 /// resources by name. A name is compared by its qname with blanks behind it, then by its rname.
-pub fn queues_after(
-    alloc: Global,
-    hist: &[HistEntry],
-    limit: u32,
-) -> Result<List<Row>, NoMemory>
+pub fn queues_after(alloc: Global, hist: &[HistEntry], limit: u32) -> Result<List<Row>, NoMemory>
     ensures { IfOk result (λ rows. rows ≡ rows_of (replay limit hist.now)) }
 {
     let mut table = Table::new(alloc, PlainQueues::new(alloc));

@@ -79,7 +79,7 @@ became_owners-effect es t c MakeExclusive only = became_owners-exclusive es t (o
 pub became_owners-enq : (s : State) (r : Res) (t : TaskId) (c : Ctl) (ret : Ret) (full : Bool) → [] ≡ became_owners (list_of s r) (list_of (enq_state s r t c ret full) r) t
 became_owners-enq s r t c ret full =
     sym (ap (λ (l : List Elem). became_owners (list_of s r) l t) (list_of-effect s r t c (decide_enq (list_of s r) t c ret full).effect)
-        ∙ became_owners-effect (list_of s r) t c (decide_enq (list_of s r) t c ret full).effect (only_owner (list_of s r) t c ret full))
+    ∙ became_owners-effect (list_of s r) t c (decide_enq (list_of s r) t c ret full).effect (only_owner (list_of s r) t c ret full))
 
 list_of-cond : (b : Bool) (s u : State) (r : Res) → list_of (cond b s u) r ≡ cond b (list_of s r) (list_of u r)
 list_of-cond true s u r = refl

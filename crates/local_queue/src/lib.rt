@@ -4,5 +4,7 @@
 
 mod local;
 mod owners;
+#[cfg(test)]
+mod tests;
 
 pub use local::{Local, Outcome};

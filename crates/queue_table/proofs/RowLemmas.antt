@@ -15,16 +15,16 @@ use Rattle.grs_base.specs.declared.resource.Res.{Res}
 use Rattle.grs_base.specs.declared.resource.Elem.{Elem}
 use Rattle.grs_base.proofs.SameLaws.{same_res-exact}
 use Rattle.grs_base.proofs.OrderLaws.{res_total, res_order-IsAntisymmetric, same_res-tie}
-use Rattle.ret_codes.proofs.Steps.{drop_at_get}
 use Rattle.queue_table.specs.declared.placed.Placed.{Placed}
 use Rattle.queue_table.specs.Names.{Numbers, number_of, named, is_paired}
 use Rattle.queue_table.specs.Shown.{plain, with_list, with_lists}
 use Rattle.queue_table.proofs.NameLemmas.{list_of-some}
 
--- one element more is passed
-pub walk_more : {X : Type 0} (xs done more : List X) (i : ℕ) (x : X) → done ++ drop i xs ≡ xs → slice_get xs i ≡ Some x → more ≡ done ++ x ∷ [] → more ++ drop (i + 1) xs ≡ xs
-walk_more xs done more i x all at is =
-    ap (λ l. l ++ drop (i + 1) xs) is ∙ append_assoc done (x ∷ []) (drop (i + 1) xs) ∙ ap (λ l. done ++ l) (sym (drop_at_get xs i x at)) ∙ all
+-- an element before those behind it
+drop_at_get : {X : Type 0} (xs : List X) (i : ℕ) (x : X) → slice_get xs i ≡ Some x → drop i xs ≡ x ∷ drop (i + 1) xs
+drop_at_get [] i x e = cc
+drop_at_get (y ∷ xs) zero x e = grind (arith, e)
+drop_at_get (y ∷ xs) (suc i) x e = grind (arith, e, drop_at_get xs i x)
 
 abbrev Lists : Type 0
 Lists = List (Res × List Elem)

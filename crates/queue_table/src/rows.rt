@@ -13,18 +13,6 @@ use ret_codes::owners_among;
 use std::alloc::Global;
 use std::collections::BTreeMap;
 
-/// The elements of a queue.
-fn elems_of<Q: Queues>(alloc: Global, queues: &Q, queue: u32) -> Result<List<Elem>, NoMemory>
-    requires { Q.is_live queues.now queue ≡ true }
-    ensures { IfOk result (λ elems. elems ≡ list_at nat_eq (Q.held queues.now) queue) }
-{
-    let mut elems = List::new(alloc);
-    for place in 0..queues.len(queue) {
-        elems.push(queues.elem(queue, place))?;
-    }
-    Ok(elems)
-}
-
 /// The elements of a resource.
 pub(crate) fn list_in<Q: Queues>(
     alloc: Global,
@@ -36,7 +24,7 @@ pub(crate) fn list_in<Q: Queues>(
     ensures { IfOk result (λ elems. elems ≡ list_of (named numbers.now.entries (Q.held queues.now)) res.now) }
 {
     match number(numbers, res, queues) {
-        Some(queue) => elems_of(alloc, queues, queue),
+        Some(queue) => queues.elems(alloc, queue),
         None => Ok(List::new(alloc)),
     }
 }
@@ -52,7 +40,7 @@ fn add_list<Q: Queues>(
     requires { Q.is_live queues.now queue ≡ true }
     ensures { OnOk result (plain lists.new.entries ≡ with_list res.now (list_at nat_eq (Q.held queues.now) queue) (plain lists.old.entries)) }
 {
-    let elems = elems_of(alloc, queues, queue)?;
+    let elems = queues.elems(alloc, queue)?;
     if elems.len() == 0 {
         return Ok(());
     }
