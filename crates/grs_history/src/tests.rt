@@ -48,9 +48,8 @@ fn code_of(entry: &HistEntry) -> Code {
     }
 }
 
-#[test]
-fn answers_and_shows(rt: HostRuntime) -> Result<(), Fail> {
-    let alloc = rt.alloc();
+/// Six requests, of which the last has to wait.
+fn some_requests(alloc: Global) -> Result<List<(SysId, Fixed)>, Fail> {
     let mut fixed = List::new(alloc);
     ask(&mut fixed, 0, local_res(alloc, b"A")?, Ctl::E)?;
     ask(&mut fixed, 0, global_res(alloc, b"B")?, Ctl::S)?;
@@ -58,26 +57,35 @@ fn answers_and_shows(rt: HostRuntime) -> Result<(), Fail> {
     ask(&mut fixed, 2, global_res(alloc, b"A")?, Ctl::E)?;
     ask(&mut fixed, 1, global_res(alloc, b"B")?, Ctl::S)?;
     ask(&mut fixed, 2, global_res(alloc, b"B")?, Ctl::E)?;
-    let hist = answers(alloc, fixed.as_slice())?;
-    let codes = [
-        Code::C00,
-        Code::C00,
-        Code::C00,
-        Code::C00,
-        Code::C00,
-        Code::Wait,
-    ];
+    Ok(fixed)
+}
+
+fn in_order(alloc: Global) -> Result<List<Res>, Fail> {
+    let mut resources = List::new(alloc);
+    resources.push(global_res(alloc, b"A\x01")?)?;
+    resources.push(global_res(alloc, b"A")?)?;
+    resources.push(global_res(alloc, b"B")?)?;
+    resources.push(local_res(alloc, b"A")?)?;
+    Ok(resources)
+}
+
+#[test]
+fn answers_and_shows(rt: HostRuntime) -> Result<(), Fail> {
+    let alloc = rt.alloc();
+    let hist = answers(alloc, some_requests(alloc)?.as_slice())?;
+    let go = Code::C00;
+    let codes = [go, go, go, go, go, Code::Wait];
     assert_eq!(rt; hist.len(), codes.len());
     for (entry, code) in hist.as_slice().iter().zip(codes) {
         assert_eq!(rt; code_of(entry), code);
     }
     let rows = queues_after(alloc, hist.as_slice(), 4096)?;
-    assert_eq!(rt; rows.len(), 4);
-    assert!(rt; rows.get(0).res == global_res(alloc, b"A\x01")?);
-    assert!(rt; rows.get(1).res == global_res(alloc, b"A")?);
-    assert!(rt; rows.get(2).res == global_res(alloc, b"B")?);
-    assert_eq!(rt; rows.get(2).elems.len(), 3);
-    assert_eq!(rt; rows.get(2).owners, 2);
-    assert!(rt; rows.get(3).res == local_res(alloc, b"A")?);
+    let resources = in_order(alloc)?;
+    let counts = [(1, 1), (1, 1), (3, 2), (1, 1)];
+    assert_eq!(rt; rows.len(), resources.len());
+    for ((row, res), counts) in rows.as_slice().iter().zip(resources.as_slice()).zip(counts) {
+        assert!(rt; row.res == *res);
+        assert_eq!(rt; (row.elems.len(), row.owners), counts);
+    }
     Ok(())
 }

@@ -1,9 +1,8 @@
 //! Who gets control of a resource when an element leaves its list.
-ghost use Rattle.std.specs.Prelude.{◌≡◌, not, ◌&&◌, cond, take, IfOk};
+ghost use Rattle.std.specs.Prelude.{◌≡◌, true, cond, length, map, take, IfOk};
 ghost use Rattle.std.specs.List.{list_any};
-ghost use Rattle.grs_base.specs.Lists.{owners, owns, list_without};
+ghost use Rattle.grs_base.specs.Lists.{is_apart, owners, owns, list_without};
 ghost use Rattle.grs_base.specs.Same.{same_task};
-ghost use Rattle.grs_base.specs.State.{pick};
 ghost use Rattle.grs_wire.specs.Wants.{became_owners};
 
 use grs_base::{Elem, List, NoMemory, TaskId, is_same_task};
@@ -45,34 +44,46 @@ fn is_owner(elems: &[Elem], task: TaskId) -> bool
     has_task(owning(elems), task)
 }
 
-/// The tasks of these elements, other than the asker, that don't own by the list.
-fn newcomers(
-    alloc: Global,
-    before: &[Elem],
-    elems: &[Elem],
-    asker: TaskId,
-) -> Result<List<TaskId>, NoMemory>
-    ensures { IfOk result (λ tasks. tasks ≡ pick (λ e. not (owns before.now e.task) && not (same_task asker e.task)) (λ e. e.task) elems.now) }
+/// How many owners are other tasks.
+fn count_others(elems: &[Elem], task: TaskId) -> usize
+    ensures { result ≡ length (list_without elems.now task) }
+{
+    elems
+        .iter()
+        .filter(|elem| !is_same_task(task, elem.task))
+        .count()
+}
+
+/// The tasks of these elements.
+fn tasks_of(alloc: Global, elems: &[Elem]) -> Result<List<TaskId>, NoMemory>
+    ensures { IfOk result (λ tasks. tasks ≡ map (λ e. e.task) elems.now) }
 {
     let mut tasks = List::new(alloc);
     for elem in elems {
-        if !is_owner(before, elem.task) && !is_same_task(asker, elem.task) {
-            tasks.push(elem.task)?;
-        }
+        tasks.push(elem.task)?;
     }
     Ok(tasks)
 }
 
-/// The tasks that get control when a task's element leaves the list.
+/// The tasks that get control when a task's element leaves the list: the owners behind those that
+/// owned before.
+#[tactic(auto, using(crate::proofs::OwnerLemmas::outcomes))]
 pub(crate) fn owners_behind(
     alloc: Global,
     elems: &[Elem],
     leaver: TaskId,
 ) -> Result<List<TaskId>, NoMemory>
+    requires { is_apart elems.now ≡ true }
     ensures { IfOk result (λ tasks. tasks ≡ became_owners elems.now (list_without elems.now leaver) leaver) }
 {
     let rest = without(alloc, elems, leaver)?;
-    newcomers(alloc, elems, owning(rest.as_slice()), leaver)
+    let owned = count_others(owning(elems), leaver);
+    let own = owning(rest.as_slice());
+    if owned < own.len() {
+        tasks_of(alloc, &own[owned..])
+    } else {
+        Ok(List::new(alloc))
+    }
 }
 
 /// The tasks that get control when an owner gives it up. A task that is no owner gives up nothing.
@@ -82,6 +93,7 @@ pub(crate) fn owners_behind_owner(
     elems: &[Elem],
     leaver: TaskId,
 ) -> Result<List<TaskId>, NoMemory>
+    requires { is_apart elems.now ≡ true }
     ensures { IfOk result (λ tasks. tasks ≡ became_owners elems.now (cond (owns elems.now leaver) (list_without elems.now leaver) elems.now) leaver) }
 {
     if is_owner(elems, leaver) {

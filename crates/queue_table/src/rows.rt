@@ -1,5 +1,6 @@
 //! The lists of a table as they are shown: with their resources, in order, and with their numbers of owners.
 ghost use Rattle.std.specs.Prelude.{◌≡◌, ◌∷◌, [], true, length, map, nat_eq, IfOk, OnOk};
+ghost use Rattle.grs_base.specs.Lists.{is_apart};
 ghost use Rattle.grs_base.specs.State.{list_at, list_of};
 ghost use Rattle.grs_base.specs.Rows.{lists_of, row_of, rows_of};
 ghost use Rattle.queue_table.specs.Names.{named, IsTable};
@@ -21,7 +22,8 @@ pub(crate) fn list_in<Q: Queues>(
     res: &Res,
 ) -> Result<List<Elem>, NoMemory>
     requires table { IsTable numbers.now.entries (Q.held queues.now) (Q.is_live queues.now) }
-    ensures { IfOk result (λ elems. elems ≡ list_of (named numbers.now.entries (Q.held queues.now)) res.now) }
+    ensures list { IfOk result (λ elems. elems ≡ list_of (named numbers.now.entries (Q.held queues.now)) res.now) }
+    ensures apart { IfOk result (λ elems. is_apart elems ≡ true) }
 {
     match number(numbers, res, queues) {
         Some(queue) => queues.elems(alloc, queue),
