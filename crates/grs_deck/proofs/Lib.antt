@@ -1,0 +1,4 @@
+pub mod Last
+pub mod PlacesLaws
+pub mod FitsLaws
+pub mod Loop

@@ -1,0 +1,4 @@
+pub mod Places
+pub mod Judge
+pub mod Grow
+pub mod Reading
