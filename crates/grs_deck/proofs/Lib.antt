@@ -2,3 +2,4 @@ pub mod Last
 pub mod PlacesLaws
 pub mod FitsLaws
 pub mod Loop
+pub mod Samples
