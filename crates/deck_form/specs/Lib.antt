@@ -7,3 +7,4 @@ pub mod Event
 pub mod UnbuiltWord
 pub mod Form
 pub mod Unbuilt
+pub mod Spelled
