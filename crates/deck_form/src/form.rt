@@ -2,6 +2,7 @@
 ghost use Rattle.std.specs.Prelude.{◌≡◌, Option};
 ghost use Rattle.deck_form.specs.Tokens.{Reads};
 ghost use Rattle.deck_form.specs.Form.{named_at, plain_form, first_form, event_form, form, key, or_bad, Forms};
+ghost use Rattle.deck_form.specs.Spelled.{Answers};
 ghost use Rattle.deck_form.specs.declared.form.Stmt.{Stmt as StmtValue};
 
 use crate::ask::{Ask, EnqAsk, deq_at, enq_at, wait_at};
@@ -151,10 +152,9 @@ fn event_form(alloc: Global, entries: u32, ts: &[Token]) -> Result<Stmt, Miss>
     Ok(Stmt::Event { system, act })
 }
 
-/// The statement that a line spells, before SCHEDULE or behind it, in a deck with this many lock
-/// entries; else UnknownStatement, where the first word is no statement word, or BadOperand.
+/// What is read of a line.
 #[tactic(auto, unfolding(crate::specs::Form::form))]
-pub fn statement(
+fn read_form(
     alloc: Global,
     scheduled: bool,
     entries: u32,
@@ -168,4 +168,21 @@ pub fn statement(
     } else {
         first_form(alloc, line.joined, ts)
     }
+}
+
+/// The statement that a line spells, before SCHEDULE or behind it, in a deck with this many lock
+/// entries.
+///
+/// A line before SCHEDULE whose first word is no statement word is `UnknownStatement`; any other
+/// line that spells no statement is `BadOperand`.
+pub fn statement(
+    alloc: Global,
+    scheduled: bool,
+    entries: u32,
+    line: &TokenLine,
+) -> Result<Stmt, FormError>
+    ensures exact { Answers result scheduled entries line.now }
+    ensures read { Forms result (form scheduled entries line.now) }
+{
+    read_form(alloc, scheduled, entries, line)
 }
