@@ -3,3 +3,4 @@ pub mod PlacesLaws
 pub mod FitsLaws
 pub mod Loop
 pub mod Samples
+pub mod Laws

@@ -2,3 +2,5 @@ pub mod Places
 pub mod Judge
 pub mod Grow
 pub mod Reading
+pub mod Spells
+pub mod Faults
