@@ -4,3 +4,5 @@ pub mod FitsLaws
 pub mod Loop
 pub mod Samples
 pub mod Laws
+pub mod Least
+pub mod First
