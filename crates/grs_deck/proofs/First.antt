@@ -15,7 +15,7 @@ use Rattle.grs_deck.specs.Reading.{◌>>=◌, judge, judge_all, no_draft, ended,
 use Rattle.grs_deck.specs.Spells.{Says}
 use Rattle.grs_deck.specs.Faults.{FaultyLine, NoSystemSaid, FaultOfLines, IsFault}
 use Rattle.grs_deck.proofs.FitsLaws.{judged}
-use Rattle.grs_deck.proofs.Laws.{right_of, says, says_again, judged_again, allowed_of, text_spells, lines_read}
+use Rattle.grs_deck.proofs.SpellsLaws.{right_of, says, says_again, judged_again, allowed_of, text_spells, lines_read}
 use Rattle.grs_deck.proofs.Least.{refused, refused_is, judged_err, judged_so}
 use Rattle.deck_form.proofs.Taken.{form_taken}
 

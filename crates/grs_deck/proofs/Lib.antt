@@ -3,6 +3,6 @@ pub mod PlacesLaws
 pub mod FitsLaws
 pub mod Loop
 pub mod Samples
-pub mod Laws
+pub mod SpellsLaws
 pub mod Least
 pub mod First

@@ -4,8 +4,10 @@
 
 mod grow;
 mod judge;
+mod laws;
 mod places;
 mod read;
 
 pub use grs_wire::{Choice, Deck, Event, JobDef, Name, SystemDef, TaskDef};
+pub use laws::one_deck;
 pub use read::read_deck;

@@ -4,6 +4,8 @@ ghost use Rattle.deck_scan.specs.Gives.{Gives};
 ghost use Rattle.grs_deck.specs.Places.{Fits};
 ghost use Rattle.grs_deck.specs.Judge.{verdict};
 ghost use Rattle.grs_deck.specs.Grow.{is_schedule, line_count, grow};
+ghost use Rattle.grs_wire.specs.declared.deck.Deck.{Deck as DeckValue};
+ghost use Rattle.grs_deck.specs.Spells.{SpellsDeck, Answers, IsOkUnlessMemory};
 ghost use Rattle.grs_deck.specs.Reading.{judge_statement, judge, judge_all, ended, reading, Took, no_draft};
 
 use crate::grow::grow_deck;
@@ -122,12 +124,26 @@ fn end(draft: Draft) -> Result<Deck, ReadError>
     }
 }
 
-/// The deck that a text spells, or its first fault.
+/// What is read of a text.
 #[tactic(auto, unfolding(crate::specs::Reading::reading))]
-pub fn read_deck(alloc: Global, text: &[u8]) -> Result<Deck, ReadError>
+fn read_all(alloc: Global, text: &[u8]) -> Result<Deck, ReadError>
     ensures { Gives result (reading text.now) }
 {
     let all = lines(alloc, text)?;
     let draft = take_lines(alloc, all.as_slice())?;
     end(draft)
+}
+
+/// The deck that a text spells, or its first fault.
+///
+/// `TooLong` and `NoSystem` are told with line 0, `BadByte` with the line of the first such byte,
+/// and any other kind with the line on which the first faulty statement begins: it is the least
+/// kind that applies to that statement.
+pub fn read_deck(alloc: Global, text: &[u8]) -> Result<Deck, ReadError>
+    // What is read is spelled so, and has no fault; the fault is the text's first one.
+    ensures exact { Answers result text.now }
+    // What is spelled so is read, unless memory runs out.
+    ensures only { (d : DeckValue) → SpellsDeck text.now d → IsOkUnlessMemory result d }
+{
+    read_all(alloc, text)
 }
