@@ -130,7 +130,7 @@ event_systems : (o : Option Event) (d : Deck) → (with_event o d).systems ≡ d
 event_systems None d = refl
 event_systems (Some e) d = refl
 
-fits_grow : (d : Draft) (st : Stmt) → is_full d st ≡ false → Fits d.deck.systems → Fits (grow d st).deck.systems
+pub fits_grow : (d : Draft) (st : Stmt) → is_full d st ≡ false → Fits d.deck.systems → Fits (grow d st).deck.systems
 fits_grow d stmts.Unbuilt full h = h
 fits_grow d (stmts.Complex c) full h = h
 fits_grow d (stmts.System n) full h = fits_system d.deck.systems n h (below 8 (length d.deck.systems) full)

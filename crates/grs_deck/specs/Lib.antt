@@ -4,3 +4,4 @@ pub mod Grow
 pub mod Reading
 pub mod Spells
 pub mod Faults
+pub mod Whole

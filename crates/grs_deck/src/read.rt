@@ -1,10 +1,11 @@
 //! Reads a deck, line by line, up to its first fault.
-ghost use Rattle.std.specs.Prelude.{◌≡◌, ◌||◌, OnOk, Some, None};
+ghost use Rattle.std.specs.Prelude.{◌≡◌, ◌||◌, OnOk, IfOk, Some, None};
 ghost use Rattle.deck_scan.specs.Gives.{Gives};
 ghost use Rattle.grs_deck.specs.Places.{Fits};
 ghost use Rattle.grs_deck.specs.Judge.{verdict};
 ghost use Rattle.grs_deck.specs.Grow.{is_schedule, line_count, grow};
 ghost use Rattle.grs_wire.specs.declared.deck.Deck.{Deck as DeckValue};
+ghost use Rattle.grs_deck.specs.Whole.{IsDeck};
 ghost use Rattle.grs_deck.specs.Spells.{SpellsDeck, Answers, IsOkUnlessMemory};
 ghost use Rattle.grs_deck.specs.Reading.{judge_statement, judge, judge_all, ended, reading, Took, no_draft};
 
@@ -144,6 +145,8 @@ pub fn read_deck(alloc: Global, text: &[u8]) -> Result<Deck, ReadError>
     ensures exact { Answers result text.now }
     // What is spelled so is read, unless memory runs out.
     ensures only { (d : DeckValue) → SpellsDeck text.now d → IsOkUnlessMemory result d }
+    // What is read is within the limits, and its events speak of what is there.
+    ensures whole { IfOk result (λ d. IsDeck d) }
 {
     read_all(alloc, text)
 }
