@@ -1,0 +1,5 @@
+pub mod Status
+pub mod Tasks
+pub mod Seen
+pub mod Due
+pub mod Answers
