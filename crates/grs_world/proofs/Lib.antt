@@ -18,3 +18,4 @@ pub mod Did
 pub mod Events
 pub mod Turns
 pub mod Sound
+pub mod Samples
