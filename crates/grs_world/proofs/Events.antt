@@ -142,6 +142,7 @@ module _ (deck : Deck) (P : List HistEntry) (n : Node) (good : IsGood deck P n) 
     tasks = holds-knows deck (P ++ h ∷ []) (learns_all (before_telling deck P t w h mine after) (res_wanted w) (became deck P t w h mine after)) (owned deck (P ++ h ∷ [])) _ (λ q u. sym (told-all deck P t w h mine after q u)) all_told.holds;
     elems = elems_after;
     here = λ u hu. all_told.here u ∙ did.changed.here u ∙ good.here u hu;
+    home = λ u hu. good.home u (sym (all_told.here u ∙ did.changed.here u) ∙ hu);
   }
 
   pub agreed_decided : Agreed deck (P ++ h ∷ []) n.tasks.told (tell_all v1 (res_wanted w) (became deck P t w h mine after)).told
@@ -152,7 +153,7 @@ past-line : (limit : ℕ) (P : List HistEntry) (h : HistEntry) (t : TaskId) (is_
     past limit (P ++ h ∷ []) t ≡ record { lists = replay limit (P ++ h ∷ []); asked = line_entries t P ++ h ∷ []; last = Some h }
 past-line limit P h t mine asked = rw (asked, entries_of-own t P h mine, last_entry-push (entries_of t P) h) refl
 
-past-release : (limit : ℕ) (P : List HistEntry) (h : HistEntry) (t : TaskId) (is_line : same_task t (asker h) ≡ true) → line_entries t (P ++ h ∷ []) ≡ line_entries t P →
+pub past-release : (limit : ℕ) (P : List HistEntry) (h : HistEntry) (t : TaskId) (is_line : same_task t (asker h) ≡ true) → line_entries t (P ++ h ∷ []) ≡ line_entries t P →
     past limit (P ++ h ∷ []) t ≡ record { lists = replay limit (P ++ h ∷ []); asked = line_entries t P; last = Some h }
 past-release limit P h t mine asked = rw (asked, entries_of-own t P h mine, last_entry-push (entries_of t P) h) refl
 
@@ -178,11 +179,11 @@ module _ (limit : ℕ) (ls : List Line) (P : List HistEntry) (T : List ToldLine)
 
 -- a task of ours that is ready, by its parts
 module _ (deck : Deck) (P : List HistEntry) (n : Node) (good : IsGood deck P n) (t : TaskId) (ls : List Line) (ours : IsOurs deck n.tasks t ls) (ready : (state_of n.tasks t).phase ≡ phases.Ready) where
-  is_ready : IsTask ls (past deck.limit P t) n.tasks.told (by_lists (replay deck.limit P) t) t (record { line = (state_of n.tasks t).line; phase = phases.Ready; code = (state_of n.tasks t).code; records = (state_of n.tasks t).records; outstanding = (state_of n.tasks t).outstanding })
+  pub is_ready : IsTask ls (past deck.limit P t) n.tasks.told (by_lists (replay deck.limit P) t) t (record { line = (state_of n.tasks t).line; phase = phases.Ready; code = (state_of n.tasks t).code; records = (state_of n.tasks t).records; outstanding = (state_of n.tasks t).outstanding })
   is_ready = subst (λ ph. IsTask ls (past deck.limit P t) n.tasks.told (by_lists (replay deck.limit P) t) t (record { line = (state_of n.tasks t).line; phase = ph; code = (state_of n.tasks t).code; records = (state_of n.tasks t).records; outstanding = (state_of n.tasks t).outstanding })) ready (good.tasks.each t ls ours)
 
   -- the task with its next line taken
-  taken : Did n.tasks (with_line n.tasks t) t (record (state_of n.tasks t) { line = suc (state_of n.tasks t).line }) n.tasks.told
+  pub taken : Did n.tasks (with_line n.tasks t) t (record (state_of n.tasks t) { line = suc (state_of n.tasks t).line }) n.tasks.told
   taken = did-line n.tasks n.tasks t (state_of n.tasks t) n.tasks.told ours.here (did-none n.tasks t)
 
   is_full_by : (xs : List Rec) → map key xs ≡ own (replay deck.limit P) t → nat_le deck.limit (length xs) ≡ is_full deck.limit (replay deck.limit P) t
@@ -193,7 +194,7 @@ module _ (deck : Deck) (P : List HistEntry) (n : Node) (good : IsGood deck P n) 
       same_length (y ∷ ys) = ap suc (same_length ys)
 
   -- an ENQ that is decided
-  enq_outcome : (l : Line) (r : Res) (c : Ctl) (ret : Ret) → slice_get ls (state_of n.tasks t).line ≡ Some l → ask_of t l ≡ Some (AsksEnq r c ret) →
+  pub enq_outcome : (l : Line) (r : Res) (c : Ctl) (ret : Ret) → slice_get ls (state_of n.tasks t).line ≡ Some l → ask_of t l ≡ Some (AsksEnq r c ret) →
       Outcome deck P n (decide (record { tasks = with_line n.tasks t; held = replay deck.limit P }) t (Enq r c ret (has_most deck.limit (with_line n.tasks t) t)))
   unfolding decide
   enq_outcome l r c ret at asks =
@@ -229,7 +230,7 @@ module _ (deck : Deck) (P : List HistEntry) (n : Node) (good : IsGood deck P n) 
       (agreed_decided deck P n good t (Enq r c ret full) h ls ours refl after _ _ _ did own_task told agreed)
 
   -- a DEQ that is decided
-  deq_outcome : (l : Line) (r : Res) (have : Bool) → slice_get ls (state_of n.tasks t).line ≡ Some l → ask_of t l ≡ Some (AsksDeq r have) →
+  pub deq_outcome : (l : Line) (r : Res) (have : Bool) → slice_get ls (state_of n.tasks t).line ≡ Some l → ask_of t l ≡ Some (AsksDeq r have) →
       Outcome deck P n (decide (record { tasks = with_line n.tasks t; held = replay deck.limit P }) t (Deq r have))
   unfolding decide
   deq_outcome l r have at asks =

@@ -56,8 +56,9 @@ pub record IsGood (deck : Deck) (P : List HistEntry) (n : Node) : Type 0 where
   pub tasks : Holds deck P (owned deck P) n.tasks
   -- each element is of a task of the deck
   pub elems : list_all (λ h. is_home deck h.1.task) (replay deck.limit P) ≡ true
-  -- each task of the deck is here
+  -- each task of the deck is here, and no task of another system
   pub here : (t : TaskId) → is_home deck t ≡ true → is_task n.tasks t ≡ true
+  pub home : (t : TaskId) → is_task n.tasks t ≡ true → t.system.0 ≡ 0
 
 pub replay-push : (limit : ℕ) (P : List HistEntry) (h : HistEntry) → replay limit (P ++ h ∷ []) ≡ step limit (replay limit P) h
 replay-push limit P h = replay_from-append limit [] P (h ∷ [])

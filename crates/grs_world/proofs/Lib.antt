@@ -16,3 +16,6 @@ pub mod Steps
 pub mod Good
 pub mod Did
 pub mod Events
+pub mod Turns
+pub mod Sound
+pub mod Samples

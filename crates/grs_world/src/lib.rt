@@ -1,5 +1,4 @@
 //! The world: one system and the run of a list of events, with what is fixed and told.
 #![tactic(auto)]
 
-/// Nothing yet.
-pub fn placeholder() {}
+pub mod laws;
