@@ -3,3 +3,4 @@ pub mod SameLaws
 pub mod NameLaws
 pub mod ListLaws
 pub mod StateLaws
+pub mod OrderLaws

@@ -3,3 +3,5 @@ pub mod Names
 pub mod Printed
 pub mod Lists
 pub mod State
+pub mod ResOrder
+pub mod Rows

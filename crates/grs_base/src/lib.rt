@@ -7,6 +7,7 @@ mod fault;
 mod line;
 mod list;
 mod name;
+mod order;
 mod print;
 mod queues;
 mod resource;

@@ -1,0 +1,60 @@
+//! The lists that a history leaves.
+ghost use Rattle.std.specs.Prelude.{◌≡◌, IfOk, OnOk};
+ghost use Rattle.grs_base.specs.Rows.{rows_of};
+ghost use Rattle.grs_wire.specs.History.{step, replay};
+
+use grs_base::{List, NoMemory, Row};
+use grs_wire::HistEntry;
+use queue_table::Table;
+use serial_queue::PlainQueues;
+use std::alloc::Global;
+
+/// Does what one entry of a history asks for.
+fn settle(
+    alloc: Global,
+    limit: u32,
+    table: &mut Table<PlainQueues>,
+    entry: &HistEntry,
+) -> Result<(), NoMemory>
+    ensures { OnOk result (table.new.held ≡ step limit table.old.held entry.now) }
+{
+    match entry {
+        HistEntry::Enq {
+            task,
+            res,
+            ctl,
+            ret,
+            ..
+        } => {
+            let res = res.copy(alloc)?;
+            table.reserve()?;
+            let full = limit as usize <= table.count(*task);
+            table.enq(res, *task, *ctl, *ret, full);
+        }
+        HistEntry::Deq {
+            task,
+            res,
+            have,
+            ..
+        } => {
+            table.deq(res, *task, *have);
+        }
+        HistEntry::Release { task, res } => {
+            table.release(res, *task);
+        }
+    }
+    Ok(())
+}
+
+/// The lists that aren't empty after a history, where a task may have `limit` elements: Systems
+/// resources by name, then system by system its System resources by name and, job by job, its Step
+/// resources by name. A name is compared by its qname with blanks behind it, then by its rname.
+pub fn queues_after(alloc: Global, hist: &[HistEntry], limit: u32) -> Result<List<Row>, NoMemory>
+    ensures { IfOk result (λ rows. rows ≡ rows_of (replay limit hist.now)) }
+{
+    let mut table = Table::new(alloc, PlainQueues::new(alloc));
+    for entry in hist {
+        settle(alloc, limit, &mut table, entry)?;
+    }
+    table.rows(alloc)
+}

@@ -1,0 +1,165 @@
+-- Lists in the order in which they are shown.
+use Rattle.std.proofs.Common.{◌≡◌, ◌≢◌, ◌≤◌, ◌+◌, ℕ, zero, suc, Bool, true, false, cond, T, List, [], ◌∷◌, ◌++◌, length, drop, Option, Some, None, refl, ap, sym, ◌∙◌, arith, nat_eq, append_assoc}
+use Rattle.std.specs.Prelude.{slice_get}
+use Rattle.std.specs.declared.cmp.Ordering.{Ordering}
+use Rattle.std.specs.Ordering.{on, eq_by_cmp}
+use Rattle.std.specs.Cmp.{IsTotalOrder}
+use Rattle.std.specs.FinMap.{put, find, is_sorted, IsAntisymmetric}
+use Rattle.std.specs.FinMap.Entries.{is_sorted-put, find-put, same_entries}
+use Rattle.std.specs.BTreeMap.{insert_entry}
+use Rattle.grs_base.specs.Same.{same_res}
+use Rattle.grs_base.specs.State.{Held, State, list_at, list_at_some, list_of}
+use Rattle.grs_base.specs.ResOrder.{res_order}
+use Rattle.grs_base.specs.Rows.{lists_from, lists_of}
+use Rattle.grs_base.specs.declared.resource.Res.{Res}
+use Rattle.grs_base.specs.declared.resource.Elem.{Elem}
+use Rattle.grs_base.proofs.SameLaws.{same_res-exact}
+use Rattle.grs_base.proofs.OrderLaws.{res_total, res_order-IsAntisymmetric, same_res-tie}
+use Rattle.queue_table.specs.declared.placed.Placed.{Placed}
+use Rattle.queue_table.specs.Names.{Numbers, number_of, named, is_paired}
+use Rattle.queue_table.specs.Shown.{plain, with_list, with_lists}
+use Rattle.queue_table.proofs.NameLemmas.{list_of-some}
+
+-- an element before those behind it
+drop_at_get : {X : Type 0} (xs : List X) (i : ℕ) (x : X) → slice_get xs i ≡ Some x → drop i xs ≡ x ∷ drop (i + 1) xs
+drop_at_get [] i x e = cc
+drop_at_get (y ∷ xs) zero x e = grind (arith, e)
+drop_at_get (y ∷ xs) (suc i) x e = grind (arith, e, drop_at_get xs i x)
+
+abbrev Lists : Type 0
+Lists = List (Res × List Elem)
+
+module _ (R : Res → Res → Ordering) where
+  -- an entry that is put in by its key is put in by the key's resource
+  plain-insert_by : (es : List (Placed × List Elem)) (k : Placed) (v : List Elem) → plain (insert_entry (on (λ p. p.res) R) es k v) ≡ put R k.res v (plain es)
+  plain-insert_by [] k v = refl
+  plain-insert_by (e ∷ es) k v = grind (arith, plain-insert_by es k v)
+
+pub plain-insert : (es : List (Placed × List Elem)) (r : Res) (v : List Elem) → plain (insert_entry (on (λ p. p.res) res_order) es (record { res = r }) v) ≡ put res_order r v (plain es)
+plain-insert es r v = plain-insert_by res_order es (record { res = r }) v
+
+-- what is found of a list that is put in unless it is empty
+abbrev found : {X : Type 0} → List X → Option (List X) → Option (List X)
+found [] o = o
+found (x ∷ xs) o = Some (x ∷ xs)
+
+-- what is found of the first list where the other has elements
+abbrev shown : {X : Type 0} → List X → List X → Option (List X)
+shown [] ys = None
+shown (x ∷ xs) ys = Some ys
+
+found-shown : {X : Type 0} (xs : List X) → found xs None ≡ shown xs xs
+found-shown [] = refl
+found-shown (x ∷ xs) = refl
+
+either : {X : Type 0} (b : Bool) (x : X) → x ≡ cond b x x
+either true x = refl
+either false x = refl
+
+none_behind : (e : Res × ℕ) (es : Numbers) (q : Res) → is_paired (e ∷ es) ≡ true → q ≡ e.0 → number_of es q ≡ None
+none_behind e es q p is = ap (number_of es) is ∙ step (number_of es e.0) refl
+  where
+    step : (o : Option ℕ) → number_of es e.0 ≡ o → o ≡ None
+    step None h = refl
+    step (Some n) h = grind (arith, p, h)
+
+module _ (R : Res → Res → Ordering) (total : IsTotalOrder R) (exact : IsAntisymmetric R) (tie : (a b : Res) → same_res a b ≡ eq_by_cmp R a b) where
+  -- the definitions over any order
+  abbrev from : State → State → Lists
+  from s [] = []
+  from s (h ∷ hs) = put R h.0 (list_of s h.0) (from s hs)
+
+  abbrev with : Res → List Elem → Lists → Lists
+  with r [] m = m
+  with r (x ∷ xs) m = put R r (x ∷ xs) m
+
+  abbrev with_all : Numbers → Held ℕ → Lists → Lists
+  with_all [] hs m = m
+  with_all (e ∷ es) hs m = with_all es hs (with e.0 (list_at nat_eq hs e.1) m)
+
+  from-sorted : (s hs : State) → T (is_sorted R (from s hs))
+  from-sorted s [] = tt
+  from-sorted s (h ∷ hs) = is_sorted-put R total h.0 (list_of s h.0) (from s hs) (from-sorted s hs)
+
+  with-sorted : (r : Res) (xs : List Elem) (m : Lists) → T (is_sorted R m) → T (is_sorted R (with r xs m))
+  with-sorted r [] m h = h
+  with-sorted r (x ∷ xs) m h = is_sorted-put R total r (x ∷ xs) m h
+
+  with_all-sorted : (es : Numbers) (hs : Held ℕ) (m : Lists) → T (is_sorted R m) → T (is_sorted R (with_all es hs m))
+  with_all-sorted [] hs m h = h
+  with_all-sorted (e ∷ es) hs m h = with_all-sorted es hs _ (with-sorted e.0 (list_at nat_eq hs e.1) m h)
+
+  find-with : (q r : Res) (xs : List Elem) (m : Lists) → find R q (with r xs m) ≡ cond (same_res q r) (found xs (find R q m)) (find R q m)
+  find-with q r [] m = either (same_res q r) (find R q m)
+  find-with q r (x ∷ xs) m = find-put R total q r (x ∷ xs) m ∙ ap (λ (b : Bool). cond b (Some (x ∷ xs)) (find R q m)) (sym (tie q r))
+
+  find-from : (s hs : State) (q : Res) → find R q (from s hs) ≡ shown (list_of hs q) (list_of s q)
+  find-from s [] q = refl
+  find-from s (h ∷ hs) q =
+      find-put R total q h.0 (list_of s h.0) (from s hs)
+      ∙ ap (λ (b : Bool). cond b (Some (list_of s h.0)) (find R q (from s hs))) (sym (tie q h.0))
+      ∙ step (same_res q h.0) refl (find-from s hs q)
+    where
+      step : (b : Bool) → same_res q h.0 ≡ b → find R q (from s hs) ≡ shown (list_of hs q) (list_of s q) → cond b (Some (list_of s h.0)) (find R q (from s hs)) ≡ shown (cond b (h.1 ∷ list_of hs q) (list_of hs q)) (list_of s q)
+      step true e rest = ap (λ (r : Res). Some (list_of s r)) (sym (same_res-exact q h.0 e))
+      step false e rest = rest
+
+  find-with_all : (es : Numbers) (hs : Held ℕ) (m : Lists) (q : Res) → is_paired es ≡ true → find R q (with_all es hs m) ≡ found (list_at_some hs (number_of es q)) (find R q m)
+  find-with_all [] hs m q p = refl
+  find-with_all (e ∷ es) hs m q p =
+      find-with_all es hs (with e.0 (list_at nat_eq hs e.1) m) q (grind (arith, p))
+      ∙ ap (found (list_at_some hs (number_of es q))) (find-with q e.0 (list_at nat_eq hs e.1) m)
+      ∙ step (same_res q e.0) refl
+    where
+      step : (b : Bool) → same_res q e.0 ≡ b → found (list_at_some hs (number_of es q)) (cond b (found (list_at nat_eq hs e.1) (find R q m)) (find R q m)) ≡ found (list_at_some hs (cond b (Some e.1) (number_of es q))) (find R q m)
+      step true s =
+          let none : number_of es q ≡ None = none_behind e es q p (same_res-exact q e.0 s) in
+          ap (λ (o : Option ℕ). found (list_at_some hs o) (found (list_at nat_eq hs e.1) (find R q m))) none
+      step false s = refl
+
+  all-from : (es : Numbers) (hs : Held ℕ) → is_paired es ≡ true → with_all es hs [] ≡ from (named es hs) (named es hs)
+  all-from es hs p = same_entries R total exact (with_all es hs []) (from (named es hs) (named es hs)) (with_all-sorted es hs [] tt) (from-sorted (named es hs) (named es hs))
+      (λ q. find-with_all es hs [] q p ∙ ap (λ (l : List Elem). found l None) (list_of-some es hs q (number_of es q) p refl)
+      ∙ found-shown (list_of (named es hs) q) ∙ sym (find-from (named es hs) (named es hs) q))
+
+with_list-with : (r : Res) (xs : List Elem) (m : Lists) → with_list r xs m ≡ with res_order res_total res_order-IsAntisymmetric same_res-tie r xs m
+with_list-with r [] m = refl
+with_list-with r (x ∷ xs) m = refl
+
+with_lists-all : (es : Numbers) (hs : Held ℕ) (m : Lists) → with_lists es hs m ≡ with_all res_order res_total res_order-IsAntisymmetric same_res-tie es hs m
+with_lists-all [] hs m = refl
+with_lists-all (e ∷ es) hs m = with_lists-all es hs _ ∙ ap (with_all res_order res_total res_order-IsAntisymmetric same_res-tie es hs) (with_list-with e.0 (list_at nat_eq hs e.1) m)
+
+lists_from-from : (s hs : State) → lists_from s hs ≡ from res_order res_total res_order-IsAntisymmetric same_res-tie s hs
+lists_from-from s [] = refl
+lists_from-from s (h ∷ hs) = ap (put res_order h.0 (list_of s h.0)) (lists_from-from s hs)
+
+-- the lists of all numbers are those of the resources that they name
+pub with_lists-named : (es : Numbers) (hs : Held ℕ) → is_paired es ≡ true → with_lists es hs [] ≡ lists_of (named es hs)
+with_lists-named es hs p = with_lists-all es hs [] ∙ all-from res_order res_total res_order-IsAntisymmetric same_res-tie es hs p ∙ sym (lists_from-from (named es hs) (named es hs))
+
+-- the list of one number more
+pub with_lists-more : (es : Numbers) (i : ℕ) (e : Res × ℕ) (hs : Held ℕ) (m more all : Lists) → slice_get es i ≡ Some e → with_lists (drop i es) hs m ≡ all → more ≡ with_list e.0 (list_at nat_eq hs e.1) m → with_lists (drop (i + 1) es) hs more ≡ all
+with_lists-more es i e hs m more all at so_far is =
+    ap (with_lists (drop (i + 1) es) hs) is ∙ ap (λ (l : Numbers). with_lists l hs m) (sym (drop_at_get es i e at)) ∙ so_far
+
+-- what is put in of a list that isn't empty
+pub with_list-some : (r x : Res) (xs ys : List Elem) (old new : List (Placed × List Elem)) → x ≡ r → ys ≡ xs → length ys ≢ 0 → new ≡ insert_entry (on (λ p. p.res) res_order) old (record { res = x }) ys → plain new ≡ with_list r xs (plain old)
+with_list-some r x xs [] old new same list some is = absurd (some refl)
+with_list-some r x xs (y ∷ ys) old new same list some is =
+    ap plain is ∙ plain-insert old x (y ∷ ys) ∙ ap (λ (a : Res). put res_order a (y ∷ ys) (plain old)) same ∙ ap (λ (l : List Elem). with_list r l (plain old)) list
+
+-- nothing is put in of an empty list
+pub with_list-none : (r : Res) (xs : List Elem) (m : Lists) → length xs ≡ 0 → m ≡ with_list r xs m
+with_list-none r [] m none = refl
+with_list-none r (x ∷ xs) m none = absurd (omega arith)
+
+drop_past : {X : Type 0} (xs : List X) (i : ℕ) → length xs ≤ i → drop i xs ≡ []
+drop_past [] zero h = refl
+drop_past [] (suc i) h = refl
+drop_past (x ∷ xs) zero h = absurd (omega arith)
+drop_past (x ∷ xs) (suc i) h = drop_past xs i (omega arith)
+
+-- when all numbers are passed
+pub with_lists-end : (es : Numbers) (i : ℕ) (hs : Held ℕ) (m all : Lists) → length es ≤ i → with_lists (drop i es) hs m ≡ all → m ≡ all
+with_lists-end es i hs m all past h = ap (λ (l : Numbers). with_lists l hs m) (sym (drop_past es i past)) ∙ h
