@@ -12,3 +12,4 @@ pub mod EnqCases
 pub mod Keys
 pub mod Asked
 pub mod Decided
+pub mod Keeps

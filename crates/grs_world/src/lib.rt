@@ -1,5 +1,6 @@
-//! The world: one system and the run of a list of events, with what is fixed and told.
+//! The world: one system and the run of a list of events, with what is fixed and told. It stands on what a
+//! deck says, and knows nothing of how decks are written or runs are printed.
 #![tactic(auto)]
 
-/// Nothing yet.
-pub fn placeholder() {}
+mod codes;
+mod replies;
