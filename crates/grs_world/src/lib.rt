@@ -3,4 +3,6 @@
 #![tactic(auto)]
 
 mod codes;
+mod node;
 mod replies;
+mod scripts;
