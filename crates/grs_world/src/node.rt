@@ -48,10 +48,11 @@ fn is_shared_by_all(res: &Res) -> bool
 }
 
 /// A WAIT line: 00 where control was told, 08 where there is no request on record, else the task is held.
-#[tactic(auto, unfolding(crate::specs::Node::wait))]
+#[tactic(auto, using(crate::proofs::Keeps::keeps), unfolding(crate::specs::Node::wait))]
 fn wait(tasks: &mut Tasks, task: TaskId, res: Res) -> Result<(), NoMemory>
     requires { is_task tasks.old task ≡ true }
-    ensures { OnOk result (tasks.new ≡ steps.wait tasks.old task res (record_of (state_of tasks.old task).records res)) }
+    ensures step { OnOk result (tasks.new ≡ steps.wait tasks.old task res (record_of (state_of tasks.old task).records res)) }
+    ensures system { tasks.new.system ≡ tasks.old.system }
 {
     match tasks.record(task, &res) {
         None => tell_code(tasks, task, Verb::Wait, Code::C08),
@@ -83,7 +84,7 @@ impl Node {
 
     /// A request that the local lists decide: the asker's answer first, then control for the tasks that
     /// became owners.
-    #[tactic(auto, unfolding(crate::specs::Node::decide))]
+    #[tactic(auto, using(crate::proofs::Keeps::keeps), unfolding(crate::specs::Node::decide))]
     fn decide(
         &mut self,
         alloc: Global,
@@ -91,7 +92,8 @@ impl Node {
         want: Want,
     ) -> Result<Option<Req>, NoMemory>
         requires { is_task self.old.tasks task ≡ true }
-        ensures { IfOk result (λ fixed. stepped self.new fixed ≡ steps.decide self.old task want) }
+        ensures step { IfOk result (λ fixed. stepped self.new fixed ≡ steps.decide self.old task want) }
+        ensures system { self.new.tasks.system ≡ self.old.tasks.system }
     {
         let req = Req { task, want };
         let outcome = self.held.request(&req)?;
@@ -109,7 +111,8 @@ impl Node {
     #[tactic(auto, using(crate::proofs::Keeps::keeps), unfolding(crate::specs::Node::ask))]
     fn ask(&mut self, alloc: Global, task: TaskId, want: Want) -> Result<Option<Req>, NoMemory>
         requires { is_task self.old.tasks task ≡ true }
-        ensures { IfOk result (λ fixed. stepped self.new fixed ≡ steps.ask self.old task want) }
+        ensures step { IfOk result (λ fixed. stepped self.new fixed ≡ steps.ask self.old task want) }
+        ensures system { self.new.tasks.system ≡ self.old.tasks.system }
     {
         if is_shared_by_all(res_of(&want)) {
             self.tasks.set_phase(task, Phase::ToSend);
@@ -149,7 +152,7 @@ impl Node {
     }
 
     /// A line that was taken.
-    #[tactic(auto, unfolding(crate::specs::Node::take_line))]
+    #[tactic(auto, using(crate::proofs::Keeps::keeps), unfolding(crate::specs::Node::take_line))]
     fn take_line(
         &mut self,
         alloc: Global,
@@ -158,7 +161,8 @@ impl Node {
         limit: u32,
     ) -> Result<Option<Req>, NoMemory>
         requires { is_task self.old.tasks task ≡ true }
-        ensures { IfOk result (λ fixed. stepped self.new fixed ≡ steps.take_line limit self.old task line.now) }
+        ensures step { IfOk result (λ fixed. stepped self.new fixed ≡ steps.take_line limit self.old task line.now) }
+        ensures system { self.new.tasks.system ≡ self.old.tasks.system }
     {
         match line {
             Line::Enq { items, ret, .. } => match items.as_slice().split_first() {
@@ -186,7 +190,8 @@ impl Node {
     #[tactic(auto, using(crate::proofs::Keeps::keeps), unfolding(crate::specs::Node::end_step))]
     fn end_step(&mut self, alloc: Global, task: TaskId, code: u16) -> Result<Option<Req>, NoMemory>
         requires { is_task self.old.tasks task ≡ true }
-        ensures { IfOk result (λ fixed. stepped self.new fixed ≡ steps.end_step self.old task code (state_of self.old.tasks task).records) }
+        ensures step { IfOk result (λ fixed. stepped self.new fixed ≡ steps.end_step self.old task code (state_of self.old.tasks task).records) }
+        ensures system { self.new.tasks.system ≡ self.old.tasks.system }
     {
         match self.tasks.state(task).records.as_slice().split_first() {
             None => {
@@ -211,7 +216,8 @@ impl Node {
         limit: u32,
     ) -> Result<Option<Req>, NoMemory>
         requires { is_task self.old.tasks task ≡ true }
-        ensures { IfOk result (λ fixed. stepped self.new fixed ≡ steps.ready_step limit self.old task (option_copied line.entry)) }
+        ensures step { IfOk result (λ fixed. stepped self.new fixed ≡ steps.ready_step limit self.old task (option_copied line.entry)) }
+        ensures system { self.new.tasks.system ≡ self.old.tasks.system }
     {
         let Some(line) = line else {
             self.tasks.set_phase(task, Phase::Ending(0));
@@ -225,7 +231,7 @@ impl Node {
     }
 
     /// What a task of the system does by its phase.
-    #[tactic(auto, unfolding(crate::specs::Node::phase_step))]
+    #[tactic(auto, using(crate::proofs::Keeps::keeps), unfolding(crate::specs::Node::phase_step))]
     pub(crate) fn phase_step(
         &mut self,
         alloc: Global,
@@ -234,7 +240,8 @@ impl Node {
         limit: u32,
     ) -> Result<Option<Req>, NoMemory>
         requires { is_task self.old.tasks task ≡ true }
-        ensures { IfOk result (λ fixed. stepped self.new fixed ≡ steps.phase_step limit self.old task lines.now (state_of self.old.tasks task).phase) }
+        ensures step { IfOk result (λ fixed. stepped self.new fixed ≡ steps.phase_step limit self.old task lines.now (state_of self.old.tasks task).phase) }
+        ensures system { self.new.tasks.system ≡ self.old.tasks.system }
     {
         let state = self.tasks.state(task);
         match &state.phase {

@@ -20,7 +20,8 @@ pub(crate) fn tell_code(
     code: Code,
 ) -> Result<(), NoMemory>
     requires { is_task tasks.old task ≡ true }
-    ensures { OnOk result (tasks.new ≡ steps.tell_code tasks.old task verb code) }
+    ensures step { OnOk result (tasks.new ≡ steps.tell_code tasks.old task verb code) }
+    ensures system { tasks.new.system ≡ tasks.old.system }
 {
     match code {
         Code::Wait => Ok(()),
@@ -49,7 +50,8 @@ fn record_enq(
     code: Code,
 ) -> Result<(), NoMemory>
     requires { is_task tasks.old task ≡ true }
-    ensures { OnOk result (tasks.new ≡ steps.record_enq tasks.old task res.now ctl ret code) }
+    ensures step { OnOk result (tasks.new ≡ steps.record_enq tasks.old task res.now ctl ret code) }
+    ensures system { tasks.new.system ≡ tasks.old.system }
 {
     if is_queued(ret, code) {
         let rec = Rec {
@@ -70,9 +72,11 @@ fn record_enq(
 }
 
 /// Drops the record of a task whose DEQ was granted.
+#[tactic(auto, using(crate::proofs::Keeps::keeps))]
 fn record_deq(tasks: &mut Tasks, task: TaskId, res: &Res, code: Code)
     requires { is_task tasks.old task ≡ true }
-    ensures { tasks.new ≡ cond (steps.is_granted code) (without_record tasks.old task res.now) tasks.old }
+    ensures step { tasks.new ≡ cond (steps.is_granted code) (without_record tasks.old task res.now) tasks.old }
+    ensures system { tasks.new.system ≡ tasks.old.system }
 {
     if is_granted(code) {
         let _ = tasks.take_record(task, res);
@@ -89,7 +93,8 @@ pub(crate) fn answered(
     code: Code,
 ) -> Result<(), NoMemory>
     requires { is_task tasks.old task ≡ true }
-    ensures { OnOk result (tasks.new ≡ steps.answered tasks.old task want.now code) }
+    ensures step { OnOk result (tasks.new ≡ steps.answered tasks.old task want.now code) }
+    ensures system { tasks.new.system ≡ tasks.old.system }
 {
     match want {
         Want::Enq { res, ctl, ret, .. } => {
@@ -113,7 +118,8 @@ pub(crate) fn answered(
 #[tactic(auto, using(crate::proofs::Keeps::keeps), unfolding(crate::specs::Node::passes_wait))]
 fn passes_wait(tasks: &mut Tasks, task: TaskId, res: &Res) -> Result<(), NoMemory>
     requires { is_task tasks.old task ≡ true }
-    ensures { OnOk result (tasks.new ≡ steps.passes_wait tasks.old task res.now) }
+    ensures step { OnOk result (tasks.new ≡ steps.passes_wait tasks.old task res.now) }
+    ensures system { tasks.new.system ≡ tasks.old.system }
 {
     let state = tasks.state(task);
     if !is_held_for(res, &state.phase) {
@@ -135,7 +141,8 @@ fn passes_wait(tasks: &mut Tasks, task: TaskId, res: &Res) -> Result<(), NoMemor
 #[tactic(auto, using(crate::proofs::Keeps::keeps), unfolding(crate::specs::Running::tell_line))]
 fn tell_waiter(tasks: &mut Tasks, task: TaskId, res: &Res, line: u32) -> Result<(), NoMemory>
     requires { is_task tasks.old task ≡ true }
-    ensures { OnOk result (tasks.new ≡ tell_line tasks.old task res.now line) }
+    ensures step { OnOk result (tasks.new ≡ tell_line tasks.old task res.now line) }
+    ensures system { tasks.new.system ≡ tasks.old.system }
 {
     let state = tasks.state(task);
     let is_waiting = is_held(&state.phase) && line == state.line;
@@ -156,9 +163,10 @@ fn tell_waiter(tasks: &mut Tasks, task: TaskId, res: &Res, line: u32) -> Result<
 }
 
 /// Tells a task control that it got by another's request; one that isn't of this system is passed over.
-#[tactic(auto, using(crate::proofs::Keeps::tell_record_line), unfolding(crate::specs::Node::tell_control, crate::specs::Node::tell_untold))]
+#[tactic(auto, using(crate::proofs::Keeps::keeps, crate::proofs::Keeps::tell_record_line), unfolding(crate::specs::Node::tell_control, crate::specs::Node::tell_untold))]
 fn tell_control(tasks: &mut Tasks, res: &Res, task: TaskId) -> Result<(), NoMemory>
-    ensures { OnOk result (tasks.new ≡ steps.tell_control tasks.old res.now task) }
+    ensures step { OnOk result (tasks.new ≡ steps.tell_control tasks.old res.now task) }
+    ensures system { tasks.new.system ≡ tasks.old.system }
 {
     if !tasks.has(task) {
         return Ok(());
@@ -173,9 +181,10 @@ fn tell_control(tasks: &mut Tasks, res: &Res, task: TaskId) -> Result<(), NoMemo
 }
 
 /// Tells these tasks control in order.
-#[tactic(auto, unfolding(crate::specs::Node::tell_all))]
+#[tactic(auto, using(crate::proofs::Keeps::keeps), unfolding(crate::specs::Node::tell_all))]
 pub(crate) fn tell_all(tasks: &mut Tasks, res: &Res, owners: &[TaskId]) -> Result<(), NoMemory>
-    ensures { OnOk result (tasks.new ≡ steps.tell_all tasks.old res.now owners.now) }
+    ensures step { OnOk result (tasks.new ≡ steps.tell_all tasks.old res.now owners.now) }
+    ensures system { tasks.new.system ≡ tasks.old.system }
 {
     let mut rest = owners;
     while let Some((task, tail)) = rest.split_first() {
