@@ -6,3 +6,6 @@ mod codes;
 mod node;
 mod replies;
 mod scripts;
+mod world;
+
+pub use world::{World, replay};
