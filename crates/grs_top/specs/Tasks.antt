@@ -8,7 +8,7 @@ use Rattle.grs_wire.specs.declared.deck.SystemDef.{SystemDef}
 use Rattle.grs_wire.specs.declared.deck.Deck.{Deck}
 use Rattle.grs_wire.specs.declared.seen.TaskEnd.{TaskEnd}
 use Rattle.task_state.specs.View.{TasksView}
-use Rattle.grs_world.specs.Running.{task_end}
+use Rattle.grs_world.specs.Running.{end_of}
 
 -- so many tasks of one job, of which the first has this place in its system
 abbrev pub tasks_in : SysId → ℕ → ℕ → List TaskDef → List TaskId
@@ -31,4 +31,4 @@ tasks_of deck = tasks_of_systems 0 deck.systems
 
 -- each of these tasks with its end
 abbrev pub ends_at : TasksView → List TaskId → List (TaskId × TaskEnd)
-ends_at v ts = map (λ t. (t, task_end v t)) ts
+ends_at v ts = map (λ t. (t, end_of v t)) ts
