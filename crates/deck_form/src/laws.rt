@@ -13,5 +13,4 @@ pub fn one_statement()
     ensures either { (scheduled : Bool) (entries : ℕ) (l : Line) → ((st : StmtValue) × Spells scheduled entries l st) ⊎ ((k : KindValue) × IsNoStatement k scheduled entries l) }
     ensures apart { (scheduled : Bool) (entries : ℕ) (l : Line) (st : StmtValue) (k : KindValue) → Spells scheduled entries l st → IsNoStatement k scheduled entries l → ⊥ }
     ensures kind { (scheduled : Bool) (entries : ℕ) (l : Line) (j k : KindValue) → IsNoStatement j scheduled entries l → IsNoStatement k scheduled entries l → j ≡ k }
-{
-}
+{}

@@ -19,3 +19,6 @@ pub use form::{FormError, Stmt, statement};
 pub use laws::one_statement;
 pub use options::Opts;
 pub use unbuilt::is_unbuilt;
+
+#[cfg(test)]
+mod tests;

@@ -17,5 +17,4 @@ pub fn one_deck()
     // Such a deck is within the limits, and its events speak of what is there.
     ensures whole { (text : List ℕ) (d : DeckValue) → SpellsDeck text d → IsDeck d }
     ensures other { (text : List ℕ) (f : FaultValue) → IsFault text f → fault text ≡ Some f }
-{
-}
+{}

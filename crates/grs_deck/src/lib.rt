@@ -11,3 +11,6 @@ mod read;
 pub use grs_wire::{Choice, Deck, Event, JobDef, Name, SystemDef, TaskDef};
 pub use laws::one_deck;
 pub use read::read_deck;
+
+#[cfg(test)]
+mod tests;
