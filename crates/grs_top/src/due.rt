@@ -1,6 +1,7 @@
 //! What a text is answered by: the report of the run that it spells, or the line of its first fault. The
 //! answer is built whole before any of it is written.
 ghost use Rattle.std.specs.Prelude.{◌≡◌, IfOk, if◌then◌else◌};
+ghost use Rattle.grs_world.specs.Agree.{Sound};
 ghost use Rattle.grs_top.specs.Seen.{whole_report, ending};
 ghost use Rattle.grs_top.specs.Due.{fault_line, IsDue};
 
@@ -11,6 +12,7 @@ use grs_base::{DeckFault, List, NoMemory, ReadError};
 use grs_deck::read_deck;
 use grs_report::{all_ended, report};
 use grs_wire::Deck;
+use grs_world::laws::runs_are_sound;
 use std::alloc::Global;
 
 /// What is to be written, and the status where all of it is.
@@ -31,7 +33,9 @@ fn ending(done: bool) -> Status
 fn reported(alloc: Global, deck: &Deck) -> Result<Due, NoMemory>
     ensures out { IfOk result (λ due. due.out ≡ whole_report deck.now) }
     ensures status { IfOk result (λ due. due.status ≡ ending deck.now deck.now.events) }
+    ensures sound { Sound deck.now deck.now.events }
 {
+    runs_are_sound();
     let seen = seen_of(alloc, deck)?;
     let out = report(alloc, deck, &seen)?;
     Ok(Due {
