@@ -3,3 +3,4 @@ pub mod Tasks
 pub mod Seen
 pub mod Due
 pub mod Answers
+pub mod Whole

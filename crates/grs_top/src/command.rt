@@ -27,6 +27,7 @@ fn read_due<S: Source>(alloc: Global, source: &mut S) -> Result<Due, ReadFailure
 }
 
 /// Writes what is due.
+#[tactic(none)]
 fn write_due<K: Sink>(sink: &mut K, due: &Due) -> Status
     ensures { Writes (K.written sink.old) (K.written sink.new) (K.faults sink.old) (K.faults sink.new)
         due.now.out due.now.status result }
@@ -44,6 +45,7 @@ fn write_due<K: Sink>(sink: &mut K, due: &Due) -> Status
 /// `Done` and `Waits` say how the run ended, `Deck` that the line of the text's first fault was written in
 /// place of a report, `ReadFault` and `WriteFault` that a read or write failed, and `NoMemory` that nothing
 /// was written for want of memory.
+#[tactic(none)]
 pub fn replay_command<S: Source, K: Sink>(alloc: Global, source: &mut S, sink: &mut K) -> Status
     ensures { Replays
         (streams (S.left source.old) (K.written sink.old) (S.faults source.old) (K.faults sink.old))
@@ -69,6 +71,7 @@ fn is_replay(words: &[String]) -> bool
 
 /// Does what the words after the program's name ask for. The words are `replay`; no others are known, and
 /// `Words` is the answer to these: then nothing is read and nothing written.
+#[tactic(none)]
 pub fn grs<S: Source, K: Sink>(
     alloc: Global,
     words: &[String],

@@ -29,7 +29,6 @@ fn ending(done: bool) -> Status
 }
 
 /// The report of the run of a deck's events.
-#[tactic(auto, unfolding(crate::specs::Seen::whole_report, crate::specs::Seen::ending))]
 fn reported(alloc: Global, deck: &Deck) -> Result<Due, NoMemory>
     ensures out { IfOk result (λ due. due.out ≡ whole_report deck.now) }
     ensures status { IfOk result (λ due. due.status ≡ ending deck.now deck.now.events) }
@@ -56,6 +55,7 @@ fn refused(alloc: Global, fault: DeckFault) -> Result<Due, NoMemory>
 }
 
 /// What a text is answered by.
+#[tactic(none)]
 pub(crate) fn due_for(alloc: Global, text: &[u8]) -> Result<Due, NoMemory>
     ensures { IfOk result (λ due. IsDue text.now due.out due.status) }
 {

@@ -6,6 +6,7 @@ mod command;
 mod due;
 mod ends;
 mod fault_line;
+pub mod laws;
 mod seen;
 mod status;
 #[cfg(test)]

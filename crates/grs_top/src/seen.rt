@@ -1,12 +1,14 @@
 //! What the report of a deck shows: the run of the deck's events, its history, and where that leaves the
 //! lists and the tasks.
 ghost use Rattle.std.specs.Prelude.{◌≡◌, IfOk};
+ghost use Rattle.grs_world.specs.World.{run, hist, told};
+ghost use Rattle.grs_top.specs.Tasks.{tasks_of, ends_at};
 ghost use Rattle.grs_top.specs.Seen.{seen_of_run};
 
 use super::ends::ends_of;
-use grs_base::{List, NoMemory};
+use grs_base::{List, NoMemory, TaskId};
 use grs_history::{answers, queues_after};
-use grs_wire::{Deck, Event, Seen, Told};
+use grs_wire::{Deck, Event, HistEntry, Seen, TaskEnd, Told};
 use grs_world::replay;
 use std::alloc::Global;
 
@@ -30,6 +32,28 @@ fn told_of(alloc: Global, told: &[Told]) -> Result<List<Told>, NoMemory>
     Ok(list)
 }
 
+/// What is seen of a run itself: its history, what was told, and the end of each task.
+#[derive(Drop)]
+struct Run {
+    hist: List<HistEntry>,
+    told: List<Told>,
+    ended: List<(TaskId, TaskEnd)>,
+}
+
+/// The run of a deck's events.
+fn run_of(alloc: Global, deck: &Deck) -> Result<Run, NoMemory>
+    ensures hist { IfOk result (λ seen. seen.hist ≡ hist deck.now deck.now.events) }
+    ensures told { IfOk result (λ seen. seen.told ≡ told deck.now deck.now.events) }
+    ensures ended { IfOk result (λ seen.
+        seen.ended ≡ ends_at (run deck.now deck.now.events).node.tasks (tasks_of deck.now)) }
+{
+    let world = replay(alloc, deck, deck.events.as_slice())?;
+    let hist = answers(alloc, world.fixed().as_slice())?;
+    let told = told_of(alloc, world.told().as_slice())?;
+    let ended = ends_of(alloc, deck, &world)?;
+    Ok(Run { hist, told, ended })
+}
+
 /// What the run of a deck's events shows.
 ///
 /// # Errors
@@ -39,18 +63,17 @@ fn told_of(alloc: Global, told: &[Told]) -> Result<List<Told>, NoMemory>
 pub fn seen_of(alloc: Global, deck: &Deck) -> Result<Seen, NoMemory>
     ensures { IfOk result (λ seen. seen ≡ seen_of_run deck.now deck.now.events) }
 {
-    let events = deck.events.as_slice();
-    let world = replay(alloc, deck, events)?;
-    let hist = answers(alloc, world.fixed().as_slice())?;
-    let queues = queues_after(alloc, hist.as_slice(), deck.limit)?;
+    let run = run_of(alloc, deck)?;
+    let queues = queues_after(alloc, run.hist.as_slice(), deck.limit)?;
+    let events = events_of(alloc, deck.events.as_slice())?;
     Ok(Seen {
-        events: events_of(alloc, events)?,
-        hist,
-        told: told_of(alloc, world.told().as_slice())?,
+        events,
+        hist: run.hist,
+        told: run.told,
         queues,
         units: List::new(alloc),
         words: List::new(alloc),
         star: deck.star,
-        ended: ends_of(alloc, deck, &world)?,
+        ended: run.ended,
     })
 }
