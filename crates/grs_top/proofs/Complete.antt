@@ -33,7 +33,7 @@ not_risen old new same below (inr last) = omega (arith, last.0)
 not_refused : (text : List ℕ) (f : DeckFault) → fault text ≡ Some f → fault text ≡ None → ⊥
 not_refused text f has none = cc
 
-module Laws
+module _
   (one : (text : List ℕ) (d e : DeckValue) → SpellsDeck text d → SpellsDeck text e → d ≡ e)
   (spelled : (text : List ℕ) (d : DeckValue) → SpellsDeck text d → fault text ≡ None) where
 
