@@ -18,7 +18,7 @@ pub use decision::{Code, Decision, Effect, Standing};
 pub use fault::{DeckFault, Kind, NameFault, NoMemory, ReadError};
 pub use line::{Item, Line, Scope};
 pub use list::List;
-pub use name::{Qname, Rname};
+pub use name::{Qname, Rname, is_qname, is_rname};
 pub use print::{is_plain_byte, is_printable, print_name};
 pub use queues::Queues;
 pub use resource::{Ctl, Elem, Res, Ret, Row, SysId, TaskId, is_same_res, is_same_task};

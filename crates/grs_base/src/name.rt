@@ -38,6 +38,21 @@ fn trimmed_len(bytes: &[u8]) -> usize
     end
 }
 
+/// Whether bytes make a qname: at most eight of them, and not blanks alone.
+#[tactic(auto, using(crate::proofs::NameLaws::trims))]
+pub fn is_qname(bytes: &[u8]) -> bool
+    ensures { result ≡ is_qname bytes.now }
+{
+    bytes.len() <= 8 && 1 <= trimmed_len(bytes)
+}
+
+/// Whether bytes make an rname: 1 to 255 of them.
+pub fn is_rname(bytes: &[u8]) -> bool
+    ensures { result ≡ is_rname bytes.now }
+{
+    1 <= bytes.len() && bytes.len() <= 255
+}
+
 /// A copy of bytes.
 fn copy_of(alloc: Global, bytes: &[u8]) -> Result<Vec<u8>, NoMemory>
     ensures { IfOk result (λ v. v.items ≡ bytes.now) }

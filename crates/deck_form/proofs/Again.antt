@@ -1,0 +1,323 @@
+-- What is spelled so is read.
+use Rattle.std.proofs.Common.{◌≡◌, ℕ, suc, ◌+◌, ◌<◌, Bool, true, false, cond, eqb, ltb, List, [], ◌∷◌, ◌++◌, length, take, drop, Option, Some, None, Ok, refl, sym, ap, subst, ◌∙◌, arith, append_assoc, length-append}
+use Rattle.std.specs.Prelude.{codes, position, is_none}
+use Rattle.std.specs.List.{flat_map, position_or_len}
+use Rattle.std.specs.Str.{bytes_eq}
+use Rattle.std.proofs.lemmas.List.Concat.{flat_map-cons}
+use Rattle.std.proofs.lemmas.Bool.{and_parts, ne_eqb, lt-ltb}
+use Rattle.std.proofs.lemmas.List.{take_at, drop_at}
+use Rattle.grs_base.specs.declared.line.Scope.{Scope}
+use Rattle.grs_base.specs.declared.line.Scope.TheVariants as scopes
+use Rattle.grs_base.specs.declared.resource.Ctl.{Ctl}
+use Rattle.grs_base.specs.declared.resource.Ctl.TheVariants.{E, S}
+use Rattle.grs_base.specs.declared.resource.Ret.{Ret}
+use Rattle.grs_base.specs.declared.resource.Ret.TheVariants.{RetNone, RetUse, RetHave, RetTest, RetChng, RetEcb}
+use Rattle.deck_scan.specs.declared.token.Token.{Token}
+use Rattle.deck_scan.specs.declared.token.Token.TheVariants.{Word, Name, Open, Close, Comma, Equals}
+use Rattle.deck_scan.specs.declared.token.TokenLine.{TokenLine}
+use Rattle.deck_form.specs.declared.options.Opts.{Opts}
+use Rattle.deck_form.specs.declared.ask.Ask.{Ask}
+use Rattle.deck_form.specs.declared.ask.EnqAsk.{EnqAsk}
+use Rattle.deck_form.specs.declared.complex.Setup.{Setup}
+use Rattle.deck_form.specs.declared.event.Act.{Act}
+use Rattle.deck_form.specs.declared.event.Act.TheVariants as acts
+use Rattle.deck_form.specs.declared.form.Stmt.{Stmt}
+use Rattle.deck_form.specs.declared.form.Stmt.TheVariants as stmts
+use Rattle.deck_form.specs.declared.form.Key.TheVariants as keys
+use Rattle.deck_form.specs.Tokens.{name_at, maybe, up_to_three}
+use Rattle.deck_form.specs.Words.{is_name_byte, all_name, is_name, short_at, parted, dotted_at, number_of, unit_of}
+use Rattle.deck_form.specs.Options.{no_opts, ret_of, rnl_of, chosen, option_at, options_at}
+use Rattle.deck_form.specs.Ask.{ctl_at, scope_at, names_at, place_at, enq_may, deq_may, wait_may, enq_at, deq_at, wait_at}
+use Rattle.deck_form.specs.Complex.{no_setup, mode_of, is_entries, is_limit, entries_of, limit_of, with_operand, operand_at, complex_at}
+use Rattle.deck_form.specs.Event.{verb, pair_at, entry_at, other_at, act_at, event_at}
+use Rattle.deck_form.specs.UnbuiltWord.{is_unbuilt_word}
+use Rattle.deck_form.specs.Form.{named_at, key, plain_form, keyed, first_form, event_form, form}
+use Rattle.deck_form.proofs.Taken.{same_bytes}
+use Rattle.deck_form.specs.Spelled.{IsName, Names, ctl_word, scope_word, Sets, Opt, Given, Lists, On, option, IsFree, set, IsAsk, Operand, Mode, Entries, Limit, operand, IsFreeOperand, set_operand, IsComplex, IsFirst, IsAct, IsEvent, Spells}
+
+named_again : (n : List ℕ) → IsName n → named_at (Word n ∷ []) ≡ Some n
+unfolding named_at short_at
+named_again n h = rw h refl
+
+name_again : (t : Token) (n : List ℕ) (rest : List Token) → Names t n → name_at (t ∷ rest) ≡ Some (n, rest)
+name_again (Word w) n rest h = rw h refl
+name_again (Name w) n rest h = rw h refl
+name_again _ n rest h = absurd h
+
+names_again : (q r : Token) (qname rname : List ℕ) (rest : List Token) → Names q qname → Names r rname → names_at (Open ∷ q ∷ Comma ∷ r ∷ Comma ∷ rest) ≡ Some (qname, rname, rest)
+unfolding names_at
+names_again q r qname rname rest hq hr = rw (name_again q qname (Comma ∷ r ∷ Comma ∷ rest) hq, name_again r rname (Comma ∷ rest) hr) refl
+
+ctl_again : (c : Ctl) (rest : List Token) → ctl_at (Word (ctl_word c) ∷ rest) ≡ Some (c, rest)
+unfolding ctl_at
+ctl_again E rest = refl
+ctl_again S rest = refl
+
+scope_again : (s : Scope) (rest : List Token) → scope_at (Word (scope_word s) ∷ rest) ≡ Some (s, rest)
+unfolding scope_at
+scope_again scopes.Step rest = refl
+scope_again scopes.System rest = refl
+scope_again scopes.Systems rest = refl
+
+-- ---- options
+
+option_again : (x : Opt) (o : Opts) (rest : List Token) → IsFree x o → option_at o (option x ++ rest) ≡ Some (set x o, rest)
+unfolding option_at chosen ret_of rnl_of
+option_again (Given RetNone) o rest h = rw h refl
+option_again (Given RetUse) o rest h = rw h refl
+option_again (Given RetHave) o rest h = rw h refl
+option_again (Given RetTest) o rest h = rw h refl
+option_again (Given RetChng) o rest h = rw h refl
+option_again (Given RetEcb) o rest h = rw h refl
+option_again (Lists true) o rest h = rw h refl
+option_again (Lists false) o rest h = rw h refl
+option_again (On w unit) o rest h = rw (h.1, h.0) refl
+
+long : (x : Opt) (rest : List Token) → eqb (length (option x ++ rest)) 0 ≡ false
+long (Given RetNone) rest = ne_eqb _ 0 (λ e. omega (arith, e))
+long (Given RetUse) rest = ne_eqb _ 0 (λ e. omega (arith, e))
+long (Given RetHave) rest = ne_eqb _ 0 (λ e. omega (arith, e))
+long (Given RetTest) rest = ne_eqb _ 0 (λ e. omega (arith, e))
+long (Given RetChng) rest = ne_eqb _ 0 (λ e. omega (arith, e))
+long (Given RetEcb) rest = ne_eqb _ 0 (λ e. omega (arith, e))
+long (Lists b) rest = ne_eqb _ 0 (λ e. omega (arith, e))
+long (On w unit) rest = ne_eqb _ 0 (λ e. omega (arith, e))
+
+maybe_again : (x : Opt) (o : Opts) (rest : List Token) → IsFree x o → maybe option_at o (option x ++ rest) ≡ Some (set x o, rest)
+maybe_again x o rest h = rw (long x rest) (option_again x o rest h)
+
+-- how many kinds of options are free
+is_free : {A : Type 0} → Option A → ℕ
+is_free None = 1
+is_free (Some x) = 0
+
+free_kinds : Opts → ℕ
+free_kinds o = is_free o.ret + is_free o.rnl + is_free o.unit
+
+fewer : (x : Opt) (o : Opts) → IsFree x o → free_kinds o ≡ suc (free_kinds (set x o))
+unfolding free_kinds is_free
+fewer (Given r) o h = rw h (omega arith)
+fewer (Lists b) o h = rw h (omega arith)
+fewer (On w unit) o h = rw h.0 (omega arith)
+
+three_kinds : free_kinds no_opts ≡ 3
+unfolding free_kinds is_free
+three_kinds = refl
+
+options_again : (given : List Opt) (o : Opts) → Sets IsFree set no_opts given o → options_at (flat_map option given) ≡ Some o
+unfolding options_at
+options_again [] o h = rw h refl
+options_again (x ∷ []) o h = rw (flat_map-cons option x [], maybe_again x no_opts [] h.0, h.1) refl
+options_again (x ∷ y ∷ []) o h = rw (flat_map-cons option x (y ∷ []), maybe_again x no_opts (flat_map option (y ∷ [])) h.0, flat_map-cons option y [], maybe_again y (set x no_opts) [] h.1.0, h.1.1) refl
+options_again (x ∷ y ∷ z ∷ []) o h =
+    rw (flat_map-cons option x (y ∷ z ∷ []), maybe_again x no_opts (flat_map option (y ∷ z ∷ [])) h.0, flat_map-cons option y (z ∷ []), maybe_again y (set x no_opts) (flat_map option (z ∷ [])) h.1.0, flat_map-cons option z [], maybe_again z (set y (set x no_opts)) [] h.1.1.0, h.1.1.1) refl
+options_again (x ∷ y ∷ z ∷ v ∷ vs) o h =
+    let a = fewer x no_opts h.0 in
+    let b = fewer y (set x no_opts) h.1.0 in
+    let c = fewer z (set y (set x no_opts)) h.1.1.0 in
+    let d = fewer v (set z (set y (set x no_opts))) h.1.1.1.0 in
+    absurd (omega (arith, three_kinds, a, b, c, d))
+
+-- ---- ENQ, DEQ and WAIT
+
+place_again : (s : Scope) (given : List Opt) (o : Opts) → Sets IsFree set no_opts given o → place_at (Word (scope_word s) ∷ Close ∷ flat_map option given) ≡ Some (s, o)
+unfolding place_at
+place_again s given o h = rw (scope_again s (Close ∷ flat_map option given), options_again given o h) refl
+
+enq_again : (ts : List Token) (e : EnqAsk) → IsAsk (Word (ctl_word e.ctl) ∷ Comma ∷ []) enq_may ts e.ask → enq_at ts ≡ Some e
+unfolding enq_at
+enq_again ts e h =
+    let place = Word (scope_word e.ask.scope) ∷ Close ∷ flat_map option h.given in
+    rw (h.spelled, names_again h.q h.r e.ask.q e.ask.r (Word (ctl_word e.ctl) ∷ Comma ∷ place) h.named_q h.named_r, ctl_again e.ctl (Comma ∷ place), place_again e.ask.scope h.given e.ask.opts h.options, h.allowed) refl
+
+deq_again : (ts : List Token) (a : Ask) → IsAsk [] deq_may ts a → deq_at ts ≡ Some a
+unfolding deq_at
+deq_again ts a h =
+    let place = Word (scope_word a.scope) ∷ Close ∷ flat_map option h.given in
+    rw (h.spelled, names_again h.q h.r a.q a.r place h.named_q h.named_r, place_again a.scope h.given a.opts h.options, h.allowed) refl
+
+wait_again : (ts : List Token) (a : Ask) → IsAsk [] wait_may ts a → wait_at ts ≡ Some a
+unfolding wait_at
+wait_again ts a h =
+    let place = Word (scope_word a.scope) ∷ Close ∷ flat_map option h.given in
+    rw (h.spelled, names_again h.q h.r a.q a.r place h.named_q h.named_r, place_again a.scope h.given a.opts h.options, h.allowed) refl
+
+-- ---- COMPLEX
+
+operand_again : (x : Operand) (o : Setup) (rest : List Token) → IsFreeOperand x o → operand_at o (operand x ++ rest) ≡ Some (set_operand x o, rest)
+unfolding operand_at with_operand mode_of entries_of limit_of
+operand_again (Mode true) o rest h = rw h refl
+operand_again (Mode false) o rest h = rw h refl
+operand_again (Entries w n) o rest h = rw (h.1, h.2, h.0) refl
+operand_again (Limit w n) o rest h = rw (h.1, h.2, h.0) refl
+
+long_operand : (x : Operand) (rest : List Token) → eqb (length (operand x ++ rest)) 0 ≡ false
+long_operand (Mode b) rest = ne_eqb _ 0 (λ e. omega (arith, e))
+long_operand (Entries w n) rest = ne_eqb _ 0 (λ e. omega (arith, e))
+long_operand (Limit w n) rest = ne_eqb _ 0 (λ e. omega (arith, e))
+
+maybe_operand_again : (x : Operand) (o : Setup) (rest : List Token) → IsFreeOperand x o → maybe operand_at o (operand x ++ rest) ≡ Some (set_operand x o, rest)
+maybe_operand_again x o rest h = rw (long_operand x rest) (operand_again x o rest h)
+
+free_operands : Setup → ℕ
+free_operands o = is_free o.star + is_free o.entries + is_free o.limit
+
+fewer_operands : (x : Operand) (o : Setup) → IsFreeOperand x o → free_operands o ≡ suc (free_operands (set_operand x o))
+unfolding free_operands is_free
+fewer_operands (Mode b) o h = rw h (omega arith)
+fewer_operands (Entries w n) o h = rw h.0 (omega arith)
+fewer_operands (Limit w n) o h = rw h.0 (omega arith)
+
+three_operands : free_operands no_setup ≡ 3
+unfolding free_operands is_free
+three_operands = refl
+
+operands_again : (given : List Operand) (c : Setup) → Sets IsFreeOperand set_operand no_setup given c → complex_at (flat_map operand given) ≡ Some c
+unfolding complex_at
+operands_again [] o h = rw h refl
+operands_again (x ∷ []) o h = rw (flat_map-cons operand x [], maybe_operand_again x no_setup [] h.0, h.1) refl
+operands_again (x ∷ y ∷ []) o h = rw (flat_map-cons operand x (y ∷ []), maybe_operand_again x no_setup (flat_map operand (y ∷ [])) h.0, flat_map-cons operand y [], maybe_operand_again y (set_operand x no_setup) [] h.1.0, h.1.1) refl
+operands_again (x ∷ y ∷ z ∷ []) o h =
+    rw (flat_map-cons operand x (y ∷ z ∷ []), maybe_operand_again x no_setup (flat_map operand (y ∷ z ∷ [])) h.0, flat_map-cons operand y (z ∷ []), maybe_operand_again y (set_operand x no_setup) (flat_map operand (z ∷ [])) h.1.0, flat_map-cons operand z [], maybe_operand_again z (set_operand y (set_operand x no_setup)) [] h.1.1.0, h.1.1.1) refl
+operands_again (x ∷ y ∷ z ∷ v ∷ vs) o h =
+    let a = fewer_operands x no_setup h.0 in
+    let b = fewer_operands y (set_operand x no_setup) h.1.0 in
+    let c = fewer_operands z (set_operand y (set_operand x no_setup)) h.1.1.0 in
+    let d = fewer_operands v (set_operand z (set_operand y (set_operand x no_setup))) h.1.1.1.0 in
+    absurd (omega (arith, three_operands, a, b, c, d))
+
+complex_again : (ts : List Token) (c : Setup) → IsComplex ts c → complex_at ts ≡ Some c
+complex_again ts c h = rw h.spelled (operands_again h.given c h.operands)
+
+-- ---- statements before SCHEDULE
+
+-- a word that isn't built is no other word
+other_word : (w v : List ℕ) → is_unbuilt_word w ≡ true → is_unbuilt_word v ≡ false → bytes_eq w v ≡ false
+other_word w v h k = go (bytes_eq w v) refl
+  where
+    go : (b : Bool) → bytes_eq w v ≡ b → b ≡ false
+    go true e = let same : w ≡ v = same_bytes w v e in absurd (let z : true ≡ false = sym h ∙ ap is_unbuilt_word same ∙ k in cc)
+    go false e = refl
+
+built_complex : is_unbuilt_word (codes "COMPLEX") ≡ false
+unfolding is_unbuilt_word
+built_complex = refl
+
+built_system : is_unbuilt_word (codes "SYSTEM") ≡ false
+unfolding is_unbuilt_word
+built_system = refl
+
+built_job : is_unbuilt_word (codes "JOB") ≡ false
+unfolding is_unbuilt_word
+built_job = refl
+
+built_task : is_unbuilt_word (codes "TASK") ≡ false
+unfolding is_unbuilt_word
+built_task = refl
+
+built_enq : is_unbuilt_word (codes "ENQ") ≡ false
+unfolding is_unbuilt_word
+built_enq = refl
+
+built_deq : is_unbuilt_word (codes "DEQ") ≡ false
+unfolding is_unbuilt_word
+built_deq = refl
+
+built_wait : is_unbuilt_word (codes "WAIT") ≡ false
+unfolding is_unbuilt_word
+built_wait = refl
+
+built_schedule : is_unbuilt_word (codes "SCHEDULE") ≡ false
+unfolding is_unbuilt_word
+built_schedule = refl
+
+unbuilt_again : (w : List ℕ) (rest : List Token) → is_unbuilt_word w ≡ true → keyed (key w) rest ≡ Ok stmts.Unbuilt
+unfolding key plain_form
+unbuilt_again w rest h =
+    rw (other_word w (codes "COMPLEX") h built_complex, other_word w (codes "SYSTEM") h built_system, other_word w (codes "JOB") h built_job, other_word w (codes "TASK") h built_task, other_word w (codes "ENQ") h built_enq, other_word w (codes "DEQ") h built_deq, other_word w (codes "WAIT") h built_wait, other_word w (codes "SCHEDULE") h built_schedule, h) refl
+
+first_again : (ts : List Token) (st : Stmt) → IsFirst ts st → first_form false ts ≡ Ok st
+unfolding first_form key plain_form
+first_again ts stmts.Unbuilt h = rw h.1.1 (unbuilt_again h.0 h.1.0 h.1.2)
+first_again ts (stmts.Complex c) h = rw (h.1, complex_again h.0 c h.2) refl
+first_again ts (stmts.System n) h = rw (h.0, named_again n h.1) refl
+first_again ts (stmts.Job n) h = rw (h.0, named_again n h.1) refl
+first_again ts (stmts.Task n) h = rw (h.0, named_again n h.1) refl
+first_again ts (stmts.Enq e) h = rw (h.1, enq_again h.0 e h.2) refl
+first_again ts (stmts.Deq a) h = rw (h.1, deq_again h.0 a h.2) refl
+first_again ts (stmts.Wait a) h = rw (h.1, wait_again h.0 a h.2) refl
+first_again ts stmts.Schedule h = rw h refl
+first_again ts (stmts.Event s a) h = absurd h
+
+-- ---- event lines
+
+not_dot : (b : ℕ) → is_name_byte b ≡ true → eqb b 46 ≡ false
+unfolding is_name_byte
+not_dot b h = ne_eqb b 46 (λ e. let P : ℕ → Type 0 = λ n. is_name_byte n ≡ true in let k : false ≡ true = subst P e h in cc)
+
+dot_at : (j t : List ℕ) → all_name j ≡ true → position_or_len (λ b. eqb b 46) (j ++ 46 ∷ t) ≡ length j
+unfolding all_name
+dot_at [] t h = refl
+dot_at (b ∷ bs) t h =
+    let both = and_parts (is_name_byte b) (all_name bs) h in
+    rw (not_dot b both.0, dot_at bs t both.1) (omega arith)
+
+name_all : (n : List ℕ) → IsName n → all_name n ≡ true
+unfolding is_name
+name_all [] h = absurd cc
+name_all (b ∷ bs) h = (and_parts _ (all_name (b ∷ bs)) h).1
+
+parted_again : (j t : List ℕ) → IsName j → IsName t → parted (position (λ b. eqb b 46) (j ++ 46 ∷ t)) (j ++ 46 ∷ t) ≡ Some (j, t)
+parted_again j t hj ht =
+    let at = dot_at j t (name_all j hj) in
+    let within : ltb (length j) (length (j ++ 46 ∷ t)) ≡ true = lt-ltb _ _ (omega (arith, length-append j (46 ∷ t))) in
+    let found : position (λ b. eqb b 46) (j ++ 46 ∷ t) ≡ Some (length j) = rw (at, within) refl in
+    let front : take (length j) (j ++ 46 ∷ t) ≡ j = take_at j (46 ∷ t) (length j) refl in
+    let back : drop (length j + 1) (j ++ 46 ∷ t) ≡ t = ap (drop (length j + 1)) (sym (append_assoc j (46 ∷ []) t)) ∙ drop_at (j ++ 46 ∷ []) t (length j + 1) (length-append j (46 ∷ [])) in
+    rw found (rw (front, back, hj, ht) refl)
+
+pair_again : (j t : List ℕ) → IsName j → IsName t → pair_at (Word (j ++ 46 ∷ t) ∷ []) ≡ Some (j, t)
+unfolding pair_at dotted_at
+pair_again j t hj ht = rw (parted_again j t hj ht) refl
+
+entry_again : (entries : ℕ) (w : List ℕ) (e : ℕ) → number_of w ≡ Some e → e < entries → entry_at entries (Word w ∷ []) ≡ Some e
+unfolding entry_at
+entry_again entries w e h lt = rw (h, lt-ltb e entries lt) refl
+
+other_again : (n : List ℕ) → IsName n → other_at (Word n ∷ []) ≡ Some n
+unfolding other_at short_at
+other_again n h = rw h refl
+
+-- the word of an event and what stands behind it
+abbrev acted : ℕ → List Token → Option Act
+acted entries (Word w ∷ ts) = act_at entries (verb w) ts
+acted entries _ = None
+
+act_again : (entries : ℕ) (ts : List Token) (a : Act) → IsAct entries ts a → acted entries ts ≡ Some a
+unfolding act_at verb
+act_again entries ts (acts.Task j t) h = rw (h.0, pair_again j t h.1 h.2) refl
+act_again entries ts acts.Turn h = rw h refl
+act_again entries ts (acts.Send j t) h = rw (h.0, pair_again j t h.1 h.2) refl
+act_again entries ts acts.Take h = rw h refl
+act_again entries ts acts.Settle h = rw h refl
+act_again entries ts (acts.Tell e) h = rw (h.1, entry_again entries h.0 e h.2 h.3) refl
+act_again entries ts (acts.Leave e) h = rw (h.1, entry_again entries h.0 e h.2 h.3) refl
+act_again entries ts acts.Switch h = rw h refl
+act_again entries ts (acts.Purge n) h = rw (h.0, other_again n h.1) refl
+act_again entries ts acts.Rest h = rw h refl
+
+event_tail : (entries : ℕ) (s : List ℕ) (rest : List Token) (a : Act) → IsName s → acted entries rest ≡ Some a → event_form entries (Word s ∷ rest) ≡ Some (stmts.Event s a)
+unfolding event_form event_at short_at
+event_tail entries s (Word w ∷ rest) a h k = rw (h, k) refl
+event_tail entries s [] a h k = absurd cc
+event_tail entries s (_ ∷ rest) a h k = absurd cc
+
+event_again : (entries : ℕ) (ts : List Token) (st : Stmt) → IsEvent entries ts st → event_form entries ts ≡ Some st
+event_again entries ts (stmts.Event s a) h = rw h.1 (event_tail entries s h.0 a h.2 (act_again entries h.0 a h.3))
+event_again entries ts _ h = absurd h
+
+-- What is spelled so is read.
+pub form_again : (scheduled : Bool) (entries : ℕ) (l : TokenLine) (st : Stmt) → Spells scheduled entries l st → form scheduled entries l ≡ Ok st
+unfolding form
+form_again false entries l st h = rw h.0 (first_again l.tokens st h.1)
+form_again true entries l st h = rw (event_again entries l.tokens st h) refl

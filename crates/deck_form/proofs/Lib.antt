@@ -1,0 +1,4 @@
+pub mod Numbers
+pub mod Taken
+pub mod Again
+pub mod Unknown

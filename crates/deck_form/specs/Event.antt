@@ -1,0 +1,74 @@
+-- Event lines.
+use Rattle.std.specs.Prelude.{ℕ, Bool, true, false, nat_lt, List, codes, Option, Some, None, if◌then◌else◌}
+use Rattle.std.specs.Str.{bytes_eq}
+use Rattle.deck_scan.specs.declared.token.Token.{Token}
+use Rattle.deck_form.specs.declared.event.Act.{Act}
+use Rattle.deck_form.specs.declared.event.Act.TheVariants as acts
+use Rattle.deck_form.specs.declared.event.Verb.{Verb}
+use Rattle.deck_form.specs.declared.event.Verb.TheVariants as verbs
+use Rattle.deck_form.specs.Tokens.{◌>>=◌, end_at, any_word_at}
+use Rattle.deck_form.specs.Words.{short_at, dotted_at, number_of}
+
+unfoldable pub verb : List ℕ → Verb
+verb w =
+    if bytes_eq w (codes "TASK") then verbs.Task
+    else if bytes_eq w (codes "TURN") then verbs.Turn
+    else if bytes_eq w (codes "SEND") then verbs.Send
+    else if bytes_eq w (codes "TAKE") then verbs.Take
+    else if bytes_eq w (codes "SETTLE") then verbs.Settle
+    else if bytes_eq w (codes "TELL") then verbs.Tell
+    else if bytes_eq w (codes "LEAVE") then verbs.Leave
+    else if bytes_eq w (codes "SWITCH") then verbs.Switch
+    else if bytes_eq w (codes "PURGE") then verbs.Purge
+    else if bytes_eq w (codes "REST") then verbs.Rest
+    else verbs.Unknown
+
+-- The names of a job and a task, and nothing after them.
+unfoldable pub pair_at : List Token → Option (List ℕ × List ℕ)
+pair_at ts = do
+  p ← dotted_at ts
+  end ← end_at p.2
+  Some (p.0, p.1)
+
+-- An entry below the number of entries, and nothing after it.
+unfoldable pub entry_at : ℕ → List Token → Option ℕ
+entry_at entries ts = do
+  w ← any_word_at ts
+  n ← number_of w.0
+  end ← end_at w.1
+  if nat_lt n entries then Some n else None
+
+-- The name of a system, and nothing after it.
+unfoldable pub other_at : List Token → Option (List ℕ)
+other_at ts = do
+  n ← short_at ts
+  end ← end_at n.1
+  Some n.0
+
+-- Nothing more.
+abbrev pub alone_at : Act → List Token → Option Act
+alone_at act ts = do
+  end ← end_at ts
+  Some act
+
+-- What stands behind the word of an event.
+unfoldable pub act_at : ℕ → Verb → List Token → Option Act
+act_at entries verbs.Task ts = pair_at ts >>= λ p. Some (acts.Task p.0 p.1)
+act_at entries verbs.Turn ts = alone_at acts.Turn ts
+act_at entries verbs.Send ts = pair_at ts >>= λ p. Some (acts.Send p.0 p.1)
+act_at entries verbs.Take ts = alone_at acts.Take ts
+act_at entries verbs.Settle ts = alone_at acts.Settle ts
+act_at entries verbs.Tell ts = entry_at entries ts >>= λ e. Some (acts.Tell e)
+act_at entries verbs.Leave ts = entry_at entries ts >>= λ e. Some (acts.Leave e)
+act_at entries verbs.Switch ts = alone_at acts.Switch ts
+act_at entries verbs.Purge ts = other_at ts >>= λ n. Some (acts.Purge n)
+act_at entries verbs.Rest ts = alone_at acts.Rest ts
+act_at entries verbs.Unknown ts = None
+
+-- A system and what it does.
+unfoldable pub event_at : ℕ → List Token → Option (List ℕ × Act)
+event_at entries ts = do
+  s ← short_at ts
+  w ← any_word_at s.1
+  a ← act_at entries (verb w.0) w.1
+  Some (s.0, a)

@@ -1,0 +1,95 @@
+-- The statements of a deck, by the tokens of their lines.
+use Rattle.std.specs.Prelude.{◌≡◌, ℕ, Bool, true, false, List, ◌∷◌, codes, Option, Some, None, Result, Ok, Err, if◌then◌else◌}
+use Rattle.std.specs.Str.{bytes_eq}
+use Rattle.grs_base.specs.declared.fault.Kind.{Kind}
+use Rattle.grs_base.specs.declared.fault.Kind.TheVariants.{UnknownStatement, BadOperand}
+use Rattle.deck_scan.specs.declared.token.Token.{Token}
+use Rattle.deck_scan.specs.declared.token.Token.TheVariants.{Word, Unclosed}
+use Rattle.deck_scan.specs.declared.token.TokenLine.{TokenLine}
+use Rattle.deck_form.specs.declared.form.Stmt.{Stmt}
+use Rattle.deck_form.specs.declared.form.Stmt.TheVariants as stmts
+use Rattle.deck_form.specs.declared.form.Key.{Key}
+use Rattle.deck_form.specs.declared.form.Key.TheVariants as keys
+use Rattle.deck_form.specs.declared.form.FormError.{FormError}
+use Rattle.deck_form.specs.declared.form.FormError.TheVariants as errors
+use Rattle.deck_form.specs.Tokens.{◌>>=◌, end_at}
+use Rattle.deck_form.specs.Words.{short_at}
+use Rattle.deck_form.specs.Ask.{enq_at, deq_at, wait_at}
+use Rattle.deck_form.specs.Complex.{complex_at}
+use Rattle.deck_form.specs.Event.{event_at}
+use Rattle.deck_form.specs.UnbuiltWord.{is_unbuilt_word}
+
+abbrev pub FormFails : FormError → Result Stmt Kind → Type 0
+FormFails errors.NoMemory read = Unit {0}
+FormFails (errors.Kind k) read = read ≡ Err k
+
+-- What a function returned is what reading gives, unless memory ran out.
+abbrev pub Forms : Result Stmt FormError → Result Stmt Kind → Type 0
+Forms (Ok x) read = read ≡ Ok x
+Forms (Err e) read = FormFails e read
+
+-- A name of a system, job or task, and nothing after it.
+unfoldable pub named_at : List Token → Option (List ℕ)
+named_at ts = do
+  n ← short_at ts
+  end ← end_at n.1
+  Some n.0
+
+unfoldable pub key : List ℕ → Key
+key w =
+    if bytes_eq w (codes "COMPLEX") then keys.Complex
+    else if bytes_eq w (codes "SYSTEM") then keys.System
+    else if bytes_eq w (codes "JOB") then keys.Job
+    else if bytes_eq w (codes "TASK") then keys.Task
+    else if bytes_eq w (codes "ENQ") then keys.Enq
+    else if bytes_eq w (codes "DEQ") then keys.Deq
+    else if bytes_eq w (codes "WAIT") then keys.Wait
+    else if bytes_eq w (codes "SCHEDULE") then keys.Schedule
+    else if is_unbuilt_word w then keys.Unbuilt
+    else keys.Unknown
+
+-- What stands behind the first word.
+unfoldable pub plain_form : Key → List Token → Option Stmt
+plain_form keys.Complex ts = complex_at ts >>= λ c. Some (stmts.Complex c)
+plain_form keys.System ts = named_at ts >>= λ n. Some (stmts.System n)
+plain_form keys.Job ts = named_at ts >>= λ n. Some (stmts.Job n)
+plain_form keys.Task ts = named_at ts >>= λ n. Some (stmts.Task n)
+plain_form keys.Enq ts = enq_at ts >>= λ a. Some (stmts.Enq a)
+plain_form keys.Deq ts = deq_at ts >>= λ a. Some (stmts.Deq a)
+plain_form keys.Wait ts = wait_at ts >>= λ a. Some (stmts.Wait a)
+plain_form keys.Schedule ts = end_at ts >>= λ end. Some stmts.Schedule
+plain_form keys.Unbuilt ts = Some stmts.Unbuilt
+plain_form keys.Unknown ts = None
+
+abbrev pub or_bad : Option Stmt → Result Stmt Kind
+or_bad (Some x) = Ok x
+or_bad None = Err BadOperand
+
+abbrev pub keyed : Key → List Token → Result Stmt Kind
+keyed keys.Unknown ts = Err UnknownStatement
+keyed keys.Complex ts = or_bad (plain_form keys.Complex ts)
+keyed keys.System ts = or_bad (plain_form keys.System ts)
+keyed keys.Job ts = or_bad (plain_form keys.Job ts)
+keyed keys.Task ts = or_bad (plain_form keys.Task ts)
+keyed keys.Enq ts = or_bad (plain_form keys.Enq ts)
+keyed keys.Deq ts = or_bad (plain_form keys.Deq ts)
+keyed keys.Wait ts = or_bad (plain_form keys.Wait ts)
+keyed keys.Schedule ts = or_bad (plain_form keys.Schedule ts)
+keyed keys.Unbuilt ts = or_bad (plain_form keys.Unbuilt ts)
+
+-- Before SCHEDULE. A word that something else stands directly behind is no statement word.
+unfoldable pub first_form : Bool → List Token → Result Stmt Kind
+first_form true ts = Err UnknownStatement
+first_form false (Word w ∷ ts) = keyed (key w) ts
+first_form false (Unclosed ∷ ts) = Err BadOperand
+first_form false _ = Err UnknownStatement
+
+unfoldable pub event_form : ℕ → List Token → Option Stmt
+event_form entries ts = do
+  e ← event_at entries ts
+  Some (stmts.Event e.0 e.1)
+
+-- Before SCHEDULE and behind it.
+unfoldable pub form : Bool → ℕ → TokenLine → Result Stmt Kind
+form false entries l = first_form l.joined l.tokens
+form true entries l = or_bad (event_form entries l.tokens)

@@ -1,0 +1,212 @@
+-- How the tokens of a line spell a statement, by cases on the statement.
+use Rattle.std.specs.Prelude.{◌≡◌, ℕ, Bool, true, false, ◌||◌, ◌<◌, ◌⊎◌, List, [], ◌∷◌, ◌++◌, codes, Option, Some, None, Result, Ok, Err}
+use Rattle.std.specs.List.{flat_map}
+use Rattle.std.specs.Str.{bytes_eq}
+use Rattle.grs_base.specs.declared.fault.Kind.{Kind}
+use Rattle.grs_base.specs.declared.fault.Kind.TheVariants.{UnknownStatement, BadOperand}
+use Rattle.grs_base.specs.declared.line.Scope.{Scope}
+use Rattle.grs_base.specs.declared.line.Scope.TheVariants as scopes
+use Rattle.grs_base.specs.declared.resource.Ctl.{Ctl}
+use Rattle.grs_base.specs.declared.resource.Ctl.TheVariants.{E, S}
+use Rattle.grs_base.specs.declared.resource.Ret.{Ret}
+use Rattle.grs_base.specs.declared.resource.Ret.TheVariants.{RetNone, RetUse, RetHave, RetTest, RetChng, RetEcb}
+use Rattle.deck_scan.specs.declared.token.Token.{Token}
+use Rattle.deck_scan.specs.declared.token.Token.TheVariants.{Word, Name, Open, Close, Comma, Equals, Unclosed}
+use Rattle.deck_scan.specs.declared.token.TokenLine.{TokenLine}
+use Rattle.deck_form.specs.declared.options.Opts.{Opts}
+use Rattle.deck_form.specs.declared.ask.Ask.{Ask}
+use Rattle.deck_form.specs.declared.complex.Setup.{Setup}
+use Rattle.deck_form.specs.declared.event.Act.{Act}
+use Rattle.deck_form.specs.declared.event.Act.TheVariants as acts
+use Rattle.deck_form.specs.declared.form.Stmt.{Stmt}
+use Rattle.deck_form.specs.declared.form.Stmt.TheVariants as stmts
+use Rattle.deck_form.specs.declared.form.FormError.{FormError}
+use Rattle.deck_form.specs.declared.form.FormError.TheVariants as errors
+use Rattle.deck_form.specs.Words.{is_name, number_of, unit_of}
+use Rattle.deck_form.specs.Options.{no_opts}
+use Rattle.deck_form.specs.Ask.{enq_may, deq_may, wait_may}
+use Rattle.deck_form.specs.Complex.{no_setup, is_entries, is_limit}
+use Rattle.deck_form.specs.UnbuiltWord.{is_unbuilt_word}
+
+-- A name of a system, job or task, of any length.
+abbrev pub IsName : List ℕ → Type 0
+IsName n = is_name n ≡ true
+
+-- A resource name stands plain, or quoted or in hexadecimal.
+abbrev pub Names : Token → List ℕ → Type 0
+Names (Word w) n = w ≡ n
+Names (Name w) n = w ≡ n
+Names _ n = ⊥
+
+abbrev pub ctl_word : Ctl → List ℕ
+ctl_word E = codes "E"
+ctl_word S = codes "S"
+
+abbrev pub scope_word : Scope → List ℕ
+scope_word scopes.Step = codes "STEP"
+scope_word scopes.System = codes "SYSTEM"
+scope_word scopes.Systems = codes "SYSTEMS"
+
+abbrev pub rnl_word : Bool → List ℕ
+rnl_word true = codes "YES"
+rnl_word false = codes "NO"
+
+abbrev pub mode_word : Bool → List ℕ
+mode_word true = codes "STAR"
+mode_word false = codes "RING"
+
+-- Things that stand one behind the other, each where it is free; each sets its value.
+abbrev pub Sets : {O X : Type 0} → (X → O → Type 0) → (X → O → O) → O → List X → O → Type 0
+Sets free set o [] p = p ≡ o
+Sets free set o (x ∷ xs) p = free x o × Sets free set (set x o) xs p
+
+-- An option of a task line: RET or ECB; RNL; UCB with its word and the unit that the word writes.
+pub data Opt : Type 0 where
+  Given : Ret → Opt
+  Lists : Bool → Opt
+  On : List ℕ → ℕ → Opt
+
+abbrev pub valued : List ℕ → List ℕ → List Token
+valued word value = Comma ∷ Word word ∷ Equals ∷ Word value ∷ []
+
+abbrev pub option : Opt → List Token
+option (Given RetNone) = valued (codes "RET") (codes "NONE")
+option (Given RetUse) = valued (codes "RET") (codes "USE")
+option (Given RetHave) = valued (codes "RET") (codes "HAVE")
+option (Given RetTest) = valued (codes "RET") (codes "TEST")
+option (Given RetChng) = valued (codes "RET") (codes "CHNG")
+option (Given RetEcb) = Comma ∷ Word (codes "ECB") ∷ []
+option (Lists b) = valued (codes "RNL") (rnl_word b)
+option (On w unit) = valued (codes "UCB") w
+
+-- None of its kind stands yet, and its word is right.
+abbrev pub IsFree : Opt → Opts → Type 0
+IsFree (Given r) o = o.ret ≡ None
+IsFree (Lists b) o = o.rnl ≡ None
+IsFree (On w unit) o = (o.unit ≡ None) × (unit_of w ≡ Some unit)
+
+abbrev pub set : Opt → Opts → Opts
+set (Given r) o = record o { ret = Some r }
+set (Lists b) o = record o { rnl = Some b }
+set (On w unit) o = record o { unit = Some unit }
+
+-- ( q , r , then what stands before the scope, the scope, ) and the options, which the line may have.
+pub record IsAsk (front : List Token) (may : Opts → Bool) (ts : List Token) (a : Ask) : Type 0 where
+  pub q : Token
+  pub r : Token
+  pub given : List Opt
+  pub spelled : ts ≡ Open ∷ q ∷ Comma ∷ r ∷ Comma ∷ (front ++ Word (scope_word a.scope) ∷ Close ∷ flat_map option given)
+  pub named_q : Names q a.q
+  pub named_r : Names r a.r
+  pub options : Sets IsFree set no_opts given a.opts
+  pub allowed : may a.opts ≡ true
+
+-- An operand of COMPLEX: MODE; ENTRIES and LIMIT with their words and the numbers that these write.
+pub data Operand : Type 0 where
+  Mode : Bool → Operand
+  Entries : List ℕ → ℕ → Operand
+  Limit : List ℕ → ℕ → Operand
+
+abbrev pub enclosed : List ℕ → List ℕ → List Token
+enclosed word value = Word word ∷ Open ∷ Word value ∷ Close ∷ []
+
+abbrev pub operand : Operand → List Token
+operand (Mode star) = enclosed (codes "MODE") (mode_word star)
+operand (Entries w n) = enclosed (codes "ENTRIES") w
+operand (Limit w n) = enclosed (codes "LIMIT") w
+
+-- None of its kind stands yet, and its number may be.
+abbrev pub IsFreeOperand : Operand → Setup → Type 0
+IsFreeOperand (Mode star) o = o.star ≡ None
+IsFreeOperand (Entries w n) o = (o.entries ≡ None) × (number_of w ≡ Some n) × (is_entries n ≡ true)
+IsFreeOperand (Limit w n) o = (o.limit ≡ None) × (number_of w ≡ Some n) × (is_limit n ≡ true)
+
+abbrev pub set_operand : Operand → Setup → Setup
+set_operand (Mode star) o = record o { star = Some star }
+set_operand (Entries w n) o = record o { entries = Some n }
+set_operand (Limit w n) o = record o { limit = Some n }
+
+pub record IsComplex (ts : List Token) (c : Setup) : Type 0 where
+  pub given : List Operand
+  pub spelled : ts ≡ flat_map operand given
+  pub operands : Sets IsFreeOperand set_operand no_setup given c
+
+-- A statement before SCHEDULE, and SCHEDULE.
+abbrev pub IsFirst : List Token → Stmt → Type 0
+IsFirst ts stmts.Unbuilt = (w : List ℕ) × ((rest : List Token) × (ts ≡ Word w ∷ rest) × (is_unbuilt_word w ≡ true))
+IsFirst ts (stmts.Complex c) = (rest : List Token) × (ts ≡ Word (codes "COMPLEX") ∷ rest) × IsComplex rest c
+IsFirst ts (stmts.System n) = (ts ≡ Word (codes "SYSTEM") ∷ Word n ∷ []) × IsName n
+IsFirst ts (stmts.Job n) = (ts ≡ Word (codes "JOB") ∷ Word n ∷ []) × IsName n
+IsFirst ts (stmts.Task n) = (ts ≡ Word (codes "TASK") ∷ Word n ∷ []) × IsName n
+IsFirst ts (stmts.Enq e) = (rest : List Token) × (ts ≡ Word (codes "ENQ") ∷ rest) × IsAsk (Word (ctl_word e.ctl) ∷ Comma ∷ []) enq_may rest e.ask
+IsFirst ts (stmts.Deq a) = (rest : List Token) × (ts ≡ Word (codes "DEQ") ∷ rest) × IsAsk [] deq_may rest a
+IsFirst ts (stmts.Wait a) = (rest : List Token) × (ts ≡ Word (codes "WAIT") ∷ rest) × IsAsk [] wait_may rest a
+IsFirst ts stmts.Schedule = ts ≡ Word (codes "SCHEDULE") ∷ []
+IsFirst ts (stmts.Event s a) = ⊥
+
+abbrev pub IsPair : List ℕ → List Token → List ℕ → List ℕ → Type 0
+IsPair word ts j t = (ts ≡ Word word ∷ Word (j ++ 46 ∷ t) ∷ []) × IsName j × IsName t
+
+-- An entry is below the number of entries.
+abbrev pub IsEntry : List ℕ → ℕ → List Token → ℕ → Type 0
+IsEntry word entries ts e = (w : List ℕ) × (ts ≡ Word word ∷ Word w ∷ []) × (number_of w ≡ Some e) × (e < entries)
+
+-- What stands behind the system of an event line.
+abbrev pub IsAct : ℕ → List Token → Act → Type 0
+IsAct entries ts (acts.Task j t) = IsPair (codes "TASK") ts j t
+IsAct entries ts acts.Turn = ts ≡ Word (codes "TURN") ∷ []
+IsAct entries ts (acts.Send j t) = IsPair (codes "SEND") ts j t
+IsAct entries ts acts.Take = ts ≡ Word (codes "TAKE") ∷ []
+IsAct entries ts acts.Settle = ts ≡ Word (codes "SETTLE") ∷ []
+IsAct entries ts (acts.Tell e) = IsEntry (codes "TELL") entries ts e
+IsAct entries ts (acts.Leave e) = IsEntry (codes "LEAVE") entries ts e
+IsAct entries ts acts.Switch = ts ≡ Word (codes "SWITCH") ∷ []
+IsAct entries ts (acts.Purge n) = (ts ≡ Word (codes "PURGE") ∷ Word n ∷ []) × IsName n
+IsAct entries ts acts.Rest = ts ≡ Word (codes "REST") ∷ []
+
+-- An event line.
+abbrev pub IsEvent : ℕ → List Token → Stmt → Type 0
+IsEvent entries ts (stmts.Event s a) = (rest : List Token) × (ts ≡ Word s ∷ rest) × IsName s × IsAct entries rest a
+IsEvent entries ts _ = ⊥
+
+-- A line spells a statement, before SCHEDULE (false) or behind it (true), where there are this many lock
+-- entries. Before SCHEDULE nothing but a parenthesis stands directly behind the first word.
+abbrev pub Spells : Bool → ℕ → TokenLine → Stmt → Type 0
+Spells false entries l st = (l.joined ≡ false) × IsFirst l.tokens st
+Spells true entries l st = IsEvent entries l.tokens st
+
+abbrev pub is_statement_word : List ℕ → Bool
+is_statement_word w =
+    bytes_eq w (codes "COMPLEX")
+    || (bytes_eq w (codes "SYSTEM")
+    || (bytes_eq w (codes "JOB")
+    || (bytes_eq w (codes "TASK")
+    || (bytes_eq w (codes "ENQ")
+    || (bytes_eq w (codes "DEQ")
+    || (bytes_eq w (codes "WAIT")
+    || (bytes_eq w (codes "SCHEDULE")
+    || is_unbuilt_word w)))))))
+
+abbrev pub BeginsOtherwise : List Token → Type 0
+BeginsOtherwise (Word w ∷ ts) = is_statement_word w ≡ false
+BeginsOtherwise (Unclosed ∷ ts) = ⊥
+BeginsOtherwise _ = Unit {0}
+
+-- The first word of a line is no statement word. A comment that is not closed has no first word, and is
+-- wrong for itself.
+abbrev pub NoWord : TokenLine → Type 0
+NoWord l = (l.joined ≡ true) ⊎ BeginsOtherwise l.tokens
+
+-- Why a line is no statement: it stands before SCHEDULE, and its first word is no statement word; or that
+-- is not so, and it spells no statement.
+abbrev pub IsNoStatement : Kind → Bool → ℕ → TokenLine → Type 0
+IsNoStatement UnknownStatement scheduled entries l = (scheduled ≡ false) × NoWord l
+IsNoStatement BadOperand scheduled entries l = (scheduled ≡ false → NoWord l → ⊥) × ((st : Stmt) → Spells scheduled entries l st → ⊥)
+IsNoStatement _ scheduled entries l = ⊥
+
+-- What is answered of a line: the statement that it spells, or why it is none. Want of memory is the only
+-- other answer.
+abbrev pub Answers : Result Stmt FormError → Bool → ℕ → TokenLine → Type 0
+Answers (Ok st) scheduled entries l = Spells scheduled entries l st
+Answers (Err errors.NoMemory) scheduled entries l = Unit {0}
+Answers (Err (errors.Kind k)) scheduled entries l = IsNoStatement k scheduled entries l

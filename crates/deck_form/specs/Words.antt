@@ -1,0 +1,71 @@
+-- Names of systems, jobs and tasks, numbers and units.
+use Rattle.std.specs.Prelude.{ℕ, Bool, true, false, not, ◌&&◌, ◌||◌, ◌==◌, ◌+◌, ◌-◌, ◌*◌, nat_le, nat_lt, List, [], ◌∷◌, length, take, drop, position, Option, Some, None, if◌then◌else◌}
+use Rattle.deck_scan.specs.declared.token.Token.{Token}
+use Rattle.deck_form.specs.Tokens.{◌>>=◌, any_word_at}
+
+abbrev pub is_digit : ℕ → Bool
+is_digit b = nat_le 48 b && nat_le b 57
+
+-- A to Z, 0 to 9, $, # and @.
+unfoldable pub is_name_byte : ℕ → Bool
+is_name_byte b = (nat_le 65 b && nat_le b 90) || is_digit b || b == 36 || b == 35 || b == 64
+
+unfoldable pub all_name : List ℕ → Bool
+all_name [] = true
+all_name (b ∷ bs) = is_name_byte b && all_name bs
+
+-- A name of any length but none, whose first byte is no digit.
+unfoldable pub is_name : List ℕ → Bool
+is_name [] = false
+is_name (b ∷ bs) = not (is_digit b) && all_name (b ∷ bs)
+
+unfoldable pub short_at : List Token → Option (List ℕ × List Token)
+short_at ts = do
+  w ← any_word_at ts
+  if is_name w.0 then Some (w.0, w.1) else None
+
+abbrev pub parted : Option ℕ → List ℕ → Option (List ℕ × List ℕ)
+parted None w = None
+parted (Some i) w = if is_name (take i w) && is_name (drop (i + 1) w) then Some (take i w, drop (i + 1) w) else None
+
+-- The names of a job and a task with a point between them.
+unfoldable pub dotted_at : List Token → Option (List ℕ × List ℕ × List Token)
+dotted_at ts = do
+  w ← any_word_at ts
+  p ← parted (position (λ b. b == 46) w.0) w.0
+  Some (p.0, p.1, w.1)
+
+-- The number that a number's digits and these write.
+unfoldable pub digits : ℕ → List ℕ → Option ℕ
+digits n [] = Some n
+digits n (b ∷ bs) = if is_digit b then digits (n * 10 + (b - 48)) bs else None
+
+-- The number that 1 to 9 decimal digits write.
+unfoldable pub number_of : List ℕ → Option ℕ
+number_of w = if (length w == 0) || nat_lt 9 (length w) then None else digits 0 w
+
+abbrev pub is_between : ℕ → ℕ → ℕ → Bool
+is_between low high b = nat_le low b && nat_le b high
+
+-- The value of a hexadecimal digit of either case.
+abbrev pub hex_of : ℕ → Option ℕ
+hex_of b =
+    if is_between 48 57 b then Some (b - 48)
+    else if is_between 65 70 b then Some (b - 65 + 10)
+    else if is_between 97 102 b then Some (b - 97 + 10)
+    else None
+
+abbrev pub hex_at : List ℕ → Option (ℕ × List ℕ)
+hex_at [] = None
+hex_at (b ∷ bs) = do
+  x ← hex_of b
+  Some (x, bs)
+
+-- The unit that four hexadecimal digits write.
+unfoldable pub unit_of : List ℕ → Option ℕ
+unit_of w = do
+  a ← hex_at w
+  b ← hex_at a.1
+  c ← hex_at b.1
+  d ← hex_at c.1
+  if length d.1 == 0 then Some (a.0 * 4096 + b.0 * 256 + c.0 * 16 + d.0) else None

@@ -1,0 +1,153 @@
+//! Event lines: a system, what it does, and on what.
+ghost use Rattle.std.specs.Prelude.{◌≡◌};
+ghost use Rattle.deck_form.specs.Tokens.{Reads};
+ghost use Rattle.deck_form.specs.Event.{verb, pair_at, alone_at, entry_at, other_at, act_at, event_at};
+
+use crate::miss::Miss;
+use crate::tokens::{any_word_at, end_at};
+use crate::words::{dotted_at, number_of, short_at};
+use deck_scan::Token;
+use grs_base::List;
+use std::alloc::Global;
+
+/// What a system does at an event, with names of any length.
+#[derive(Drop)]
+pub enum Act {
+    Task { job: List<u8>, task: List<u8> },
+    Turn,
+    Send { job: List<u8>, task: List<u8> },
+    Take,
+    Settle,
+    /// An entry below the number of entries.
+    Tell(u32),
+    /// An entry below the number of entries.
+    Leave(u32),
+    Switch,
+    /// The system that is removed.
+    Purge(List<u8>),
+    Rest,
+}
+
+/// The words of events.
+#[derive(Clone, Copy)]
+pub enum Verb {
+    Task,
+    Turn,
+    Send,
+    Take,
+    Settle,
+    Tell,
+    Leave,
+    Switch,
+    Purge,
+    Rest,
+    Unknown,
+}
+
+#[tactic(auto, unfolding(crate::specs::Event::verb))]
+fn verb_of(w: &[u8]) -> Verb
+    ensures { result ≡ verb w.now }
+{
+    if w == b"TASK".as_slice() {
+        Verb::Task
+    } else if w == b"TURN".as_slice() {
+        Verb::Turn
+    } else if w == b"SEND".as_slice() {
+        Verb::Send
+    } else if w == b"TAKE".as_slice() {
+        Verb::Take
+    } else if w == b"SETTLE".as_slice() {
+        Verb::Settle
+    } else if w == b"TELL".as_slice() {
+        Verb::Tell
+    } else if w == b"LEAVE".as_slice() {
+        Verb::Leave
+    } else if w == b"SWITCH".as_slice() {
+        Verb::Switch
+    } else if w == b"PURGE".as_slice() {
+        Verb::Purge
+    } else if w == b"REST".as_slice() {
+        Verb::Rest
+    } else {
+        Verb::Unknown
+    }
+}
+
+/// The names of a job and a task, and nothing after them.
+#[tactic(auto, unfolding(crate::specs::Event::pair_at))]
+fn pair_at(alloc: Global, ts: &[Token]) -> Result<(List<u8>, List<u8>), Miss>
+    ensures { Reads (λ x. x) result (pair_at ts.now) }
+{
+    let (job, task, ts) = dotted_at(alloc, ts)?;
+    end_at(ts)?;
+    Ok((job, task))
+}
+
+/// An entry, and nothing after it.
+#[tactic(auto, unfolding(crate::specs::Event::entry_at))]
+fn entry_at(entries: u32, ts: &[Token]) -> Result<u32, Miss>
+    ensures { Reads (λ x. x) result (entry_at entries ts.now) }
+{
+    let (w, ts) = any_word_at(ts)?;
+    let entry = number_of(w)?;
+    end_at(ts)?;
+    if entry < entries {
+        Ok(entry)
+    } else {
+        Err(Miss::Bad)
+    }
+}
+
+/// A name of a system, and nothing after it.
+#[tactic(auto, unfolding(crate::specs::Event::other_at))]
+fn other_at(alloc: Global, ts: &[Token]) -> Result<List<u8>, Miss>
+    ensures { Reads (λ x. x) result (other_at ts.now) }
+{
+    let (name, ts) = short_at(alloc, ts)?;
+    end_at(ts)?;
+    Ok(name)
+}
+
+fn alone_at(act: Act, ts: &[Token]) -> Result<Act, Miss>
+    ensures { Reads (λ x. x) result (alone_at act ts.now) }
+{
+    end_at(ts)?;
+    Ok(act)
+}
+
+/// What stands behind the word of an event.
+#[tactic(auto, unfolding(crate::specs::Event::act_at))]
+fn act_at(alloc: Global, entries: u32, verb: Verb, ts: &[Token]) -> Result<Act, Miss>
+    ensures { Reads (λ x. x) result (act_at entries verb ts.now) }
+{
+    match verb {
+        Verb::Task => {
+            let (job, task) = pair_at(alloc, ts)?;
+            Ok(Act::Task { job, task })
+        }
+        Verb::Turn => alone_at(Act::Turn, ts),
+        Verb::Send => {
+            let (job, task) = pair_at(alloc, ts)?;
+            Ok(Act::Send { job, task })
+        }
+        Verb::Take => alone_at(Act::Take, ts),
+        Verb::Settle => alone_at(Act::Settle, ts),
+        Verb::Tell => Ok(Act::Tell(entry_at(entries, ts)?)),
+        Verb::Leave => Ok(Act::Leave(entry_at(entries, ts)?)),
+        Verb::Switch => alone_at(Act::Switch, ts),
+        Verb::Purge => Ok(Act::Purge(other_at(alloc, ts)?)),
+        Verb::Rest => alone_at(Act::Rest, ts),
+        Verb::Unknown => Err(Miss::Bad),
+    }
+}
+
+/// A system and what it does.
+#[tactic(auto, unfolding(crate::specs::Event::event_at))]
+pub fn event_at(alloc: Global, entries: u32, ts: &[Token]) -> Result<(List<u8>, Act), Miss>
+    ensures { Reads (λ x. x) result (event_at entries ts.now) }
+{
+    let (system, ts) = short_at(alloc, ts)?;
+    let (w, ts) = any_word_at(ts)?;
+    let act = act_at(alloc, entries, verb_of(w), ts)?;
+    Ok((system, act))
+}

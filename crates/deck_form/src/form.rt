@@ -1,0 +1,188 @@
+//! The statements of a deck.
+ghost use Rattle.std.specs.Prelude.{◌≡◌, Option};
+ghost use Rattle.deck_form.specs.Tokens.{Reads};
+ghost use Rattle.deck_form.specs.Form.{named_at, plain_form, first_form, event_form, form, key, or_bad, Forms};
+ghost use Rattle.deck_form.specs.Spelled.{Answers};
+ghost use Rattle.deck_form.specs.declared.form.Stmt.{Stmt as StmtValue};
+
+use crate::ask::{Ask, EnqAsk, deq_at, enq_at, wait_at};
+use crate::complex::{Setup, complex_at};
+use crate::event::{Act, event_at};
+use crate::miss::Miss;
+use crate::tokens::end_at;
+use crate::unbuilt::is_unbuilt_word;
+use crate::words::short_at;
+use deck_scan::{Token, TokenLine};
+use grs_base::{Kind, List};
+use std::alloc::Global;
+
+/// A statement, with names of any length.
+#[derive(Drop)]
+pub enum Stmt {
+    /// Its word is not built; nothing more of it was read.
+    Unbuilt,
+    Complex(Setup),
+    System(List<u8>),
+    Job(List<u8>),
+    Task(List<u8>),
+    Enq(EnqAsk),
+    Deq(Ask),
+    Wait(Ask),
+    Schedule,
+    Event { system: List<u8>, act: Act },
+}
+
+/// Why a line is no statement.
+#[derive(Clone, Copy, Debug, PartialEq, Eq)]
+pub enum FormError {
+    /// UnknownStatement or BadOperand.
+    Kind(Kind),
+    NoMemory,
+}
+
+/// The words with which statements begin.
+#[derive(Clone, Copy)]
+pub enum Key {
+    Complex,
+    System,
+    Job,
+    Task,
+    Enq,
+    Deq,
+    Wait,
+    Schedule,
+    Unbuilt,
+    Unknown,
+}
+
+/// A name and nothing after it.
+#[tactic(auto, unfolding(crate::specs::Form::named_at))]
+fn named_at(alloc: Global, ts: &[Token]) -> Result<List<u8>, Miss>
+    ensures { Reads (λ x. x) result (named_at ts.now) }
+{
+    let (name, ts) = short_at(alloc, ts)?;
+    end_at(ts)?;
+    Ok(name)
+}
+
+/// What is read, or BadOperand.
+fn or_bad(read: Result<Stmt, Miss>) -> Result<Stmt, FormError>
+    ensures { (x : Option StmtValue) → Reads (λ y. y) read x → Forms result (or_bad x) }
+{
+    match read {
+        Ok(st) => Ok(st),
+        Err(Miss::Bad) => Err(FormError::Kind(Kind::BadOperand)),
+        Err(Miss::NoMemory) => Err(FormError::NoMemory),
+    }
+}
+
+#[tactic(auto, unfolding(crate::specs::Form::key))]
+fn key_of(w: &[u8]) -> Key
+    ensures { result ≡ key w.now }
+{
+    if w == b"COMPLEX".as_slice() {
+        Key::Complex
+    } else if w == b"SYSTEM".as_slice() {
+        Key::System
+    } else if w == b"JOB".as_slice() {
+        Key::Job
+    } else if w == b"TASK".as_slice() {
+        Key::Task
+    } else if w == b"ENQ".as_slice() {
+        Key::Enq
+    } else if w == b"DEQ".as_slice() {
+        Key::Deq
+    } else if w == b"WAIT".as_slice() {
+        Key::Wait
+    } else if w == b"SCHEDULE".as_slice() {
+        Key::Schedule
+    } else if is_unbuilt_word(w) {
+        Key::Unbuilt
+    } else {
+        Key::Unknown
+    }
+}
+
+/// What stands behind the first word.
+#[tactic(auto, unfolding(crate::specs::Form::plain_form))]
+fn plain_form(alloc: Global, key: Key, ts: &[Token]) -> Result<Stmt, Miss>
+    ensures { Reads (λ x. x) result (plain_form key ts.now) }
+{
+    match key {
+        Key::Complex => Ok(Stmt::Complex(complex_at(ts)?)),
+        Key::System => Ok(Stmt::System(named_at(alloc, ts)?)),
+        Key::Job => Ok(Stmt::Job(named_at(alloc, ts)?)),
+        Key::Task => Ok(Stmt::Task(named_at(alloc, ts)?)),
+        Key::Enq => Ok(Stmt::Enq(enq_at(alloc, ts)?)),
+        Key::Deq => Ok(Stmt::Deq(deq_at(alloc, ts)?)),
+        Key::Wait => Ok(Stmt::Wait(wait_at(alloc, ts)?)),
+        Key::Schedule => {
+            end_at(ts)?;
+            Ok(Stmt::Schedule)
+        }
+        Key::Unbuilt => Ok(Stmt::Unbuilt),
+        Key::Unknown => Err(Miss::Bad),
+    }
+}
+
+/// A statement before SCHEDULE. A word that something else stands directly behind is no statement word.
+#[tactic(auto, unfolding(crate::specs::Form::first_form))]
+fn first_form(alloc: Global, joined: bool, ts: &[Token]) -> Result<Stmt, FormError>
+    ensures { Forms result (first_form joined ts.now) }
+{
+    if joined {
+        return Err(FormError::Kind(Kind::UnknownStatement));
+    }
+    match ts.split_first() {
+        Some((Token::Word(w), rest)) => match key_of(w.as_slice()) {
+            Key::Unknown => Err(FormError::Kind(Kind::UnknownStatement)),
+            key => or_bad(plain_form(alloc, key, rest)),
+        },
+        Some((Token::Unclosed, _)) => Err(FormError::Kind(Kind::BadOperand)),
+        _ => Err(FormError::Kind(Kind::UnknownStatement)),
+    }
+}
+
+/// An event line.
+#[tactic(auto, unfolding(crate::specs::Form::event_form))]
+fn event_form(alloc: Global, entries: u32, ts: &[Token]) -> Result<Stmt, Miss>
+    ensures { Reads (λ x. x) result (event_form entries ts.now) }
+{
+    let (system, act) = event_at(alloc, entries, ts)?;
+    Ok(Stmt::Event { system, act })
+}
+
+/// What is read of a line.
+#[tactic(auto, unfolding(crate::specs::Form::form))]
+fn read_form(
+    alloc: Global,
+    scheduled: bool,
+    entries: u32,
+    line: &TokenLine,
+) -> Result<Stmt, FormError>
+    ensures { Forms result (form scheduled entries line.now) }
+{
+    let ts = line.tokens.as_slice();
+    if scheduled {
+        or_bad(event_form(alloc, entries, ts))
+    } else {
+        first_form(alloc, line.joined, ts)
+    }
+}
+
+/// The statement that a line spells, before SCHEDULE or behind it, in a deck with this many lock
+/// entries.
+///
+/// A line before SCHEDULE whose first word is no statement word is `UnknownStatement`; any other
+/// line that spells no statement is `BadOperand`.
+pub fn statement(
+    alloc: Global,
+    scheduled: bool,
+    entries: u32,
+    line: &TokenLine,
+) -> Result<Stmt, FormError>
+    ensures exact { Answers result scheduled entries line.now }
+    ensures read { Forms result (form scheduled entries line.now) }
+{
+    read_form(alloc, scheduled, entries, line)
+}

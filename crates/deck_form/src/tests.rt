@@ -1,0 +1,70 @@
+use super::*;
+use deck_scan::lines;
+use grs_base::{Ctl, Kind, Ret, Scope};
+use std::test::Fail;
+
+fn kind_of(
+    rt: &HostRuntime,
+    scheduled: bool,
+    text: &[u8],
+) -> Result<Option<Kind>, grs_base::ReadError> {
+    let all = lines(rt.alloc(), text)?;
+    match all.as_slice() {
+        [line, ..] => match statement(rt.alloc(), scheduled, 4, line) {
+            Ok(_) => Ok(None),
+            Err(FormError::Kind(kind)) => Ok(Some(kind)),
+            Err(FormError::NoMemory) => Ok(Some(Kind::TooLong)),
+        },
+        _ => Ok(Some(Kind::TooLong)),
+    }
+}
+
+#[test]
+fn statements(rt: HostRuntime) -> Result<(), Fail> {
+    let cases = [
+        (false, b"COMPLEX ENTRIES(4) MODE(RING)".as_slice(), None),
+        (false, b"SYSTEM SYA".as_slice(), None),
+        (false, b"WAIT (A,X'4a',STEP),RNL=NO".as_slice(), None),
+        (
+            false,
+            b"DEQ ('',B,SYSTEMS),UCB=1a01,RET=HAVE".as_slice(),
+            None,
+        ),
+        (false, b"RNLDEF anything".as_slice(), None),
+        (false, b"FOO".as_slice(), Some(Kind::UnknownStatement)),
+        (
+            false,
+            b"SYSTEM,SYA".as_slice(),
+            Some(Kind::UnknownStatement),
+        ),
+        (false, b"SYSTEM SYA,".as_slice(), Some(Kind::BadOperand)),
+        (true, b"SYA TASK J1.T1".as_slice(), None),
+        (true, b"SYA TELL 3".as_slice(), None),
+        (true, b"SYA TELL 4".as_slice(), Some(Kind::BadOperand)),
+        (true, b"SCHEDULE".as_slice(), Some(Kind::BadOperand)),
+    ];
+    for (scheduled, text, want) in cases {
+        let kind = kind_of(&rt, scheduled, text)?;
+        assert!(rt; kind == want, "at {text:?}");
+    }
+    Ok(())
+}
+
+#[test]
+fn an_enq(rt: HostRuntime) -> Result<(), Fail> {
+    let all = lines(rt.alloc(), b"ENQ (A.B,'it''s',S,STEP),RNL=NO,RET=USE")?;
+    assert!(rt; all.len() == 1);
+    let read = statement(rt.alloc(), false, 64, all.get(0));
+    match &read {
+        Ok(Stmt::Enq(enq)) => {
+            assert!(rt; enq.ctl == Ctl::S);
+            assert!(rt; enq.ask.q.as_slice() == b"A.B".as_slice());
+            assert!(rt; enq.ask.r.as_slice() == b"it's".as_slice());
+            assert!(rt; enq.ask.scope == Scope::Step);
+            assert!(rt; enq.ask.opts.ret == Some(Ret::RetUse));
+            assert!(rt; enq.ask.opts.rnl == Some(false));
+        }
+        _ => assert!(rt; false),
+    }
+    Ok(())
+}

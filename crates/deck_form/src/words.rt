@@ -1,0 +1,164 @@
+//! Names of systems, jobs and tasks, numbers and units, as the bytes of a word.
+ghost use Rattle.std.specs.Prelude.{◌≡◌, ◌<◌, ◌==◌, length, position, IfOk, IfSome};
+ghost use Rattle.deck_form.specs.Tokens.{Reads};
+ghost use Rattle.deck_form.specs.Words.{is_digit, is_name_byte, is_name, all_name, short_at, dotted_at, parted, digits, number_of, hex_of, hex_at, unit_of};
+
+use crate::miss::Miss;
+use crate::tokens::any_word_at;
+use deck_scan::Token;
+use grs_base::List;
+use std::alloc::Global;
+
+fn is_digit(b: u8) -> bool
+    ensures { result ≡ is_digit b }
+{
+    b'0' <= b && b <= b'9'
+}
+
+#[tactic(auto, unfolding(crate::specs::Words::is_name_byte))]
+fn is_name_byte(b: u8) -> bool
+    ensures { result ≡ is_name_byte b }
+{
+    (b'A' <= b && b <= b'Z') || is_digit(b) || b == b'$' || b == b'#' || b == b'@'
+}
+
+#[tactic(auto, unfolding(crate::specs::Words::all_name))]
+fn all_name(w: &[u8]) -> bool
+    ensures { result ≡ all_name w.now }
+{
+    let mut rest = w;
+    while let Some((b, tail)) = rest.split_first() {
+        if !is_name_byte(*b) {
+            return false;
+        }
+        rest = tail;
+    }
+    true
+}
+
+#[tactic(auto, unfolding(crate::specs::Words::is_name))]
+fn is_name(w: &[u8]) -> bool
+    ensures { result ≡ is_name w.now }
+{
+    match w.split_first() {
+        None => false,
+        Some((b, _)) => !is_digit(*b) && all_name(w),
+    }
+}
+
+/// The name of a system, job or task, of any length.
+#[tactic(auto, unfolding(crate::specs::Words::short_at))]
+pub fn short_at(alloc: Global, ts: &[Token]) -> Result<(List<u8>, &[Token]), Miss>
+    ensures { Reads (λ x. (x.0, x.1.now)) result (short_at ts.now) }
+{
+    let (w, rest) = any_word_at(ts)?;
+    if is_name(w) {
+        Ok((List::from_bytes(alloc, w)?, rest))
+    } else {
+        Err(Miss::Bad)
+    }
+}
+
+/// Where the first point stands.
+fn point_of(w: &[u8]) -> Option<usize>
+    ensures at { result ≡ position (λ b. b == 46) w.now }
+    ensures within { IfSome result (λ i. i < length w.now) }
+{
+    w.iter().position(|b| *b == b'.')
+}
+
+/// A name, a point, a name.
+fn parted(alloc: Global, w: &[u8]) -> Result<(List<u8>, List<u8>), Miss>
+    ensures { Reads (λ x. x) result (parted (position (λ b. b == 46) w.now) w.now) }
+{
+    match point_of(w) {
+        None => Err(Miss::Bad),
+        Some(i) => {
+            let job = &w[..i];
+            let task = &w[i + 1..];
+            if !is_name(job) {
+                return Err(Miss::Bad);
+            }
+            if !is_name(task) {
+                return Err(Miss::Bad);
+            }
+            Ok((
+                List::from_bytes(alloc, job)?,
+                List::from_bytes(alloc, task)?,
+            ))
+        }
+    }
+}
+
+/// The names of a job and a task with a point between them.
+#[tactic(auto, unfolding(crate::specs::Words::dotted_at))]
+pub fn dotted_at(alloc: Global, ts: &[Token]) -> Result<(List<u8>, List<u8>, &[Token]), Miss>
+    ensures { Reads (λ x. (x.0, x.1, x.2.now)) result (dotted_at ts.now) }
+{
+    let (w, rest) = any_word_at(ts)?;
+    let (job, task) = parted(alloc, w)?;
+    Ok((job, task, rest))
+}
+
+/// The number that 1 to 9 decimal digits write.
+#[tactic(auto, unfolding(crate::specs::Words::number_of, crate::specs::Words::digits))]
+pub fn number_of(w: &[u8]) -> Result<u32, Miss>
+    ensures { Reads (λ x. x) result (number_of w.now) }
+{
+    if w.is_empty() || w.len() > 9 {
+        return Err(Miss::Bad);
+    }
+    let mut number = 0;
+    let mut rest = w;
+    while let Some((b, tail)) = rest.split_first() {
+        if !is_digit(*b) {
+            return Err(Miss::Bad);
+        }
+        number = number * 10 + u32::from(*b - b'0');
+        rest = tail;
+    }
+    Ok(number)
+}
+
+/// The value of a hexadecimal digit of either case.
+fn hex_of(b: u8) -> Result<u8, Miss>
+    ensures value { Reads (λ x. x) result (hex_of b) }
+    ensures small { IfOk result (λ x. x < 16) }
+{
+    match b {
+        b'0'..=b'9' => Ok(b - b'0'),
+        b'A'..=b'F' => Ok(b - b'A' + 10),
+        b'a'..=b'f' => Ok(b - b'a' + 10),
+        _ => Err(Miss::Bad),
+    }
+}
+
+/// A hexadecimal digit, and the bytes behind it.
+fn hex_at(w: &[u8]) -> Result<(u16, &[u8]), Miss>
+    ensures value { Reads (λ x. (x.0, x.1.now)) result (hex_at w.now) }
+    ensures small { IfOk result (λ x. x.0 < 16) }
+{
+    match w.split_first() {
+        None => Err(Miss::Bad),
+        Some((b, rest)) => {
+            let digit = hex_of(*b)?;
+            Ok((u16::from(digit), rest))
+        }
+    }
+}
+
+/// The unit that four hexadecimal digits write.
+#[tactic(auto, unfolding(crate::specs::Words::unit_of))]
+pub fn unit_of(w: &[u8]) -> Result<u16, Miss>
+    ensures { Reads (λ x. x) result (unit_of w.now) }
+{
+    let (a, w) = hex_at(w)?;
+    let (b, w) = hex_at(w)?;
+    let (c, w) = hex_at(w)?;
+    let (d, w) = hex_at(w)?;
+    if w.len() == 0 {
+        Ok(a * 4096 + b * 256 + c * 16 + d)
+    } else {
+        Err(Miss::Bad)
+    }
+}

@@ -1,0 +1,171 @@
+-- What is read stays within the limits.
+use Rattle.std.proofs.Common.{◌≡◌, ℕ, zero, suc, ◌+◌, ◌<◌, ◌≤◌, Bool, true, false, cond, leb, List, [], ◌∷◌, ◌++◌, length, Option, Some, None, Result, Ok, Err, refl, sym, ap, subst, ◌∙◌, arith, length-append}
+use Rattle.std.specs.Prelude.{All}
+use Rattle.std.proofs.lemmas.Bool.{leb-false}
+use Rattle.grs_base.specs.declared.fault.DeckFault.{DeckFault}
+use Rattle.grs_base.specs.declared.fault.Kind.{Kind}
+use Rattle.grs_base.specs.declared.fault.Kind.TheVariants.{NameLength, Repeated, OutOfPlace, TooMany, UnknownName, NotBuilt}
+use Rattle.grs_base.specs.declared.line.Line.{Line}
+use Rattle.grs_wire.specs.declared.deck.TaskDef.{TaskDef}
+use Rattle.grs_wire.specs.declared.deck.JobDef.{JobDef}
+use Rattle.grs_wire.specs.declared.deck.SystemDef.{SystemDef}
+use Rattle.grs_wire.specs.declared.deck.Event.{Event}
+use Rattle.grs_wire.specs.declared.deck.Deck.{Deck}
+use Rattle.deck_scan.specs.declared.token.TokenLine.{TokenLine}
+use Rattle.deck_form.specs.declared.form.Stmt.{Stmt}
+use Rattle.deck_form.specs.declared.form.Stmt.TheVariants as stmts
+use Rattle.deck_form.specs.Form.{form}
+use Rattle.grs_deck.specs.declared.judge.Draft.{Draft}
+use Rattle.grs_deck.specs.Places.{jobs_now, task_count, IsWithin, Fits, event_of}
+use Rattle.grs_deck.specs.Judge.{is_long, is_repeated, is_misplaced, is_full, is_unknown, is_unbuilt, verdict}
+use Rattle.grs_deck.specs.Grow.{on_last, add_job, add_task, add_line, in_jobs, in_tasks, with_event, grow_deck, grow}
+use Rattle.grs_deck.specs.Reading.{unless, judge_form, judge}
+use Rattle.grs_deck.proofs.PlacesLaws.{all_head, all_tail}
+
+-- ---- a statement without a fault
+
+pub record NoFault (a b c d e f : Bool) : Type 0 where
+  pub long : a ≡ false
+  pub repeated : b ≡ false
+  pub misplaced : c ≡ false
+  pub full : d ≡ false
+  pub unknown : e ≡ false
+  pub unbuilt : f ≡ false
+
+pub no_fault : (a b c d e f : Bool) → cond a (Some NameLength) (cond b (Some Repeated) (cond c (Some OutOfPlace) (cond d (Some TooMany) (cond e (Some UnknownName) (cond f (Some NotBuilt) None))))) ≡ None → NoFault a b c d e f
+no_fault true b c d e f h = absurd cc
+no_fault false true c d e f h = absurd cc
+no_fault false false true d e f h = absurd cc
+no_fault false false false true e f h = absurd cc
+no_fault false false false false true f h = absurd cc
+no_fault false false false false false true h = absurd cc
+no_fault false false false false false false h = record { long = refl; repeated = refl; misplaced = refl; full = refl; unknown = refl; unbuilt = refl }
+
+pub tests_of : (d : Draft) (st : Stmt) → verdict d st ≡ None → NoFault (is_long st) (is_repeated d st) (is_misplaced d st) (is_full d st) (is_unknown d st) (is_unbuilt d st)
+tests_of d st h = no_fault (is_long st) (is_repeated d st) (is_misplaced d st) (is_full d st) (is_unknown d st) (is_unbuilt d st) h
+
+pub not_long : (d : Draft) (st : Stmt) → verdict d st ≡ None → is_long st ≡ false
+not_long d st h = (tests_of d st h).long
+
+-- ---- each system of a list, as a pair of the first and the others
+
+abbrev Each : List SystemDef → Type 0
+Each [] = Unit {0}
+Each (s ∷ ss) = IsWithin s × Each ss
+
+all_each : (ss : List SystemDef) → All IsWithin ss → Each ss
+all_each [] h = tt
+all_each (s ∷ ss) h = (all_head s ss h, all_each ss (all_tail s ss h))
+
+each_all : (ss : List SystemDef) → Each ss → All IsWithin ss
+each_all [] h k d lt = absurd (omega (arith, lt))
+each_all (s ∷ ss) h zero d lt = h.0
+each_all (s ∷ ss) h (suc k) d lt = each_all ss h.1 k d (omega (arith, lt))
+
+each_push : (ss : List SystemDef) (s : SystemDef) → Each ss → IsWithin s → Each (ss ++ s ∷ [])
+each_push [] s h w = (w, tt)
+each_push (x ∷ ss) s h w = (h.0, each_push ss s h.1 w)
+
+each_last : (f : SystemDef → SystemDef) (ss : List SystemDef) → Each ss → ((s : SystemDef) → IsWithin s → jobs_now ss ≡ s.jobs → IsWithin (f s)) → Each (on_last f ss)
+each_last f [] h g = tt
+each_last f (s ∷ []) h g = (g s h.0 refl, tt)
+each_last f (s ∷ t ∷ ss) h g = (h.0, each_last f (t ∷ ss) h.1 g)
+
+length-on_last : {A : Type 0} (f : A → A) (xs : List A) → length (on_last f xs) ≡ length xs
+length-on_last f [] = refl
+length-on_last f (x ∷ []) = refl
+length-on_last f (x ∷ y ∷ ys) = let k = length-on_last f (y ∷ ys) in omega (arith, k)
+
+-- ---- how many tasks jobs have
+
+task_count-append : (js ks : List JobDef) → task_count (js ++ ks) ≡ task_count js + task_count ks
+task_count-append [] ks = omega arith
+task_count-append (j ∷ js) ks = let k = task_count-append js ks in omega (arith, k)
+
+task_count-add : (name : List ℕ) (js : List JobDef) → task_count (add_task name js) ≤ suc (task_count js)
+task_count-add name [] = omega arith
+task_count-add name (j ∷ []) = omega (arith, length-append j.tasks (record { name = name; lines = [] } ∷ []))
+task_count-add name (j ∷ k ∷ js) = let h = task_count-add name (k ∷ js) in omega (arith, h)
+
+task_count-line : (line : Line) (js : List JobDef) → task_count (in_tasks (add_line line) js) ≡ task_count js
+task_count-line line [] = refl
+task_count-line line (j ∷ []) = let k = length-on_last (λ (t : TaskDef). record { name = t.name; lines = t.lines ++ line ∷ [] }) j.tasks in omega (arith, k)
+task_count-line line (j ∷ k ∷ js) = let h = task_count-line line (k ∷ js) in omega (arith, h)
+
+-- ---- what each statement adds
+
+below : (n m : ℕ) → leb n m ≡ false → suc m ≤ n
+below n m h = let k = leb-false n m h in omega (arith, k)
+
+fits_system : (ss : List SystemDef) (name : List ℕ) → Fits ss → suc (length ss) ≤ 8 → Fits (ss ++ record { name = name; jobs = [] } ∷ [])
+fits_system ss name h lt =
+    let s : SystemDef = record { name = name; jobs = [] } in
+    let new : IsWithin s = record { jobs = omega arith; tasks = omega arith } in
+    record { few = omega (arith, length-append ss (s ∷ []), lt); each = each_all (ss ++ s ∷ []) (each_push ss s (all_each ss h.each) new) }
+
+fits_job : (ss : List SystemDef) (name : List ℕ) → Fits ss → suc (length (jobs_now ss)) ≤ 64 → Fits (add_job name ss)
+fits_job ss name h lt = record { few = rw (length-on_last _ ss) h.few; each = each_all (add_job name ss) (each_last _ ss (all_each ss h.each) one) }
+  where
+    one : (s : SystemDef) → IsWithin s → jobs_now ss ≡ s.jobs → IsWithin (record { name = s.name; jobs = s.jobs ++ record { name = name; tasks = [] } ∷ [] })
+    one s w e =
+        let j : JobDef = record { name = name; tasks = [] } in
+        let long : length (jobs_now ss) ≡ length s.jobs = ap length e in
+        record { jobs = omega (arith, length-append s.jobs (j ∷ []), long, lt); tasks = omega (arith, task_count-append s.jobs (j ∷ []), w.tasks) }
+
+fits_task : (ss : List SystemDef) (name : List ℕ) → Fits ss → suc (task_count (jobs_now ss)) ≤ 64 → Fits (in_jobs (add_task name) ss)
+fits_task ss name h lt = record { few = rw (length-on_last _ ss) h.few; each = each_all (in_jobs (add_task name) ss) (each_last _ ss (all_each ss h.each) one) }
+  where
+    one : (s : SystemDef) → IsWithin s → jobs_now ss ≡ s.jobs → IsWithin (record { name = s.name; jobs = add_task name s.jobs })
+    one s w e =
+        let count : task_count (jobs_now ss) ≡ task_count s.jobs = ap task_count e in
+        record { jobs = rw (length-on_last _ s.jobs) w.jobs; tasks = omega (arith, task_count-add name s.jobs, count, lt) }
+
+fits_line : (ss : List SystemDef) (line : Line) → Fits ss → Fits (in_jobs (in_tasks (add_line line)) ss)
+fits_line ss line h = record { few = rw (length-on_last _ ss) h.few; each = each_all (in_jobs (in_tasks (add_line line)) ss) (each_last _ ss (all_each ss h.each) one) }
+  where
+    one : (s : SystemDef) → IsWithin s → jobs_now ss ≡ s.jobs → IsWithin (record { name = s.name; jobs = in_tasks (add_line line) s.jobs })
+    one s w e = record { jobs = rw (length-on_last _ s.jobs) w.jobs; tasks = rw (task_count-line line s.jobs) w.tasks }
+
+event_systems : (o : Option Event) (d : Deck) → (with_event o d).systems ≡ d.systems
+event_systems None d = refl
+event_systems (Some e) d = refl
+
+pub fits_grow : (d : Draft) (st : Stmt) → is_full d st ≡ false → Fits d.deck.systems → Fits (grow d st).deck.systems
+fits_grow d stmts.Unbuilt full h = h
+fits_grow d (stmts.Complex c) full h = h
+fits_grow d (stmts.System n) full h = fits_system d.deck.systems n h (below 8 (length d.deck.systems) full)
+fits_grow d (stmts.Job n) full h = fits_job d.deck.systems n h (below 64 (length (jobs_now d.deck.systems)) full)
+fits_grow d (stmts.Task n) full h = fits_task d.deck.systems n h (below 64 (task_count (jobs_now d.deck.systems)) full)
+fits_grow d (stmts.Enq e) full h = fits_line d.deck.systems _ h
+fits_grow d (stmts.Deq a) full h = fits_line d.deck.systems _ h
+fits_grow d (stmts.Wait a) full h = fits_line d.deck.systems _ h
+fits_grow d stmts.Schedule full h = h
+fits_grow d (stmts.Event s a) full h = subst Fits (sym (event_systems (event_of d.deck.systems s a) d.deck)) h
+
+-- ---- lines
+
+unless_none : (at : ℕ) (o : Option Kind) (d e : Draft) → unless at o d ≡ Ok e → (o ≡ None) × (d ≡ e)
+unless_none at None d e h = (refl, cc)
+unless_none at (Some k) d e h = absurd cc
+
+-- a line that was taken is a statement without a fault
+pub record Judged (d : Draft) (l : TokenLine) (e : Draft) : Type 0 where
+  pub st : Stmt
+  pub formed : form d.scheduled d.deck.entries l ≡ Ok st
+  pub right : verdict d st ≡ None
+  pub grown : grow d st ≡ e
+
+pub judged : (d e : Draft) (l : TokenLine) → judge d l ≡ Ok e → Judged d l e
+unfolding judge
+judged d e l h = go (form d.scheduled d.deck.entries l) refl h
+  where
+    go : (r : Result Stmt Kind) → form d.scheduled d.deck.entries l ≡ r → judge_form d l.at r ≡ Ok e → Judged d l e
+    go (Ok st) is k = let u = unless_none l.at (verdict d st) (grow d st) e k in record { st = st; formed = is; right = u.0; grown = u.1 }
+    go (Err k) is m = absurd cc
+
+-- a line keeps the limits
+pub fits_judge : (d e : Draft) (l : TokenLine) → judge d l ≡ Ok e → Fits d.deck.systems → Fits e.deck.systems
+fits_judge d e l h fits =
+    let j = judged d e l h in
+    let P : Draft → Type 0 = λ x. Fits x.deck.systems in
+    subst P j.grown (fits_grow d j.st (tests_of d j.st j.right).full fits)

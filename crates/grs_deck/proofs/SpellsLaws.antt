@@ -1,0 +1,309 @@
+-- What is read is spelled, and what is spelled is read.
+use Rattle.std.proofs.Common.{◌≡◌, ℕ, zero, suc, ◌<◌, ◌≤◌, Bool, true, false, cond, not, eqb, ltb, leb, List, [], ◌∷◌, length, Option, Some, None, Result, Ok, Err, refl, sym, ap, subst, ◌∙◌, arith}
+use Rattle.std.specs.Prelude.{◌||◌, ◌&&◌, is_some, is_none}
+use Rattle.std.proofs.lemmas.Bool.{ltb-false, le-ltb, lt-leb, eqb-false, ne_eqb, leb-true, le-leb, leb-false, and_parts}
+use Rattle.grs_base.specs.declared.fault.DeckFault.{DeckFault}
+use Rattle.grs_base.specs.declared.fault.Kind.{Kind}
+use Rattle.grs_base.specs.declared.fault.Kind.TheVariants.{NoSystem, TooLong}
+use Rattle.grs_base.specs.declared.fault.ReadError.{ReadError}
+use Rattle.grs_base.specs.declared.fault.ReadError.TheVariants as read_errors
+use Rattle.grs_base.specs.Names.{trim_blanks, is_qname, is_rname}
+use Rattle.grs_wire.specs.declared.deck.Event.{Event}
+use Rattle.grs_wire.specs.declared.deck.Deck.{Deck}
+use Rattle.deck_scan.specs.declared.token.TokenLine.{TokenLine}
+use Rattle.deck_scan.specs.Bytes.{bad_line}
+use Rattle.deck_scan.specs.Scan.{lines_of}
+use Rattle.deck_scan.specs.Pieces.{SpellsLines}
+use Rattle.deck_scan.specs.Gives.{Gives}
+use Rattle.deck_scan.specs.Reading.{lines_or_fault, unless_fault, byte_fault, bad_byte}
+use Rattle.deck_scan.proofs.Pieced.{spelled_is, spelled_found}
+use Rattle.deck_form.specs.declared.ask.Ask.{Ask}
+use Rattle.deck_form.specs.declared.event.Act.{Act}
+use Rattle.deck_form.specs.declared.event.Act.TheVariants as acts
+use Rattle.deck_form.specs.declared.form.Stmt.{Stmt}
+use Rattle.deck_form.specs.declared.form.Stmt.TheVariants as stmts
+use Rattle.deck_form.specs.Form.{form}
+use Rattle.deck_form.specs.Spelled.{Spells}
+use Rattle.deck_form.proofs.Taken.{form_taken}
+use Rattle.deck_form.proofs.Again.{form_again}
+use Rattle.grs_deck.specs.declared.judge.Draft.{Draft}
+use Rattle.grs_deck.specs.Places.{jobs_now, tasks_now, task_count, system_place, job_place, task_place, event_of}
+use Rattle.grs_deck.specs.Judge.{is_over, is_bad_ask, is_long_act, is_long, is_repeated, is_misplaced, is_full, is_unknown, is_unbuilt, verdict}
+use Rattle.grs_deck.specs.Grow.{grow}
+use Rattle.grs_deck.specs.Reading.{◌>>=◌, judge, judge_all, no_draft, ended, reading, fault, fault_of}
+use Rattle.grs_deck.specs.Spells.{IsShort, IsShortAct, IsQname, IsRname, MayAsk, MayStand, IsRight, Says, SpellsDeck, Answers, IsOkUnlessMemory}
+use Rattle.grs_deck.proofs.FitsLaws.{NoFault, tests_of, judged}
+
+-- ---- tests and facts
+
+neither : (a b : Bool) → (a || b) ≡ false → (a ≡ false) × (b ≡ false)
+neither true b h = absurd cc
+neither false b h = (refl, h)
+
+both_false : (a b : Bool) → a ≡ false → b ≡ false → (a || b) ≡ false
+both_false a b h k = rw (h, k) refl
+
+none_of : {A : Type 0} (o : Option A) → is_some o ≡ false → o ≡ None
+none_of None h = refl
+none_of (Some x) h = absurd cc
+
+none_there : {A : Type 0} (o : Option A) → o ≡ None → is_some o ≡ false
+none_there o h = rw h refl
+
+some_of : {A : Type 0} (o : Option A) → is_none o ≡ false → (x : A) × (o ≡ Some x)
+some_of None h = absurd cc
+some_of (Some x) h = (x, refl)
+
+found_there : {A : Type 0} (o : Option A) (x : A) → o ≡ Some x → is_none o ≡ false
+found_there o x h = rw h refl
+
+there : (n : ℕ) → eqb n 0 ≡ false → 0 < n
+there n h = let k = eqb-false n 0 h in omega (arith, k)
+
+there_not : (n : ℕ) → 0 < n → eqb n 0 ≡ false
+there_not n h = ne_eqb n 0 (λ e. omega (arith, e))
+
+fewer : (n m : ℕ) → leb n m ≡ false → m < n
+fewer n m h = leb-false n m h
+
+fewer_not : (n m : ℕ) → m < n → leb n m ≡ false
+fewer_not n m h = lt-leb n m h
+
+short_of : (n : List ℕ) → is_over n ≡ false → IsShort n
+short_of n h = ltb-false 8 (length n) h
+
+of_short : (n : List ℕ) → IsShort n → is_over n ≡ false
+of_short n h = le-ltb 8 (length n) h
+
+passed : (b : Bool) → not b ≡ false → b ≡ true
+passed true h = refl
+passed false h = absurd cc
+
+qname_of : (q : List ℕ) → is_qname q ≡ true → IsQname q
+qname_of q h =
+    let k = and_parts (leb (length q) 8) (leb 1 (length (trim_blanks q))) h in
+    let some = leb-true 1 (length (trim_blanks q)) k.1 in
+    (leb-true (length q) 8 k.0, omega (arith, some))
+
+of_qname : (q : List ℕ) → IsQname q → is_qname q ≡ true
+of_qname q h = let some : 1 ≤ length (trim_blanks q) = omega (arith, h.1) in rw (le-leb (length q) 8 h.0, le-leb 1 (length (trim_blanks q)) some) refl
+
+rname_of : (r : List ℕ) → is_rname r ≡ true → IsRname r
+rname_of r h =
+    let k = and_parts (leb 1 (length r)) (leb (length r) 255) h in
+    let some = leb-true 1 (length r) k.0 in
+    (omega (arith, some), leb-true (length r) 255 k.1)
+
+of_rname : (r : List ℕ) → IsRname r → is_rname r ≡ true
+of_rname r h = let some : 1 ≤ length r = omega (arith, h.0) in rw (le-leb 1 (length r) some, le-leb (length r) 255 h.1) refl
+
+short_act : (a : Act) → is_long_act a ≡ false → IsShortAct a
+short_act (acts.Task j t) h = let k = neither (is_over j) (is_over t) h in (short_of j k.0, short_of t k.1)
+short_act (acts.Send j t) h = let k = neither (is_over j) (is_over t) h in (short_of j k.0, short_of t k.1)
+short_act (acts.Purge n) h = short_of n h
+short_act acts.Turn h = tt
+short_act acts.Take h = tt
+short_act acts.Settle h = tt
+short_act (acts.Tell e) h = tt
+short_act (acts.Leave e) h = tt
+short_act acts.Switch h = tt
+short_act acts.Rest h = tt
+
+act_short : (a : Act) → IsShortAct a → is_long_act a ≡ false
+act_short (acts.Task j t) h = both_false (is_over j) (is_over t) (of_short j h.0) (of_short t h.1)
+act_short (acts.Send j t) h = both_false (is_over j) (is_over t) (of_short j h.0) (of_short t h.1)
+act_short (acts.Purge n) h = of_short n h
+act_short acts.Turn h = refl
+act_short acts.Take h = refl
+act_short acts.Settle h = refl
+act_short (acts.Tell e) h = refl
+act_short (acts.Leave e) h = refl
+act_short acts.Switch h = refl
+act_short acts.Rest h = refl
+
+-- ---- a statement that may stand there
+
+ask_by : (d : Draft) (a : Ask) → is_bad_ask a ≡ false → eqb (length (tasks_now (jobs_now d.deck.systems))) 0 ≡ false → eqb d.room 0 ≡ false → MayAsk d a
+ask_by d a long idle full =
+    let k = neither (not (is_qname a.q)) (not (is_rname a.r)) long in
+    (qname_of a.q (passed (is_qname a.q) k.0), rname_of a.r (passed (is_rname a.r) k.1), there (length (tasks_now (jobs_now d.deck.systems))) idle, there d.room full)
+
+may_by : (d : Draft) (st : Stmt) → NoFault (is_long st) (is_repeated d st) (is_misplaced d st) (is_full d st) (is_unknown d st) (is_unbuilt d st) → MayStand d st
+may_by d stmts.Unbuilt h = tt
+may_by d (stmts.Complex c) h = h.misplaced
+may_by d (stmts.System n) h = (short_of n h.long, none_of (system_place d.deck.systems n) h.repeated, fewer 8 (length d.deck.systems) h.full)
+may_by d (stmts.Job n) h = (short_of n h.long, none_of (job_place (jobs_now d.deck.systems) n) h.repeated, there (length d.deck.systems) h.misplaced, fewer 64 (length (jobs_now d.deck.systems)) h.full)
+may_by d (stmts.Task n) h = (short_of n h.long, none_of (task_place (tasks_now (jobs_now d.deck.systems)) n) h.repeated, there (length (jobs_now d.deck.systems)) h.misplaced, fewer 64 (task_count (jobs_now d.deck.systems)) h.full)
+may_by d (stmts.Enq e) h = ask_by d e.ask h.long h.misplaced h.full
+may_by d (stmts.Deq a) h = ask_by d a h.long h.misplaced h.full
+may_by d (stmts.Wait a) h = ask_by d a h.long h.misplaced h.full
+may_by d stmts.Schedule h = there (length d.deck.systems) h.misplaced
+may_by d (stmts.Event s a) h = let k = neither (is_over s) (is_long_act a) h.long in (short_of s k.0, short_act a k.1, some_of (event_of d.deck.systems s a) h.unknown)
+
+pub right_of : (d : Draft) (st : Stmt) → verdict d st ≡ None → IsRight d st
+right_of d st h = let t = tests_of d st h in (may_by d st t, t.unbuilt)
+
+-- the tests of a task line
+record AskTests (d : Draft) (a : Ask) : Type 0 where
+  long : is_bad_ask a ≡ false
+  idle : eqb (length (tasks_now (jobs_now d.deck.systems))) 0 ≡ false
+  full : eqb d.room 0 ≡ false
+
+of_ask : (d : Draft) (a : Ask) → MayAsk d a → AskTests d a
+of_ask d a h = record {
+  long = rw (of_qname a.q h.0, of_rname a.r h.1) refl;
+  idle = there_not (length (tasks_now (jobs_now d.deck.systems))) h.2;
+  full = there_not d.room h.3;
+}
+
+-- no test applies to a statement that is right
+pub no_test : (d : Draft) (st : Stmt) → IsRight d st → NoFault (is_long st) (is_repeated d st) (is_misplaced d st) (is_full d st) (is_unknown d st) (is_unbuilt d st)
+no_test d stmts.Unbuilt h = absurd (let k : true ≡ false = h.1 in cc)
+no_test d (stmts.Complex c) h = record { long = refl; repeated = refl; misplaced = h.0; full = refl; unknown = refl; unbuilt = h.1 }
+no_test d (stmts.System n) h = record { long = of_short n h.0.0; repeated = none_there (system_place d.deck.systems n) h.0.1; misplaced = refl; full = fewer_not 8 (length d.deck.systems) h.0.2; unknown = refl; unbuilt = h.1 }
+no_test d (stmts.Job n) h = record { long = of_short n h.0.0; repeated = none_there (job_place (jobs_now d.deck.systems) n) h.0.1; misplaced = there_not (length d.deck.systems) h.0.2; full = fewer_not 64 (length (jobs_now d.deck.systems)) h.0.3; unknown = refl; unbuilt = h.1 }
+no_test d (stmts.Task n) h = record { long = of_short n h.0.0; repeated = none_there (task_place (tasks_now (jobs_now d.deck.systems)) n) h.0.1; misplaced = there_not (length (jobs_now d.deck.systems)) h.0.2; full = fewer_not 64 (task_count (jobs_now d.deck.systems)) h.0.3; unknown = refl; unbuilt = h.1 }
+no_test d (stmts.Enq e) h = let t = of_ask d e.ask h.0 in record { long = t.long; repeated = refl; misplaced = t.idle; full = t.full; unknown = refl; unbuilt = h.1 }
+no_test d (stmts.Deq a) h = let t = of_ask d a h.0 in record { long = t.long; repeated = refl; misplaced = t.idle; full = t.full; unknown = refl; unbuilt = h.1 }
+no_test d (stmts.Wait a) h = let t = of_ask d a h.0 in record { long = t.long; repeated = refl; misplaced = t.idle; full = t.full; unknown = refl; unbuilt = h.1 }
+no_test d stmts.Schedule h = record { long = refl; repeated = refl; misplaced = there_not (length d.deck.systems) h.0; full = refl; unknown = refl; unbuilt = h.1 }
+no_test d (stmts.Event s a) h = record { long = both_false (is_over s) (is_long_act a) (of_short s h.0.0) (act_short a h.0.1); repeated = refl; misplaced = refl; full = refl; unknown = found_there (event_of d.deck.systems s a) h.0.2.0 h.0.2.1; unbuilt = h.1 }
+
+pub of_right : (d : Draft) (st : Stmt) → IsRight d st → verdict d st ≡ None
+of_right d st h = let t = no_test d st h in rw (t.long, t.repeated, t.misplaced, t.full, t.unknown, t.unbuilt) refl
+
+-- ---- lines
+
+pub judged_again : (d : Draft) (l : TokenLine) (st : Stmt) → Spells d.scheduled d.deck.entries l st → IsRight d st → judge d l ≡ Ok (grow d st)
+unfolding judge
+judged_again d l st h k = rw (form_again d.scheduled d.deck.entries l st h, of_right d st k) refl
+
+pub bind_ok : {A B : Type 0} (r : Result A DeckFault) (f : A → Result B DeckFault) (y : B) → (r >>= f) ≡ Ok y → (x : A) × (r ≡ Ok x) × (f x ≡ Ok y)
+bind_ok (Ok x) f y e = (x, refl, e)
+bind_ok (Err d) f y e = absurd cc
+
+abbrev ok_draft : Draft → Result Draft DeckFault
+ok_draft d = Ok d
+
+draft_is : (d e : Draft) → ok_draft d ≡ ok_draft e → d ≡ e
+draft_is d e h = cc
+
+abbrev pub no_error : Deck → Result Deck DeckFault
+no_error d = Ok d
+
+deck_is : (d e : Deck) → no_error d ≡ no_error e → d ≡ e
+deck_is d e h = cc
+
+pub says : (ls : List TokenLine) (d e : Draft) → judge_all d ls ≡ Ok e → Says d ls e
+unfolding judge_all
+says [] d e h = draft_is d e h
+says (l ∷ ls) d e h =
+    let b = bind_ok (judge d l) (λ new. judge_all new ls) e h in
+    let j = judged d b.0 l b.1 in
+    (j.st, form_taken d.scheduled d.deck.entries l j.st j.formed, right_of d j.st j.right, says ls (grow d j.st) e (ap (λ (x : Draft). judge_all x ls) j.grown ∙ b.2))
+
+pub says_again : (ls : List TokenLine) (d e : Draft) → Says d ls e → judge_all d ls ≡ Ok e
+unfolding judge_all
+says_again [] d e h = ap ok_draft h
+says_again (l ∷ ls) d e h = rw (judged_again d l h.0 h.1 h.2) (says_again ls (grow d h.0) e h.3)
+
+-- ---- texts
+
+unless_ok : (o : Option DeckFault) (xs ys : List TokenLine) → unless_fault o xs ≡ Ok ys → (o ≡ None) × (xs ≡ ys)
+unless_ok None xs ys h = (refl, cc)
+unless_ok (Some f) xs ys h = absurd cc
+
+ended_there : (d : Draft) (e : Deck) → ended d ≡ Ok e → (0 < length d.deck.systems) × (d.deck ≡ e)
+ended_there d e h = go (eqb (length d.deck.systems) 0) refl h
+  where
+    go : (b : Bool) → eqb (length d.deck.systems) 0 ≡ b → cond b (Err (record { line = 0; kind = NoSystem })) (no_error d.deck) ≡ no_error e → (0 < length d.deck.systems) × (d.deck ≡ e)
+    go true is k = absurd cc
+    go false is k = (there (length d.deck.systems) is, deck_is d.deck e k)
+
+-- a text without a fault of length or bytes
+pub record IsAllowed (text : List ℕ) : Type 0 where
+  pub short : length text ≤ 1048576
+  pub bytes : bad_line 1 text ≡ None
+
+bad_none : (o : Option ℕ) → bad_byte o ≡ None → o ≡ None
+bad_none None h = refl
+bad_none (Some n) h = absurd cc
+
+pub allowed_of : (text : List ℕ) → byte_fault text ≡ None → IsAllowed text
+allowed_of text h = go (ltb 1048576 (length text)) refl h
+  where
+    go : (b : Bool) → ltb 1048576 (length text) ≡ b → cond b (Some (record { line = 0; kind = TooLong })) (bad_byte (bad_line 1 text)) ≡ None → IsAllowed text
+    go true is k = absurd cc
+    go false is k = record { short = ltb-false 1048576 (length text) is; bytes = bad_none (bad_line 1 text) k }
+
+pub no_byte_fault : (text : List ℕ) → IsAllowed text → byte_fault text ≡ None
+no_byte_fault text h = rw (le-ltb 1048576 (length text) h.short, h.bytes) refl
+
+pub text_spells : (text : List ℕ) → IsAllowed text → SpellsLines text (lines_of text)
+text_spells text h = spelled_found text h.bytes
+
+-- what is read of lines that a text spells
+pub lines_read : (text : List ℕ) (lines : List TokenLine) → byte_fault text ≡ None → SpellsLines text lines → lines_or_fault text ≡ Ok lines
+unfolding lines_or_fault
+lines_read text lines none h = rw (none, spelled_is text lines h) refl
+
+-- What is read is spelled.
+pub reading_spells : (text : List ℕ) (deck : Deck) → reading text ≡ Ok deck → SpellsDeck text deck
+unfolding reading lines_or_fault
+reading_spells text deck h =
+    let b = bind_ok (lines_or_fault text) (λ ls. judge_all no_draft ls >>= ended) deck h in
+    let u = unless_ok (byte_fault text) (lines_of text) b.0 b.1 in
+    let j = bind_ok (judge_all no_draft b.0) ended deck b.2 in
+    let e = ended_there j.0 deck j.2 in
+    let a = allowed_of text u.0 in
+    record {
+      short = a.short;
+      lines = b.0;
+      spelled = subst (λ (ls : List TokenLine). SpellsLines text ls) u.1 (text_spells text a);
+      draft = j.0;
+      says = says b.0 no_draft j.0 j.1;
+      is = e.1;
+      system = subst (λ (x : Deck). 0 < length x.systems) e.1 e.0;
+    }
+
+-- What is spelled is read.
+pub spells_reading : (text : List ℕ) (deck : Deck) → SpellsDeck text deck → reading text ≡ Ok deck
+unfolding reading
+spells_reading text deck h =
+    let none = no_byte_fault text (record { short = h.short; bytes = h.spelled.allowed }) in
+    let some : 0 < length h.draft.deck.systems = subst (λ (x : Deck). 0 < length x.systems) (sym h.is) h.system in
+    rw (lines_read text h.lines none h.spelled, says_again h.lines no_draft h.draft h.says, there_not (length h.draft.deck.systems) some) (ap no_error h.is)
+
+-- ---- the answers of the reader
+
+pub no_fault_of : (text : List ℕ) (d : Deck) → reading text ≡ Ok d → fault text ≡ None
+unfolding fault
+no_fault_of text d h = ap fault_of h
+
+pub fault_is : (text : List ℕ) (f : DeckFault) → reading text ≡ Err f → fault text ≡ Some f
+unfolding fault
+fault_is text f h = ap fault_of h
+
+pub answers : (text : List ℕ) (r : Result Deck ReadError) → Gives r (reading text) → Answers r text
+answers text (Ok d) h = (reading_spells text d h, no_fault_of text d h)
+answers text (Err read_errors.NoMemory) h = tt
+answers text (Err (read_errors.Fault f)) h = fault_is text f h
+
+pub only : (text : List ℕ) (r : Result Deck ReadError) → Gives r (reading text) → (d : Deck) → SpellsDeck text d → IsOkUnlessMemory r d
+only text (Ok e) h d s = deck_is e d (sym h ∙ spells_reading text d s)
+only text (Err read_errors.NoMemory) h d s = tt
+only text (Err (read_errors.Fault f)) h d s = absurd (let k : no_error d ≡ Err f = sym (spells_reading text d s) ∙ h in cc)
+
+pub one : (text : List ℕ) (d e : Deck) → SpellsDeck text d → SpellsDeck text e → d ≡ e
+one text d e h k = deck_is d e (sym (spells_reading text d h) ∙ spells_reading text e k)
+
+pub none_spelled : (text : List ℕ) → fault text ≡ None → (d : Deck) × SpellsDeck text d
+unfolding fault
+none_spelled text h = go (reading text) refl h
+  where
+    go : (r : Result Deck DeckFault) → reading text ≡ r → fault_of r ≡ None → (d : Deck) × SpellsDeck text d
+    go (Ok d) is k = (d, reading_spells text d is)
+    go (Err f) is k = absurd cc
+
+pub spelled_none : (text : List ℕ) (d : Deck) → SpellsDeck text d → fault text ≡ None
+spelled_none text d h = no_fault_of text d (spells_reading text d h)

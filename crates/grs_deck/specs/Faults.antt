@@ -1,0 +1,78 @@
+-- The first fault of a text, by the table of kinds.
+use Rattle.std.specs.Prelude.{◌≡◌, ℕ, Bool, true, ◌≤◌, ◌⊎◌, List, ◌∷◌, ◌++◌, length, Some, None}
+use Rattle.grs_base.specs.declared.fault.DeckFault.{DeckFault}
+use Rattle.grs_base.specs.declared.fault.Kind.{Kind}
+use Rattle.grs_base.specs.declared.fault.Kind.TheVariants.{TooLong, BadByte, UnknownStatement, BadOperand, NameLength, Repeated, OutOfPlace, TooMany, UnknownName, NoSystem, NotBuilt}
+use Rattle.deck_scan.specs.declared.token.TokenLine.{TokenLine}
+use Rattle.deck_scan.specs.Pieces.{SpellsLines}
+use Rattle.deck_scan.specs.Reading.{byte_fault}
+use Rattle.deck_form.specs.declared.form.Stmt.{Stmt}
+use Rattle.deck_form.specs.Spelled.{Spells, IsNoStatement}
+use Rattle.grs_deck.specs.declared.judge.Draft.{Draft}
+use Rattle.grs_deck.specs.Judge.{is_long, is_repeated, is_misplaced, is_full, is_unknown, is_unbuilt}
+use Rattle.grs_deck.specs.Reading.{no_draft}
+use Rattle.grs_deck.specs.Spells.{Says}
+
+-- The number of a kind.
+abbrev pub number : Kind → ℕ
+number TooLong = 1
+number BadByte = 2
+number UnknownStatement = 3
+number BadOperand = 4
+number NameLength = 5
+number Repeated = 6
+number OutOfPlace = 7
+number TooMany = 8
+number UnknownName = 9
+number NoSystem = 10
+number NotBuilt = 11
+
+-- The line spells a statement, and the test holds of it.
+abbrev pub SomeStmt : Draft → TokenLine → (Stmt → Bool) → Type 0
+SomeStmt d l test = (st : Stmt) × Spells d.scheduled d.deck.entries l st × (test st ≡ true)
+
+-- Which kinds apply to a line behind the lines that made this deck.
+abbrev pub Applies : Kind → Draft → TokenLine → Type 0
+Applies UnknownStatement d l = IsNoStatement UnknownStatement d.scheduled d.deck.entries l
+Applies BadOperand d l = IsNoStatement BadOperand d.scheduled d.deck.entries l
+Applies NameLength d l = SomeStmt d l is_long
+Applies Repeated d l = SomeStmt d l (is_repeated d)
+Applies OutOfPlace d l = SomeStmt d l (is_misplaced d)
+Applies TooMany d l = SomeStmt d l (is_full d)
+Applies UnknownName d l = SomeStmt d l (is_unknown d)
+Applies NotBuilt d l = SomeStmt d l (is_unbuilt d)
+Applies _ d l = ⊥
+
+-- The least kind that applies.
+pub record IsLeast (k : Kind) (d : Draft) (l : TokenLine) : Type 0 where
+  pub applies : Applies k d l
+  pub least : (j : Kind) → Applies j d l → number k ≤ number j
+
+-- The first faulty line, with the least kind that applies to it: the lines before it are all right.
+pub record FaultyLine (ls : List TokenLine) (start : Draft) (f : DeckFault) : Type 0 where
+  pub front : List TokenLine
+  pub line : TokenLine
+  pub back : List TokenLine
+  pub before : Draft
+  pub parts : ls ≡ front ++ line ∷ back
+  pub says : Says start front before
+  pub at : f.line ≡ line.at
+  pub least : IsLeast f.kind before line
+
+-- All lines are right, and there is no system.
+pub record NoSystemSaid (ls : List TokenLine) (f : DeckFault) : Type 0 where
+  pub draft : Draft
+  pub says : Says no_draft ls draft
+  pub none : length draft.deck.systems ≡ 0
+  pub is : f ≡ record { line = 0; kind = NoSystem }
+
+-- The fault of the lines that a text spells.
+pub record FaultOfLines (text : List ℕ) (f : DeckFault) : Type 0 where
+  pub allowed : byte_fault text ≡ None
+  pub lines : List TokenLine
+  pub spelled : SpellsLines text lines
+  pub fault : FaultyLine lines no_draft f ⊎ NoSystemSaid lines f
+
+-- The fault of length or bytes comes before that of lines.
+abbrev pub IsFault : List ℕ → DeckFault → Type 0
+IsFault text f = (byte_fault text ≡ Some f) ⊎ FaultOfLines text f

@@ -1,0 +1,116 @@
+-- What is wrong with a statement, where a deck has been read so far.
+use Rattle.std.specs.Prelude.{ℕ, Bool, true, false, not, ◌&&◌, ◌||◌, ◌==◌, nat_lt, nat_le, List, length, Option, Some, None, is_some, is_none, if◌then◌else◌}
+use Rattle.grs_base.specs.Names.{is_qname, is_rname}
+use Rattle.grs_base.specs.declared.fault.Kind.{Kind}
+use Rattle.grs_base.specs.declared.fault.Kind.TheVariants.{NameLength, Repeated, OutOfPlace, TooMany, UnknownName, NotBuilt}
+use Rattle.grs_wire.specs.declared.deck.SystemDef.{SystemDef}
+use Rattle.deck_form.specs.declared.ask.Ask.{Ask}
+use Rattle.deck_form.specs.declared.event.Act.{Act}
+use Rattle.deck_form.specs.declared.event.Act.TheVariants as acts
+use Rattle.deck_form.specs.declared.form.Stmt.{Stmt}
+use Rattle.deck_form.specs.declared.form.Stmt.TheVariants as stmts
+use Rattle.deck_form.specs.Unbuilt.{is_unbuilt as is_unbuilt_form}
+use Rattle.grs_deck.specs.declared.judge.Draft.{Draft}
+use Rattle.grs_deck.specs.Places.{jobs_now, tasks_now, task_count, system_place, job_place, task_place, event_of}
+
+abbrev pub is_over : List ℕ → Bool
+is_over name = nat_lt 8 (length name)
+
+abbrev pub is_bad_ask : Ask → Bool
+is_bad_ask a = not (is_qname a.q) || not (is_rname a.r)
+
+abbrev pub is_long_act : Act → Bool
+is_long_act (acts.Task j t) = is_over j || is_over t
+is_long_act acts.Turn = false
+is_long_act (acts.Send j t) = is_over j || is_over t
+is_long_act acts.Take = false
+is_long_act acts.Settle = false
+is_long_act (acts.Tell e) = false
+is_long_act (acts.Leave e) = false
+is_long_act acts.Switch = false
+is_long_act (acts.Purge n) = is_over n
+is_long_act acts.Rest = false
+
+-- A name that is too short or too long.
+abbrev pub is_long : Stmt → Bool
+is_long stmts.Unbuilt = false
+is_long (stmts.Complex c) = false
+is_long (stmts.System n) = is_over n
+is_long (stmts.Job n) = is_over n
+is_long (stmts.Task n) = is_over n
+is_long (stmts.Enq e) = is_bad_ask e.ask
+is_long (stmts.Deq a) = is_bad_ask a
+is_long (stmts.Wait a) = is_bad_ask a
+is_long stmts.Schedule = false
+is_long (stmts.Event s a) = is_over s || is_long_act a
+
+-- A name that was given before.
+abbrev pub is_repeated : Draft → Stmt → Bool
+is_repeated d stmts.Unbuilt = false
+is_repeated d (stmts.Complex c) = false
+is_repeated d (stmts.System n) = is_some (system_place d.deck.systems n)
+is_repeated d (stmts.Job n) = is_some (job_place (jobs_now d.deck.systems) n)
+is_repeated d (stmts.Task n) = is_some (task_place (tasks_now (jobs_now d.deck.systems)) n)
+is_repeated d (stmts.Enq e) = false
+is_repeated d (stmts.Deq a) = false
+is_repeated d (stmts.Wait a) = false
+is_repeated d stmts.Schedule = false
+is_repeated d (stmts.Event s a) = false
+
+-- No task stands that a line could belong to.
+abbrev pub is_idle : List SystemDef → Bool
+is_idle systems = length (tasks_now (jobs_now systems)) == 0
+
+-- A statement at another place than its own.
+abbrev pub is_misplaced : Draft → Stmt → Bool
+is_misplaced d stmts.Unbuilt = false
+is_misplaced d (stmts.Complex c) = d.begun
+is_misplaced d (stmts.System n) = false
+is_misplaced d (stmts.Job n) = length d.deck.systems == 0
+is_misplaced d (stmts.Task n) = length (jobs_now d.deck.systems) == 0
+is_misplaced d (stmts.Enq e) = is_idle d.deck.systems
+is_misplaced d (stmts.Deq a) = is_idle d.deck.systems
+is_misplaced d (stmts.Wait a) = is_idle d.deck.systems
+is_misplaced d stmts.Schedule = length d.deck.systems == 0
+is_misplaced d (stmts.Event s a) = false
+
+-- One statement more than the limits allow.
+abbrev pub is_full : Draft → Stmt → Bool
+is_full d stmts.Unbuilt = false
+is_full d (stmts.Complex c) = false
+is_full d (stmts.System n) = nat_le 8 (length d.deck.systems)
+is_full d (stmts.Job n) = nat_le 64 (length (jobs_now d.deck.systems))
+is_full d (stmts.Task n) = nat_le 64 (task_count (jobs_now d.deck.systems))
+is_full d (stmts.Enq e) = d.room == 0
+is_full d (stmts.Deq a) = d.room == 0
+is_full d (stmts.Wait a) = d.room == 0
+is_full d stmts.Schedule = false
+is_full d (stmts.Event s a) = false
+
+-- A name that no statement gave.
+abbrev pub is_unknown : Draft → Stmt → Bool
+is_unknown d stmts.Unbuilt = false
+is_unknown d (stmts.Complex c) = false
+is_unknown d (stmts.System n) = false
+is_unknown d (stmts.Job n) = false
+is_unknown d (stmts.Task n) = false
+is_unknown d (stmts.Enq e) = false
+is_unknown d (stmts.Deq a) = false
+is_unknown d (stmts.Wait a) = false
+is_unknown d stmts.Schedule = false
+is_unknown d (stmts.Event s a) = is_none (event_of d.deck.systems s a)
+
+-- A form that is not built.
+abbrev pub is_unbuilt : Draft → Stmt → Bool
+is_unbuilt d st = is_unbuilt_form (length d.deck.systems) st
+
+-- The least kind that applies to a statement of the right form.
+abbrev pub verdict : Draft → Stmt → Option Kind
+verdict d st =
+    if is_long st then Some NameLength
+    else if is_repeated d st then Some Repeated
+    else if is_misplaced d st then Some OutOfPlace
+    else if is_full d st then Some TooMany
+    else if is_unknown d st then Some UnknownName
+    else if is_unbuilt d st then Some NotBuilt
+    else None

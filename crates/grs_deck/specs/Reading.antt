@@ -1,0 +1,64 @@
+-- The deck of a text, or its first fault.
+use Rattle.std.specs.Prelude.{◌≡◌, ℕ, true, false, ◌==◌, List, [], ◌∷◌, length, Option, Some, None, Result, Ok, Err, if◌then◌else◌}
+use Rattle.grs_base.specs.declared.fault.DeckFault.{DeckFault}
+use Rattle.grs_base.specs.declared.fault.Kind.{Kind}
+use Rattle.grs_base.specs.declared.fault.Kind.TheVariants.{NoSystem}
+use Rattle.grs_base.specs.declared.fault.ReadError.{ReadError}
+use Rattle.grs_wire.specs.declared.deck.Deck.{Deck}
+use Rattle.deck_scan.specs.declared.token.TokenLine.{TokenLine}
+use Rattle.deck_scan.specs.Gives.{Fails}
+use Rattle.deck_scan.specs.Reading.{lines_or_fault}
+use Rattle.deck_form.specs.declared.form.Stmt.{Stmt}
+use Rattle.deck_form.specs.Form.{form}
+use Rattle.grs_deck.specs.declared.judge.Draft.{Draft}
+use Rattle.grs_deck.specs.Judge.{verdict}
+use Rattle.grs_deck.specs.Grow.{grow}
+
+infixl 10 ◌>>=◌
+abbrev pub ◌>>=◌ : {A B : Type 0} → Result A DeckFault → (A → Result B DeckFault) → Result B DeckFault
+(Ok x) >>= f = f x
+(Err e) >>= f = Err e
+
+-- A function changed the deck to what reading gives, or returned its fault, unless memory ran out.
+abbrev pub Took : Result (Unit {0}) ReadError → Draft → Result Draft DeckFault → Type 0
+Took (Ok u) new read = read ≡ Ok new
+Took (Err e) new read = Fails e read
+
+-- The values without COMPLEX.
+abbrev pub no_deck : Deck
+no_deck = record { star = false; entries = 64; limit = 4096; systems = []; events = [] }
+
+-- A deck of which nothing was read.
+abbrev pub no_draft : Draft
+no_draft = record { deck = no_deck; begun = false; scheduled = false; room = 16384 }
+
+abbrev pub unless : ℕ → Option Kind → Draft → Result Draft DeckFault
+unless at None d = Ok d
+unless at (Some k) d = Err (record { line = at; kind = k })
+
+abbrev pub judge_statement : Draft → ℕ → Stmt → Result Draft DeckFault
+judge_statement d at st = unless at (verdict d st) (grow d st)
+
+abbrev pub judge_form : Draft → ℕ → Result Stmt Kind → Result Draft DeckFault
+judge_form d at (Ok st) = judge_statement d at st
+judge_form d at (Err k) = Err (record { line = at; kind = k })
+
+unfoldable pub judge : Draft → TokenLine → Result Draft DeckFault
+judge d line = judge_form d line.at (form d.scheduled d.deck.entries line)
+
+unfoldable pub judge_all : Draft → List TokenLine → Result Draft DeckFault
+judge_all d [] = Ok d
+judge_all d (l ∷ ls) = judge d l >>= λ new. judge_all new ls
+
+abbrev pub ended : Draft → Result Deck DeckFault
+ended d = if length d.deck.systems == 0 then Err (record { line = 0; kind = NoSystem }) else Ok d.deck
+
+unfoldable pub reading : List ℕ → Result Deck DeckFault
+reading text = lines_or_fault text >>= λ ls. judge_all no_draft ls >>= ended
+
+abbrev pub fault_of : Result Deck DeckFault → Option DeckFault
+fault_of (Ok d) = None
+fault_of (Err f) = Some f
+
+unfoldable pub fault : List ℕ → Option DeckFault
+fault text = fault_of (reading text)

@@ -1,0 +1,94 @@
+-- What a text must be to spell a deck, by cases on its statements.
+use Rattle.std.specs.Prelude.{◌≡◌, ℕ, Bool, true, false, ◌<◌, ◌≤◌, List, [], ◌∷◌, length, Some, None, Result, Ok, Err}
+use Rattle.grs_base.specs.Names.{trim_blanks}
+use Rattle.grs_base.specs.declared.fault.ReadError.{ReadError}
+use Rattle.grs_base.specs.declared.fault.ReadError.TheVariants as read_errors
+use Rattle.grs_wire.specs.declared.deck.Event.{Event}
+use Rattle.grs_wire.specs.declared.deck.Deck.{Deck}
+use Rattle.deck_scan.specs.declared.token.TokenLine.{TokenLine}
+use Rattle.deck_scan.specs.Pieces.{SpellsLines}
+use Rattle.deck_scan.specs.Reading.{max_text}
+use Rattle.deck_form.specs.declared.ask.Ask.{Ask}
+use Rattle.deck_form.specs.declared.event.Act.{Act}
+use Rattle.deck_form.specs.declared.event.Act.TheVariants as acts
+use Rattle.deck_form.specs.declared.form.Stmt.{Stmt}
+use Rattle.deck_form.specs.declared.form.Stmt.TheVariants as stmts
+use Rattle.deck_form.specs.Spelled.{Spells}
+use Rattle.grs_deck.specs.declared.judge.Draft.{Draft}
+use Rattle.grs_deck.specs.Places.{jobs_now, tasks_now, task_count, system_place, job_place, task_place, event_of}
+use Rattle.grs_deck.specs.Judge.{is_unbuilt}
+use Rattle.grs_deck.specs.Grow.{grow}
+use Rattle.grs_deck.specs.Reading.{no_draft, fault}
+
+-- A name of a system, job or task has at most 8 bytes.
+abbrev pub IsShort : List ℕ → Type 0
+IsShort n = length n ≤ 8
+
+abbrev pub IsShortAct : Act → Type 0
+IsShortAct (acts.Task j t) = IsShort j × IsShort t
+IsShortAct acts.Turn = Unit {0}
+IsShortAct (acts.Send j t) = IsShort j × IsShort t
+IsShortAct acts.Take = Unit {0}
+IsShortAct acts.Settle = Unit {0}
+IsShortAct (acts.Tell e) = Unit {0}
+IsShortAct (acts.Leave e) = Unit {0}
+IsShortAct acts.Switch = Unit {0}
+IsShortAct (acts.Purge n) = IsShort n
+IsShortAct acts.Rest = Unit {0}
+
+-- At most 8 bytes as written, and not blanks alone.
+abbrev pub IsQname : List ℕ → Type 0
+IsQname q = (length q ≤ 8) × (0 < length (trim_blanks q))
+
+-- 1 to 255 bytes.
+abbrev pub IsRname : List ℕ → Type 0
+IsRname r = (0 < length r) × (length r ≤ 255)
+
+-- A task line: its names are right, a task stands that it belongs to, and there is room for it.
+abbrev pub MayAsk : Draft → Ask → Type 0
+MayAsk d a = IsQname a.q × IsRname a.r × (0 < length (tasks_now (jobs_now d.deck.systems))) × (0 < d.room)
+
+-- A statement may stand behind those that made this deck.
+abbrev pub MayStand : Draft → Stmt → Type 0
+MayStand d stmts.Unbuilt = Unit {0}
+MayStand d (stmts.Complex c) = d.begun ≡ false
+MayStand d (stmts.System n) = IsShort n × (system_place d.deck.systems n ≡ None) × (length d.deck.systems < 8)
+MayStand d (stmts.Job n) = IsShort n × (job_place (jobs_now d.deck.systems) n ≡ None) × (0 < length d.deck.systems) × (length (jobs_now d.deck.systems) < 64)
+MayStand d (stmts.Task n) = IsShort n × (task_place (tasks_now (jobs_now d.deck.systems)) n ≡ None) × (0 < length (jobs_now d.deck.systems)) × (task_count (jobs_now d.deck.systems) < 64)
+MayStand d (stmts.Enq e) = MayAsk d e.ask
+MayStand d (stmts.Deq a) = MayAsk d a
+MayStand d (stmts.Wait a) = MayAsk d a
+MayStand d stmts.Schedule = 0 < length d.deck.systems
+MayStand d (stmts.Event s a) = IsShort s × IsShortAct a × ((e : Event) × (event_of d.deck.systems s a ≡ Some e))
+
+-- A statement may stand there, and its form is built.
+abbrev pub IsRight : Draft → Stmt → Type 0
+IsRight d st = MayStand d st × (is_unbuilt d st ≡ false)
+
+-- Each line is a statement that is right where it stands, and the deck is what they add.
+abbrev pub Says : Draft → List TokenLine → Draft → Type 0
+Says d [] e = d ≡ e
+Says d (l ∷ ls) e = (st : Stmt) × Spells d.scheduled d.deck.entries l st × IsRight d st × Says (grow d st) ls e
+
+-- A text spells a deck: it is short enough, its lines say the deck, and the deck has a system.
+pub record SpellsDeck (text : List ℕ) (deck : Deck) : Type 0 where
+  pub short : length text ≤ max_text
+  pub lines : List TokenLine
+  pub spelled : SpellsLines text lines
+  pub draft : Draft
+  pub says : Says no_draft lines draft
+  pub is : draft.deck ≡ deck
+  pub system : 0 < length deck.systems
+
+-- What is answered of a text: the deck that it spells, where it has no fault, else its fault. Want of
+-- memory is the only other answer.
+abbrev pub Answers : Result Deck ReadError → List ℕ → Type 0
+Answers (Ok d) text = SpellsDeck text d × (fault text ≡ None)
+Answers (Err read_errors.NoMemory) text = Unit {0}
+Answers (Err (read_errors.Fault f)) text = fault text ≡ Some f
+
+-- This deck, unless memory ran out.
+abbrev pub IsOkUnlessMemory : Result Deck ReadError → Deck → Type 0
+IsOkUnlessMemory (Ok d) e = d ≡ e
+IsOkUnlessMemory (Err read_errors.NoMemory) e = Unit {0}
+IsOkUnlessMemory (Err (read_errors.Fault f)) e = ⊥

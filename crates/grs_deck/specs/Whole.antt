@@ -1,0 +1,51 @@
+-- What each deck that is read is like: within the limits, and its events speak of what is there.
+use Rattle.std.specs.Prelude.{◌≡◌, ◌≢◌, ℕ, Bool, true, ◌+◌, ◌<◌, List, length, take, slice_get, Some, All}
+use Rattle.grs_base.specs.declared.resource.SysId.{SysId}
+use Rattle.grs_base.specs.declared.resource.TaskId.{TaskId}
+use Rattle.grs_wire.specs.declared.deck.TaskDef.{TaskDef}
+use Rattle.grs_wire.specs.declared.deck.JobDef.{JobDef}
+use Rattle.grs_wire.specs.declared.deck.SystemDef.{SystemDef}
+use Rattle.grs_wire.specs.declared.deck.Event.{Event}
+use Rattle.grs_wire.specs.declared.deck.Choice.{Choice}
+use Rattle.grs_wire.specs.declared.deck.Choice.TheVariants as choices
+use Rattle.grs_wire.specs.declared.deck.Deck.{Deck}
+use Rattle.deck_form.specs.Complex.{is_entries, is_limit}
+use Rattle.grs_deck.specs.Places.{task_count, Fits}
+
+-- A task of a system: its job stands in the system, and the task in the job, at this place among all
+-- tasks of the system.
+pub record IsTaskOf (s : SystemDef) (id : SysId) (t : TaskId) : Type 0 where
+  pub job : JobDef
+  pub place : ℕ
+  pub system : t.system ≡ id
+  pub held : slice_get s.jobs t.job ≡ Some job
+  pub below : place < length job.tasks
+  pub at : t.task ≡ task_count (take t.job s.jobs) + place
+
+-- What a system may do: with its own tasks, with an entry that there is, with another system.
+abbrev pub IsChoiceOf : List SystemDef → ℕ → SystemDef → SysId → Choice → Type 0
+IsChoiceOf systems entries s id (choices.Task t) = IsTaskOf s id t
+IsChoiceOf systems entries s id choices.Turn = Unit {0}
+IsChoiceOf systems entries s id (choices.Send t) = IsTaskOf s id t
+IsChoiceOf systems entries s id choices.Take = Unit {0}
+IsChoiceOf systems entries s id choices.Settle = Unit {0}
+IsChoiceOf systems entries s id (choices.Tell e) = e < entries
+IsChoiceOf systems entries s id (choices.Leave e) = e < entries
+IsChoiceOf systems entries s id choices.Switch = Unit {0}
+IsChoiceOf systems entries s id (choices.Purge other) = (other.0 < length systems) × (other.0 ≢ id.0)
+IsChoiceOf systems entries s id choices.Rest = Unit {0}
+
+-- An event of a system that there is.
+pub record IsEventOf (systems : List SystemDef) (entries : ℕ) (e : Event) : Type 0 where
+  pub found : SystemDef
+  pub system : slice_get systems e.system.0 ≡ Some found
+  pub choice : IsChoiceOf systems entries found e.system e.choice
+
+-- A deck: at least one system and at most eight, each with at most 64 jobs and 64 tasks; one of the
+-- numbers of entries and of the limits that there may be; and events of its systems.
+pub record IsDeck (d : Deck) : Type 0 where
+  pub some : 0 < length d.systems
+  pub fits : Fits d.systems
+  pub entries : is_entries d.entries ≡ true
+  pub limit : is_limit d.limit ≡ true
+  pub events : All (IsEventOf d.systems d.entries) d.events

@@ -1,0 +1,163 @@
+//! What is wrong with a statement, where a deck has been read so far. Each test is one kind of fault.
+ghost use Rattle.std.specs.Prelude.{◌≡◌, is_some};
+ghost use Rattle.grs_deck.specs.Places.{Fits};
+ghost use Rattle.grs_deck.specs.Judge.{is_over, is_bad_ask, is_long_act, is_long, is_repeated, is_idle, is_misplaced, is_full, is_unknown, is_unbuilt, verdict};
+
+use crate::places::{
+    event_of, job_place, jobs_now, system_place, task_count, task_place, tasks_now,
+};
+use deck_form::{Act, Ask, Stmt};
+use grs_base::{Kind, is_qname, is_rname};
+use grs_wire::{Deck, SystemDef};
+
+/// A deck so far.
+#[derive(Drop)]
+pub struct Draft {
+    pub deck: Deck,
+    /// Whether any statement was read.
+    pub begun: bool,
+    /// Whether SCHEDULE was read.
+    pub scheduled: bool,
+    /// How many task lines may still follow.
+    pub room: u32,
+}
+
+fn is_over(name: &[u8]) -> bool
+    ensures { result ≡ is_over name.now }
+{
+    name.len() > 8
+}
+
+fn is_bad_ask(ask: &Ask) -> bool
+    ensures { result ≡ is_bad_ask ask.now }
+{
+    !is_qname(ask.q.as_slice()) || !is_rname(ask.r.as_slice())
+}
+
+fn is_long_act(act: &Act) -> bool
+    ensures { result ≡ is_long_act act.now }
+{
+    match act {
+        Act::Task { job, task } => is_over(job.as_slice()) || is_over(task.as_slice()),
+        Act::Send { job, task } => is_over(job.as_slice()) || is_over(task.as_slice()),
+        Act::Purge(name) => is_over(name.as_slice()),
+        _ => false,
+    }
+}
+
+fn is_long(st: &Stmt) -> bool
+    ensures { result ≡ is_long st.now }
+{
+    match st {
+        Stmt::System(n) => is_over(n.as_slice()),
+        Stmt::Job(n) => is_over(n.as_slice()),
+        Stmt::Task(n) => is_over(n.as_slice()),
+        Stmt::Enq(enq) => is_bad_ask(&enq.ask),
+        Stmt::Deq(ask) => is_bad_ask(ask),
+        Stmt::Wait(ask) => is_bad_ask(ask),
+        Stmt::Event { system, act } => is_over(system.as_slice()) || is_long_act(act),
+        _ => false,
+    }
+}
+
+fn is_there(place: Option<usize>) -> bool
+    ensures { result ≡ is_some place }
+{
+    match place {
+        Some(_) => true,
+        None => false,
+    }
+}
+
+fn is_repeated(draft: &Draft, st: &Stmt) -> bool
+    ensures { result ≡ is_repeated draft.now st.now }
+{
+    let systems = draft.deck.systems.as_slice();
+    match st {
+        Stmt::System(n) => is_there(system_place(systems, n.as_slice())),
+        Stmt::Job(n) => is_there(job_place(jobs_now(systems), n.as_slice())),
+        Stmt::Task(n) => is_there(task_place(tasks_now(jobs_now(systems)), n.as_slice())),
+        _ => false,
+    }
+}
+
+/// Whether no task stands that a line could belong to.
+fn is_idle(systems: &[SystemDef]) -> bool
+    ensures { result ≡ is_idle systems.now }
+{
+    tasks_now(jobs_now(systems)).len() == 0
+}
+
+fn is_misplaced(draft: &Draft, st: &Stmt) -> bool
+    ensures { result ≡ is_misplaced draft.now st.now }
+{
+    let systems = draft.deck.systems.as_slice();
+    match st {
+        Stmt::Unbuilt => false,
+        Stmt::Complex(_) => draft.begun,
+        Stmt::System(_) => false,
+        Stmt::Job(_) => systems.len() == 0,
+        Stmt::Task(_) => jobs_now(systems).len() == 0,
+        Stmt::Enq(_) => is_idle(systems),
+        Stmt::Deq(_) => is_idle(systems),
+        Stmt::Wait(_) => is_idle(systems),
+        Stmt::Schedule => systems.len() == 0,
+        Stmt::Event { .. } => false,
+    }
+}
+
+fn is_full(draft: &Draft, st: &Stmt) -> bool
+    requires { Fits draft.now.deck.systems }
+    ensures { result ≡ is_full draft.now st.now }
+{
+    let systems = draft.deck.systems.as_slice();
+    match st {
+        Stmt::System(_) => 8 <= systems.len(),
+        Stmt::Job(_) => 64 <= jobs_now(systems).len(),
+        Stmt::Task(_) => 64 <= task_count(jobs_now(systems)),
+        Stmt::Enq(_) => draft.room == 0,
+        Stmt::Deq(_) => draft.room == 0,
+        Stmt::Wait(_) => draft.room == 0,
+        _ => false,
+    }
+}
+
+fn is_unknown(draft: &Draft, st: &Stmt) -> bool
+    requires { Fits draft.now.deck.systems }
+    ensures { result ≡ is_unknown draft.now st.now }
+{
+    match st {
+        Stmt::Event { system, act } => {
+            event_of(draft.deck.systems.as_slice(), system.as_slice(), act).is_none()
+        }
+        _ => false,
+    }
+}
+
+fn is_unbuilt(draft: &Draft, st: &Stmt) -> bool
+    ensures { result ≡ is_unbuilt draft.now st.now }
+{
+    deck_form::is_unbuilt(draft.deck.systems.len(), st)
+}
+
+/// The least kind that applies to a statement of the right form.
+pub fn verdict(draft: &Draft, st: &Stmt) -> Option<Kind>
+    requires { Fits draft.now.deck.systems }
+    ensures { result ≡ verdict draft.now st.now }
+{
+    if is_long(st) {
+        Some(Kind::NameLength)
+    } else if is_repeated(draft, st) {
+        Some(Kind::Repeated)
+    } else if is_misplaced(draft, st) {
+        Some(Kind::OutOfPlace)
+    } else if is_full(draft, st) {
+        Some(Kind::TooMany)
+    } else if is_unknown(draft, st) {
+        Some(Kind::UnknownName)
+    } else if is_unbuilt(draft, st) {
+        Some(Kind::NotBuilt)
+    } else {
+        None
+    }
+}

@@ -1,0 +1,16 @@
+//! Reads a deck. Statements are judged one by one against the deck so far, and the first fault ends
+//! the reading.
+#![tactic(auto)]
+
+mod grow;
+mod judge;
+mod laws;
+mod places;
+mod read;
+
+pub use grs_wire::{Choice, Deck, Event, JobDef, Name, SystemDef, TaskDef};
+pub use laws::one_deck;
+pub use read::read_deck;
+
+#[cfg(test)]
+mod tests;

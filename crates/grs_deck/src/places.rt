@@ -1,0 +1,141 @@
+//! Where systems, jobs and tasks of a deck stand. The last of each is the one that a statement behind
+//! it belongs to.
+ghost use Rattle.std.specs.Prelude.{◌≡◌, ◌<◌, ◌≤◌, length, IfSome};
+ghost use Rattle.grs_deck.specs.Places.{system_place, job_place, task_place, jobs_now, tasks_now, task_count, IsWithin, Fits, system_at, task_in, choice_of, event_of, seen};
+
+use deck_form::Act;
+use grs_base::{SysId, TaskId};
+use grs_wire::{Choice, Event, JobDef, SystemDef, TaskDef};
+
+#[tactic(auto, unfolding(crate::specs::Places::system_place))]
+pub fn system_place(systems: &[SystemDef], name: &[u8]) -> Option<usize>
+    ensures at { result ≡ system_place systems.now name.now }
+    ensures within { IfSome result (λ i. i < length systems.now) }
+{
+    systems.iter().position(|s| s.name.as_slice() == name)
+}
+
+#[tactic(auto, unfolding(crate::specs::Places::job_place))]
+pub fn job_place(jobs: &[JobDef], name: &[u8]) -> Option<usize>
+    ensures at { result ≡ job_place jobs.now name.now }
+    ensures within { IfSome result (λ i. i < length jobs.now) }
+{
+    jobs.iter().position(|j| j.name.as_slice() == name)
+}
+
+#[tactic(auto, unfolding(crate::specs::Places::task_place))]
+pub fn task_place(tasks: &[TaskDef], name: &[u8]) -> Option<usize>
+    ensures at { result ≡ task_place tasks.now name.now }
+    ensures within { IfSome result (λ i. i < length tasks.now) }
+{
+    tasks.iter().position(|t| t.name.as_slice() == name)
+}
+
+/// The jobs of the last system.
+pub fn jobs_now(systems: &[SystemDef]) -> &[JobDef]
+    ensures { result.now ≡ jobs_now systems.now }
+{
+    match systems.split_last() {
+        None => &[],
+        Some((s, _)) => s.jobs.as_slice(),
+    }
+}
+
+/// The tasks of the last job.
+pub fn tasks_now(jobs: &[JobDef]) -> &[TaskDef]
+    ensures { result.now ≡ tasks_now jobs.now }
+{
+    match jobs.split_last() {
+        None => &[],
+        Some((j, _)) => j.tasks.as_slice(),
+    }
+}
+
+/// How many tasks the jobs have together.
+pub fn task_count(jobs: &[JobDef]) -> usize
+    requires { task_count jobs.now ≤ 64 }
+    ensures { result ≡ task_count jobs.now }
+{
+    let mut count = 0;
+    let mut rest = jobs;
+    while let Some((job, tail)) = rest.split_first() {
+        count += job.tasks.len();
+        rest = tail;
+    }
+    count
+}
+
+/// The system of this name, and its number.
+fn system_at<'a>(systems: &'a [SystemDef], name: &[u8]) -> Option<(SysId, &'a SystemDef)>
+    requires { Fits systems.now }
+    ensures at { seen (λ x. (x.0, x.1.now)) result ≡ system_at systems.now name.now }
+    ensures within { IfSome result (λ x. IsWithin x.1.now) }
+{
+    let place = system_place(systems, name)?;
+    let found = systems.get(place)?;
+    Some((SysId(place as u8), found))
+}
+
+/// The task of these names in a system.
+fn task_in(id: SysId, found: &SystemDef, job: &[u8], task: &[u8]) -> Option<TaskId>
+    requires { IsWithin found.now }
+    ensures { result ≡ task_in id found.now job.now task.now }
+{
+    let jobs = found.jobs.as_slice();
+    let j = job_place(jobs, job)?;
+    let held = jobs.get(j)?;
+    let k = task_place(held.tasks.as_slice(), task)?;
+    let before = task_count(&jobs[..j]);
+    Some(TaskId {
+        system: id,
+        job: j as u16,
+        task: (before + k) as u16,
+    })
+}
+
+/// What a system does, where each name that it says is known.
+fn choice_of(systems: &[SystemDef], id: SysId, found: &SystemDef, act: &Act) -> Option<Choice>
+    requires systems { Fits systems.now }
+    requires found { IsWithin found.now }
+    ensures { result ≡ choice_of systems.now id found.now act.now }
+{
+    match act {
+        Act::Task { job, task } => Some(Choice::Task(task_in(
+            id,
+            found,
+            job.as_slice(),
+            task.as_slice(),
+        )?)),
+        Act::Turn => Some(Choice::Turn),
+        Act::Send { job, task } => Some(Choice::Send(task_in(
+            id,
+            found,
+            job.as_slice(),
+            task.as_slice(),
+        )?)),
+        Act::Take => Some(Choice::Take),
+        Act::Settle => Some(Choice::Settle),
+        Act::Tell(entry) => Some(Choice::Tell(*entry)),
+        Act::Leave(entry) => Some(Choice::Leave(*entry)),
+        Act::Switch => Some(Choice::Switch),
+        Act::Purge(name) => {
+            let (other, _) = system_at(systems, name.as_slice())?;
+            if other.0 == id.0 {
+                None
+            } else {
+                Some(Choice::Purge(other))
+            }
+        }
+        Act::Rest => Some(Choice::Rest),
+    }
+}
+
+/// The event of an event line, where each name that it says is known.
+pub fn event_of(systems: &[SystemDef], system: &[u8], act: &Act) -> Option<Event>
+    requires { Fits systems.now }
+    ensures { result ≡ event_of systems.now system.now act.now }
+{
+    let (id, found) = system_at(systems, system)?;
+    let choice = choice_of(systems, id, found, act)?;
+    Some(Event { system: id, choice })
+}

@@ -1,0 +1,152 @@
+//! Reads a deck, line by line, up to its first fault.
+ghost use Rattle.std.specs.Prelude.{◌≡◌, ◌||◌, OnOk, IfOk, Some, None};
+ghost use Rattle.deck_scan.specs.Gives.{Gives};
+ghost use Rattle.grs_deck.specs.Places.{Fits};
+ghost use Rattle.grs_deck.specs.Judge.{verdict};
+ghost use Rattle.grs_deck.specs.Grow.{is_schedule, line_count, grow};
+ghost use Rattle.grs_wire.specs.declared.deck.Deck.{Deck as DeckValue};
+ghost use Rattle.grs_deck.specs.Whole.{IsDeck};
+ghost use Rattle.grs_deck.specs.Spells.{SpellsDeck, Answers, IsOkUnlessMemory};
+ghost use Rattle.grs_deck.specs.Reading.{judge_statement, judge, judge_all, ended, reading, Took, no_draft};
+
+use crate::grow::grow_deck;
+use crate::judge::{Draft, verdict};
+use deck_form::{FormError, Stmt, statement};
+use deck_scan::{TokenLine, lines};
+use grs_base::{DeckFault, Kind, List, NoMemory, ReadError};
+use grs_wire::Deck;
+use std::alloc::Global;
+
+fn is_schedule(st: &Stmt) -> bool
+    ensures { result ≡ is_schedule st.now }
+{
+    match st {
+        Stmt::Schedule => true,
+        _ => false,
+    }
+}
+
+/// How many task lines a statement is.
+fn line_count(st: &Stmt) -> u32
+    ensures { result ≡ line_count st.now }
+{
+    match st {
+        Stmt::Enq(_) => 1,
+        Stmt::Deq(_) => 1,
+        Stmt::Wait(_) => 1,
+        _ => 0,
+    }
+}
+
+/// Adds what a statement without a fault says.
+fn grow(draft: &mut Draft, alloc: Global, st: Stmt) -> Result<(), NoMemory>
+    requires right { verdict draft.old st ≡ None }
+    requires systems { Fits draft.old.deck.systems }
+    ensures { OnOk result (draft.new ≡ grow draft.old st) }
+{
+    draft.begun = true;
+    draft.scheduled = draft.scheduled || is_schedule(&st);
+    draft.room = draft.room.saturating_sub(line_count(&st));
+    grow_deck(&mut draft.deck, alloc, st)
+}
+
+/// Takes a statement of the right form.
+fn take_statement(draft: &mut Draft, alloc: Global, at: u32, st: Stmt) -> Result<(), ReadError>
+    requires { Fits draft.old.deck.systems }
+    ensures { Took result draft.new (judge_statement draft.old at st) }
+{
+    match verdict(draft, &st) {
+        Some(kind) => Err(ReadError::Fault(DeckFault { line: at, kind })),
+        None => {
+            grow(draft, alloc, st)?;
+            Ok(())
+        }
+    }
+}
+
+/// Takes a line.
+#[tactic(auto, unfolding(crate::specs::Reading::judge))]
+fn take_line(draft: &mut Draft, alloc: Global, line: &TokenLine) -> Result<(), ReadError>
+    requires { Fits draft.old.deck.systems }
+    ensures { Took result draft.new (judge draft.old line.now) }
+{
+    match statement(alloc, draft.scheduled, draft.deck.entries, line) {
+        Err(FormError::NoMemory) => Err(ReadError::NoMemory),
+        Err(FormError::Kind(kind)) => Err(ReadError::Fault(DeckFault {
+            line: line.at,
+            kind,
+        })),
+        Ok(st) => take_statement(draft, alloc, line.at, st),
+    }
+}
+
+/// A deck of which nothing was read.
+fn start(alloc: Global) -> Draft
+    ensures { result ≡ no_draft }
+{
+    Draft {
+        deck: Deck {
+            star: false,
+            entries: 64,
+            limit: 4096,
+            systems: List::new(alloc),
+            events: List::new(alloc),
+        },
+        begun: false,
+        scheduled: false,
+        room: 16384,
+    }
+}
+
+/// Takes the lines in order, up to the first with a fault.
+fn take_lines(alloc: Global, lines: &[TokenLine]) -> Result<Draft, ReadError>
+    ensures { Gives result (judge_all no_draft lines.now) }
+{
+    let mut draft = start(alloc);
+    let mut rest = lines;
+    while let Some((line, tail)) = rest.split_first() {
+        take_line(&mut draft, alloc, line)?;
+        rest = tail;
+    }
+    Ok(draft)
+}
+
+/// Wants a system.
+fn end(draft: Draft) -> Result<Deck, ReadError>
+    ensures { Gives result (ended draft) }
+{
+    if draft.deck.systems.len() == 0 {
+        Err(ReadError::Fault(DeckFault {
+            line: 0,
+            kind: Kind::NoSystem,
+        }))
+    } else {
+        Ok(draft.deck)
+    }
+}
+
+/// What is read of a text.
+#[tactic(auto, unfolding(crate::specs::Reading::reading))]
+fn read_all(alloc: Global, text: &[u8]) -> Result<Deck, ReadError>
+    ensures { Gives result (reading text.now) }
+{
+    let all = lines(alloc, text)?;
+    let draft = take_lines(alloc, all.as_slice())?;
+    end(draft)
+}
+
+/// The deck that a text spells, or its first fault.
+///
+/// `TooLong` and `NoSystem` are told with line 0, `BadByte` with the line of the first such byte,
+/// and any other kind with the line on which the first faulty statement begins: it is the least
+/// kind that applies to that statement.
+pub fn read_deck(alloc: Global, text: &[u8]) -> Result<Deck, ReadError>
+    // What is read is spelled so, and has no fault; the fault is the text's first one.
+    ensures exact { Answers result text.now }
+    // What is spelled so is read, unless memory runs out.
+    ensures only { (d : DeckValue) → SpellsDeck text.now d → IsOkUnlessMemory result d }
+    // What is read is within the limits, and its events speak of what is there.
+    ensures whole { IfOk result (λ d. IsDeck d) }
+{
+    read_all(alloc, text)
+}
