@@ -6,8 +6,6 @@ mod codes;
 mod node;
 mod replies;
 mod scripts;
-#[cfg(test)]
-mod tests;
 mod world;
 
 pub use world::{World, replay};

@@ -1,10 +1,8 @@
 -- Laws of counts by unit.
-use Rattle.std.proofs.Common.{◌≡◌, ◌≢◌, ◌<◌, ◌+◌, ℕ, zero, suc, Bool, true, false, cond, List, [], ◌∷◌, set, length, Option, Some, None, refl, ap, sym, ◌∙◌, arith, add-one, eq-eqb}
-use Rattle.std.specs.Prelude.{slice_get, insert, ◌==◌, ◌&&◌, nat_lt}
-use Rattle.std.proofs.lemmas.Bool.{cases_Bool, and_parts, ltb-true, eqb-true}
+use Rattle.std.proofs.Common.{◌≡◌, ◌≢◌, ◌<◌, ◌+◌, ℕ, true, cond, List, [], ◌∷◌, set, Some, None, refl, arith}
+use Rattle.std.specs.Prelude.{slice_get, insert, ◌==◌}
 use Rattle.std.proofs.lemmas.Bool.Decides.{nat_tests}
-use Rattle.task_state.specs.declared.state.Rec.{Rec}
-use Rattle.task_state.specs.Units.{reserves, is_unit, count_at, begins_above, is_count, counting, unit_place}
+use Rattle.task_state.specs.Units.{count_at, begins_above, is_count, counting, unit_place}
 
 -- a unit that has a count gets one more
 pub counting-there : (u : ℕ) (cs : List (ℕ × ℕ)) (c : ℕ × ℕ) → slice_get cs (unit_place u cs) ≡ Some c → c.0 ≡ u → counting u cs ≡ set cs (unit_place u cs) (u, c.1 + 1)

@@ -5,8 +5,6 @@
 mod records;
 mod state;
 mod tasks;
-#[cfg(test)]
-mod tests;
 mod units;
 
 pub use state::{Phase, Rec, TaskState};
