@@ -19,3 +19,4 @@ pub mod Events
 pub mod Turns
 pub mod Sound
 pub mod Samples
+pub mod Keeps

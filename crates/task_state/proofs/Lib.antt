@@ -1,1 +1,3 @@
 pub mod ViewLaws
+pub mod Stays
+pub mod UnitLaws

@@ -1,17 +1,18 @@
 -- Laws of the tasks of a system: what each word leaves of the task that it speaks of, of the others, and of
 -- what was told.
-use Rattle.std.proofs.Common.{◌≡◌, ◌≢◌, ◌<◌, ◌+◌, ℕ, Bool, true, false, List, [], ◌∷◌, ◌++◌, length, get_or, set, Option, refl, ap, sym, ◌∙◌, arith, eqb}
+use Rattle.std.proofs.Common.{◌≡◌, ◌≢◌, ◌<◌, ◌+◌, ℕ, true, List, [], ◌∷◌, ◌++◌, length, get_or, refl, ap, ◌∙◌, arith}
 use Rattle.std.proofs.lemmas.List.{get_or_default, get_or-set_same}
 use Rattle.std.proofs.Common.{get_or-set_other, length-set}
 use Rattle.std.proofs.lemmas.Bool.{and_parts, ltb-true, eqb-true}
 use Rattle.grs_base.specs.declared.resource.TaskId.{TaskId}
 use Rattle.grs_base.specs.declared.resource.Res.{Res}
-use Rattle.grs_wire.specs.declared.request.Req.{Req}
 use Rattle.grs_wire.specs.declared.told.ToldLine.{ToldLine}
 use Rattle.task_state.specs.declared.state.Rec.{Rec}
-use Rattle.task_state.specs.declared.state.Phase.{Phase}
 use Rattle.task_state.specs.declared.state.TaskState.{TaskState}
-use Rattle.task_state.specs.View.{TasksView, is_task, new_task, state_of, with_state, telling}
+use Rattle.std.specs.Prelude.{remove, zero, suc, ◌≤◌}
+use Rattle.std.proofs.Common.{add-one}
+use Rattle.std.proofs.lemmas.Bool.Decides.{nat_tests}
+use Rattle.task_state.specs.View.{TasksView, new_tasks, record_place, without_first, is_task, new_task, state_of, with_state, telling}
 
 -- what stands at a place that is there doesn't depend on what stands for a missing one
 pub get_or-read : {A : Type 0} (xs : List A) (i : ℕ) (x d : A) → i < length xs → x ≡ get_or xs i x → x ≡ get_or xs i d
@@ -52,4 +53,22 @@ pub is_task-telling : (v : TasksView) (u : TaskId) (l : ToldLine) → is_task (t
 unfolding telling
 is_task-telling v u l = refl
 
-pub ruleset places = (get_or-read, is_task-place)
+-- a record that is taken out by its place is the first of its resource
+pub remove-record : (xs : List Rec) (r : Res) → remove xs (record_place xs r) ≡ without_first xs r
+remove-record [] r = refl
+remove-record (x ∷ xs) r = grind (arith, nat_tests, remove-record xs r)
+
+-- where a resource has no record, nothing is without it
+pub without_first-absent : (xs : List Rec) (r : Res) → length xs ≤ record_place xs r → without_first xs r ≡ xs
+without_first-absent [] r h = refl
+without_first-absent (x ∷ xs) r h = grind (arith, nat_tests, without_first-absent xs r)
+
+-- one more task at the start
+pub new_tasks-push : (n : ℕ) → new_tasks n ++ new_task ∷ [] ≡ new_tasks (suc n)
+new_tasks-push zero = refl
+new_tasks-push (suc n) = ap (λ xs. new_task ∷ xs) (new_tasks-push n)
+
+pub new_tasks-more : (n : ℕ) → new_tasks n ++ new_task ∷ [] ≡ new_tasks (n + 1)
+new_tasks-more n = rw add-one (new_tasks-push n)
+
+pub ruleset places = (get_or-read, is_task-place, remove-record, without_first-absent, new_tasks-more)

@@ -2,6 +2,10 @@
 //! what was told. It knows nothing of the lists that grant control.
 #![tactic(auto)]
 
+mod records;
 mod state;
+mod tasks;
+mod units;
 
 pub use state::{Phase, Rec, TaskState};
+pub use tasks::Tasks;

@@ -1,0 +1,263 @@
+//! One system: its tasks and the lists of its local resources. Each step is one event of one task.
+ghost use Rattle.std.specs.Prelude.{◌≡◌, [], true, length, slice_get, option_copied, IfOk, OnOk};
+ghost use Rattle.grs_wire.specs.Wants.{res_wanted};
+ghost use Rattle.task_state.specs.View.{new_tasks, is_task, state_of, record_of};
+ghost use Rattle.grs_legal.specs.Asks.{resolved};
+ghost use Rattle.grs_base.specs.State.{is_systems};
+ghost use Rattle.grs_world.specs.Node as steps;
+ghost use Rattle.grs_world.specs.Running.{stepped};
+
+use super::replies::{answered, tell_all, tell_code};
+use grs_base::{Code, Item, Line, List, NoMemory, Res, Ret, SysId, TaskId};
+use grs_legal::resolve;
+use grs_wire::{Answer, Req, ToldLine, Verb, Want};
+use local_queue::Local;
+use std::alloc::Global;
+use std::marker::Model;
+use task_state::{Phase, Tasks};
+
+/// A system.
+#[derive(Drop)]
+pub(crate) struct Node {
+    tasks: Tasks,
+    held: Local,
+}
+
+impl Model for Node {
+    ghost use Rattle.grs_world.specs.Node as steps;
+
+    ghost Value = { steps.Node };
+
+    ghost view = { λ a. record { tasks = a.tasks; held = a.held } };
+}
+
+/// The resource that is spoken of.
+fn res_of(want: &Want) -> &Res
+    ensures { result.now ≡ res_wanted want.now }
+{
+    match want {
+        Want::Enq { res, .. } | Want::Deq { res, .. } | Want::Release { res } => res,
+    }
+}
+
+/// Whether a resource is shared by the whole complex.
+fn is_shared_by_all(res: &Res) -> bool
+    ensures { result ≡ is_systems res.now }
+{
+    matches!(res, Res::Systems { .. })
+}
+
+/// A WAIT line: 00 where control was told, 08 where there is no request on record, else the task is held.
+#[tactic(auto, using(crate::proofs::Keeps::keeps), unfolding(crate::specs::Node::wait))]
+fn wait(tasks: &mut Tasks, task: TaskId, res: Res) -> Result<(), NoMemory>
+    requires { is_task tasks.old task ≡ true }
+    ensures step { OnOk result (tasks.new ≡ steps.wait tasks.old task res (record_of (state_of tasks.old task).records res)) }
+    ensures system { tasks.new.system ≡ tasks.old.system }
+{
+    match tasks.record(task, &res) {
+        None => tell_code(tasks, task, Verb::Wait, Code::C08),
+        Some(rec) if rec.told => tell_code(tasks, task, Verb::Wait, Code::C00),
+        Some(_) => {
+            tasks.set_phase(task, Phase::HeldLine(res));
+            Ok(())
+        }
+    }
+}
+
+impl Node {
+    /// A system with this many tasks at the start, and nothing queued.
+    pub(crate) fn new(alloc: Global, system: SysId, count: usize) -> Result<Node, NoMemory>
+        ensures { IfOk result (λ n. n ≡ record { tasks = record { system = system.0; tasks = new_tasks count; told = [] }; held = [] }) }
+    {
+        Ok(Node {
+            tasks: Tasks::new(alloc, system, count)?,
+            held: Local::new(alloc),
+        })
+    }
+
+    /// Its tasks.
+    pub(crate) fn tasks(&self) -> &Tasks
+        ensures { result.now ≡ self.now.tasks }
+    {
+        &self.tasks
+    }
+
+    /// A request that the local lists decide: the asker's answer first, then control for the tasks that
+    /// became owners.
+    #[tactic(auto, using(crate::proofs::Keeps::keeps), unfolding(crate::specs::Node::decide))]
+    fn decide(
+        &mut self,
+        alloc: Global,
+        task: TaskId,
+        want: Want,
+    ) -> Result<Option<Req>, NoMemory>
+        requires { is_task self.old.tasks task ≡ true }
+        ensures step { IfOk result (λ fixed. stepped self.new fixed ≡ steps.decide self.old task want) }
+        ensures system { self.new.tasks.system ≡ self.old.tasks.system }
+    {
+        let req = Req { task, want };
+        let outcome = self.held.request(&req)?;
+        let Answer::Coded(code) = outcome.answer;
+        answered(alloc, &mut self.tasks, task, &req.want, code)?;
+        tell_all(
+            &mut self.tasks,
+            res_of(&req.want),
+            outcome.owners.as_slice(),
+        )?;
+        Ok(Some(req))
+    }
+
+    /// A request: decided at once, or, for a resource of the whole complex, kept until it can be sent.
+    #[tactic(auto, using(crate::proofs::Keeps::keeps), unfolding(crate::specs::Node::ask))]
+    fn ask(&mut self, alloc: Global, task: TaskId, want: Want) -> Result<Option<Req>, NoMemory>
+        requires { is_task self.old.tasks task ≡ true }
+        ensures step { IfOk result (λ fixed. stepped self.new fixed ≡ steps.ask self.old task want) }
+        ensures system { self.new.tasks.system ≡ self.old.tasks.system }
+    {
+        if is_shared_by_all(res_of(&want)) {
+            self.tasks.set_phase(task, Phase::ToSend);
+            self.tasks.set_outstanding(task, Some(Req { task, want }));
+            Ok(None)
+        } else {
+            self.decide(alloc, task, want)
+        }
+    }
+
+    /// Whether a task has as many requests on record as it may.
+    fn has_most(&self, task: TaskId, limit: u32) -> bool
+        requires { is_task self.now.tasks task ≡ true }
+        ensures { result ≡ steps.has_most limit self.now.tasks task }
+    {
+        limit as usize <= self.tasks.state(task).records.len()
+    }
+
+    /// What an ENQ line asks.
+    fn enq(
+        &self,
+        alloc: Global,
+        task: TaskId,
+        item: &Item,
+        ret: Ret,
+        limit: u32,
+    ) -> Result<Want, NoMemory>
+        requires { is_task self.now.tasks task ≡ true }
+        ensures { IfOk result (λ want. want ≡ Want.Enq (resolved task item.now.scope item.now.q item.now.r) item.now.ctl ret (steps.has_most limit self.now.tasks task)) }
+    {
+        Ok(Want::Enq {
+            res: resolve(alloc, task, item.scope, &item.q, &item.r)?,
+            ctl: item.ctl,
+            ret,
+            full: self.has_most(task, limit),
+        })
+    }
+
+    /// A line that was taken.
+    #[tactic(auto, using(crate::proofs::Keeps::keeps), unfolding(crate::specs::Node::take_line))]
+    fn take_line(
+        &mut self,
+        alloc: Global,
+        task: TaskId,
+        line: &Line,
+        limit: u32,
+    ) -> Result<Option<Req>, NoMemory>
+        requires { is_task self.old.tasks task ≡ true }
+        ensures step { IfOk result (λ fixed. stepped self.new fixed ≡ steps.take_line limit self.old task line.now) }
+        ensures system { self.new.tasks.system ≡ self.old.tasks.system }
+    {
+        match line {
+            Line::Enq { items, ret, .. } => match items.as_slice().split_first() {
+                None => Ok(None),
+                Some((item, _)) => {
+                    let want = self.enq(alloc, task, item, *ret, limit)?;
+                    self.ask(alloc, task, want)
+                }
+            },
+            Line::Deq {
+                q, r, scope, have, ..
+            } => {
+                let res = resolve(alloc, task, *scope, q, r)?;
+                self.ask(alloc, task, Want::Deq { res, have: *have })
+            }
+            Line::Wait { q, r, scope, .. } => {
+                let res = resolve(alloc, task, *scope, q, r)?;
+                wait(&mut self.tasks, task, res)?;
+                Ok(None)
+            }
+        }
+    }
+
+    /// A task that is ending: it releases the first request on record, or has ended.
+    #[tactic(auto, using(crate::proofs::Keeps::keeps), unfolding(crate::specs::Node::end_step))]
+    fn end_step(&mut self, alloc: Global, task: TaskId, code: u16) -> Result<Option<Req>, NoMemory>
+        requires { is_task self.old.tasks task ≡ true }
+        ensures step { IfOk result (λ fixed. stepped self.new fixed ≡ steps.end_step self.old task code (state_of self.old.tasks task).records) }
+        ensures system { self.new.tasks.system ≡ self.old.tasks.system }
+    {
+        match self.tasks.state(task).records.as_slice().split_first() {
+            None => {
+                self.tasks.set_phase(task, Phase::Ended);
+                self.tasks.tell(ToldLine::Ended { task, code })?;
+                Ok(None)
+            }
+            Some((rec, _)) => {
+                let res = rec.res.copy(alloc)?;
+                self.decide(alloc, task, Want::Release { res })
+            }
+        }
+    }
+
+    /// A task that is ready: it takes its next line, or begins to end.
+    #[tactic(auto, using(crate::proofs::Keeps::keeps), unfolding(crate::specs::Node::ready_step))]
+    fn ready_step(
+        &mut self,
+        alloc: Global,
+        task: TaskId,
+        line: Option<&Line>,
+        limit: u32,
+    ) -> Result<Option<Req>, NoMemory>
+        requires { is_task self.old.tasks task ≡ true }
+        ensures step { IfOk result (λ fixed. stepped self.new fixed ≡ steps.ready_step limit self.old task (option_copied line.entry)) }
+        ensures system { self.new.tasks.system ≡ self.old.tasks.system }
+    {
+        let Some(line) = line else {
+            self.tasks.set_phase(task, Phase::Ending(0));
+            return self.end_step(alloc, task, 0);
+        };
+        if self.tasks.state(task).line == u32::MAX {
+            return Err(NoMemory);
+        }
+        self.tasks.next_line(task);
+        self.take_line(alloc, task, line, limit)
+    }
+
+    /// What a task of the system does by its phase.
+    #[tactic(auto, using(crate::proofs::Keeps::keeps), unfolding(crate::specs::Node::phase_step))]
+    pub(crate) fn phase_step(
+        &mut self,
+        alloc: Global,
+        task: TaskId,
+        lines: &List<Line>,
+        limit: u32,
+    ) -> Result<Option<Req>, NoMemory>
+        requires { is_task self.old.tasks task ≡ true }
+        ensures step { IfOk result (λ fixed. stepped self.new fixed ≡ steps.phase_step limit self.old task lines.now (state_of self.old.tasks task).phase) }
+        ensures system { self.new.tasks.system ≡ self.old.tasks.system }
+    {
+        let state = self.tasks.state(task);
+        match &state.phase {
+            Phase::Ready => {
+                let line = lines.as_slice().get(state.line as usize);
+                self.ready_step(alloc, task, line, limit)
+            }
+            Phase::Ending(code) => {
+                let code = *code;
+                self.end_step(alloc, task, code)
+            }
+            Phase::ToSend
+            | Phase::Sent
+            | Phase::HeldAnswer
+            | Phase::HeldLine(_)
+            | Phase::Ended => Ok(None),
+        }
+    }
+}

@@ -1,0 +1,195 @@
+//! What the tasks of a system are told: the answers to their own requests, and control that another's
+//! request gave them. Only the tasks change here, never the lists.
+ghost use Rattle.std.specs.Prelude.{◌≡◌, true, cond, OnOk};
+ghost use Rattle.task_state.specs.View.{is_task, without_record};
+ghost use Rattle.grs_world.specs.Node as steps;
+ghost use Rattle.grs_world.specs.Running.{tell_line};
+
+use super::codes::{is_changed, is_granted, is_held, is_held_for, is_queued, phase_after};
+use grs_base::{Code, Ctl, NoMemory, Res, Ret, TaskId};
+use grs_wire::{ToldLine, Verb, Want};
+use std::alloc::Global;
+use task_state::{Phase, Rec, Tasks};
+
+/// Tells the code of a task's last line; WAIT isn't told.
+#[tactic(auto, using(crate::proofs::Keeps::keeps), unfolding(crate::specs::Node::tell_code))]
+pub(crate) fn tell_code(
+    tasks: &mut Tasks,
+    task: TaskId,
+    verb: Verb,
+    code: Code,
+) -> Result<(), NoMemory>
+    requires { is_task tasks.old task ≡ true }
+    ensures step { OnOk result (tasks.new ≡ steps.tell_code tasks.old task verb code) }
+    ensures system { tasks.new.system ≡ tasks.old.system }
+{
+    match code {
+        Code::Wait => Ok(()),
+        Code::C00 | Code::C04 | Code::C08 | Code::C14 | Code::C18 | Code::End(_) => {
+            let k = tasks.state(task).line;
+            tasks.tell(ToldLine::Coded {
+                task,
+                k,
+                part: 0,
+                verb,
+                code,
+            })
+        }
+    }
+}
+
+/// Keeps the records of a task whose ENQ was answered.
+#[tactic(auto, using(crate::proofs::Keeps::keeps), unfolding(crate::specs::Node::record_enq))]
+fn record_enq(
+    alloc: Global,
+    tasks: &mut Tasks,
+    task: TaskId,
+    res: &Res,
+    ctl: Ctl,
+    ret: Ret,
+    code: Code,
+) -> Result<(), NoMemory>
+    requires { is_task tasks.old task ≡ true }
+    ensures step { OnOk result (tasks.new ≡ steps.record_enq tasks.old task res.now ctl ret code) }
+    ensures system { tasks.new.system ≡ tasks.old.system }
+{
+    if is_queued(ret, code) {
+        let rec = Rec {
+            res: res.copy(alloc)?,
+            ctl,
+            rank: 0,
+            told: is_granted(code),
+            unit: None,
+            line: tasks.state(task).line,
+        };
+        tasks.add_record(task, rec)
+    } else {
+        if is_changed(ret, code) {
+            tasks.make_exclusive(task, res);
+        }
+        Ok(())
+    }
+}
+
+/// Drops the record of a task whose DEQ was granted.
+#[tactic(auto, using(crate::proofs::Keeps::keeps))]
+fn record_deq(tasks: &mut Tasks, task: TaskId, res: &Res, code: Code)
+    requires { is_task tasks.old task ≡ true }
+    ensures step { tasks.new ≡ cond (steps.is_granted code) (without_record tasks.old task res.now) tasks.old }
+    ensures system { tasks.new.system ≡ tasks.old.system }
+{
+    if is_granted(code) {
+        let _ = tasks.take_record(task, res);
+    }
+}
+
+/// Answers a task's own request.
+#[tactic(auto, using(crate::proofs::Keeps::keeps), unfolding(crate::specs::Node::answered))]
+pub(crate) fn answered(
+    alloc: Global,
+    tasks: &mut Tasks,
+    task: TaskId,
+    want: &Want,
+    code: Code,
+) -> Result<(), NoMemory>
+    requires { is_task tasks.old task ≡ true }
+    ensures step { OnOk result (tasks.new ≡ steps.answered tasks.old task want.now code) }
+    ensures system { tasks.new.system ≡ tasks.old.system }
+{
+    match want {
+        Want::Enq { res, ctl, ret, .. } => {
+            record_enq(alloc, tasks, task, res, *ctl, *ret, code)?;
+            tasks.set_phase(task, phase_after(code));
+            tell_code(tasks, task, Verb::Enq, code)
+        }
+        Want::Deq { res, .. } => {
+            record_deq(tasks, task, res, code);
+            tasks.set_phase(task, phase_after(code));
+            tell_code(tasks, task, Verb::Deq, code)
+        }
+        Want::Release { res } => {
+            let _ = tasks.take_record(task, res);
+            Ok(())
+        }
+    }
+}
+
+/// A task that was held at a WAIT line for this resource goes on.
+#[tactic(auto, using(crate::proofs::Keeps::keeps), unfolding(crate::specs::Node::passes_wait))]
+fn passes_wait(tasks: &mut Tasks, task: TaskId, res: &Res) -> Result<(), NoMemory>
+    requires { is_task tasks.old task ≡ true }
+    ensures step { OnOk result (tasks.new ≡ steps.passes_wait tasks.old task res.now) }
+    ensures system { tasks.new.system ≡ tasks.old.system }
+{
+    let state = tasks.state(task);
+    if !is_held_for(res, &state.phase) {
+        return Ok(());
+    }
+    let k = state.line;
+    tasks.set_phase(task, Phase::Ready);
+    tasks.tell(ToldLine::Coded {
+        task,
+        k,
+        part: 0,
+        verb: Verb::Wait,
+        code: Code::C00,
+    })
+}
+
+/// Tells a task control for which its line of this number asked: by that line's code if it waited, else
+/// by posting its event control block.
+#[tactic(auto, using(crate::proofs::Keeps::keeps), unfolding(crate::specs::Running::tell_line))]
+fn tell_waiter(tasks: &mut Tasks, task: TaskId, res: &Res, line: u32) -> Result<(), NoMemory>
+    requires { is_task tasks.old task ≡ true }
+    ensures step { OnOk result (tasks.new ≡ tell_line tasks.old task res.now line) }
+    ensures system { tasks.new.system ≡ tasks.old.system }
+{
+    let state = tasks.state(task);
+    let is_waiting = is_held(&state.phase) && line == state.line;
+    tasks.mark_told(task, res);
+    if is_waiting {
+        tasks.set_phase(task, Phase::Ready);
+        tasks.tell(ToldLine::Coded {
+            task,
+            k: line,
+            part: 0,
+            verb: Verb::Enq,
+            code: Code::C00,
+        })
+    } else {
+        tasks.tell(ToldLine::Post { task, k: line })?;
+        passes_wait(tasks, task, res)
+    }
+}
+
+/// Tells a task control that it got by another's request; one that isn't of this system is passed over.
+#[tactic(auto, using(crate::proofs::Keeps::keeps, crate::proofs::Keeps::tell_record_line), unfolding(crate::specs::Node::tell_control, crate::specs::Node::tell_untold))]
+fn tell_control(tasks: &mut Tasks, res: &Res, task: TaskId) -> Result<(), NoMemory>
+    ensures step { OnOk result (tasks.new ≡ steps.tell_control tasks.old res.now task) }
+    ensures system { tasks.new.system ≡ tasks.old.system }
+{
+    if !tasks.has(task) {
+        return Ok(());
+    }
+    match tasks.record(task, res) {
+        Some(rec) if !rec.told => {
+            let line = rec.line;
+            tell_waiter(tasks, task, res, line)
+        }
+        _ => Ok(()),
+    }
+}
+
+/// Tells these tasks control in order.
+#[tactic(auto, using(crate::proofs::Keeps::keeps), unfolding(crate::specs::Node::tell_all))]
+pub(crate) fn tell_all(tasks: &mut Tasks, res: &Res, owners: &[TaskId]) -> Result<(), NoMemory>
+    ensures step { OnOk result (tasks.new ≡ steps.tell_all tasks.old res.now owners.now) }
+    ensures system { tasks.new.system ≡ tasks.old.system }
+{
+    let mut rest = owners;
+    while let Some((task, tail)) = rest.split_first() {
+        tell_control(tasks, res, *task)?;
+        rest = tail;
+    }
+    Ok(())
+}

@@ -1,0 +1,76 @@
+//! Which task has which lines. The lines stay in the deck.
+ghost use Rattle.std.specs.Prelude.{◌≡◌, ◌++◌, option_copied, IfOk};
+ghost use Rattle.grs_legal.specs.Asks.{lines_in, scripts_in, scripts_from, scripts_at, scripts_of};
+
+use grs_base::{Line, List, NoMemory, TaskId};
+use grs_wire::{Deck, JobDef, TaskDef};
+use std::alloc::Global;
+use std::marker::Model;
+
+/// The lines of a task, with the place of its job.
+#[derive(Drop)]
+pub(crate) struct Script<'d> {
+    job: usize,
+    lines: &'d List<Line>,
+}
+
+impl<'d> Model for Script<'d> {
+    ghost use Rattle.grs_legal.specs.Asks as asks;
+
+    ghost Value = { asks.Script };
+
+    ghost view = { λ a. record { job = a.job; lines = a.lines.now } };
+}
+
+/// Puts the scripts of a job's tasks behind others.
+fn add_job<'d>(
+    mut scripts: Vec<Script<'d>>,
+    job: usize,
+    tasks: &'d [TaskDef],
+) -> Result<Vec<Script<'d>>, NoMemory>
+    ensures { IfOk result (λ all. all.items ≡ scripts.entry.items ++ scripts_in job tasks.now) }
+{
+    for task in tasks {
+        let script = Script {
+            job,
+            lines: &task.lines,
+        };
+        if scripts.push(script).is_err() {
+            return Err(NoMemory);
+        }
+    }
+    Ok(scripts)
+}
+
+/// The scripts of the tasks of these jobs.
+fn scripts_of_jobs(alloc: Global, jobs: &[JobDef]) -> Result<Vec<Script<'_>>, NoMemory>
+    ensures { IfOk result (λ all. all.items ≡ scripts_from 0 jobs.now) }
+{
+    let mut scripts = Vec::new(alloc);
+    for (place, job) in jobs.iter().enumerate() {
+        scripts = add_job(scripts, place, job.tasks.as_slice())?;
+    }
+    Ok(scripts)
+}
+
+/// The scripts of all tasks of the first system, in order.
+pub(crate) fn scripts_of_first(alloc: Global, deck: &Deck) -> Result<Vec<Script<'_>>, NoMemory>
+    ensures { IfOk result (λ all. all.items ≡ scripts_of deck.now 0) }
+{
+    match deck.systems.as_slice().first() {
+        None => Ok(Vec::new(alloc)),
+        Some(system) => scripts_of_jobs(alloc, system.jobs.as_slice()),
+    }
+}
+
+/// The lines of a task.
+pub(crate) fn lines_among<'d>(scripts: &[Script<'d>], task: TaskId) -> Option<&'d List<Line>>
+    ensures { option_copied result ≡ lines_in scripts.now task }
+{
+    let script = scripts.get(task.task as usize)?;
+    if script.job == task.job as usize {
+        Some(script.lines)
+    } else {
+        None
+    }
+}

@@ -1,0 +1,213 @@
+//! The tasks of a system. Each call changes one task, or tells one line.
+ghost use Rattle.std.specs.Prelude.{◌≡◌, ◌<◌, ◌≤◌, ◌+◌, ◌++◌, ◌∷◌, [], ℕ, true, length, map, IfOk, OnOk, OnErr};
+ghost use Rattle.std.specs.Option.{option_copied};
+ghost use Rattle.task_state.specs.Units.{is_count, count_at, reserves_of};
+ghost use Rattle.task_state.specs.View as view;
+ghost use Rattle.task_state.specs.View.{TasksView, new_tasks, is_task, code_in, state_of, record_of, with_line, with_phase, with_outstanding, with_record, without_record, with_told, with_exclusive, with_rank, telling};
+
+use super::records::{find, make_exclusive, mark_told, set_rank, take_first};
+use super::state::{Phase, Rec, TaskState};
+use super::units::count_units;
+use grs_base::{List, NoMemory, Res, SysId, TaskId};
+use grs_wire::{Req, ToldLine};
+use std::alloc::Global;
+use std::marker::Model;
+
+/// The tasks of a system and the lines that they were told, in the order of telling.
+#[derive(Drop)]
+pub struct Tasks {
+    system: SysId,
+    tasks: Vec<TaskState>,
+    told: List<ToldLine>,
+    alloc: Global,
+}
+
+impl Model for Tasks {
+    ghost use Rattle.task_state.specs.View.{TasksView};
+
+    ghost Value = { TasksView };
+
+    ghost view = { λ a. record { system = a.system.0; tasks = a.tasks.items; told = a.told } };
+}
+
+/// A task at the start.
+fn new_task(alloc: Global) -> TaskState
+    ensures { result ≡ view.new_task }
+{
+    TaskState {
+        line: 0,
+        phase: Phase::Ready,
+        code: 0,
+        records: List::new(alloc),
+        outstanding: None,
+    }
+}
+
+/// This many tasks at the start.
+#[tactic(auto, using(crate::proofs::ViewLaws::places))]
+fn make_tasks(alloc: Global, count: usize) -> Result<Vec<TaskState>, NoMemory>
+    ensures { IfOk result (λ tasks. tasks.items ≡ new_tasks count) }
+{
+    let mut tasks = Vec::new(alloc);
+    for _ in 0..count {
+        if tasks.push(new_task(alloc)).is_err() {
+            return Err(NoMemory);
+        }
+    }
+    Ok(tasks)
+}
+
+/// The end code of a task that goes to a phase.
+fn end_code(phase: &Phase, old: u16) -> u16
+    ensures { result ≡ code_in phase.now old }
+{
+    match phase {
+        Phase::Ending(code) => *code,
+        _ => old,
+    }
+}
+
+#[tactic(auto, using(crate::proofs::ViewLaws::places), unfolding(crate::specs::View::state_of, crate::specs::View::with_state, crate::specs::View::with_line, crate::specs::View::with_phase, crate::specs::View::with_outstanding, crate::specs::View::with_record, crate::specs::View::without_record, crate::specs::View::with_told, crate::specs::View::with_exclusive, crate::specs::View::with_rank, crate::specs::View::telling))]
+impl Tasks {
+    /// This many tasks at the start, as the tasks of a system.
+    pub fn new(alloc: Global, system: SysId, count: usize) -> Result<Tasks, NoMemory>
+        ensures { IfOk result (λ v. v ≡ record { system = system.0; tasks = new_tasks count; told = [] }) }
+    {
+        let tasks = make_tasks(alloc, count)?;
+        Ok(Tasks {
+            system,
+            tasks,
+            told: List::new(alloc),
+            alloc,
+        })
+    }
+
+    /// Whether a task is one of this system's.
+    pub fn has(&self, task: TaskId) -> bool
+        ensures { result ≡ is_task self.now task }
+    {
+        self.system == task.system && (task.task as usize) < self.tasks.len()
+    }
+
+    /// How a task stands.
+    pub fn state(&self, task: TaskId) -> &TaskState
+        requires { is_task self.now task ≡ true }
+        ensures { result.now ≡ state_of self.now task }
+    {
+        &self.tasks[task.task as usize]
+    }
+
+    /// The first record that the task has of a resource.
+    pub fn record(&self, task: TaskId, res: &Res) -> Option<&Rec>
+        requires { is_task self.now task ≡ true }
+        ensures { option_copied result ≡ record_of (state_of self.now task).records res.now }
+    {
+        find(self.state(task).records.as_slice(), res)
+    }
+
+    /// The lines that were told, in the order of telling.
+    pub fn told(&self) -> &List<ToldLine>
+        ensures { result.now ≡ self.now.told }
+    {
+        &self.told
+    }
+
+    /// How often each unit is reserved by tasks that were told control, by unit, without those that aren't
+    /// reserved.
+    pub fn units(&self) -> Result<List<(u16, u32)>, NoMemory>
+        ensures by_unit { IfOk result (λ counts. is_count counts ≡ true) }
+        ensures counts { IfOk result (λ counts. (u : ℕ) → count_at u counts ≡ reserves_of u self.now.tasks) }
+    {
+        Ok(List::from_vec(count_units(self.alloc, self.tasks.as_slice())?))
+    }
+
+    /// The task takes one more line.
+    pub fn next_line(&mut self, task: TaskId)
+        requires task { is_task self.old task ≡ true }
+        requires line { (state_of self.old task).line < u32.MAX }
+        ensures { self.new ≡ with_line self.old task }
+    {
+        let state = &mut self.tasks[task.task as usize];
+        state.line += 1;
+    }
+
+    /// The task goes to a phase; `Ending` also sets its end code.
+    pub fn set_phase(&mut self, task: TaskId, phase: Phase)
+        requires { is_task self.old task ≡ true }
+        ensures { self.new ≡ with_phase self.old task phase }
+    {
+        let state = &mut self.tasks[task.task as usize];
+        state.code = end_code(&phase, state.code);
+        state.phase = phase;
+    }
+
+    /// The task has this request, or none, that isn't answered yet.
+    pub fn set_outstanding(&mut self, task: TaskId, req: Option<Req>)
+        requires { is_task self.old task ≡ true }
+        ensures { self.new ≡ with_outstanding self.old task req }
+    {
+        let state = &mut self.tasks[task.task as usize];
+        state.outstanding = req;
+    }
+
+    /// Puts a record behind the others of its task.
+    pub fn add_record(&mut self, task: TaskId, rec: Rec) -> Result<(), NoMemory>
+        requires { is_task self.old task ≡ true }
+        ensures ok { OnOk result (self.new ≡ with_record self.old task rec) }
+        ensures err { OnErr result (self.new ≡ self.old) }
+    {
+        let state = &mut self.tasks[task.task as usize];
+        state.records.push(rec)
+    }
+
+    /// Takes the first record of a resource out, where there is one.
+    pub fn take_record(&mut self, task: TaskId, res: &Res) -> Option<Rec>
+        requires { is_task self.old task ≡ true }
+        ensures taken { result ≡ record_of (state_of self.old task).records res.now }
+        ensures left { self.new ≡ without_record self.old task res.now }
+    {
+        let state = &mut self.tasks[task.task as usize];
+        let records = std::mem::replace(&mut state.records, List::new(self.alloc));
+        let (taken, left) = take_first(records, res);
+        state.records = left;
+        taken
+    }
+
+    /// The task was told control of a resource.
+    pub fn mark_told(&mut self, task: TaskId, res: &Res)
+        requires { is_task self.old task ≡ true }
+        ensures { self.new ≡ with_told self.old task res.now }
+    {
+        let state = &mut self.tasks[task.task as usize];
+        let records = std::mem::replace(&mut state.records, List::new(self.alloc));
+        state.records = mark_told(records, res);
+    }
+
+    /// The task's control of a resource is exclusive.
+    pub fn make_exclusive(&mut self, task: TaskId, res: &Res)
+        requires { is_task self.old task ≡ true }
+        ensures { self.new ≡ with_exclusive self.old task res.now }
+    {
+        let state = &mut self.tasks[task.task as usize];
+        let records = std::mem::replace(&mut state.records, List::new(self.alloc));
+        state.records = make_exclusive(records, res);
+    }
+
+    /// The task's request for a resource has this rank.
+    pub fn set_rank(&mut self, task: TaskId, res: &Res, rank: u64)
+        requires { is_task self.old task ≡ true }
+        ensures { self.new ≡ with_rank self.old task res.now rank }
+    {
+        let state = &mut self.tasks[task.task as usize];
+        let records = std::mem::replace(&mut state.records, List::new(self.alloc));
+        state.records = set_rank(records, res, rank);
+    }
+
+    /// Tells one more line.
+    pub fn tell(&mut self, line: ToldLine) -> Result<(), NoMemory>
+        ensures ok { OnOk result (self.new ≡ telling self.old line) }
+        ensures err { OnErr result (self.new ≡ self.old) }
+    {
+        self.told.push(line)
+    }
+}
