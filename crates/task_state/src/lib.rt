@@ -5,6 +5,8 @@
 mod records;
 mod state;
 mod tasks;
+#[cfg(test)]
+mod tests;
 mod units;
 
 pub use state::{Phase, Rec, TaskState};
