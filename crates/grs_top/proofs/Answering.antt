@@ -1,0 +1,73 @@
+-- What stands after a text was read and its answer written.
+use Rattle.std.proofs.Common.{◌≡◌, ◌≤◌, ◌<◌, ◌⊎◌, ℕ, Bool, true, false, List, [], length, take, drop, refl, sym, ap, subst, inl, inr, min, arith, if◌then◌else◌, Option, None, Some, ◌∙◌}
+use Rattle.std.proofs.lemmas.List.{length-take, take_all, drop_all}
+use Rattle.std.specs.Io.KnownBytes.{Appends}
+use Rattle.grs_io.specs.Faults.{HasRisen}
+use Rattle.grs_io.specs.Moved.{TakesFirst, AppendsPart}
+use Rattle.grs_wire.specs.declared.deck.Event.{Event}
+use Rattle.grs_wire.specs.declared.deck.Deck.{Deck as DeckValue}
+use Rattle.grs_report.specs.Ends.{all_ended}
+use Rattle.grs_top.specs.declared.status.Status.{Status}
+use Rattle.grs_top.specs.declared.status.Status.TheVariants as statuses
+use Rattle.grs_top.specs.Seen.{seen_of_run, ending}
+use Rattle.grs_top.specs.Due.{IsRefused, IsReported, IsDue}
+use Rattle.grs_top.specs.Answers.{Streams, TakesAll, ReadsDue, Writes, Replays, Reports}
+
+-- a front that is shorter than was asked for is all
+front_is_all : (n : ℕ) (xs : List ℕ) → length (take n xs) < n → length xs ≤ n
+front_is_all n xs short = omega (arith, length-take n xs)
+
+takes_all : (n : ℕ) (old new : Option (List ℕ)) (text : List ℕ) → TakesFirst n old new text → length text < n → TakesAll old new text
+takes_all n None new text read short = tt
+takes_all n (Some xs) None text read short = absurd read
+takes_all n (Some xs) (Some ys) text read short =
+    let few : length xs ≤ n = front_is_all n xs (subst (λ (t : List ℕ). length t < n) read.0 short) in
+    (read.0 ∙ take_all n xs few, read.1 ∙ drop_all n xs few)
+
+-- a run ends in one of two ways
+ends_either : (b : Bool) (s : Status) → s ≡ (if b then statuses.Done else statuses.Waits) → (s ≡ statuses.Done) ⊎ (s ≡ statuses.Waits)
+ends_either true s e = inl e
+ends_either false s e = inr e
+
+ending_either : (d : DeckValue) (es : List Event) (s : Status) → s ≡ ending d es → (s ≡ statuses.Done) ⊎ (s ≡ statuses.Waits)
+unfolding ending
+ending_either d es s e = ends_either (all_ended (seen_of_run d es).ended) s e
+
+replays_either : (old new : Streams) (s : Status) → (s ≡ statuses.Done) ⊎ (s ≡ statuses.Waits) → Reports old new s → Replays old new s
+replays_either old new s (inl e) reports = subst (Replays old new) (sym e) (subst (Reports old new) e reports)
+replays_either old new s (inr e) reports = subst (Replays old new) (sym e) (subst (Reports old new) e reports)
+
+reports_whole : (old new : Streams) (text out : List ℕ) (s : Status)
+    → TakesFirst 1048577 old.left new.left text → IsReported text out s
+    → Appends old.written new.written out → new.reads ≡ old.reads → new.writes ≡ old.writes → Reports old new s
+reports_whole old new text out s read reported written reads writes =
+    let short : length text < 1048577 = omega (arith, reported.spelled.short) in
+    record {
+      text = text;
+      out = out;
+      read = takes_all 1048577 old.left new.left text read short;
+      reported = reported;
+      written = written;
+      reads = reads;
+      writes = writes;
+    }
+
+writes_whole : (old new : Streams) (text out : List ℕ) (s : Status)
+    → TakesFirst 1048577 old.left new.left text → IsDue text out s
+    → Appends old.written new.written out → new.reads ≡ old.reads → new.writes ≡ old.writes → Replays old new s
+writes_whole old new text out s read (inl refused) written reads writes =
+    subst (Replays old new) (sym refused.1)
+    (record { text = text; out = out; read = read; refused = refused.0; written = written; reads = reads; writes = writes })
+writes_whole old new text out s read (inr reported) written reads writes =
+    replays_either old new s (ending_either reported.deck reported.deck.events s reported.ends)
+    (reports_whole old new text out s read reported written reads writes)
+
+-- what is due is written, or a write fails
+pub replays : (old new : Streams) (out : List ℕ) (s result : Status)
+    → ReadsDue old.left new.left out s → new.reads ≡ old.reads
+    → Writes old.written new.written old.writes new.writes out s result → Replays old new result
+replays old new out s result due reads (inl whole) =
+    subst (Replays old new) (sym whole.2) (writes_whole old new due.text out s due.read due.due whole.0 reads whole.1)
+replays old new out s result due reads (inr part) =
+    subst (Replays old new) (sym part.2)
+    (record { text = due.text; out = out; status = s; read = due.read; due = due.due; written = part.0; reads = reads; writes = part.1 })

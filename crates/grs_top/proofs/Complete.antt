@@ -1,0 +1,58 @@
+-- A deck that is told and no fault give the whole report.
+use Rattle.std.proofs.Common.{◌≡◌, ◌≤◌, ◌<◌, ◌⊎◌, ℕ, List, length, refl, sym, ap, subst, inl, inr, arith, Option, None, Some, ◌∙◌}
+use Rattle.std.proofs.lemmas.List.{take_all}
+use Rattle.std.specs.Io.KnownBytes.{Appends}
+use Rattle.grs_base.specs.declared.fault.DeckFault.{DeckFault}
+use Rattle.grs_wire.specs.declared.deck.Deck.{Deck as DeckValue}
+use Rattle.grs_deck.specs.Reading.{fault}
+use Rattle.grs_deck.specs.Spells.{SpellsDeck}
+use Rattle.grs_io.specs.Faults.{HasRisen}
+use Rattle.grs_io.specs.Moved.{TakesFirst}
+use Rattle.grs_top.specs.declared.status.Status.{Status}
+use Rattle.grs_top.specs.declared.status.Status.TheVariants as statuses
+use Rattle.grs_top.specs.Seen.{whole_report, ending}
+use Rattle.grs_top.specs.Answers.{Streams, TakesAll, Replays, Reports}
+use Rattle.grs_top.specs.Whole.{Tells, HasNoFault, IsWhole, WholeUnlessMemory}
+
+all_spells : (old new : Option (List ℕ)) (text : List ℕ) (d : DeckValue) → Tells old d → TakesAll old new text → SpellsDeck text d
+all_spells None new text d tells read = absurd tells
+all_spells (Some xs) None text d tells read = absurd read
+all_spells (Some xs) (Some ys) text d tells read = subst (λ (t : List ℕ). SpellsDeck t d) (sym read.0) tells
+
+first_spells : (n : ℕ) (old new : Option (List ℕ)) (text : List ℕ) (d : DeckValue) → 1048576 < n → Tells old d → TakesFirst n old new text → SpellsDeck text d
+first_spells n None new text d room tells read = absurd tells
+first_spells n (Some xs) None text d room tells read = absurd read
+first_spells n (Some xs) (Some ys) text d room tells read =
+    let short : length xs ≤ n = omega (arith, tells.short) in
+    subst (λ (t : List ℕ). SpellsDeck t d) (sym (read.0 ∙ take_all n xs short)) tells
+
+not_risen : (old new : ℕ) → new ≡ old → old < 18446744073709551615 → HasRisen old new → ⊥
+not_risen old new same below (inl more) = omega arith
+not_risen old new same below (inr last) = omega (arith, last.0)
+
+not_refused : (text : List ℕ) (f : DeckFault) → fault text ≡ Some f → fault text ≡ None → ⊥
+not_refused text f has none = cc
+
+module Laws
+  (one : (text : List ℕ) (d e : DeckValue) → SpellsDeck text d → SpellsDeck text e → d ≡ e)
+  (spelled : (text : List ℕ) (d : DeckValue) → SpellsDeck text d → fault text ≡ None) where
+
+  reported : (d : DeckValue) (old new : Streams) (s : Status) → Tells old.left d → Reports old new s → IsWhole d old new s
+  reported d old new s tells r =
+      let same : r.reported.deck ≡ d = one r.text r.reported.deck d r.reported.spelled (all_spells old.left new.left r.text d tells r.read) in
+      record {
+        written = subst (λ (e : DeckValue). Appends old.written new.written (whole_report e)) same (subst (Appends old.written new.written) r.reported.report r.written);
+        ends = subst (λ (e : DeckValue). s ≡ ending e e.events) same r.reported.ends;
+      }
+
+  pub whole : WholeUnlessMemory
+  whole d old new statuses.Done replays tells none = inl (reported d old new statuses.Done tells replays)
+  whole d old new statuses.Waits replays tells none = inl (reported d old new statuses.Waits tells replays)
+  whole d old new statuses.Deck replays tells none =
+      let room : 1048576 < 1048577 = omega arith in
+      absurd (not_refused replays.text replays.refused.first replays.refused.is_first
+          (spelled replays.text d (first_spells 1048577 old.left new.left replays.text d room tells replays.read)))
+  whole d old new statuses.Words replays tells none = absurd replays
+  whole d old new statuses.ReadFault replays tells none = absurd (not_risen old.reads new.reads none.reads none.reads_below replays.reads)
+  whole d old new statuses.WriteFault replays tells none = absurd (not_risen old.writes new.writes none.writes none.writes_below replays.writes)
+  whole d old new statuses.NoMemory replays tells none = inr refl

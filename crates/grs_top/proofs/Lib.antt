@@ -1,0 +1,5 @@
+pub mod Answering
+pub mod Complete
+pub mod DueLemmas
+pub mod Words
+mod Samples

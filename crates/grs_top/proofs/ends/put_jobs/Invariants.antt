@@ -1,0 +1,7 @@
+use Rattle.std.proofs.Common.{◌≡◌, ◌++◌, drop}
+use Rattle.grs_top.specs.Tasks.{tasks_from}
+use Rattle.grs_top.proofs.ends.put_jobs.Given as goal
+
+abbrev pub invariant-loop-job : goal.invariant-loop-job
+invariant-loop-job l =
+    l.out ++ tasks_from l.system l.job l.first (drop l.job l.jobs) ≡ l.initial.out ++ tasks_from l.system 0 0 l.jobs

@@ -1,0 +1,97 @@
+-- What a command does to its source and its sink, by the status that it answers.
+use Rattle.std.specs.Prelude.{◌≡◌, ◌⊎◌, ℕ, List, [], ◌∷◌, codes, Option, None, Some}
+use Rattle.std.specs.Io.KnownBytes.{Appends}
+use Rattle.grs_io.specs.Faults.{HasRisen}
+use Rattle.grs_io.specs.Moved.{TakesFirst, AppendsPart}
+use Rattle.grs_top.specs.declared.status.Status.{Status}
+use Rattle.grs_top.specs.declared.status.Status.TheVariants as statuses
+use Rattle.grs_top.specs.Due.{IsRefused, IsReported, IsDue}
+
+-- What is seen of a source and a sink: the bytes left and the bytes written, where these are told, and how
+-- many reads and writes failed.
+pub record Streams : Type 0 where
+  pub left : Option (List ℕ)
+  pub written : Option (List ℕ)
+  pub reads : ℕ
+  pub writes : ℕ
+
+abbrev pub streams : Option (List ℕ) → Option (List ℕ) → ℕ → ℕ → Streams
+streams left written reads writes = record { left = left; written = written; reads = reads; writes = writes }
+
+-- A text is all bytes that were left, and none is left now.
+abbrev pub TakesAll : Option (List ℕ) → Option (List ℕ) → List ℕ → Type 0
+TakesAll None new text = Unit {0}
+TakesAll (Some xs) None text = ⊥
+TakesAll (Some xs) (Some ys) text = (text ≡ xs) × (ys ≡ [])
+
+-- What is due for the text that was read.
+pub record ReadsDue (old new : Option (List ℕ)) (out : List ℕ) (status : Status) : Type 0 where
+  pub text : List ℕ
+  pub read : TakesFirst 1048577 old new text
+  pub due : IsDue text out status
+
+-- What is due is written whole, and answered by its status, or a write failed and only a part is written.
+abbrev pub Writes : Option (List ℕ) → Option (List ℕ) → ℕ → ℕ → List ℕ → Status → Status → Type 0
+Writes old new writes writes' out status result =
+    (Appends old new out × (writes' ≡ writes) × (result ≡ status))
+    ⊎ (AppendsPart old new out × HasRisen writes writes' × (result ≡ statuses.WriteFault))
+
+-- Done and Waits: the source was read to its end, no read or write failed, and the report of the deck that
+-- was read is written whole.
+pub record Reports (old new : Streams) (status : Status) : Type 0 where
+  pub text : List ℕ
+  pub out : List ℕ
+  pub read : TakesAll old.left new.left text
+  pub reported : IsReported text out status
+  pub written : Appends old.written new.written out
+  pub reads : new.reads ≡ old.reads
+  pub writes : new.writes ≡ old.writes
+
+-- Deck: the source was read to its end, or as far as a deck may reach and one byte more; no read or write
+-- failed, and the line of the text's first fault is written whole.
+pub record Refuses (old new : Streams) : Type 0 where
+  pub text : List ℕ
+  pub out : List ℕ
+  pub read : TakesFirst 1048577 old.left new.left text
+  pub refused : IsRefused text out
+  pub written : Appends old.written new.written out
+  pub reads : new.reads ≡ old.reads
+  pub writes : new.writes ≡ old.writes
+
+-- ReadFault: a read failed, and nothing is written.
+pub record FailsToRead (old new : Streams) : Type 0 where
+  pub reads : HasRisen old.reads new.reads
+  pub written : new.written ≡ old.written
+  pub writes : new.writes ≡ old.writes
+
+-- WriteFault: the text was read, a write failed, and a part of what is due for the text is written, but not
+-- all of it.
+pub record FailsToWrite (old new : Streams) : Type 0 where
+  pub text : List ℕ
+  pub out : List ℕ
+  pub status : Status
+  pub read : TakesFirst 1048577 old.left new.left text
+  pub due : IsDue text out status
+  pub written : AppendsPart old.written new.written out
+  pub reads : new.reads ≡ old.reads
+  pub writes : HasRisen old.writes new.writes
+
+-- NoMemory: no read or write failed, and nothing is written.
+pub record WantsMemory (old new : Streams) : Type 0 where
+  pub written : new.written ≡ old.written
+  pub reads : new.reads ≡ old.reads
+  pub writes : new.writes ≡ old.writes
+
+-- What stands after `replay`, by its status. It has its words already, so it never answers Words.
+abbrev pub Replays : Streams → Streams → Status → Type 0
+Replays old new statuses.Done = Reports old new statuses.Done
+Replays old new statuses.Waits = Reports old new statuses.Waits
+Replays old new statuses.Deck = Refuses old new
+Replays old new statuses.Words = ⊥
+Replays old new statuses.ReadFault = FailsToRead old new
+Replays old new statuses.WriteFault = FailsToWrite old new
+Replays old new statuses.NoMemory = WantsMemory old new
+
+-- The words are `replay` alone.
+abbrev pub IsReplay : List (List ℕ) → Type 0
+IsReplay words = words ≡ codes "replay" ∷ []

@@ -1,0 +1,6 @@
+pub mod Status
+pub mod Tasks
+pub mod Seen
+pub mod Due
+pub mod Answers
+pub mod Whole

@@ -1,0 +1,35 @@
+-- What the report of a deck shows, and whether it waits.
+use Rattle.std.specs.Prelude.{ℕ, List, [], if◌then◌else◌}
+use Rattle.grs_base.specs.Rows.{rows_of}
+use Rattle.grs_wire.specs.declared.deck.Event.{Event}
+use Rattle.grs_wire.specs.declared.deck.Deck.{Deck as DeckValue}
+use Rattle.grs_wire.specs.declared.seen.Seen.{Seen}
+use Rattle.grs_wire.specs.History.{replay}
+use Rattle.grs_world.specs.World.{run, hist, told}
+use Rattle.grs_report.specs.Report.{report}
+use Rattle.grs_report.specs.Ends.{all_ended}
+use Rattle.grs_top.specs.declared.status.Status.{Status}
+use Rattle.grs_top.specs.declared.status.Status.TheVariants.{Done, Waits}
+use Rattle.grs_top.specs.Tasks.{tasks_of, ends_at}
+
+-- What a run of a deck shows: its events and history, what was told, the lists that the history leaves,
+-- and the end of each task. Nothing is reserved in hardware and no lock word is used, and the mode stays.
+unfoldable pub seen_of_run : DeckValue → List Event → Seen
+seen_of_run deck es = record {
+  events = es;
+  hist = hist deck es;
+  told = told deck es;
+  queues = rows_of (replay deck.limit (hist deck es));
+  units = [];
+  words = [];
+  star = deck.star;
+  ended = ends_at (run deck es).node.tasks (tasks_of deck);
+}
+
+-- the report of the run of a deck's own events
+unfoldable pub whole_report : DeckValue → List ℕ
+whole_report deck = report deck (seen_of_run deck deck.events)
+
+-- how the run of these events ends: Done where each task has ended
+unfoldable pub ending : DeckValue → List Event → Status
+ending deck es = if all_ended (seen_of_run deck es).ended then Done else Waits

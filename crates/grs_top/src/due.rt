@@ -1,0 +1,67 @@
+//! What a text is answered by: the report of the run that it spells, or the line of its first fault. The
+//! answer is built whole before any of it is written.
+ghost use Rattle.std.specs.Prelude.{◌≡◌, IfOk, if◌then◌else◌};
+ghost use Rattle.grs_world.specs.Agree.{Sound};
+ghost use Rattle.grs_top.specs.Seen.{whole_report, ending};
+ghost use Rattle.grs_top.specs.Due.{fault_line, IsDue};
+
+use super::Status;
+use super::fault_line::fault_line;
+use super::seen::seen_of;
+use grs_base::{DeckFault, List, NoMemory, ReadError};
+use grs_deck::read_deck;
+use grs_report::{all_ended, report};
+use grs_wire::Deck;
+use grs_world::laws::runs_are_sound;
+use std::alloc::Global;
+
+/// What is to be written, and the status where all of it is.
+#[derive(Drop)]
+pub(crate) struct Due {
+    pub(crate) out: List<u8>,
+    pub(crate) status: Status,
+}
+
+fn ending(done: bool) -> Status
+    ensures { result ≡ (if done then Status.Done else Status.Waits) }
+{
+    if done { Status::Done } else { Status::Waits }
+}
+
+/// The report of the run of a deck's events.
+fn reported(alloc: Global, deck: &Deck) -> Result<Due, NoMemory>
+    ensures out { IfOk result (λ due. due.out ≡ whole_report deck.now) }
+    ensures status { IfOk result (λ due. due.status ≡ ending deck.now deck.now.events) }
+    ensures sound { Sound deck.now deck.now.events }
+{
+    runs_are_sound();
+    let seen = seen_of(alloc, deck)?;
+    let out = report(alloc, deck, &seen)?;
+    Ok(Due {
+        out,
+        status: ending(all_ended(seen.ended.as_slice())),
+    })
+}
+
+fn refused(alloc: Global, fault: DeckFault) -> Result<Due, NoMemory>
+    ensures out { IfOk result (λ due. due.out ≡ fault_line fault) }
+    ensures status { IfOk result (λ due. due.status ≡ Status.Deck) }
+{
+    let out = fault_line(alloc, fault)?;
+    Ok(Due {
+        out,
+        status: Status::Deck,
+    })
+}
+
+/// What a text is answered by.
+#[tactic(none)]
+pub(crate) fn due_for(alloc: Global, text: &[u8]) -> Result<Due, NoMemory>
+    ensures { IfOk result (λ due. IsDue text.now due.out due.status) }
+{
+    match read_deck(alloc, text) {
+        Ok(deck) => reported(alloc, &deck),
+        Err(ReadError::Fault(fault)) => refused(alloc, fault),
+        Err(ReadError::NoMemory) => Err(NoMemory),
+    }
+}

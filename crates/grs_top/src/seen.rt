@@ -1,0 +1,79 @@
+//! What the report of a deck shows: the run of the deck's events, its history, and where that leaves the
+//! lists and the tasks.
+ghost use Rattle.std.specs.Prelude.{◌≡◌, IfOk};
+ghost use Rattle.grs_world.specs.World.{run, hist, told};
+ghost use Rattle.grs_top.specs.Tasks.{tasks_of, ends_at};
+ghost use Rattle.grs_top.specs.Seen.{seen_of_run};
+
+use super::ends::ends_of;
+use grs_base::{List, NoMemory, TaskId};
+use grs_history::{answers, queues_after};
+use grs_wire::{Deck, Event, HistEntry, Seen, TaskEnd, Told};
+use grs_world::replay;
+use std::alloc::Global;
+
+fn events_of(alloc: Global, events: &[Event]) -> Result<List<Event>, NoMemory>
+    ensures { IfOk result (λ list. list ≡ events.now) }
+{
+    let mut list = List::new(alloc);
+    for event in events {
+        list.push(*event)?;
+    }
+    Ok(list)
+}
+
+fn told_of(alloc: Global, told: &[Told]) -> Result<List<Told>, NoMemory>
+    ensures { IfOk result (λ list. list ≡ told.now) }
+{
+    let mut list = List::new(alloc);
+    for line in told {
+        list.push(*line)?;
+    }
+    Ok(list)
+}
+
+/// What is seen of a run itself: its history, what was told, and the end of each task.
+#[derive(Drop)]
+struct Run {
+    hist: List<HistEntry>,
+    told: List<Told>,
+    ended: List<(TaskId, TaskEnd)>,
+}
+
+/// The run of a deck's events.
+fn run_of(alloc: Global, deck: &Deck) -> Result<Run, NoMemory>
+    ensures hist { IfOk result (λ seen. seen.hist ≡ hist deck.now deck.now.events) }
+    ensures told { IfOk result (λ seen. seen.told ≡ told deck.now deck.now.events) }
+    ensures ended { IfOk result (λ seen.
+        seen.ended ≡ ends_at (run deck.now deck.now.events).node.tasks (tasks_of deck.now)) }
+{
+    let world = replay(alloc, deck, deck.events.as_slice())?;
+    let hist = answers(alloc, world.fixed().as_slice())?;
+    let told = told_of(alloc, world.told().as_slice())?;
+    let ended = ends_of(alloc, deck, &world)?;
+    Ok(Run { hist, told, ended })
+}
+
+/// What the run of a deck's events shows.
+///
+/// # Errors
+///
+/// `NoMemory` where there was no memory for the run or for what it shows.
+#[tactic(auto, unfolding(crate::specs::Seen::seen_of_run))]
+pub fn seen_of(alloc: Global, deck: &Deck) -> Result<Seen, NoMemory>
+    ensures { IfOk result (λ seen. seen ≡ seen_of_run deck.now deck.now.events) }
+{
+    let run = run_of(alloc, deck)?;
+    let queues = queues_after(alloc, run.hist.as_slice(), deck.limit)?;
+    let events = events_of(alloc, deck.events.as_slice())?;
+    Ok(Seen {
+        events,
+        hist: run.hist,
+        told: run.told,
+        queues,
+        units: List::new(alloc),
+        words: List::new(alloc),
+        star: deck.star,
+        ended: run.ended,
+    })
+}

@@ -1,0 +1,40 @@
+//! How a command ends.
+ghost use Rattle.std.specs.Prelude.{◌≡◌};
+
+/// How a command ended.
+#[derive(Clone, Copy, Debug, PartialEq, Eq)]
+pub enum Status {
+    /// The whole report was written, and each task ended.
+    Done,
+    /// The whole report was written, and some task hasn't ended.
+    Waits,
+    /// The text is no deck, and the line of its first fault was written whole.
+    Deck,
+    /// The words name no command. Nothing was read or written.
+    Words,
+    /// A read failed. Nothing was written.
+    ReadFault,
+    /// A write failed. What was due was not written whole.
+    WriteFault,
+    /// Memory was wanted and not given. Nothing was written.
+    NoMemory,
+}
+
+impl Status {
+    ghost use Rattle.grs_top.specs.Status.{number};
+
+    /// The number of the status, which is the exit status of the program.
+    pub fn number(self) -> u8
+        ensures { result ≡ number self }
+    {
+        match self {
+            Status::Done => 0,
+            Status::Waits => 4,
+            Status::Deck => 8,
+            Status::Words => 12,
+            Status::ReadFault => 16,
+            Status::WriteFault => 20,
+            Status::NoMemory => 24,
+        }
+    }
+}
