@@ -1,6 +1,6 @@
 -- What is spelled so is read.
-use Rattle.std.proofs.Common.{◌≡◌, ℕ, suc, ◌+◌, ◌<◌, Bool, true, false, cond, eqb, ltb, List, [], ◌∷◌, ◌++◌, length, take, drop, Option, Some, None, Ok, refl, sym, ap, subst, ◌∙◌, arith, append_assoc, length-append}
-use Rattle.std.specs.Prelude.{codes, position, is_none}
+use Rattle.std.proofs.Common.{◌≡◌, ℕ, suc, ◌+◌, ◌<◌, Bool, true, false, eqb, ltb, List, [], ◌∷◌, ◌++◌, length, take, drop, Option, Some, None, Ok, refl, sym, ap, subst, ◌∙◌, arith, append_assoc, length-append}
+use Rattle.std.specs.Prelude.{codes, position}
 use Rattle.std.specs.List.{flat_map, position_or_len}
 use Rattle.std.specs.Str.{bytes_eq}
 use Rattle.std.proofs.lemmas.List.Concat.{flat_map-cons}
@@ -10,10 +10,9 @@ use Rattle.grs_base.specs.declared.line.Scope.{Scope}
 use Rattle.grs_base.specs.declared.line.Scope.TheVariants as scopes
 use Rattle.grs_base.specs.declared.resource.Ctl.{Ctl}
 use Rattle.grs_base.specs.declared.resource.Ctl.TheVariants.{E, S}
-use Rattle.grs_base.specs.declared.resource.Ret.{Ret}
 use Rattle.grs_base.specs.declared.resource.Ret.TheVariants.{RetNone, RetUse, RetHave, RetTest, RetChng, RetEcb}
 use Rattle.deck_scan.specs.declared.token.Token.{Token}
-use Rattle.deck_scan.specs.declared.token.Token.TheVariants.{Word, Name, Open, Close, Comma, Equals}
+use Rattle.deck_scan.specs.declared.token.Token.TheVariants.{Word, Name, Open, Close, Comma}
 use Rattle.deck_scan.specs.declared.token.TokenLine.{TokenLine}
 use Rattle.deck_form.specs.declared.options.Opts.{Opts}
 use Rattle.deck_form.specs.declared.ask.Ask.{Ask}
@@ -23,12 +22,11 @@ use Rattle.deck_form.specs.declared.event.Act.{Act}
 use Rattle.deck_form.specs.declared.event.Act.TheVariants as acts
 use Rattle.deck_form.specs.declared.form.Stmt.{Stmt}
 use Rattle.deck_form.specs.declared.form.Stmt.TheVariants as stmts
-use Rattle.deck_form.specs.declared.form.Key.TheVariants as keys
-use Rattle.deck_form.specs.Tokens.{name_at, maybe, up_to_three}
-use Rattle.deck_form.specs.Words.{is_name_byte, all_name, is_name, short_at, parted, dotted_at, number_of, unit_of}
+use Rattle.deck_form.specs.Tokens.{name_at, maybe}
+use Rattle.deck_form.specs.Words.{is_name_byte, all_name, is_name, short_at, parted, dotted_at, number_of}
 use Rattle.deck_form.specs.Options.{no_opts, ret_of, rnl_of, chosen, option_at, options_at}
 use Rattle.deck_form.specs.Ask.{ctl_at, scope_at, names_at, place_at, enq_may, deq_may, wait_may, enq_at, deq_at, wait_at}
-use Rattle.deck_form.specs.Complex.{no_setup, mode_of, is_entries, is_limit, entries_of, limit_of, with_operand, operand_at, complex_at}
+use Rattle.deck_form.specs.Complex.{no_setup, mode_of, entries_of, limit_of, with_operand, operand_at, complex_at}
 use Rattle.deck_form.specs.Event.{verb, pair_at, entry_at, other_at, act_at, event_at}
 use Rattle.deck_form.specs.UnbuiltWord.{is_unbuilt_word}
 use Rattle.deck_form.specs.Form.{named_at, key, plain_form, keyed, first_form, event_form, form}

@@ -1,6 +1,6 @@
 -- What is read is spelled so.
 use Rattle.std.proofs.Common.{◌≡◌, ℕ, ◌+◌, ◌<◌, Bool, true, false, cond, eqb, ltb, List, [], ◌∷◌, ◌++◌, length, get_or, take, drop, Option, Some, None, Ok, refl, sym, ap, subst, ◌∙◌, arith, drop-cons, add-one, append_assoc, append-nil}
-use Rattle.std.specs.Prelude.{codes, position, ◌&&◌, is_none}
+use Rattle.std.specs.Prelude.{codes, position, ◌&&◌}
 use Rattle.std.specs.List.{flat_map}
 use Rattle.std.specs.Str.{bytes_eq}
 use Rattle.std.proofs.lemmas.Bool.{and_parts, eqb-true, ne_eqb, ltb-true}
@@ -37,7 +37,7 @@ use Rattle.deck_form.specs.Complex.{no_setup, mode_of, is_entries, is_limit, ent
 use Rattle.deck_form.specs.Event.{verb, pair_at, entry_at, other_at, alone_at, act_at, event_at}
 use Rattle.deck_form.specs.UnbuiltWord.{is_unbuilt_word}
 use Rattle.deck_form.specs.Form.{named_at, key, plain_form, or_bad, keyed, first_form, event_form, form}
-use Rattle.deck_form.specs.Spelled.{IsName, Names, ctl_word, scope_word, rnl_word, mode_word, Sets, Opt, Given, Lists, On, valued, option, IsFree, set, IsAsk, Operand, Mode, Entries, Limit, enclosed, operand, IsFreeOperand, set_operand, IsComplex, IsFirst, IsPair, IsEntry, IsAct, IsEvent, Spells}
+use Rattle.deck_form.specs.Spelled.{IsName, Names, ctl_word, scope_word, rnl_word, mode_word, Sets, Opt, Given, Lists, On, valued, option, IsFree, set, IsAsk, Operand, Mode, Entries, Limit, enclosed, operand, IsFreeOperand, set_operand, IsComplex, IsFirst, IsAct, IsEvent, Spells}
 
 -- ---- tools
 

@@ -6,7 +6,7 @@ use Rattle.grs_base.specs.declared.line.Scope.TheVariants as scopes
 use Rattle.grs_base.specs.declared.resource.Ctl.{Ctl}
 use Rattle.grs_base.specs.declared.resource.Ctl.TheVariants.{E, S}
 use Rattle.grs_base.specs.declared.resource.Ret.{Ret}
-use Rattle.grs_base.specs.declared.resource.Ret.TheVariants.{RetNone, RetUse, RetHave, RetTest, RetChng, RetEcb}
+use Rattle.grs_base.specs.declared.resource.Ret.TheVariants.{RetNone, RetHave}
 use Rattle.deck_scan.specs.declared.token.Token.{Token}
 use Rattle.deck_form.specs.declared.options.Opts.{Opts}
 use Rattle.deck_form.specs.declared.ask.Ask.{Ask}

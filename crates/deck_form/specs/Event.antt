@@ -1,5 +1,5 @@
 -- Event lines.
-use Rattle.std.specs.Prelude.{ℕ, Bool, true, false, nat_lt, List, codes, Option, Some, None, if◌then◌else◌}
+use Rattle.std.specs.Prelude.{ℕ, nat_lt, List, codes, Option, Some, None, if◌then◌else◌}
 use Rattle.std.specs.Str.{bytes_eq}
 use Rattle.deck_scan.specs.declared.token.Token.{Token}
 use Rattle.deck_form.specs.declared.event.Act.{Act}

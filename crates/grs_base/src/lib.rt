@@ -11,6 +11,8 @@ mod order;
 mod print;
 mod queues;
 mod resource;
+#[cfg(test)]
+mod tests;
 
 pub use decision::{Code, Decision, Effect, Standing};
 pub use fault::{DeckFault, Kind, NameFault, NoMemory, ReadError};

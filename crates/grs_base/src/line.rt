@@ -1,7 +1,11 @@
 //! What a task's lines say.
+ghost use Rattle.std.specs.Prelude.{◌≡◌, ◌++◌, IfOk};
+
+use super::NoMemory;
 use super::list::List;
 use super::name::{Qname, Rname};
 use super::resource::{Ctl, Ret};
+use std::alloc::Global;
 
 /// Who shares a resource: one job, one system, or the whole complex.
 #[derive(Clone, Copy, Debug, PartialEq, Eq)]
@@ -44,4 +48,75 @@ pub enum Line {
         scope: Scope,
         rnl: bool,
     },
+}
+
+impl Item {
+    /// An equal item.
+    pub fn copy(&self, alloc: Global) -> Result<Item, NoMemory>
+        ensures { IfOk result (λ item. item ≡ self.now) }
+    {
+        let q = self.q.copy(alloc)?;
+        let r = self.r.copy(alloc)?;
+        Ok(Item {
+            q,
+            r,
+            ctl: self.ctl,
+            scope: self.scope,
+        })
+    }
+}
+
+/// Equal items.
+fn copy_items(alloc: Global, items: &[Item]) -> Result<List<Item>, NoMemory>
+    ensures { IfOk result (λ list. list ≡ items.now) }
+{
+    let mut list = List::new(alloc);
+    for item in items {
+        list.push(item.copy(alloc)?)?;
+    }
+    Ok(list)
+}
+
+impl Line {
+    /// An equal line.
+    pub fn copy(&self, alloc: Global) -> Result<Line, NoMemory>
+        ensures { IfOk result (λ line. line ≡ self.now) }
+    {
+        match self {
+            Line::Enq { items, ret, rnl } => Ok(Line::Enq {
+                items: copy_items(alloc, items.as_slice())?,
+                ret: *ret,
+                rnl: *rnl,
+            }),
+            Line::Deq {
+                q,
+                r,
+                scope,
+                have,
+                unit,
+                rnl,
+            } => {
+                let q = q.copy(alloc)?;
+                let r = r.copy(alloc)?;
+                Ok(Line::Deq {
+                    q,
+                    r,
+                    scope: *scope,
+                    have: *have,
+                    unit: *unit,
+                    rnl: *rnl,
+                })
+            }
+            Line::Wait { q, r, scope, rnl } => {
+                let q = q.copy(alloc)?;
+                let r = r.copy(alloc)?;
+                Ok(Line::Wait {
+                    q,
+                    r,
+                    scope: *scope,
+                    rnl: *rnl,
+                })
+            }
+        }
+    }
 }

@@ -88,6 +88,20 @@ impl<T> List<T> {
     }
 }
 
+impl<T: Copy> List<T> {
+    ghost use Rattle.std.specs.Prelude.{◌≡◌, IfOk};
+
+    /// An equal list.
+    pub fn copy(&self, alloc: Global) -> Result<Self, NoMemory>
+        ensures { IfOk result (λ list. list ≡ self.now) }
+    {
+        match Vec::from_slice(alloc, self.items.as_slice()) {
+            Ok(items) => Ok(List { items }),
+            Err(_) => Err(NoMemory),
+        }
+    }
+}
+
 impl List<u8> {
     ghost use Rattle.std.specs.Prelude.{◌≡◌, ◌++◌, OnOk, OnErr, IfOk};
 

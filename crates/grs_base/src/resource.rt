@@ -107,6 +107,21 @@ pub struct Row {
     pub owners: u32,
 }
 
+impl Row {
+    /// An equal row.
+    pub fn copy(&self, alloc: Global) -> Result<Row, NoMemory>
+        ensures { IfOk result (λ row. row ≡ self.now) }
+    {
+        let res = self.res.copy(alloc)?;
+        let elems = self.elems.copy(alloc)?;
+        Ok(Row {
+            res,
+            elems,
+            owners: self.owners,
+        })
+    }
+}
+
 /// Whether two resources are one.
 pub fn is_same_res(a: &Res, b: &Res) -> bool
     ensures { result ≡ same_res a.now b.now }

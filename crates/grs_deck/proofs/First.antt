@@ -13,10 +13,10 @@ use Rattle.grs_deck.specs.declared.judge.Draft.{Draft}
 use Rattle.grs_deck.specs.Grow.{grow}
 use Rattle.grs_deck.specs.Reading.{◌>>=◌, judge, judge_all, no_draft, ended, reading, fault, fault_of}
 use Rattle.grs_deck.specs.Spells.{Says}
-use Rattle.grs_deck.specs.Faults.{FaultyLine, NoSystemSaid, FaultOfLines, IsFault}
+use Rattle.grs_deck.specs.Faults.{FaultyLine, NoSystemSaid, IsFault}
 use Rattle.grs_deck.proofs.FitsLaws.{judged}
 use Rattle.grs_deck.proofs.SpellsLaws.{right_of, says, says_again, judged_again, allowed_of, text_spells, lines_read}
-use Rattle.grs_deck.proofs.Least.{refused, refused_is, judged_err, judged_so}
+use Rattle.grs_deck.proofs.Least.{refused, judged_err, judged_so}
 use Rattle.deck_form.proofs.Taken.{form_taken}
 
 -- ---- lines

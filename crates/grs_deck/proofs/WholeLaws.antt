@@ -1,5 +1,5 @@
 -- Each deck that is spelled is whole.
-use Rattle.std.proofs.Common.{◌≡◌, ◌≢◌, ℕ, ◌+◌, ◌-◌, ◌<◌, ◌≤◌, Bool, true, false, cond, eqb, List, [], ◌∷◌, ◌++◌, length, take, Option, Some, None, refl, sym, ap, subst, ◌∙◌, arith}
+use Rattle.std.proofs.Common.{◌≡◌, ℕ, ◌+◌, ◌-◌, ◌<◌, Bool, true, false, cond, eqb, List, [], ◌∷◌, length, take, Option, Some, None, refl, sym, subst, arith}
 use Rattle.std.specs.Prelude.{All, slice_get, unwrap_or, Result, Ok, Err, IfOk}
 use Rattle.grs_base.specs.declared.fault.ReadError.{ReadError}
 use Rattle.deck_scan.specs.Gives.{Gives}
@@ -10,7 +10,6 @@ use Rattle.std.proofs.lemmas.Option.{slice_get_within}
 use Rattle.grs_base.specs.declared.resource.SysId.{SysId}
 use Rattle.grs_base.specs.declared.resource.TaskId.{TaskId}
 use Rattle.grs_wire.specs.declared.deck.TaskDef.{TaskDef}
-use Rattle.grs_wire.specs.declared.deck.JobDef.{JobDef}
 use Rattle.grs_wire.specs.declared.deck.SystemDef.{SystemDef}
 use Rattle.grs_wire.specs.declared.deck.Event.{Event}
 use Rattle.grs_wire.specs.declared.deck.Choice.{Choice}

@@ -1,5 +1,8 @@
 //! Requests and their answers.
-use grs_base::{Code, Ctl, Res, Ret, TaskId};
+ghost use Rattle.std.specs.Prelude.{◌≡◌, IfOk};
+
+use grs_base::{Code, Ctl, NoMemory, Res, Ret, TaskId};
+use std::alloc::Global;
 
 /// What a task asks for. `full` tells whether the task had as many elements as it may when it asked.
 #[derive(Drop)]
@@ -37,4 +40,60 @@ pub enum Answer {
 #[derive(Drop)]
 pub enum Fixed {
     Asked(Req),
+}
+
+impl Want {
+    /// An equal want.
+    pub fn copy(&self, alloc: Global) -> Result<Want, NoMemory>
+        ensures { IfOk result (λ want. want ≡ self.now) }
+    {
+        match self {
+            Want::Enq {
+                res,
+                ctl,
+                ret,
+                full,
+            } => {
+                let res = res.copy(alloc)?;
+                Ok(Want::Enq {
+                    res,
+                    ctl: *ctl,
+                    ret: *ret,
+                    full: *full,
+                })
+            }
+            Want::Deq { res, have } => {
+                let res = res.copy(alloc)?;
+                Ok(Want::Deq { res, have: *have })
+            }
+            Want::Release { res } => {
+                let res = res.copy(alloc)?;
+                Ok(Want::Release { res })
+            }
+        }
+    }
+}
+
+impl Req {
+    /// An equal request.
+    pub fn copy(&self, alloc: Global) -> Result<Req, NoMemory>
+        ensures { IfOk result (λ req. req ≡ self.now) }
+    {
+        let want = self.want.copy(alloc)?;
+        Ok(Req {
+            task: self.task,
+            want,
+        })
+    }
+}
+
+impl Fixed {
+    /// An equal value.
+    pub fn copy(&self, alloc: Global) -> Result<Fixed, NoMemory>
+        ensures { IfOk result (λ fixed. fixed ≡ self.now) }
+    {
+        match self {
+            Fixed::Asked(req) => Ok(Fixed::Asked(req.copy(alloc)?)),
+        }
+    }
 }

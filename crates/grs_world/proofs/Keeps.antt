@@ -1,5 +1,5 @@
 -- Which tasks there are stays through each step.
-use Rattle.std.proofs.Common.{◌≡◌, ◌+◌, ◌<◌, get_or, ℕ, zero, suc, Bool, true, false, cond, List, [], ◌∷◌, drop, Option, Some, None, length, refl, ap, sym, arith, ◌∙◌}
+use Rattle.std.proofs.Common.{◌≡◌, ◌+◌, ◌<◌, get_or, ℕ, Bool, true, false, cond, List, drop, Option, Some, None, length, refl, ap, sym, ◌∙◌}
 use Rattle.std.proofs.lemmas.List.{at_drop_more}
 use Rattle.grs_base.specs.declared.line.Line.{Line}
 use Rattle.grs_wire.specs.declared.deck.Deck.{Deck}
@@ -7,18 +7,15 @@ use Rattle.grs_wire.specs.declared.deck.Event.{Event}
 use Rattle.grs_legal.specs.Asks.{scripts_of, lines_in, lines_of}
 use Rattle.task_state.proofs.ViewLaws.{is_task-system}
 use Rattle.grs_world.specs.World.{World, happens, run_from}
-use Rattle.std.proofs.lemmas.Bool.{cases_Bool}
 use Rattle.grs_base.specs.declared.resource.Ctl.{Ctl}
 use Rattle.grs_base.specs.declared.resource.Res.{Res}
 use Rattle.grs_base.specs.declared.resource.Ret.{Ret}
 use Rattle.grs_base.specs.declared.resource.TaskId.{TaskId}
 use Rattle.grs_base.specs.declared.decision.Code.{Code}
-use Rattle.grs_base.specs.declared.decision.Code.TheVariants.{C00, C04, C08, C14, C18, Wait, End}
-use Rattle.grs_wire.specs.declared.told.Verb.{Verb}
 use Rattle.task_state.specs.declared.state.Rec.{Rec}
-use Rattle.task_state.specs.View.{TasksView, is_task, with_record, with_exclusive, without_record, telling}
+use Rattle.task_state.specs.View.{TasksView, is_task}
 use Rattle.task_state.proofs.Stays.{stays, system-record, count-record, system-exclusive, count-exclusive, system-telling, count-telling}
-use Rattle.grs_world.specs.Node.{Node, Step, only, task_step, is_queued, is_changed, record_enq, tell_code, tell_record, new_record}
+use Rattle.grs_world.specs.Node.{Node, only, task_step, is_queued, is_changed, record_enq, tell_record}
 use Rattle.grs_world.specs.Running.{tell_line}
 
 -- a number that both of two values have, one of them has

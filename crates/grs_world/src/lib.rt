@@ -7,6 +7,8 @@ pub mod laws;
 mod node;
 mod replies;
 mod scripts;
+#[cfg(test)]
+mod tests;
 mod world;
 
 pub use world::{World, replay};

@@ -85,12 +85,7 @@ impl Node {
     /// A request that the local lists decide: the asker's answer first, then control for the tasks that
     /// became owners.
     #[tactic(auto, using(crate::proofs::Keeps::keeps), unfolding(crate::specs::Node::decide))]
-    fn decide(
-        &mut self,
-        alloc: Global,
-        task: TaskId,
-        want: Want,
-    ) -> Result<Option<Req>, NoMemory>
+    fn decide(&mut self, alloc: Global, task: TaskId, want: Want) -> Result<Option<Req>, NoMemory>
         requires { is_task self.old.tasks task ≡ true }
         ensures step { IfOk result (λ fixed. stepped self.new fixed ≡ steps.decide self.old task want) }
         ensures system { self.new.tasks.system ≡ self.old.tasks.system }
@@ -173,7 +168,11 @@ impl Node {
                 }
             },
             Line::Deq {
-                q, r, scope, have, ..
+                q,
+                r,
+                scope,
+                have,
+                ..
             } => {
                 let res = resolve(alloc, task, *scope, q, r)?;
                 self.ask(alloc, task, Want::Deq { res, have: *have })
@@ -253,11 +252,8 @@ impl Node {
                 let code = *code;
                 self.end_step(alloc, task, code)
             }
-            Phase::ToSend
-            | Phase::Sent
-            | Phase::HeldAnswer
-            | Phase::HeldLine(_)
-            | Phase::Ended => Ok(None),
+            Phase::ToSend | Phase::Sent | Phase::HeldAnswer | Phase::HeldLine(_) | Phase::Ended =>
+                Ok(None),
         }
     }
 }

@@ -239,11 +239,7 @@ impl<'d> World<'d> {
 
 /// The run of a list of events.
 #[tactic(auto, using(crate::proofs::Keeps::runs))]
-pub fn replay<'d>(
-    alloc: Global,
-    deck: &'d Deck,
-    events: &[Event],
-) -> Result<World<'d>, NoMemory>
+pub fn replay<'d>(alloc: Global, deck: &'d Deck, events: &[Event]) -> Result<World<'d>, NoMemory>
     ensures { IfOk result (λ w. w ≡ ran deck.now events.now) }
 {
     let mut world = World::new(alloc, deck)?;

@@ -1,12 +1,12 @@
 -- Who owns before and after a change of the list.
-use Rattle.std.proofs.Common.{◌≡◌, ◌<◌, ◌≤◌, ◌+◌, ◌-◌, ℕ, zero, suc, Bool, true, false, cond, not, ◌&&◌, ◌||◌, List, [], ◌∷◌, ◌++◌, take, drop, length, refl, ap, sym, ◌∙◌, subst, arith}
+use Rattle.std.proofs.Common.{◌≡◌, ◌≤◌, ◌-◌, ℕ, zero, suc, Bool, true, false, cond, not, ◌&&◌, ◌||◌, List, [], ◌∷◌, ◌++◌, take, drop, length, refl, ap, sym, ◌∙◌, arith}
 use Rattle.std.specs.List.{list_all, list_any}
 use Rattle.std.specs.Prelude.{filter, map}
 use Rattle.std.proofs.lemmas.Bool.Decides.{nat_tests}
 use Rattle.std.proofs.lemmas.List.{length-drop}
 use Rattle.grs_base.specs.Same.{same_res, same_task}
-use Rattle.grs_base.specs.Lists.{is_apart, has_task, is_shared, shared_front, owners, owns, owns_shared, place_of, standing_of, list_after, list_exclusive, list_without, is_owner, decide_enq}
-use Rattle.grs_base.specs.State.{pick, State, list_of, enq_state, deq_state, release_state, after_effect}
+use Rattle.grs_base.specs.Lists.{is_apart, has_task, is_shared, shared_front, owners, owns, owns_shared, standing_of, list_after, list_exclusive, list_without, is_owner, decide_enq}
+use Rattle.grs_base.specs.State.{pick, State, list_of, enq_state, deq_state, release_state}
 use Rattle.grs_base.specs.declared.resource.TaskId.{TaskId}
 use Rattle.grs_base.specs.declared.resource.Elem.{Elem}
 use Rattle.grs_base.specs.declared.resource.Res.{Res}
@@ -15,7 +15,7 @@ use Rattle.grs_base.specs.declared.resource.Ret.{Ret}
 use Rattle.grs_base.specs.declared.decision.Effect.{Effect}
 use Rattle.grs_base.specs.declared.decision.Effect.TheVariants.{Nothing, Append, MakeExclusive}
 use Rattle.grs_base.specs.declared.decision.Standing.TheVariants.{OnlyShared}
-use Rattle.grs_base.proofs.SameLaws.{same_task-exact, same_task-itself}
+use Rattle.grs_base.proofs.SameLaws.{same_task-itself}
 use Rattle.grs_base.proofs.ListLaws.{same_task-sym, is_owner-standing}
 use Rattle.grs_base.proofs.StateLaws.{list_at-without, res_equality, list_of-effect, only_owner}
 use Rattle.grs_wire.specs.Wants.{became_owners}

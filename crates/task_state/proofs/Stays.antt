@@ -1,5 +1,5 @@
 -- Which tasks there are stays through each change.
-use Rattle.std.proofs.Common.{◌≡◌, ℕ, length, set, Option, refl, length-set}
+use Rattle.std.proofs.Common.{◌≡◌, ℕ, length, Option, refl, length-set}
 use Rattle.grs_base.specs.declared.resource.TaskId.{TaskId}
 use Rattle.grs_base.specs.declared.resource.Res.{Res}
 use Rattle.grs_wire.specs.declared.request.Req.{Req}
@@ -7,7 +7,7 @@ use Rattle.grs_wire.specs.declared.told.ToldLine.{ToldLine}
 use Rattle.task_state.specs.declared.state.Rec.{Rec}
 use Rattle.task_state.specs.declared.state.Phase.{Phase}
 use Rattle.task_state.specs.declared.state.TaskState.{TaskState}
-use Rattle.task_state.specs.View.{TasksView, state_of, with_state, with_line, with_phase, with_outstanding, with_record, without_record, with_told, with_exclusive, with_rank, telling}
+use Rattle.task_state.specs.View.{TasksView, with_state, with_line, with_phase, with_outstanding, with_record, without_record, with_told, with_exclusive, with_rank, telling}
 
 pub system-state : (v : TasksView) (t : TaskId) (f : TaskState → TaskState) → (with_state v t f).system ≡ v.system
 unfolding with_state

@@ -5,6 +5,9 @@
 mod records;
 mod state;
 mod tasks;
+#[cfg(test)]
+mod tests;
+mod units;
 
 pub use state::{Phase, Rec, TaskState};
 pub use tasks::Tasks;

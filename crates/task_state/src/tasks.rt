@@ -1,11 +1,13 @@
 //! The tasks of a system. Each call changes one task, or tells one line.
-ghost use Rattle.std.specs.Prelude.{◌≡◌, ◌<◌, ◌≤◌, ◌+◌, ◌++◌, ◌∷◌, [], true, length, map, IfOk, OnOk, OnErr};
+ghost use Rattle.std.specs.Prelude.{◌≡◌, ◌<◌, ◌≤◌, ◌+◌, ◌++◌, ◌∷◌, [], ℕ, true, length, map, IfOk, OnOk, OnErr};
 ghost use Rattle.std.specs.Option.{option_copied};
+ghost use Rattle.task_state.specs.Units.{is_count, count_at, reserves_of};
 ghost use Rattle.task_state.specs.View as view;
 ghost use Rattle.task_state.specs.View.{TasksView, new_tasks, is_task, code_in, state_of, record_of, with_line, with_phase, with_outstanding, with_record, without_record, with_told, with_exclusive, with_rank, telling};
 
 use super::records::{find, make_exclusive, mark_told, set_rank, take_first};
 use super::state::{Phase, Rec, TaskState};
+use super::units::count_units;
 use grs_base::{List, NoMemory, Res, SysId, TaskId};
 use grs_wire::{Req, ToldLine};
 use std::alloc::Global;
@@ -108,6 +110,15 @@ impl Tasks {
         ensures { result.now ≡ self.now.told }
     {
         &self.told
+    }
+
+    /// How often each unit is reserved by tasks that were told control, by unit, without those that aren't
+    /// reserved.
+    pub fn units(&self) -> Result<List<(u16, u32)>, NoMemory>
+        ensures by_unit { IfOk result (λ counts. is_count counts ≡ true) }
+        ensures counts { IfOk result (λ counts. (u : ℕ) → count_at u counts ≡ reserves_of u self.now.tasks) }
+    {
+        Ok(List::from_vec(count_units(self.alloc, self.tasks.as_slice())?))
     }
 
     /// The task takes one more line.

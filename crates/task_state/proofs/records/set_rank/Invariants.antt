@@ -1,4 +1,4 @@
-use Rattle.std.proofs.Common.{◌≡◌, ◌++◌, take, drop, true}
+use Rattle.std.proofs.Common.{◌≡◌, ◌++◌, take, drop}
 use Rattle.task_state.specs.View.{on_record}
 use Rattle.task_state.proofs.records.set_rank.Given as goal
 
