@@ -1,5 +1,5 @@
 //! The tasks of a system. Each call changes one task, or tells one line.
-ghost use Rattle.std.specs.Prelude.{◌≡◌, ◌<◌, ◌≤◌, ◌+◌, ◌++◌, ◌∷◌, [], ℕ, true, length, map, IfOk, OnOk, OnErr};
+ghost use Rattle.std.specs.Prelude.{◌≡◌, ◌<◌, ◌≤◌, ◌+◌, ◌++◌, ◌∷◌, [], ℕ, true, length, map, IsTrue, ◌↔◌, IfOk, OnOk, OnErr};
 ghost use Rattle.std.specs.Option.{option_copied};
 ghost use Rattle.task_state.specs.Units.{is_count, count_at, reserves_of};
 ghost use Rattle.task_state.specs.View as view;
@@ -95,6 +95,62 @@ impl Tasks {
         ensures { result.now ≡ state_of self.now task }
     {
         &self.tasks[task.task as usize]
+    }
+
+    /// The number of lines that the task has taken.
+    pub fn line(&self, task: TaskId) -> u32
+        requires { is_task self.now task ≡ true }
+        ensures { result ≡ (state_of self.now task).line }
+    {
+        self.state(task).line
+    }
+
+    /// What the task does next.
+    pub fn phase(&self, task: TaskId) -> &Phase
+        requires { is_task self.now task ≡ true }
+        ensures { result.now ≡ (state_of self.now task).phase }
+    {
+        &self.state(task).phase
+    }
+
+    /// Whether the task has ended.
+    pub fn ended(&self, task: TaskId) -> bool
+        requires { is_task self.now task ≡ true }
+        ensures { IsTrue result ↔ ((state_of self.now task).phase ≡ Phase.Ended) }
+    {
+        matches!(self.phase(task), Phase::Ended)
+    }
+
+    /// The task's end code, 0 as long as it has none.
+    pub fn ending(&self, task: TaskId) -> u16
+        requires { is_task self.now task ≡ true }
+        ensures { result ≡ (state_of self.now task).code }
+    {
+        self.state(task).code
+    }
+
+    /// The task's requests on record, in the order in which they were queued.
+    pub fn records(&self, task: TaskId) -> &List<Rec>
+        requires { is_task self.now task ≡ true }
+        ensures { result.now ≡ (state_of self.now task).records }
+    {
+        &self.state(task).records
+    }
+
+    /// How many requests the task has on record.
+    pub fn count(&self, task: TaskId) -> usize
+        requires { is_task self.now task ≡ true }
+        ensures { result ≡ length (state_of self.now task).records }
+    {
+        self.records(task).len()
+    }
+
+    /// The request that isn't answered yet, if there is one.
+    pub fn outstanding(&self, task: TaskId) -> Option<&Req>
+        requires { is_task self.now task ≡ true }
+        ensures { option_copied result ≡ (state_of self.now task).outstanding }
+    {
+        self.state(task).outstanding.as_ref()
     }
 
     /// The first record that the task has of a resource.
