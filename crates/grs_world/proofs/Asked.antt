@@ -1,47 +1,38 @@
 -- A task after one of its lines was answered: what holds of it, and that the line told agrees.
-use Rattle.std.proofs.Common.{◌≡◌, ◌≢◌, ◌<◌, ◌≤◌, ◌-◌, ◌+◌, ℕ, zero, suc, Bool, true, false, cond, not, ◌&&◌, ◌||◌, List, [], ◌∷◌, ◌++◌, map, length, take, Option, Some, None, refl, ap, sym, ◌∙◌, subst, arith, inl, inr, add-one, length-append}
-use Rattle.std.specs.Prelude.{filter, slice_get, is_some, ◌⊎◌, IfSome, unwrap_or, ◌==◌, nat_lt}
+use Rattle.std.proofs.Common.{◌≡◌, ◌-◌, ◌+◌, ℕ, suc, Bool, true, false, not, ◌&&◌, List, [], ◌∷◌, ◌++◌, map, length, take, Option, Some, None, refl, ap, sym, ◌∙◌, subst, arith, inl, inr, add-one, length-append}
+use Rattle.std.specs.Prelude.{slice_get, ◌⊎◌, unwrap_or}
 use Rattle.std.specs.List.{list_any, list_all}
-use Rattle.std.proofs.lemmas.Bool.{and_parts, cases_Bool, eqb-true, eq-eqb, ne_eqb, lt-ltb, ltb-true}
+use Rattle.std.proofs.lemmas.Bool.{cases_Bool}
 use Rattle.std.proofs.lemmas.Bool.Decides.{nat_tests}
 use Rattle.grs_base.specs.Same.{same_res, same_task}
-use Rattle.grs_base.specs.Lists.{owns, has_task}
-use Rattle.grs_base.specs.State.{State, list_of}
+use Rattle.grs_base.specs.State.{State}
 use Rattle.grs_base.specs.declared.resource.Res.{Res}
-use Rattle.grs_base.specs.declared.resource.Ctl.{Ctl}
-use Rattle.grs_base.specs.declared.resource.Ctl.TheVariants as ctls
-use Rattle.grs_base.specs.declared.resource.Ret.{Ret}
-use Rattle.grs_base.specs.declared.resource.Ret.TheVariants.{RetEcb}
 use Rattle.grs_base.specs.declared.resource.TaskId.{TaskId}
 use Rattle.grs_base.specs.declared.decision.Code.{Code}
 use Rattle.grs_base.specs.declared.decision.Code.TheVariants.{C00, C04, C08, C14, C18, Wait, End}
 use Rattle.grs_base.specs.declared.line.Line.{Line}
-use Rattle.grs_base.proofs.SameLaws.{same_res-exact, same_res-itself, same_task-exact, same_task-itself}
+use Rattle.grs_base.proofs.SameLaws.{same_res-itself}
 use Rattle.grs_wire.specs.declared.history.HistEntry.{HistEntry}
-use Rattle.grs_wire.specs.declared.history.HistEntry.TheVariants.{Enq, Deq, Release}
 use Rattle.grs_wire.specs.declared.request.Req.{Req}
 use Rattle.grs_wire.specs.declared.told.Verb.{Verb}
 use Rattle.grs_wire.specs.declared.told.Verb.TheVariants as verbs
 use Rattle.grs_wire.specs.declared.told.ToldLine.{ToldLine}
 use Rattle.grs_wire.specs.declared.told.ToldLine.TheVariants.{Coded, Post, Ended}
-use Rattle.grs_wire.specs.History.{asker, code_of, res_of, replay}
-use Rattle.grs_legal.specs.Asks.{Ask, resolved, asks_of, ask_of}
-use Rattle.grs_legal.specs.Legal.{lets_pass, HasControl, line_entries, entries_of, last_entry, passed_behind, end_among, end_or, is_of_line}
+use Rattle.grs_wire.specs.History.{asker, code_of}
+use Rattle.grs_legal.specs.Asks.{Ask, asks_of, ask_of}
+use Rattle.grs_legal.specs.Legal.{lets_pass, passed_behind, end_among, end_or}
 use Rattle.task_state.specs.declared.state.Rec.{Rec}
 use Rattle.task_state.specs.declared.state.Phase.{Phase}
 use Rattle.task_state.specs.declared.state.Phase.TheVariants as phases
-use Rattle.task_state.specs.declared.state.TaskState.{TaskState}
-use Rattle.task_state.specs.View.{on_record, without_first, code_in}
-use Rattle.grs_world.specs.Node.{is_held, is_queued, is_changed, is_granted, phase_after}
-use Rattle.grs_world.specs.Agree.{asked_at, entry_of_line, tells_control, is_control_of, gets_control, told_as, is_code_before, is_code_of, is_post_of, is_end_of, told_task, TellsEnq, TellsDeq, LineAgrees}
-use Rattle.grs_world.proofs.Own.{own, exclusive_on}
-use Rattle.grs_world.proofs.Entries.{slice_get-append, slice_get-end, asked_at-grows, end_among-push}
-use Rattle.grs_world.proofs.Lines.{take-more, slice_get-within, asks-more, asks_of-at, passed-none}
-use Rattle.grs_world.proofs.Invariant.{Each, IsMine, key, has_res, is_distinct, IsEntryOn, IsEcb, IsRec, IsDue, IsGoing, Past, Passed, IsFree, IsReady, IsHeld, IsHeldLine, IsWaitFor, IsEnding, IsInPhase, IsTask, is_post_before, is_waiting, is_unsent, has_ended, code_bound}
-use Rattle.grs_world.proofs.Others.{any-more, any-last, none-more, all-more, all-kept}
-use Rattle.grs_world.proofs.Control.{queued_control}
+use Rattle.task_state.specs.View.{code_in}
+use Rattle.grs_world.specs.Node.{is_held, phase_after}
+use Rattle.grs_world.specs.Agree.{entry_of_line, tells_control, is_control_of, is_code_before, is_code_of, is_post_of, is_end_of}
+use Rattle.grs_world.proofs.Own.{own}
+use Rattle.grs_world.proofs.Entries.{slice_get-end, asked_at-grows, end_among-push}
+use Rattle.grs_world.proofs.Lines.{take-more, slice_get-within, asks-more, passed-none}
+use Rattle.grs_world.proofs.Invariant.{Each, key, has_res, is_distinct, IsEntryOn, IsEcb, IsRec, IsDue, Past, Passed, IsInPhase, IsTask, is_post_before, is_unsent, has_ended, code_bound}
+use Rattle.grs_world.proofs.Others.{any-more, none-more, all-more, all-kept}
 use Rattle.grs_world.proofs.Granted.{codes_later, lt_suc, or_right}
-use Rattle.grs_world.proofs.Keys.{each-push}
 
 -- what was told after a code: WAIT isn't told
 abbrev pub told_after : List ToldLine → TaskId → ℕ → Verb → Code → List ToldLine
@@ -93,6 +84,11 @@ codes-after T t k verb C14 h = all-more (is_code_before t (suc k)) T _ (codes_la
 codes-after T t k verb C18 h = all-more (is_code_before t (suc k)) T _ (codes_later t k T h) (or_right (not (same_task t t)) _ (lt_suc k))
 codes-after T t k verb (End n) h = all-more (is_code_before t (suc k)) T _ (codes_later t k T h) (or_right (not (same_task t t)) _ (lt_suc k))
 
+-- a conjunction of which the second part is kept
+and_kept : (a b c : Bool) → (b ≡ true → c ≡ true) → (a && b) ≡ true → (a && c) ≡ true
+and_kept true b c f g = f g
+and_kept false b c f g = g
+
 -- options that say as much
 Grows : Option HistEntry → Option HistEntry → Type 0
 Grows o o' = (e : HistEntry) → o ≡ Some e → o' ≡ Some e
@@ -118,18 +114,10 @@ module _ (ls : List Line) (E : List HistEntry) (h : HistEntry) (t : TaskId) wher
   grows-line k e f = asked_at-grows t (slice_get ls (k - 1)) E (h ∷ []) (length (asks_of t (take (k - 1) ls))) e f
 
   grows-tells : (r : Res) (l : ToldLine) → tells_control t ls E r l ≡ true → tells_control t ls (E ++ h ∷ []) r l ≡ true
-  grows-tells r (Coded u k part verbs.Enq code) e = both (same_task t u) _ _ (grows-control r code (entry_of_line t ls E k) (entry_of_line t ls (E ++ h ∷ []) k) (grows-line k)) e
-    where
-      both : (a b c : Bool) → (b ≡ true → c ≡ true) → (a && b) ≡ true → (a && c) ≡ true
-      both true b c f g = f g
-      both false b c f g = g
+  grows-tells r (Coded u k part verbs.Enq code) e = and_kept (same_task t u) _ _ (grows-control r code (entry_of_line t ls E k) (entry_of_line t ls (E ++ h ∷ []) k) (grows-line k)) e
   grows-tells r (Coded u k part verbs.Deq code) e = e
   grows-tells r (Coded u k part verbs.Wait code) e = e
-  grows-tells r (Post u k) e = both (same_task t u) _ _ (grows-control r C00 (entry_of_line t ls E k) (entry_of_line t ls (E ++ h ∷ []) k) (grows-line k)) e
-    where
-      both : (a b c : Bool) → (b ≡ true → c ≡ true) → (a && b) ≡ true → (a && c) ≡ true
-      both true b c f g = f g
-      both false b c f g = g
+  grows-tells r (Post u k) e = and_kept (same_task t u) _ _ (grows-control r C00 (entry_of_line t ls E k) (entry_of_line t ls (E ++ h ∷ []) k) (grows-line k)) e
   grows-tells r (Ended u code) e = e
 
   any-kept : {X : Type 0} (p q : X → Bool) → ((x : X) → p x ≡ true → q x ≡ true) → (xs : List X) → list_any p xs ≡ true → list_any q xs ≡ true
@@ -167,10 +155,6 @@ pub record Asks (ls : List Line) (p : Past) (T : List ToldLine) (knows : Res →
   pub asks : ask_of t l ≡ Some a
 
 module _ (ls : List Line) (p : Past) (T : List ToldLine) (knows : Res → Bool) (t : TaskId) (n code : ℕ) (xs : List Rec) (o : Option Req) (l : Line) (a : Ask) (k : Asks ls p T knows t n code xs o l a) (s' : State) (h : HistEntry) where
-  -- the past afterwards
-  abbrev pub past_asked : Past
-  past_asked = record { lists = s'; asked = p.asked ++ h ∷ []; last = Some h }
-
   pub of_new_line : entry_of_line t ls (p.asked ++ h ∷ []) (suc n) ≡ Some h
   of_new_line =
       let line : slice_get ls (suc n - 1) ≡ Some l = ap (slice_get ls) (omega (arith)) ∙ k.at in

@@ -1,42 +1,26 @@
 -- Telling a task control that it got by another's request.
-use Rattle.std.proofs.Common.{◌≡◌, ◌≢◌, ◌<◌, ◌≤◌, ◌-◌, ◌+◌, ℕ, zero, suc, Bool, true, false, cond, not, ◌&&◌, ◌||◌, List, [], ◌∷◌, ◌++◌, map, length, take, Option, Some, None, refl, ap, sym, ◌∙◌, subst, arith, inl, inr}
-use Rattle.std.specs.Prelude.{slice_get, is_some, ◌⊎◌, IfSome, unwrap_or, ◌==◌, nat_lt}
-use Rattle.std.specs.List.{list_any, list_all}
-use Rattle.std.proofs.lemmas.Bool.{and_parts, cases_Bool, eqb-true, eq-eqb, lt-ltb, ltb-true}
-use Rattle.std.proofs.lemmas.Bool.Decides.{nat_tests}
+use Rattle.std.proofs.Common.{◌≡◌, ℕ, suc, Bool, true, false, cond, ◌&&◌, ◌||◌, List, [], ◌∷◌, ◌++◌, map, Option, Some, None, refl, ap, sym, ◌∙◌, subst, arith, inl, inr}
+use Rattle.std.specs.Prelude.{slice_get, ◌⊎◌, ◌==◌}
+use Rattle.std.proofs.lemmas.Bool.{cases_Bool, eqb-true}
 use Rattle.grs_base.specs.Same.{same_res, same_task}
-use Rattle.grs_base.specs.Lists.{owns, has_task}
-use Rattle.grs_base.specs.State.{State, list_of}
 use Rattle.grs_base.specs.declared.resource.Res.{Res}
-use Rattle.grs_base.specs.declared.resource.Ctl.{Ctl}
-use Rattle.grs_base.specs.declared.resource.Ret.{Ret}
 use Rattle.grs_base.specs.declared.resource.Ret.TheVariants.{RetNone, RetUse, RetHave, RetTest, RetChng, RetEcb}
 use Rattle.grs_base.specs.declared.resource.TaskId.{TaskId}
-use Rattle.grs_base.specs.declared.decision.Code.{Code}
 use Rattle.grs_base.specs.declared.decision.Code.TheVariants.{C00, C04, C08, C14, C18, Wait, End}
 use Rattle.grs_base.specs.declared.line.Line.{Line}
-use Rattle.grs_base.specs.declared.line.Line.TheVariants as lines
-use Rattle.grs_base.proofs.SameLaws.{same_res-exact, same_res-itself, same_task-exact, same_task-itself}
+use Rattle.grs_base.proofs.SameLaws.{same_res-exact, same_res-itself, same_task-itself}
 use Rattle.grs_wire.specs.declared.history.HistEntry.{HistEntry}
 use Rattle.grs_wire.specs.declared.history.HistEntry.TheVariants.{Enq, Deq, Release}
-use Rattle.grs_wire.specs.declared.told.Verb.{Verb}
-use Rattle.grs_wire.specs.declared.told.Verb.TheVariants as verbs
 use Rattle.grs_wire.specs.declared.told.ToldLine.{ToldLine}
-use Rattle.grs_wire.specs.declared.told.ToldLine.TheVariants.{Coded, Post, Ended}
-use Rattle.grs_wire.specs.History.{asker, code_of, res_of, replay}
-use Rattle.grs_legal.specs.Asks.{resolved, asks_of}
-use Rattle.grs_legal.specs.Legal.{lets_pass, HasControl, line_entries, passed_behind, end_among}
+use Rattle.grs_wire.specs.declared.told.ToldLine.TheVariants.{Post}
 use Rattle.task_state.specs.declared.state.Rec.{Rec}
 use Rattle.task_state.specs.declared.state.Phase.{Phase}
 use Rattle.task_state.specs.declared.state.Phase.TheVariants as phases
-use Rattle.task_state.specs.declared.state.TaskState.{TaskState}
 use Rattle.task_state.specs.View.{record_place, record_of, on_record}
-use Rattle.grs_world.specs.Node.{is_held, is_held_for, is_queued}
-use Rattle.grs_world.specs.Agree.{entry_of_line, tells_control, is_control_of, gets_control, told_as, is_code_before, is_code_of, is_post_of, is_end_of, told_task, TellsEnq, Posts, LineAgrees, CodeAgrees}
-use Rattle.grs_world.proofs.Own.{own}
-use Rattle.grs_world.proofs.Lines.{take-more, asks-same, passed-more}
-use Rattle.grs_world.proofs.Invariant.{Each, IsMine, key, has_res, is_distinct, IsEntryOn, IsEcb, IsRec, IsDue, IsGoing, Past, Passed, IsFree, IsReady, IsHeld, IsHeldLine, IsWaitFor, IsEnding, IsInPhase, IsTask, is_post_before, is_waiting, is_unsent, code_bound}
-use Rattle.grs_world.proofs.Others.{any-more, any-last, none-more, all-more}
+use Rattle.grs_world.specs.Node.{is_held}
+use Rattle.grs_world.specs.Agree.{entry_of_line, tells_control, is_control_of, is_code_of, is_post_of}
+use Rattle.grs_world.proofs.Invariant.{Each, key, has_res, is_distinct, IsEntryOn, IsRec, IsDue}
+use Rattle.grs_world.proofs.Others.{any-more, any-last, none-more}
 
 -- what is known of the record that is found
 pub found : (P : Rec → Type 0) (xs : List Rec) (r : Res) (x : Rec) → Each P xs → record_of xs r ≡ Some x → P x × (same_res r x.res ≡ true)

@@ -1,58 +1,50 @@
 -- A task after its own request was decided by the lists.
-use Rattle.std.proofs.Common.{◌≡◌, ◌≢◌, ◌<◌, ◌≤◌, ◌-◌, ◌+◌, ℕ, zero, suc, Bool, true, false, cond, not, ◌&&◌, ◌||◌, List, [], ◌∷◌, ◌++◌, map, length, take, Option, Some, None, refl, ap, sym, ◌∙◌, subst, arith, inl, inr, add-one, length-append}
-use Rattle.std.specs.Prelude.{filter, slice_get, is_some, ◌⊎◌, IfSome, unwrap_or, ◌==◌, nat_lt}
+use Rattle.std.proofs.Common.{◌≡◌, ℕ, suc, Bool, true, false, cond, not, List, [], ◌∷◌, ◌++◌, map, Option, Some, None, refl, ap, sym, ◌∙◌, subst, arith, inl, inr}
+use Rattle.std.specs.Prelude.{filter, ◌⊎◌}
 use Rattle.std.specs.List.{list_any, list_all}
-use Rattle.std.proofs.lemmas.Bool.{and_parts, cases_Bool, eqb-true, eq-eqb, ne_eqb, lt-ltb, ltb-true}
+use Rattle.std.proofs.lemmas.Bool.{cases_Bool, eq-eqb}
 use Rattle.std.proofs.lemmas.Bool.Decides.{nat_tests}
 use Rattle.grs_base.specs.Same.{same_res, same_task}
-use Rattle.grs_base.specs.Lists.{owns, has_task, standing_of, can_have, decide_enq, enq_decision, is_owner, deq_code, is_apart, list_exclusive, list_without, place_of}
-use Rattle.grs_base.specs.State.{State, list_of, after_effect, without, with_exclusive}
+use Rattle.grs_base.specs.Lists.{owns, has_task, standing_of, can_have, decide_enq, is_owner, deq_code, is_apart}
+use Rattle.grs_base.specs.State.{State, list_of, after_effect, without}
 use Rattle.grs_base.specs.declared.resource.Res.{Res}
 use Rattle.grs_base.specs.declared.resource.Ctl.{Ctl}
 use Rattle.grs_base.specs.declared.resource.Ctl.TheVariants as ctls
 use Rattle.grs_base.specs.declared.resource.Ret.{Ret}
-use Rattle.grs_base.specs.declared.resource.Ret.TheVariants.{RetEcb, RetChng}
 use Rattle.grs_base.specs.declared.resource.Elem.{Elem}
 use Rattle.grs_base.specs.declared.resource.TaskId.{TaskId}
 use Rattle.grs_base.specs.declared.decision.Code.{Code}
-use Rattle.grs_base.specs.declared.decision.Code.TheVariants.{C00, C04, C08, C14, C18, Wait, End}
+use Rattle.grs_base.specs.declared.decision.Code.TheVariants.{C00, C04, Wait}
 use Rattle.grs_base.specs.declared.decision.Decision.{Decision}
 use Rattle.grs_base.specs.declared.decision.Effect.{Effect}
 use Rattle.grs_base.specs.declared.decision.Effect.TheVariants.{Nothing, Append, MakeExclusive}
 use Rattle.grs_base.specs.declared.decision.Standing.{Standing}
 use Rattle.grs_base.specs.declared.decision.Standing.TheVariants.{Exclusive, OnlyShared, AmongShared, Waits, Absent}
 use Rattle.grs_base.specs.declared.line.Line.{Line}
-use Rattle.grs_base.proofs.SameLaws.{same_res-exact, same_res-itself, same_task-exact, same_task-itself}
-use Rattle.grs_base.proofs.ListLaws.{has_task-place, owns-place, is_owner-standing}
+use Rattle.grs_base.proofs.SameLaws.{same_task-itself}
+use Rattle.grs_base.proofs.ListLaws.{has_task-place, is_owner-standing}
 use Rattle.grs_base.proofs.StateLaws.{list_of-effect, list_of-effect_other, list_at-without_other, res_equality}
 use Rattle.grs_wire.specs.declared.history.HistEntry.{HistEntry}
-use Rattle.grs_wire.specs.declared.history.HistEntry.TheVariants.{Enq, Deq, Release}
+use Rattle.grs_wire.specs.declared.history.HistEntry.TheVariants.{Enq, Deq}
 use Rattle.grs_wire.specs.declared.request.Req.{Req}
-use Rattle.grs_wire.specs.declared.told.Verb.{Verb}
 use Rattle.grs_wire.specs.declared.told.Verb.TheVariants as verbs
 use Rattle.grs_wire.specs.declared.told.ToldLine.{ToldLine}
 use Rattle.grs_wire.specs.declared.told.ToldLine.TheVariants.{Coded, Post, Ended}
-use Rattle.grs_wire.specs.History.{asker, code_of, res_of, replay}
 use Rattle.grs_wire.proofs.WantLaws.{by_res}
-use Rattle.grs_legal.specs.Asks.{Ask, AsksEnq, AsksDeq, AsksRelease, asks_of, ask_of, resolved}
-use Rattle.grs_legal.specs.Legal.{lets_pass, HasControl, end_among, passed_behind}
-use Rattle.grs_base.specs.declared.line.Line.TheVariants as lines
+use Rattle.grs_legal.specs.Asks.{AsksEnq, AsksDeq}
 use Rattle.task_state.specs.declared.state.Rec.{Rec}
-use Rattle.task_state.specs.declared.state.Phase.{Phase}
 use Rattle.task_state.specs.declared.state.Phase.TheVariants as phases
-use Rattle.task_state.specs.declared.state.TaskState.{TaskState}
 use Rattle.task_state.specs.View.{on_record, without_first, code_in}
 use Rattle.grs_world.specs.Node.{is_held, is_queued, is_changed, is_granted, phase_after}
-use Rattle.grs_world.specs.Agree.{entry_of_line, tells_control, is_control_of, gets_control, is_code_before, is_code_of, is_post_of, is_end_of, told_as}
-use Rattle.grs_world.proofs.Own.{own, exclusive_on, own-push, own-without, own-exclusive, has_task-own}
+use Rattle.grs_world.specs.Agree.{tells_control, is_control_of, gets_control, is_code_of, is_post_of}
+use Rattle.grs_world.proofs.Own.{own, exclusive_on, own-push, own-without, own-exclusive}
 use Rattle.grs_world.proofs.Owners.{owns-push, owns-exclusive, all_exclusive}
-use Rattle.grs_world.proofs.Invariant.{Each, key, has_res, is_distinct, IsEntryOn, IsEcb, IsRec, IsDue, Past, Passed, IsFree, IsEnding, IsInPhase, IsTask, is_post_before}
-use Rattle.grs_world.proofs.Others.{any-more, any-last, none-more, all-more, all-kept}
+use Rattle.grs_world.proofs.Invariant.{Each, key, has_res, is_distinct, IsEntryOn, IsEcb, IsRec, IsDue, Past, IsTask, is_post_before}
+use Rattle.grs_world.proofs.Others.{any-last, none-more}
 use Rattle.grs_world.proofs.Control.{queued_control}
-use Rattle.grs_world.proofs.Granted.{or_right}
 use Rattle.grs_world.proofs.EnqCases.{EnqCase, enq_case, now, waits, ecb, changes, keeps, refused}
-use Rattle.grs_world.proofs.Keys.{has_res-task, same_res-sym, keys-push, distinct-push, keys-exclusive, distinct-exclusive, own-exclusive_already, has_res-without, keys-without, distinct-without, gone-without, each-without, each-push, each-exclusive}
-use Rattle.grs_world.proofs.Asked.{told_after, any-after, Asks, recs-asked, of_new_line, task-asked}
+use Rattle.grs_world.proofs.Keys.{has_res-task, keys-push, distinct-push, keys-exclusive, distinct-exclusive, own-exclusive_already, keys-without, distinct-without, gone-without, each-without, each-push, each-exclusive}
+use Rattle.grs_world.proofs.Asked.{told_after, Asks, recs-asked, of_new_line, task-asked}
 
 absent-has : (es : List Elem) (u : TaskId) → standing_of es u ≡ Absent → has_task es u ≡ false
 absent-has es u h = grind (arith, nat_tests, h, has_task-place es u)

@@ -1,20 +1,16 @@
 -- The entries of a task, and of its lines, in a history that grows.
-use Rattle.std.proofs.Common.{◌≡◌, ◌<◌, ◌≤◌, ◌-◌, ◌+◌, ℕ, zero, suc, Bool, true, false, cond, not, ◌&&◌, ◌||◌, List, [], ◌∷◌, ◌++◌, map, length, take, drop, Option, Some, None, refl, ap, sym, ◌∙◌, subst, arith, append-nil, length-append}
+use Rattle.std.proofs.Common.{◌≡◌, ℕ, zero, suc, Bool, true, false, cond, ◌&&◌, List, [], ◌∷◌, ◌++◌, length, Option, Some, None, refl, arith, append-nil}
 use Rattle.std.specs.Prelude.{filter, slice_get, is_some}
-use Rattle.std.specs.List.{list_any, list_all}
-use Rattle.std.proofs.lemmas.Bool.{and_parts, cases_Bool}
-use Rattle.std.proofs.lemmas.Bool.Decides.{nat_tests}
 use Rattle.grs_base.specs.Same.{same_task}
 use Rattle.grs_base.specs.declared.resource.TaskId.{TaskId}
 use Rattle.grs_base.specs.declared.decision.Code.{Code}
 use Rattle.grs_base.specs.declared.decision.Code.TheVariants as codes
 use Rattle.grs_base.specs.declared.line.Line.{Line}
-use Rattle.grs_base.proofs.SameLaws.{same_task-itself}
 use Rattle.grs_wire.specs.declared.history.HistEntry.{HistEntry}
 use Rattle.grs_wire.specs.History.{asker, code_of}
-use Rattle.grs_legal.specs.Asks.{Ask, ask_of, asks_of, before_asks}
-use Rattle.grs_legal.specs.Legal.{entries_of, is_of_line, line_entries, end_or, end_among, end_code, last_entry, passed_behind, passed_lines, lets_pass}
-use Rattle.grs_world.specs.Agree.{asked_at, entry_of_line}
+use Rattle.grs_legal.specs.Asks.{ask_of}
+use Rattle.grs_legal.specs.Legal.{entries_of, is_of_line, line_entries, end_or, end_among, last_entry}
+use Rattle.grs_world.specs.Agree.{asked_at}
 
 pub filter-append : {X : Type 0} (p : X → Bool) (xs ys : List X) → filter p (xs ++ ys) ≡ filter p xs ++ filter p ys
 filter-append p [] ys = refl

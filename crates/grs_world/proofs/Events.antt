@@ -1,24 +1,21 @@
 -- One event at the system: what it fixes is legal, what it tells agrees, and the system stays good.
-use Rattle.std.proofs.Common.{◌≡◌, ◌≢◌, ◌<◌, ◌≤◌, ◌-◌, ◌+◌, ℕ, zero, suc, Bool, true, false, cond, not, ◌&&◌, ◌||◌, List, [], ◌∷◌, ◌++◌, map, length, take, Option, Some, None, refl, ap, sym, ◌∙◌, subst, arith, inl, inr, add-one}
-use Rattle.std.specs.Prelude.{filter, slice_get, is_some, ◌⊎◌, IfSome, unwrap_or, ◌==◌, nat_lt, nat_le}
-use Rattle.std.specs.List.{list_any, list_all}
-use Rattle.std.proofs.lemmas.Bool.{and_parts, cases_Bool, eqb-true, eq-eqb, ne_eqb, lt-ltb, ltb-true}
+use Rattle.std.proofs.Common.{◌≡◌, ℕ, suc, Bool, true, false, cond, not, ◌&&◌, List, [], ◌∷◌, ◌++◌, map, length, Option, Some, refl, ap, sym, ◌∙◌, subst, arith}
+use Rattle.std.specs.Prelude.{slice_get, nat_le}
+use Rattle.std.specs.List.{list_all}
+use Rattle.std.proofs.lemmas.Bool.{and_parts, cases_Bool}
 use Rattle.grs_base.specs.Same.{same_res, same_task}
-use Rattle.grs_base.specs.Lists.{owns, owners, has_task, is_apart, decide_enq, deq_code, standing_of, is_owner}
-use Rattle.grs_base.specs.State.{pick, State, list_of, queued_by, is_full, without, with_exclusive, after_effect, is_at, is_systems}
+use Rattle.grs_base.specs.Lists.{owns, is_apart, decide_enq, deq_code, standing_of, is_owner}
+use Rattle.grs_base.specs.State.{State, list_of, is_full, without, with_exclusive, after_effect, is_at}
 use Rattle.grs_base.specs.declared.resource.Res.{Res}
 use Rattle.grs_base.specs.declared.resource.Ctl.{Ctl}
 use Rattle.grs_base.specs.declared.resource.Ret.{Ret}
-use Rattle.grs_base.specs.declared.resource.Elem.{Elem}
 use Rattle.grs_base.specs.declared.resource.TaskId.{TaskId}
 use Rattle.grs_base.specs.declared.decision.Code.{Code}
 use Rattle.grs_base.specs.declared.decision.Code.TheVariants.{C00, C04, C08, C14, C18, Wait, End}
 use Rattle.grs_base.specs.declared.decision.Effect.{Effect}
 use Rattle.grs_base.specs.declared.decision.Effect.TheVariants.{Nothing, Append, MakeExclusive}
 use Rattle.grs_base.specs.declared.line.Line.{Line}
-use Rattle.grs_base.specs.declared.line.Line.TheVariants as lines
-use Rattle.grs_base.specs.declared.line.Item.{Item}
-use Rattle.grs_base.proofs.SameLaws.{same_res-exact, same_res-itself, same_task-exact, same_task-itself}
+use Rattle.grs_base.proofs.SameLaws.{same_res-itself, same_task-itself}
 use Rattle.grs_wire.specs.declared.deck.Deck.{Deck}
 use Rattle.grs_wire.specs.declared.history.HistEntry.{HistEntry}
 use Rattle.grs_wire.specs.declared.history.HistEntry.TheVariants as entries
@@ -28,36 +25,31 @@ use Rattle.grs_wire.specs.declared.request.Req.{Req}
 use Rattle.grs_wire.specs.declared.told.Verb.{Verb}
 use Rattle.grs_wire.specs.declared.told.Verb.TheVariants as verbs
 use Rattle.grs_wire.specs.declared.told.ToldLine.{ToldLine}
-use Rattle.grs_wire.specs.declared.told.ToldLine.TheVariants.{Coded, Post, Ended}
-use Rattle.grs_wire.specs.History.{asker, code_of, res_of, reply_of, replay, step, want_of, entry_for}
-use Rattle.grs_wire.specs.Wants.{answer_to, after_want, res_wanted, became_owners}
+use Rattle.grs_wire.specs.declared.told.ToldLine.TheVariants.{Coded}
+use Rattle.grs_wire.specs.History.{asker, replay, entry_for}
+use Rattle.grs_wire.specs.Wants.{answer_to, after_want, res_wanted}
 use Rattle.grs_wire.proofs.HistoryLaws.{none_twice}
 use Rattle.grs_wire.proofs.WantLaws.{cond_both}
-use Rattle.grs_legal.specs.Asks.{Ask, AsksEnq, AsksDeq, AsksRelease, lines_of, ask_of, asks_of, resolved}
-use Rattle.grs_legal.specs.Legal.{line_entries, entries_of, last_entry, end_code, IsLegal, IsLegalOf, HasControl, lets_pass, passed_lines, passed_behind, next_ask, release_next, or_else, ask_in}
+use Rattle.grs_legal.specs.Asks.{Ask, AsksEnq, AsksDeq, lines_of, ask_of, asks_of}
+use Rattle.grs_legal.specs.Legal.{line_entries, entries_of, IsLegal, IsLegalOf, lets_pass, passed_lines, next_ask}
 use Rattle.task_state.specs.declared.state.Rec.{Rec}
-use Rattle.task_state.specs.declared.state.Phase.{Phase}
 use Rattle.task_state.specs.declared.state.Phase.TheVariants as phases
 use Rattle.task_state.specs.declared.state.TaskState.{TaskState}
-use Rattle.task_state.specs.View.{TasksView, is_task, state_of, with_line, with_phase, with_outstanding, telling, record_of, without_first, code_in}
-use Rattle.grs_world.specs.Node.{Node, Step, tell_all, tell_code, answered, decide, only, with_tasks, ask, wait, has_most, take_line, end_step, ready_step, phase_step, task_step, phase_after, is_granted}
-use Rattle.grs_world.specs.Agree.{Agrees, LineAgrees, told_task, told_as, is_code_before, is_end_of, TellsEnq, entry_of_line}
+use Rattle.task_state.specs.View.{TasksView, state_of, with_line, without_first, code_in}
+use Rattle.grs_world.specs.Node.{Node, Step, tell_all, decide, has_most, phase_after, is_granted}
+use Rattle.grs_world.specs.Agree.{LineAgrees, told_as, TellsEnq, entry_of_line}
 use Rattle.grs_world.proofs.Own.{own, queued_by-own}
 use Rattle.grs_world.proofs.Owners.{is_among, is_among-became}
-use Rattle.grs_world.proofs.Entries.{line_entries-own, line_entries-release, entries_of-own, last_entry-push}
+use Rattle.grs_world.proofs.Entries.{line_entries-own, entries_of-own, last_entry-push}
 use Rattle.grs_world.proofs.Lines.{asks_of-at, passed-stop}
-use Rattle.grs_world.proofs.Invariant.{Each, IsMine, key, has_res, IsRec, Past, Passed, IsFree, IsTask, IsInPhase}
-use Rattle.grs_world.proofs.Others.{task-told, recs-knows}
-use Rattle.grs_world.proofs.Control.{found, not_found}
-use Rattle.grs_world.proofs.Granted.{past, or_right}
-use Rattle.grs_world.proofs.Views.{IsOurs, Holds, IsChanged, holds-changed, Agreed, none, more, agrees-ours}
+use Rattle.grs_world.proofs.Invariant.{key, Past, IsTask}
+use Rattle.grs_world.proofs.Granted.{past}
+use Rattle.grs_world.proofs.Views.{IsOurs, Holds, holds-changed, Agreed, none, more, agrees-ours}
 use Rattle.grs_world.proofs.Telling.{learns_all, learned_all, LearnedAll, IsHome}
-use Rattle.grs_world.proofs.Keys.{has_res-task}
 use Rattle.grs_world.proofs.Asked.{told_after, Asks, of_new_line}
 use Rattle.grs_world.proofs.Decided.{by_lists, enq_records, task-enq, task-deq}
-use Rattle.grs_world.proofs.Steps.{task-released, task-skipped, task-waited, task-held, task-to_send, task-ending, next-release, task-ended}
-use Rattle.grs_world.proofs.Good.{is_home, owned, IsGood, replay-push, last-mine, has_task-home, owns-has, home-ours, ours-home, became-apart, all-filter, holds-knows, task-knows, task-told_after, became, before_telling, before-own, told-all, other-decided}
-use Rattle.grs_world.proofs.Did.{Did, did-none, did-line, did-phase, did-outstanding, did-telling, did-code, did-answered_enq, did-answered_deq, did-answered_release}
+use Rattle.grs_world.proofs.Good.{is_home, owned, IsGood, replay-push, has_task-home, owns-has, home-ours, ours-home, became-apart, all-filter, holds-knows, task-knows, task-told_after, became, before_telling, before-own, told-all, other-decided}
+use Rattle.grs_world.proofs.Did.{Did, did-none, did-line, did-answered_enq, did-answered_deq}
 
 all-push : {X : Type 0} (p : X → Bool) (xs : List X) (x : X) → list_all p xs ≡ true → p x ≡ true → list_all p (xs ++ x ∷ []) ≡ true
 all-push p [] x h e = grind (arith, e)
@@ -95,9 +87,6 @@ module _ (deck : Deck) (P : List HistEntry) (n : Node) (good : IsGood deck P n) 
     (own_task : IsTask ls (past deck.limit (P ++ h ∷ []) t) T1 (by_lists (replay deck.limit (P ++ h ∷ [])) t) t x)
     (told : (u : TaskId) (ms : List Line) (q : Past) (knows : Res → Bool) (y : TaskState) → same_task u t ≡ false → IsTask ms q n.tasks.told knows u y → IsTask ms q T1 knows u y)
     (agreed : Agreed deck (P ++ h ∷ []) n.tasks.told T1) where
-  Q : List HistEntry
-  Q = P ++ h ∷ []
-
   home : is_home deck t ≡ true
   home = ours-home deck n.tasks t ls ours
 

@@ -1,11 +1,11 @@
 -- A system after a history: its lists are those of the history, and its tasks stand as they should.
-use Rattle.std.proofs.Common.{◌≡◌, ◌≢◌, ◌<◌, ◌≤◌, ◌-◌, ◌+◌, ℕ, zero, suc, Bool, true, false, cond, not, ◌&&◌, ◌||◌, List, [], ◌∷◌, ◌++◌, map, length, take, Option, Some, None, refl, ap, sym, ◌∙◌, subst, arith, inl, inr, add-one}
-use Rattle.std.specs.Prelude.{filter, slice_get, is_some, ◌⊎◌, IfSome, unwrap_or, ◌==◌, nat_lt, nat_le}
+use Rattle.std.proofs.Common.{◌≡◌, ℕ, zero, suc, Bool, true, false, not, ◌&&◌, ◌||◌, List, [], ◌∷◌, ◌++◌, take, Option, Some, None, refl, ap, sym, ◌∙◌, subst, arith}
+use Rattle.std.specs.Prelude.{filter, is_some, ◌==◌}
 use Rattle.std.specs.List.{list_any, list_all}
-use Rattle.std.proofs.lemmas.Bool.{and_parts, cases_Bool, eqb-true, eq-eqb, ne_eqb, lt-ltb, ltb-true}
+use Rattle.std.proofs.lemmas.Bool.{and_parts, cases_Bool, eqb-true, eq-eqb}
 use Rattle.grs_base.specs.Same.{same_res, same_task}
 use Rattle.grs_base.specs.Lists.{owns, owners, has_task, is_apart}
-use Rattle.grs_base.specs.State.{pick, State, list_of, queued_by, is_full, without, with_exclusive, after_effect, is_at}
+use Rattle.grs_base.specs.State.{pick, State, list_of}
 use Rattle.grs_base.specs.declared.resource.Res.{Res}
 use Rattle.grs_base.specs.declared.resource.Elem.{Elem}
 use Rattle.grs_base.specs.declared.resource.TaskId.{TaskId}
@@ -19,25 +19,22 @@ use Rattle.grs_wire.specs.declared.history.HistEntry.{HistEntry}
 use Rattle.grs_wire.specs.declared.request.Want.{Want}
 use Rattle.grs_wire.specs.declared.told.Verb.{Verb}
 use Rattle.grs_wire.specs.declared.told.ToldLine.{ToldLine}
-use Rattle.grs_wire.specs.declared.told.ToldLine.TheVariants.{Coded}
-use Rattle.grs_wire.specs.History.{asker, code_of, res_of, replay, step, want_of, entry_for}
-use Rattle.grs_wire.specs.Wants.{answer_to, after_want, res_wanted, became_owners}
+use Rattle.grs_wire.specs.History.{asker, replay, step}
+use Rattle.grs_wire.specs.Wants.{after_want, res_wanted, became_owners}
 use Rattle.grs_wire.proofs.WantLaws.{owns-want, list_of-want_other, by_res}
-use Rattle.grs_wire.proofs.HistoryLaws.{replay_from-append, none_twice}
+use Rattle.grs_wire.proofs.HistoryLaws.{replay_from-append}
 use Rattle.grs_legal.specs.Asks.{lines_of}
 use Rattle.grs_legal.specs.Legal.{line_entries, entries_of, last_entry}
 use Rattle.task_state.specs.declared.state.TaskState.{TaskState}
 use Rattle.task_state.specs.View.{TasksView, is_task, state_of}
-use Rattle.grs_world.specs.Node.{Node, tell_all}
-use Rattle.grs_world.specs.Agree.{Agrees, told_task}
-use Rattle.grs_world.proofs.Own.{own, queued_by-own, has_task-own}
+use Rattle.grs_world.specs.Node.{Node}
 use Rattle.grs_world.proofs.Owners.{is_among, is_among-became, owns-front}
 use Rattle.grs_world.proofs.Entries.{line_entries-other, entries_of-other}
-use Rattle.grs_world.proofs.Invariant.{Each, IsMine, key, has_res, IsRec, Past, IsTask}
+use Rattle.grs_world.proofs.Invariant.{IsMine, Past, IsTask}
 use Rattle.grs_world.proofs.Others.{KeepsTask, keeps-want, task-kept, task-told, recs-knows}
-use Rattle.grs_world.proofs.Granted.{past, or_right}
-use Rattle.grs_world.proofs.Views.{IsOurs, Holds, IsChanged, holds-changed, Agreed, none, more}
-use Rattle.grs_world.proofs.Telling.{are_apart, learns_all, learns_all-is, learned_all, LearnedAll, IsHome}
+use Rattle.grs_world.proofs.Granted.{past}
+use Rattle.grs_world.proofs.Views.{IsOurs, Holds}
+use Rattle.grs_world.proofs.Telling.{are_apart, learns_all, learns_all-is, IsHome}
 use Rattle.grs_world.proofs.Asked.{told_after}
 use Rattle.grs_world.proofs.Decided.{by_lists}
 
@@ -90,7 +87,7 @@ owns-has es t h = any-front es (owners es) t (sym (owns-front es t) ∙ h)
     any-front (x ∷ xs) zero u e = cc
     any-front (x ∷ xs) (suc n) u e = grind (arith, e, any-front xs n u, cases_Bool (same_task u x.task))
 
-some_of : {X : Type 0} (o : Option X) → is_some o ≡ true → (x : X) × (o ≡ Some x)
+pub some_of : {X : Type 0} (o : Option X) → is_some o ≡ true → (x : X) × (o ≡ Some x)
 some_of None h = absurd (cc)
 some_of (Some x) h = (x, refl)
 
@@ -173,9 +170,6 @@ task-told_after ls p T knows u x t k verb (End n) apart h = task-told ls p T kno
 -- A request of task t decided: what is known before the tasks that became owners are told.
 module _ (deck : Deck) (P : List HistEntry) (t : TaskId) (w : Want) (h : HistEntry)
     (mine : asker h ≡ t) (after : replay deck.limit (P ++ h ∷ []) ≡ after_want (replay deck.limit P) t w) where
-  S0 : State
-  S0 = replay deck.limit P
-
   -- who became owner
   abbrev pub became : List TaskId
   became = became_owners (list_of (replay deck.limit P) (res_wanted w)) (list_of (after_want (replay deck.limit P) t w) (res_wanted w)) t

@@ -1,40 +1,38 @@
 -- A task that is told control: what holds of it afterwards, and that the lines agree.
-use Rattle.std.proofs.Common.{◌≡◌, ◌≢◌, ◌<◌, ◌≤◌, ◌-◌, ◌+◌, ℕ, zero, suc, Bool, true, false, cond, not, ◌&&◌, ◌||◌, List, [], ◌∷◌, ◌++◌, map, length, take, Option, Some, None, refl, ap, sym, ◌∙◌, subst, arith, inl, inr}
-use Rattle.std.specs.Prelude.{slice_get, is_some, ◌⊎◌, IfSome, unwrap_or, ◌==◌, nat_lt}
+use Rattle.std.proofs.Common.{◌≡◌, ◌-◌, ◌+◌, ℕ, suc, Bool, true, false, not, ◌||◌, List, [], ◌∷◌, ◌++◌, length, take, Option, Some, None, refl, ap, sym, ◌∙◌, subst, arith, inl, inr}
+use Rattle.std.specs.Prelude.{slice_get, ◌⊎◌, IfSome, nat_lt}
 use Rattle.std.specs.List.{list_any, list_all}
-use Rattle.std.proofs.lemmas.Bool.{and_parts, cases_Bool, eqb-true, eq-eqb, lt-ltb, ltb-true}
+use Rattle.std.proofs.lemmas.Bool.{lt-ltb}
 use Rattle.std.proofs.lemmas.Bool.Decides.{nat_tests}
 use Rattle.grs_base.specs.Same.{same_res, same_task}
-use Rattle.grs_base.specs.Lists.{owns, has_task}
+use Rattle.grs_base.specs.Lists.{owns}
 use Rattle.grs_base.specs.State.{State, list_of}
 use Rattle.grs_base.specs.declared.resource.Res.{Res}
-use Rattle.grs_base.specs.declared.resource.Ret.TheVariants.{RetEcb}
 use Rattle.grs_base.specs.declared.resource.TaskId.{TaskId}
-use Rattle.grs_base.specs.declared.decision.Code.{Code}
-use Rattle.grs_base.specs.declared.decision.Code.TheVariants.{C00, C04, C08, C14, C18, Wait, End}
+use Rattle.grs_base.specs.declared.decision.Code.TheVariants.{C00, Wait}
 use Rattle.grs_base.specs.declared.line.Line.{Line}
 use Rattle.grs_base.specs.declared.line.Line.TheVariants as lines
-use Rattle.grs_base.proofs.SameLaws.{same_res-exact, same_res-itself, same_task-exact, same_task-itself}
+use Rattle.grs_base.proofs.SameLaws.{same_res-exact, same_task-itself}
 use Rattle.grs_wire.specs.declared.history.HistEntry.{HistEntry}
 use Rattle.grs_wire.specs.declared.history.HistEntry.TheVariants.{Enq, Deq, Release}
 use Rattle.grs_wire.specs.declared.request.Req.{Req}
 use Rattle.grs_wire.specs.declared.told.Verb.TheVariants as verbs
 use Rattle.grs_wire.specs.declared.told.ToldLine.{ToldLine}
 use Rattle.grs_wire.specs.declared.told.ToldLine.TheVariants.{Coded, Post, Ended}
-use Rattle.grs_wire.specs.History.{asker, code_of, res_of, replay}
-use Rattle.grs_legal.specs.Asks.{resolved, asks_of, ask_of}
-use Rattle.grs_legal.specs.Legal.{lets_pass, HasControl, line_entries, entries_of, last_entry, passed_behind, end_among}
+use Rattle.grs_wire.specs.History.{code_of, res_of, replay}
+use Rattle.grs_legal.specs.Asks.{asks_of, ask_of}
+use Rattle.grs_legal.specs.Legal.{lets_pass, HasControl, line_entries, entries_of, last_entry, passed_behind}
 use Rattle.task_state.specs.declared.state.Rec.{Rec}
 use Rattle.task_state.specs.declared.state.Phase.{Phase}
 use Rattle.task_state.specs.declared.state.Phase.TheVariants as phases
 use Rattle.task_state.specs.declared.state.TaskState.{TaskState}
-use Rattle.task_state.specs.View.{record_place, record_of, on_record}
-use Rattle.grs_world.specs.Node.{is_held, is_held_for, is_queued}
-use Rattle.grs_world.specs.Agree.{entry_of_line, tells_control, is_control_of, gets_control, told_as, is_code_before, is_code_of, is_post_of, is_end_of, told_task, TellsEnq, TellsWait, Posts, LineAgrees, CodeAgrees}
+use Rattle.task_state.specs.View.{on_record}
+use Rattle.grs_world.specs.Node.{is_held}
+use Rattle.grs_world.specs.Agree.{entry_of_line, tells_control, is_code_before, is_end_of, TellsEnq, TellsWait, Posts, LineAgrees}
 use Rattle.grs_world.proofs.Own.{own}
 use Rattle.grs_world.proofs.Lines.{take-more, asks-same, passed-more}
-use Rattle.grs_world.proofs.Invariant.{Each, IsMine, key, has_res, is_distinct, IsEntryOn, IsEcb, IsRec, IsDue, IsGoing, Past, Passed, IsFree, IsReady, IsHeld, IsHeldLine, IsWaitFor, IsEnding, IsInPhase, IsTask, is_post_before, is_waiting, is_unsent, has_ended, code_bound}
-use Rattle.grs_world.proofs.Others.{any-more, any-last, none-more, all-more, all-kept, recs-told, phase-told}
+use Rattle.grs_world.proofs.Invariant.{Each, IsEntryOn, IsEcb, IsRec, IsDue, Past, Passed, IsWaitFor, IsInPhase, IsTask, is_post_before, has_ended, code_bound}
+use Rattle.grs_world.proofs.Others.{none-more, all-more, all-kept, recs-told, phase-told}
 use Rattle.grs_world.proofs.Control.{also, keys-told, distinct-told, queued_control, recs-coded, recs-posted}
 
 -- a task's past after a history

@@ -1,6 +1,6 @@
 -- What holds of each task after each event: the invariant of a run.
-use Rattle.std.proofs.Common.{◌≡◌, ◌<◌, ◌≤◌, ◌-◌, ℕ, zero, suc, Bool, true, false, cond, not, ◌&&◌, ◌||◌, List, [], ◌∷◌, ◌++◌, map, length, take, Option, Some, None}
-use Rattle.std.specs.Prelude.{slice_get, is_some, ◌⊎◌, IfSome, unwrap_or, ◌==◌, nat_lt}
+use Rattle.std.proofs.Common.{◌≡◌, ◌<◌, ◌≤◌, ◌-◌, ℕ, suc, Bool, true, false, cond, not, ◌&&◌, ◌||◌, List, [], ◌∷◌, map, length, take, Option, Some, None}
+use Rattle.std.specs.Prelude.{slice_get, ◌⊎◌, IfSome, unwrap_or, nat_lt}
 use Rattle.std.specs.List.{list_any, list_all}
 use Rattle.grs_base.specs.Same.{same_res, same_task}
 use Rattle.grs_base.specs.State.{State}

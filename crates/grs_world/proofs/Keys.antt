@@ -1,20 +1,18 @@
 -- The records of a task as its own elements.
-use Rattle.std.proofs.Common.{◌≡◌, ◌<◌, ◌≤◌, ◌-◌, ◌+◌, ℕ, zero, suc, Bool, true, false, cond, not, ◌&&◌, ◌||◌, List, [], ◌∷◌, ◌++◌, map, length, take, Option, Some, None, refl, ap, sym, ◌∙◌, subst, arith}
-use Rattle.std.specs.Prelude.{filter, slice_get, is_some, ◌⊎◌, IfSome, unwrap_or, ◌==◌, nat_lt}
+use Rattle.std.proofs.Common.{◌≡◌, Bool, true, false, cond, not, ◌||◌, List, [], ◌∷◌, ◌++◌, map, refl, ap, sym, ◌∙◌, subst, arith}
+use Rattle.std.specs.Prelude.{filter}
 use Rattle.std.specs.List.{list_any, list_all}
 use Rattle.std.proofs.lemmas.Bool.{cases_Bool}
 use Rattle.grs_base.specs.Same.{same_res, same_task}
-use Rattle.grs_base.specs.Lists.{has_task, standing_of, is_shared, is_apart}
-use Rattle.grs_base.specs.State.{State, list_of, queued_by, is_at}
+use Rattle.grs_base.specs.Lists.{has_task, is_shared}
+use Rattle.grs_base.specs.State.{State, list_of}
 use Rattle.grs_base.specs.declared.resource.Res.{Res}
-use Rattle.grs_base.specs.declared.resource.Ctl.{Ctl}
-use Rattle.grs_base.specs.declared.resource.Ctl.TheVariants.{E, S}
+use Rattle.grs_base.specs.declared.resource.Ctl.TheVariants.{E}
 use Rattle.grs_base.specs.declared.resource.TaskId.{TaskId}
-use Rattle.grs_base.specs.declared.resource.Elem.{Elem}
 use Rattle.grs_base.proofs.SameLaws.{same_res-exact, same_res-itself}
 use Rattle.task_state.specs.declared.state.Rec.{Rec}
 use Rattle.task_state.specs.View.{without_first, on_record}
-use Rattle.grs_world.proofs.Own.{own, exclusive_on, has_task-own, queued_by-own}
+use Rattle.grs_world.proofs.Own.{own, exclusive_on, has_task-own}
 use Rattle.grs_world.proofs.Invariant.{Each, key, has_res, is_distinct}
 
 pub same_res-sym : (a b : Res) → same_res a b ≡ same_res b a
@@ -36,7 +34,7 @@ has_res-keys r (x ∷ xs) = grind (arith, has_res-keys r xs)
 pub has_res-task : (s : State) (t : TaskId) (r : Res) (xs : List Rec) → map key xs ≡ own s t → has_res r xs ≡ has_task (list_of s r) t
 has_res-task s t r xs e = has_res-keys r xs ∙ ap (list_any (λ k. same_res r k.0)) e ∙ sym (has_task-own s t r)
 
-map-append : {X Y : Type 0} (f : X → Y) (xs ys : List X) → map f (xs ++ ys) ≡ map f xs ++ map f ys
+pub map-append : {X Y : Type 0} (f : X → Y) (xs ys : List X) → map f (xs ++ ys) ≡ map f xs ++ map f ys
 map-append f [] ys = refl
 map-append f (x ∷ xs) ys = ap (λ zs. f x ∷ zs) (map-append f xs ys)
 

@@ -1,9 +1,6 @@
 -- How far a task is in its lines.
-use Rattle.std.proofs.Common.{◌≡◌, ◌<◌, ◌≤◌, ◌-◌, ◌+◌, ℕ, zero, suc, Bool, true, false, cond, not, ◌&&◌, ◌||◌, List, [], ◌∷◌, ◌++◌, map, length, take, drop, Option, Some, None, refl, ap, sym, ◌∙◌, subst, arith, append-nil, length-append}
-use Rattle.std.specs.Prelude.{filter, slice_get, is_some}
-use Rattle.std.specs.List.{list_any, list_all}
-use Rattle.std.proofs.lemmas.Bool.{and_parts, cases_Bool}
-use Rattle.std.proofs.lemmas.Bool.Decides.{nat_tests}
+use Rattle.std.proofs.Common.{◌≡◌, ◌<◌, ◌≤◌, ◌+◌, ℕ, zero, suc, cond, List, [], ◌∷◌, ◌++◌, length, take, Option, Some, None, refl, ap, arith, append-nil}
+use Rattle.std.specs.Prelude.{slice_get, is_some}
 use Rattle.grs_base.specs.declared.resource.TaskId.{TaskId}
 use Rattle.grs_base.specs.declared.line.Line.{Line}
 use Rattle.grs_legal.specs.Asks.{Ask, ask_of, asks_of, before_asks}
@@ -14,6 +11,11 @@ pub take-more : {X : Type 0} (xs : List X) (n : ℕ) (x : X) → slice_get xs n 
 take-more [] n x h = cc
 take-more (y ∷ xs) zero x h = grind (arith, h)
 take-more (y ∷ xs) (suc n) x h = grind (arith, take-more xs n x h)
+
+-- all lines
+pub take-whole : {X : Type 0} (xs : List X) → take (length xs) xs ≡ xs
+take-whole [] = refl
+take-whole (x ∷ xs) = ap (λ zs. x ∷ zs) (take-whole xs)
 
 pub slice_get-within : {X : Type 0} (xs : List X) (n : ℕ) (x : X) → slice_get xs n ≡ Some x → n < length xs
 slice_get-within [] n x h = absurd (cc)

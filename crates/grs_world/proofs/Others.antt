@@ -1,36 +1,34 @@
 -- What a request of another task, or a line told to another task, leaves of a task.
-use Rattle.std.proofs.Common.{◌≡◌, ◌<◌, ◌≤◌, ◌-◌, ℕ, zero, suc, Bool, true, false, cond, not, ◌&&◌, ◌||◌, List, [], ◌∷◌, ◌++◌, map, length, take, Option, Some, None, refl, ap, sym, ◌∙◌, subst, arith}
-use Rattle.std.specs.Prelude.{slice_get, is_some, ◌⊎◌, IfSome, unwrap_or, ◌==◌, nat_lt}
+use Rattle.std.proofs.Common.{◌≡◌, ◌-◌, ℕ, Bool, true, false, not, ◌&&◌, ◌||◌, List, [], ◌∷◌, ◌++◌, length, take, Option, Some, None, refl, sym, ◌∙◌, subst, arith}
+use Rattle.std.specs.Prelude.{◌⊎◌, IfSome}
 use Rattle.std.specs.List.{list_any, list_all}
 use Rattle.std.proofs.Common.{inl, inr}
 use Rattle.std.proofs.lemmas.Bool.{cases_Bool}
 use Rattle.grs_base.proofs.SameLaws.{same_res-itself}
 use Rattle.grs_world.specs.Node.{is_held}
-use Rattle.grs_base.specs.Same.{same_res, same_task}
+use Rattle.grs_base.specs.Same.{same_task}
 use Rattle.grs_base.specs.Lists.{owns, has_task}
 use Rattle.grs_base.specs.State.{State, list_of}
 use Rattle.grs_base.specs.declared.resource.Res.{Res}
-use Rattle.grs_base.specs.declared.resource.Ctl.{Ctl}
 use Rattle.grs_base.specs.declared.resource.TaskId.{TaskId}
 use Rattle.grs_base.specs.declared.line.Line.{Line}
 use Rattle.grs_base.specs.declared.line.Line.TheVariants as lines
 use Rattle.grs_wire.specs.declared.history.HistEntry.{HistEntry}
 use Rattle.grs_wire.specs.declared.request.Want.{Want}
-use Rattle.grs_wire.specs.declared.told.Verb.{Verb}
 use Rattle.grs_wire.specs.declared.told.ToldLine.{ToldLine}
 use Rattle.grs_wire.specs.declared.told.ToldLine.TheVariants.{Coded, Post, Ended}
-use Rattle.grs_wire.specs.History.{asker, code_of, res_of}
+use Rattle.grs_wire.specs.History.{asker, res_of}
 use Rattle.grs_wire.specs.Wants.{after_want}
 use Rattle.grs_wire.proofs.WantLaws.{owns-want}
 use Rattle.grs_legal.specs.Asks.{resolved}
-use Rattle.grs_legal.specs.Legal.{lets_pass, passed_behind, HasControl, end_among}
+use Rattle.grs_legal.specs.Legal.{lets_pass, passed_behind, HasControl}
 use Rattle.task_state.specs.declared.state.Rec.{Rec}
 use Rattle.task_state.specs.declared.state.Phase.{Phase}
 use Rattle.task_state.specs.declared.state.Phase.TheVariants as phases
 use Rattle.task_state.specs.declared.state.TaskState.{TaskState}
 use Rattle.grs_world.specs.Agree.{tells_control, is_code_before, is_code_of, is_post_of, is_end_of, told_task}
 use Rattle.grs_world.proofs.Own.{own, has_task-own, own-want_other}
-use Rattle.grs_world.proofs.Invariant.{Each, IsMine, key, has_res, IsRec, IsDue, IsGoing, Past, Passed, IsFree, IsReady, IsHeld, IsHeldLine, IsEnding, IsInPhase, IsTask, is_post_before}
+use Rattle.grs_world.proofs.Invariant.{Each, IsMine, has_res, IsRec, IsDue, Past, Passed, IsInPhase, IsTask, is_post_before}
 
 -- lists in which a task kept what it owned, and its own elements
 pub record KeepsTask (s s' : State) (t : TaskId) : Type 0 where

@@ -1,20 +1,16 @@
 -- Who owns a resource after a request.
-use Rattle.std.proofs.Common.{◌≡◌, ◌<◌, ◌≤◌, ℕ, suc, Bool, true, false, cond, not, ◌&&◌, ◌||◌, List, [], ◌∷◌, ◌++◌, map, length, take, refl, ap, sym, ◌∙◌, subst, arith, ltb, eqb}
-use Rattle.std.specs.Prelude.{filter}
+use Rattle.std.proofs.Common.{◌≡◌, Bool, true, false, not, ◌&&◌, ◌||◌, List, [], ◌∷◌, ◌++◌, take, refl, ap, sym, ◌∙◌, arith}
 use Rattle.std.specs.List.{list_any, list_all}
-use Rattle.std.proofs.lemmas.Bool.{and_parts, cases_Bool, ltb-true, lt-ltb}
 use Rattle.std.proofs.lemmas.Bool.Decides.{nat_tests}
-use Rattle.grs_base.specs.Same.{same_res, same_task}
-use Rattle.grs_base.specs.Lists.{is_shared, shared_front, owners, all_shared, can_have, place_of, begins_shared, standing_of, owns, owns_shared, has_task, is_apart, list_exclusive}
-use Rattle.grs_base.specs.State.{pick, State, list_of}
-use Rattle.grs_base.specs.declared.resource.Res.{Res}
+use Rattle.grs_base.specs.Same.{same_task}
+use Rattle.grs_base.specs.Lists.{is_shared, shared_front, owners, all_shared, can_have, standing_of, owns, owns_shared, has_task, is_apart, list_exclusive}
+use Rattle.grs_base.specs.State.{pick}
 use Rattle.grs_base.specs.declared.resource.TaskId.{TaskId}
 use Rattle.grs_base.specs.declared.resource.Elem.{Elem}
 use Rattle.grs_base.specs.declared.resource.Ctl.{Ctl}
 use Rattle.grs_base.specs.declared.resource.Ctl.TheVariants.{E, S}
-use Rattle.grs_base.specs.declared.decision.Standing.TheVariants.{Exclusive, OnlyShared, AmongShared, Waits, Absent}
+use Rattle.grs_base.specs.declared.decision.Standing.TheVariants.{Exclusive, OnlyShared}
 use Rattle.grs_base.proofs.SameLaws.{same_task-exact, same_task-itself}
-use Rattle.grs_base.proofs.ListLaws.{owns-place, owns_shared-place, place_of-exclusive, same_task-sym}
 use Rattle.grs_wire.specs.Wants.{became_owners}
 
 -- whether a task is among these

@@ -13,11 +13,9 @@ use Rattle.grs_base.specs.declared.line.Line.{Line}
 use Rattle.grs_base.specs.declared.line.Line.TheVariants as lines
 use Rattle.grs_base.specs.declared.line.Scope.TheVariants.{System}
 use Rattle.grs_wire.specs.declared.deck.Deck.{Deck}
-use Rattle.grs_wire.specs.declared.deck.TaskDef.{TaskDef}
 use Rattle.grs_wire.specs.declared.deck.Event.{Event}
 use Rattle.grs_wire.specs.declared.deck.Choice.TheVariants.{Task}
-use Rattle.grs_wire.specs.declared.history.HistEntry.{HistEntry}
-use Rattle.grs_wire.specs.declared.history.HistEntry.TheVariants.{Enq, Deq, Release}
+use Rattle.grs_wire.specs.declared.history.HistEntry.TheVariants.{Enq, Release}
 use Rattle.grs_wire.specs.declared.told.Told.{Told}
 use Rattle.grs_wire.specs.declared.told.ToldLine.{ToldLine}
 use Rattle.grs_wire.specs.declared.told.ToldLine.TheVariants.{Coded, Post, Ended}

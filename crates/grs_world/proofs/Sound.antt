@@ -1,8 +1,7 @@
 -- Every run is sound.
-use Rattle.std.proofs.Common.{◌≡◌, ◌≢◌, ◌<◌, ◌≤◌, ◌-◌, ◌+◌, ℕ, zero, suc, Bool, true, false, cond, not, ◌&&◌, ◌||◌, List, [], ◌∷◌, ◌++◌, map, length, take, drop, Option, Some, None, refl, ap, sym, ◌∙◌, subst, arith, append-nil, append_assoc, length-append, add-one, get_or}
-use Rattle.std.specs.Prelude.{slice_get, is_some, IfSome, ◌==◌, nat_lt, nat_le}
-use Rattle.std.specs.List.{list_any, list_all}
-use Rattle.std.proofs.lemmas.Bool.{and_parts, cases_Bool, eqb-true, eq-eqb, lt-ltb, ltb-true}
+use Rattle.std.proofs.Common.{◌≡◌, ◌≤◌, ◌+◌, ℕ, zero, suc, true, List, [], ◌∷◌, ◌++◌, map, length, take, drop, Option, Some, None, refl, ap, sym, ◌∙◌, subst, arith, append-nil, append_assoc, length-append, get_or}
+use Rattle.std.specs.Prelude.{slice_get, ◌==◌, nat_lt}
+use Rattle.std.proofs.lemmas.Bool.{and_parts, eqb-true, eq-eqb, lt-ltb}
 use Rattle.grs_base.specs.State.{State}
 use Rattle.grs_base.specs.declared.resource.SysId.{SysId}
 use Rattle.grs_base.specs.declared.resource.TaskId.{TaskId}
@@ -12,7 +11,6 @@ use Rattle.grs_wire.specs.declared.deck.Event.{Event}
 use Rattle.grs_wire.specs.declared.deck.Choice.{Choice}
 use Rattle.grs_wire.specs.declared.deck.Choice.TheVariants.{Task, Turn, Send, Take, Settle, Tell, Leave, Switch, Purge, Rest}
 use Rattle.grs_wire.specs.declared.history.HistEntry.{HistEntry}
-use Rattle.grs_wire.specs.declared.request.Req.{Req}
 use Rattle.grs_wire.specs.declared.request.Want.{Want}
 use Rattle.grs_wire.specs.declared.request.Fixed.{Fixed}
 use Rattle.grs_wire.specs.declared.request.Fixed.TheVariants.{Asked}
@@ -20,19 +18,20 @@ use Rattle.grs_wire.specs.declared.told.Told.{Told}
 use Rattle.grs_wire.specs.declared.told.ToldLine.{ToldLine}
 use Rattle.grs_wire.specs.Wants.{answer_to, after_want}
 use Rattle.grs_wire.specs.History.{asker, replay, entry_for, answered_from, answered}
-use Rattle.grs_legal.specs.Asks.{Script, lines_of, scripts_of, lines_at}
+use Rattle.grs_legal.specs.Asks.{lines_of, scripts_of}
 use Rattle.grs_legal.specs.Legal.{Legal, LegalFrom, IsLegalOf}
-use Rattle.task_state.specs.declared.state.TaskState.{TaskState}
-use Rattle.task_state.specs.View.{TasksView, is_task, state_of, new_task, new_tasks}
+use Rattle.task_state.specs.View.{is_task, state_of, new_task, new_tasks}
 use Rattle.task_state.proofs.ViewLaws.{is_task-system}
-use Rattle.grs_world.specs.Node.{Node, Step, only, task_step, phase_step}
+use Rattle.grs_world.specs.Node.{Node, Step, task_step}
 use Rattle.grs_world.specs.World.{World, first_node, first_world, choose, event_step, fixed_by, told_by, world_after, happens, run_from, run, hist, told}
-use Rattle.grs_world.specs.Agree.{Agrees, told_task, AllAgree, Agree, Sound}
+use Rattle.grs_world.specs.Agree.{Agrees, told_task, AllAgree, Sound}
 use Rattle.grs_world.proofs.Invariant.{IsTask}
-use Rattle.grs_world.proofs.Lines.{slice_get-within}
+use Rattle.grs_world.proofs.Lines.{slice_get-within, take-whole}
+use Rattle.grs_world.proofs.Keys.{map-append}
 use Rattle.grs_world.proofs.Granted.{past}
-use Rattle.grs_world.proofs.Views.{by_test, IsOurs, Holds, Agreed, none, more}
-use Rattle.grs_world.proofs.Good.{is_home, owned, IsGood}
+use Rattle.grs_wire.proofs.WantLaws.{by_test}
+use Rattle.grs_world.proofs.Views.{script_at, Agreed, none, more}
+use Rattle.grs_world.proofs.Good.{is_home, owned, IsGood, some_of}
 use Rattle.grs_world.proofs.Events.{Outcome, quiet, fixes}
 use Rattle.grs_world.proofs.Turns.{phase_outcome}
 
@@ -109,14 +108,6 @@ drop-front : {X : Type 0} (xs ys : List X) → drop (length xs) (xs ++ ys) ≡ y
 drop-front [] ys = refl
 drop-front (x ∷ xs) ys = drop-front xs ys
 
--- the lines without their events
-lines_of_told : List Told → List ToldLine
-lines_of_told xs = map (λ x. x.line) xs
-
-map-append : {X Y : Type 0} (f : X → Y) (xs ys : List X) → map f (xs ++ ys) ≡ map f xs ++ map f ys
-map-append f [] ys = refl
-map-append f (x ∷ xs) ys = ap (λ zs. f x ∷ zs) (map-append f xs ys)
-
 agree-append : (deck : Deck) (es : List Event) (before : List ToldLine) (xs ys : List Told) → AllAgree deck es before xs → AllAgree deck es (before ++ map (λ x. x.line) xs) ys → AllAgree deck es before (xs ++ ys)
 agree-append deck es before [] ys a b = subst (λ T. AllAgree deck es T ys) (append-nil before) b
 agree-append deck es before (x ∷ xs) ys a b = (a.0, agree-append deck es (before ++ x.line ∷ []) xs ys a.1 (subst (λ T. AllAgree deck es T ys) (sym (append_assoc before (x.line ∷ []) (map (λ z. z.line) xs))) b))
@@ -125,10 +116,6 @@ take-front : {X : Type 0} (n : ℕ) (xs ys : List X) → n ≤ length xs → tak
 take-front zero xs ys h = grind (arith)
 take-front (suc n) [] ys h = absurd (omega (arith, h))
 take-front (suc n) (x ∷ xs) ys h = ap (λ zs. x ∷ zs) (take-front n xs ys (omega (arith, h)))
-
-take-whole : {X : Type 0} (xs : List X) → take (length xs) xs ≡ xs
-take-whole [] = refl
-take-whole (x ∷ xs) = ap (λ zs. x ∷ zs) (take-whole xs)
 
 -- each line was told by now
 AllBy : ℕ → List Told → Type 0
@@ -202,20 +189,12 @@ first_held : (deck : Deck) → (first_node deck).held ≡ []
 unfolding first_node
 first_held deck = refl
 
-script_there : (job : ℕ) (o : Option Script) (ls : List Line) → lines_at job o ≡ Some ls → (s : Script) × (o ≡ Some s)
-script_there job None ls h = absurd (cc)
-script_there job (Some s) ls h = (s, refl)
-
-some_there : {X : Type 0} (o : Option X) → is_some o ≡ true → (x : X) × (o ≡ Some x)
-some_there None h = absurd (cc)
-some_there (Some x) h = (x, refl)
-
 first_here : (deck : Deck) (t : TaskId) → is_home deck t ≡ true → is_task (first_node deck).tasks t ≡ true
 unfolding first_node
 first_here deck t h =
     let zero_system : t.system.0 ≡ 0 = eqb-true _ _ (and_parts _ _ h).0 in
-    let ls = some_there (lines_of deck t) (and_parts _ _ h).1 in
-    let s = script_there t.job (slice_get (scripts_of deck t.system.0) t.task) ls.0 ls.1 in
+    let ls = some_of (lines_of deck t) (and_parts _ _ h).1 in
+    let s = script_at t.job (slice_get (scripts_of deck t.system.0) t.task) ls.0 ls.1 in
     let at : slice_get (scripts_of deck 0) t.task ≡ Some s.0 = ap (λ n. slice_get (scripts_of deck n) t.task) (sym zero_system) ∙ s.1 in
     let within : nat_lt t.task (length (new_tasks (length (scripts_of deck 0)))) ≡ true = ap (nat_lt t.task) (length-new_tasks (length (scripts_of deck 0))) ∙ lt-ltb _ _ (slice_get-within (scripts_of deck 0) t.task s.0 at) in
     let system : (0 == t.system.0) ≡ true = eq-eqb _ _ (sym zero_system) in
@@ -264,12 +243,6 @@ first_run deck = record {
 
 -- what an event leaves of the rest of the world
 module _ (deck : Deck) (es : List Event) (e : Event) (g : GoodRun deck es) where
-  w0 : World
-  w0 = run deck es
-
-  next : World
-  next = world_after (run deck es) e.system (event_step deck (run deck es).node e)
-
   next_is : run deck (es ++ e ∷ []) ≡ world_after (run deck es) e.system (event_step deck (run deck es).node e)
   unfolding happens
   next_is = run-push deck es (first_world deck) e

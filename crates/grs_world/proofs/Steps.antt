@@ -1,8 +1,8 @@
 -- A task that releases, waits at a line, begins to end, or has ended.
-use Rattle.std.proofs.Common.{◌≡◌, ◌≢◌, ◌<◌, ◌≤◌, ◌-◌, ◌+◌, ℕ, zero, suc, Bool, true, false, cond, not, ◌&&◌, ◌||◌, List, [], ◌∷◌, ◌++◌, map, length, take, Option, Some, None, refl, ap, sym, ◌∙◌, subst, arith, inl, inr, add-one, length-append}
-use Rattle.std.specs.Prelude.{filter, slice_get, is_some, ◌⊎◌, IfSome, unwrap_or, ◌==◌, nat_lt}
+use Rattle.std.proofs.Common.{◌≡◌, ℕ, suc, Bool, true, false, cond, not, ◌||◌, List, [], ◌∷◌, ◌++◌, map, length, take, Option, Some, None, refl, ap, sym, ◌∙◌, subst, arith, inl, inr, add-one}
+use Rattle.std.specs.Prelude.{filter, slice_get, is_some, ◌⊎◌, unwrap_or, nat_lt}
 use Rattle.std.specs.List.{list_any, list_all}
-use Rattle.std.proofs.lemmas.Bool.{and_parts, cases_Bool, eqb-true, eq-eqb, ne_eqb, lt-ltb, ltb-true}
+use Rattle.std.proofs.lemmas.Bool.{cases_Bool, lt-ltb, ltb-true}
 use Rattle.grs_base.specs.Same.{same_res, same_task}
 use Rattle.grs_base.specs.Lists.{owns, has_task}
 use Rattle.grs_base.specs.State.{State, list_of, without, queued_by}
@@ -10,35 +10,31 @@ use Rattle.grs_base.specs.declared.resource.Res.{Res}
 use Rattle.grs_base.specs.declared.resource.Ctl.{Ctl}
 use Rattle.grs_base.specs.declared.resource.TaskId.{TaskId}
 use Rattle.grs_base.specs.declared.decision.Code.{Code}
-use Rattle.grs_base.specs.declared.decision.Code.TheVariants.{C00, C04, C08, C14, C18, Wait, End}
+use Rattle.grs_base.specs.declared.decision.Code.TheVariants.{C00, Wait}
 use Rattle.grs_base.specs.declared.line.Line.{Line}
 use Rattle.grs_base.specs.declared.line.Line.TheVariants as lines
-use Rattle.grs_base.proofs.SameLaws.{same_res-exact, same_res-itself, same_task-exact, same_task-itself}
 use Rattle.grs_base.proofs.StateLaws.{list_at-without_other, res_equality}
 use Rattle.grs_wire.specs.declared.history.HistEntry.{HistEntry}
-use Rattle.grs_wire.specs.declared.history.HistEntry.TheVariants.{Enq, Deq, Release}
 use Rattle.grs_wire.specs.declared.request.Req.{Req}
 use Rattle.grs_wire.specs.declared.told.Verb.TheVariants as verbs
 use Rattle.grs_wire.specs.declared.told.ToldLine.{ToldLine}
 use Rattle.grs_wire.specs.declared.told.ToldLine.TheVariants.{Coded, Post, Ended}
-use Rattle.grs_wire.specs.History.{asker, code_of, res_of, replay}
+use Rattle.grs_wire.specs.History.{code_of, replay}
 use Rattle.grs_wire.proofs.WantLaws.{by_res}
-use Rattle.grs_legal.specs.Asks.{Ask, asks_of, ask_of, resolved}
-use Rattle.grs_legal.specs.Legal.{lets_pass, HasControl, end_among, end_code, passed_behind, line_entries, next_ask, or_else, release_next}
+use Rattle.grs_legal.specs.Asks.{asks_of, ask_of, resolved}
+use Rattle.grs_legal.specs.Legal.{lets_pass, end_code, passed_behind, line_entries, next_ask, or_else, release_next}
 use Rattle.task_state.specs.declared.state.Rec.{Rec}
 use Rattle.task_state.specs.declared.state.Phase.{Phase}
 use Rattle.task_state.specs.declared.state.Phase.TheVariants as phases
-use Rattle.task_state.specs.declared.state.TaskState.{TaskState}
-use Rattle.task_state.specs.View.{on_record, without_first, code_in, record_of}
+use Rattle.task_state.specs.View.{without_first}
 use Rattle.grs_world.specs.Node.{is_held}
-use Rattle.grs_world.specs.Agree.{entry_of_line, tells_control, is_code_before, is_code_of, is_post_of, is_end_of, TellsWait, LineAgrees}
+use Rattle.grs_world.specs.Agree.{is_code_before, is_end_of, LineAgrees}
 use Rattle.grs_world.proofs.Own.{own, own-without, has_task-own, queued_by-own}
-use Rattle.grs_world.proofs.Lines.{take-more, slice_get-within, slice_get-past, slice_get-none, asks-same}
-use Rattle.grs_world.proofs.Invariant.{Each, key, has_res, is_distinct, IsRec, IsDue, Past, Passed, IsFree, IsReady, IsHeldLine, IsWaitFor, IsEnding, IsInPhase, IsTask, is_post_before, is_waiting, is_unsent, code_bound}
-use Rattle.grs_world.proofs.Others.{any-more, any-last, none-more, all-more, all-kept, recs-knows, recs-told}
-use Rattle.grs_world.proofs.Control.{found, not_found}
+use Rattle.grs_world.proofs.Lines.{take-whole, slice_get-within, slice_get-past, slice_get-none, asks-same}
+use Rattle.grs_world.proofs.Invariant.{Each, key, IsRec, IsDue, Past, Passed, IsWaitFor, IsTask, is_post_before}
+use Rattle.grs_world.proofs.Others.{none-more, all-more, all-kept, recs-knows, recs-told}
 use Rattle.grs_world.proofs.Granted.{past, codes_later, lt_suc, or_right, passed-line}
-use Rattle.grs_world.proofs.Keys.{has_res-task, distinct-without, each-without}
+use Rattle.grs_world.proofs.Keys.{distinct-without, each-without}
 use Rattle.grs_world.proofs.Decided.{by_lists, other-without, keys_taken}
 
 none-filtered : (r : Res) (ks : List (Res × Ctl)) → list_any (λ k. same_res r k.0) (filter (λ k. not (same_res r k.0)) ks) ≡ false
@@ -240,11 +236,7 @@ next-release limit ls P T knows t n c code xs o k =
 
     no_line : (e : Option ℕ) → end_code t P ≡ e → cond (is_some e) None (slice_get (asks_of t ls) (length (line_entries t P))) ≡ None
     no_line (Some m) e = refl
-    no_line None e = slice_get-none (asks_of t ls) (length (line_entries t P)) (omega (arith, k.count refl, ap (λ m. length (asks_of t (take m ls))) (k.phase.all_lines e).0, ap (λ zs. length (asks_of t zs)) (take_all ls)))
-      where
-        take_all : (zs : List Line) → take (length zs) zs ≡ zs
-        take_all [] = refl
-        take_all (z ∷ zs) = ap (λ ys. z ∷ ys) (take_all zs)
+    no_line None e = slice_get-none (asks_of t ls) (length (line_entries t P)) (omega (arith, k.count refl, ap (λ m. length (asks_of t (take m ls))) (k.phase.all_lines e).0, ap (λ zs. length (asks_of t zs)) (take-whole ls)))
 
 -- a task with nothing on record has ended
 pub task-ended : (limit : ℕ) (ls : List Line) (P : List HistEntry) (T : List ToldLine) (knows : Res → Bool) (t : TaskId) (n c code : ℕ) (o : Option Req) →

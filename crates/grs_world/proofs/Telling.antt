@@ -1,49 +1,44 @@
 -- Telling control to tasks that became owners.
-use Rattle.std.proofs.Common.{◌≡◌, ◌≢◌, ◌<◌, ◌≤◌, ◌-◌, ◌+◌, ℕ, zero, suc, Bool, true, false, cond, not, ◌&&◌, ◌||◌, List, [], ◌∷◌, ◌++◌, map, length, take, Option, Some, None, refl, ap, sym, ◌∙◌, subst, arith, inl, inr}
-use Rattle.std.specs.Prelude.{slice_get, is_some, ◌⊎◌, IfSome, unwrap_or, ◌==◌, nat_lt}
-use Rattle.std.specs.List.{list_any, list_all}
-use Rattle.std.proofs.lemmas.Bool.{and_parts, cases_Bool, eqb-true, eq-eqb, ne_eqb, lt-ltb, ltb-true}
-use Rattle.std.proofs.lemmas.Bool.Decides.{nat_tests}
+use Rattle.std.proofs.Common.{◌≡◌, Bool, true, false, cond, not, ◌&&◌, ◌||◌, List, [], ◌∷◌, ◌++◌, Option, Some, None, refl, ap, sym, ◌∙◌, subst, arith, inl, inr}
+use Rattle.std.specs.Prelude.{◌⊎◌, ◌==◌}
+use Rattle.std.specs.List.{list_any}
+use Rattle.std.proofs.lemmas.Bool.{and_parts, cases_Bool, eqb-true, eq-eqb}
 use Rattle.grs_base.specs.Same.{same_res, same_task}
-use Rattle.grs_base.specs.Lists.{owns, has_task}
-use Rattle.grs_base.specs.State.{State, list_of}
+use Rattle.grs_base.specs.Lists.{owns}
+use Rattle.grs_base.specs.State.{list_of}
 use Rattle.grs_base.specs.declared.resource.Res.{Res}
 use Rattle.grs_base.specs.declared.resource.TaskId.{TaskId}
 use Rattle.grs_base.specs.declared.decision.Code.TheVariants.{C00}
 use Rattle.grs_base.specs.declared.line.Line.{Line}
-use Rattle.grs_base.proofs.SameLaws.{same_res-exact, same_res-itself, same_task-exact, same_task-itself}
+use Rattle.grs_base.proofs.SameLaws.{same_res-exact, same_task-exact, same_task-itself}
 use Rattle.grs_wire.specs.declared.deck.Deck.{Deck}
 use Rattle.grs_wire.specs.declared.history.HistEntry.{HistEntry}
-use Rattle.grs_wire.specs.declared.request.Req.{Req}
 use Rattle.grs_wire.specs.declared.told.Verb.TheVariants as verbs
 use Rattle.grs_wire.specs.declared.told.ToldLine.{ToldLine}
-use Rattle.grs_wire.specs.declared.told.ToldLine.TheVariants.{Coded, Post, Ended}
+use Rattle.grs_wire.specs.declared.told.ToldLine.TheVariants.{Coded, Post}
 use Rattle.grs_wire.specs.History.{replay}
-use Rattle.grs_legal.specs.Asks.{Script, scripts_of, lines_in, lines_at, lines_of}
+use Rattle.grs_wire.proofs.WantLaws.{by_test}
+use Rattle.grs_legal.specs.Asks.{lines_of}
 use Rattle.grs_legal.specs.Legal.{line_entries}
 use Rattle.task_state.specs.declared.state.Rec.{Rec}
 use Rattle.task_state.specs.declared.state.Phase.{Phase}
 use Rattle.task_state.specs.declared.state.Phase.TheVariants as phases
 use Rattle.task_state.specs.declared.state.TaskState.{TaskState}
-use Rattle.task_state.specs.View.{TasksView, is_task, state_of, with_state, with_phase, with_told, telling, record_of, on_record, code_in}
-use Rattle.task_state.proofs.ViewLaws.{state_of-same, state_of-other, told-state, is_task-state, state_of-telling, told-telling, is_task-telling}
+use Rattle.task_state.specs.View.{TasksView, is_task, state_of, with_phase, with_told, telling, record_of, on_record, code_in}
+use Rattle.task_state.proofs.ViewLaws.{state_of-same, told-state, state_of-telling, told-telling}
 use Rattle.grs_world.specs.Node.{is_held, is_held_for, tell_control, tell_untold, tell_record, passes_wait, tell_all}
-use Rattle.grs_world.specs.Agree.{Agrees, LineAgrees, told_task, tells_control, entry_of_line, is_control_of}
-use Rattle.grs_world.proofs.Invariant.{Each, IsRec, IsDue, IsEntryOn, Past, IsTask, has_res, has_ended}
+use Rattle.grs_world.specs.Agree.{LineAgrees, told_task, tells_control, entry_of_line}
+use Rattle.grs_world.proofs.Invariant.{IsRec, IsDue, IsEntryOn, IsTask, has_res, has_ended}
 use Rattle.grs_world.proofs.Others.{task-told, recs-knows, any-last}
 use Rattle.grs_world.proofs.Owners.{is_among}
 use Rattle.grs_world.proofs.Control.{found, not_found, also, queued_control}
 use Rattle.grs_base.proofs.ListLaws.{same_task-sym}
 use Rattle.grs_world.proofs.Granted.{or_right, past, task-coded, task-posted, task-passed}
-use Rattle.grs_world.proofs.Views.{by_test, IsOurs, Holds, IsChanged, changed-state, changed-telling, changed-then, changed-none, holds-changed, Agreed, none, more, agrees-ours, learns, learns-own, learns-other}
+use Rattle.grs_world.proofs.Views.{IsOurs, Holds, IsChanged, changed-state, changed-telling, changed-then, changed-none, holds-changed, Agreed, more, agrees-ours, learns, learns-own, learns-other}
 
 -- a record with control told
 abbrev pub told_rec : Rec → Rec
 told_rec z = record z { told = true }
-
--- a task with control of one resource told
-told_state : Res → TaskState → TaskState
-told_state r x = record x { records = on_record r told_rec x.records }
 
 state-told : (v : TasksView) (t : TaskId) (r : Res) → is_task v t ≡ true → state_of (with_told v t r) t ≡ record (state_of v t) { records = on_record r told_rec (state_of v t).records }
 unfolding with_told
@@ -146,10 +141,6 @@ module _ (deck : Deck) (P : List HistEntry) (T0 : List ToldLine) (knows : Res �
         (subst (λ z. IsTask ls (past deck.limit P t) (v.told ++ l ∷ []) (λ q. learns knows r t q t) t z) (sym is) (own-learned (v.told ++ l ∷ []) x both.0)));
     agreed = subst (λ T. Agreed deck P T0 T) (sym told) (more v.told l agreed (agrees-ours deck ls P v.told l (ap (λ z. lines_of deck z) e ∙ ours.lines) both.1));
   }
-
-  -- by the code of its last line
-  coded_view : TasksView → Rec → TasksView
-  coded_view v y = telling (with_phase (with_told v t r) t phases.Ready) (Coded t y.line 0 verbs.Enq C00)
 
   held_is : (ph : Phase) → is_held ph ≡ true → ph ≡ phases.HeldAnswer
   held_is phases.HeldAnswer e = refl

@@ -1,8 +1,7 @@
 -- Every event of a task: by its phase and its next line.
-use Rattle.std.proofs.Common.{◌≡◌, ◌≢◌, ◌<◌, ◌≤◌, ◌-◌, ◌+◌, ℕ, zero, suc, Bool, true, false, cond, not, ◌&&◌, ◌||◌, List, [], ◌∷◌, ◌++◌, map, length, take, Option, Some, None, refl, ap, sym, ◌∙◌, subst, arith, inl, inr, add-one}
-use Rattle.std.specs.Prelude.{filter, slice_get, is_some, ◌⊎◌, IfSome, unwrap_or, ◌==◌, nat_lt, nat_le}
+use Rattle.std.proofs.Common.{◌≡◌, ℕ, suc, Bool, true, false, cond, not, ◌||◌, List, [], ◌∷◌, ◌++◌, map, length, take, Option, Some, None, refl, ap, sym, ◌∙◌, subst, arith}
+use Rattle.std.specs.Prelude.{slice_get, is_some}
 use Rattle.std.specs.List.{list_any, list_all}
-use Rattle.std.proofs.lemmas.Bool.{and_parts, cases_Bool}
 use Rattle.grs_base.specs.Same.{same_res, same_task}
 use Rattle.grs_base.specs.Lists.{owns, has_task}
 use Rattle.grs_base.specs.State.{State, list_of, is_systems, without}
@@ -12,40 +11,39 @@ use Rattle.grs_base.specs.declared.decision.Code.{Code}
 use Rattle.grs_base.specs.declared.decision.Code.TheVariants.{C00, C08}
 use Rattle.grs_base.specs.declared.line.Line.{Line}
 use Rattle.grs_base.specs.declared.line.Line.TheVariants as lines
-use Rattle.grs_base.specs.declared.line.Item.{Item}
 use Rattle.grs_base.proofs.SameLaws.{same_res-exact, same_task-itself}
 use Rattle.grs_wire.specs.declared.deck.Deck.{Deck}
 use Rattle.grs_wire.specs.declared.history.HistEntry.{HistEntry}
 use Rattle.grs_wire.specs.declared.history.HistEntry.TheVariants as entries
 use Rattle.grs_wire.specs.declared.request.Want.{Want}
 use Rattle.grs_wire.specs.declared.request.Want.TheVariants.{Enq, Deq, Release}
-use Rattle.grs_wire.specs.declared.request.Req.{Req}
 use Rattle.grs_wire.specs.declared.told.Verb.TheVariants as verbs
 use Rattle.grs_wire.specs.declared.told.ToldLine.{ToldLine}
-use Rattle.grs_wire.specs.declared.told.ToldLine.TheVariants.{Coded, Post, Ended}
-use Rattle.grs_wire.specs.History.{asker, code_of, replay}
-use Rattle.grs_wire.specs.Wants.{after_want, res_wanted}
-use Rattle.grs_legal.specs.Asks.{Ask, AsksEnq, AsksDeq, AsksRelease, lines_of, ask_of, resolved}
+use Rattle.grs_wire.specs.declared.told.ToldLine.TheVariants.{Coded, Ended}
+use Rattle.grs_wire.specs.History.{replay}
+use Rattle.grs_wire.specs.Wants.{after_want}
+use Rattle.grs_wire.proofs.WantLaws.{by_test}
+use Rattle.grs_legal.specs.Asks.{AsksRelease, ask_of, resolved}
 use Rattle.grs_legal.specs.Legal.{line_entries, end_code, IsLegal, IsLegalOf, lets_pass, passed_lines, passed_behind, next_ask, release_next}
 use Rattle.task_state.specs.declared.state.Rec.{Rec}
 use Rattle.task_state.specs.declared.state.Phase.{Phase}
 use Rattle.task_state.specs.declared.state.Phase.TheVariants as phases
 use Rattle.task_state.specs.declared.state.TaskState.{TaskState}
-use Rattle.task_state.specs.View.{TasksView, is_task, state_of, with_line, with_phase, with_outstanding, telling, record_of, without_first, code_in}
-use Rattle.grs_world.specs.Node.{Node, Step, tell_code, answered, decide, only, with_tasks, ask, wait, has_most, take_line, end_step, ready_step, phase_step, task_step}
+use Rattle.task_state.specs.View.{TasksView, state_of, with_line, with_phase, with_outstanding, telling, record_of, without_first}
+use Rattle.grs_world.specs.Node.{Node, tell_code, decide, only, with_tasks, ask, wait, has_most, take_line, end_step, ready_step, phase_step}
 use Rattle.grs_world.specs.Agree.{LineAgrees, TellsWait, is_end_of, entry_of_line, told_task}
 use Rattle.grs_world.proofs.Entries.{line_entries-release}
-use Rattle.grs_world.proofs.Lines.{slice_get-past}
-use Rattle.grs_world.proofs.Invariant.{Each, key, has_res, IsRec, Past, Passed, IsTask}
+use Rattle.grs_world.proofs.Lines.{take-whole}
+use Rattle.grs_world.proofs.Invariant.{IsRec, Past, IsTask}
 use Rattle.grs_world.proofs.Others.{task-told}
 use Rattle.grs_world.proofs.Control.{found, not_found}
 use Rattle.grs_world.proofs.Granted.{past, or_right}
-use Rattle.grs_world.proofs.Views.{by_test, IsOurs, Holds, IsChanged, holds-changed, Agreed, none, more, agrees-ours}
+use Rattle.grs_world.proofs.Views.{IsOurs, holds-changed, Agreed, none, more, agrees-ours}
 use Rattle.grs_world.proofs.Keys.{has_res-task}
 use Rattle.grs_world.proofs.Decided.{by_lists}
 use Rattle.grs_world.proofs.Steps.{task-released, task-skipped, task-waited, task-held, task-to_send, task-ending, next-release, task-ended}
-use Rattle.grs_world.proofs.Good.{owned, IsGood, replay-push, task-knows}
-use Rattle.grs_world.proofs.Did.{Did, did-none, did-line, did-phase, did-outstanding, did-telling, did-code, did-answered_release}
+use Rattle.grs_world.proofs.Good.{owned, IsGood, replay-push}
+use Rattle.grs_world.proofs.Did.{Did, did-none, did-phase, did-outstanding, did-telling, did-answered_release}
 use Rattle.grs_world.proofs.Events.{Outcome, quiet, fixes, good_decided, agreed_decided, past-release, is_ready, taken, enq_outcome, deq_outcome}
 
 module _ (deck : Deck) (P : List HistEntry) (n : Node) (good : IsGood deck P n) (t : TaskId) (ls : List Line) (ours : IsOurs deck n.tasks t ls) where
@@ -96,15 +94,11 @@ module _ (deck : Deck) (P : List HistEntry) (n : Node) (good : IsGood deck P n) 
         passed_before : list_all (lets_pass (replay deck.limit P) t) (passed_lines t ls P) ≡ true
         passed_before = by_end (end_code t P) refl
           where
-            all_of : (zs : List Line) → take (length zs) zs ≡ zs
-            all_of [] = refl
-            all_of (z ∷ zs) = ap (λ ws. z ∷ ws) (all_of zs)
-
             by_end : (o : Option ℕ) → end_code t P ≡ o → list_all (lets_pass (replay deck.limit P) t) (cond (is_some o) [] (passed_behind t (length (line_entries t P)) ls)) ≡ true
             by_end (Some m) f = refl
             by_end None f =
                 let a = k.phase.all_lines f in
-                subst (λ zs. list_all (lets_pass (replay deck.limit P) t) (passed_behind t (length (line_entries t P)) zs) ≡ true) (ap (λ m. take m ls) a.0 ∙ all_of ls) a.1
+                subst (λ zs. list_all (lets_pass (replay deck.limit P) t) (passed_behind t (length (line_entries t P)) zs) ≡ true) (ap (λ m. take m ls) a.0 ∙ take-whole ls) a.1
 
     -- it has ended
     ended : xs ≡ [] → Outcome deck P n (only (with_tasks n (telling (with_phase v t phases.Ended) (Ended t c))))
@@ -124,9 +118,6 @@ module _ (deck : Deck) (P : List HistEntry) (n : Node) (good : IsGood deck P n) 
     unfolding end_step
     end_outcome = by_records xs refl
       where
-        held_is : Node
-        held_is = record { tasks = n.tasks; held = n.held }
-
         by_records : (zs : List Rec) → xs ≡ zs → Outcome deck P n (end_step (record { tasks = v; held = replay deck.limit P }) t c zs)
         by_records [] e = subst (λ s. Outcome deck P n (only (record { tasks = telling (with_phase v t phases.Ended) (Ended t c); held = s }))) good.held (ended e)
         by_records (y ∷ ys) e = released y ys e

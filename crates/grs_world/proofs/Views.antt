@@ -1,42 +1,23 @@
 -- What holds of all tasks of the system, and telling control to some of them.
-use Rattle.std.proofs.Common.{◌≡◌, ◌≢◌, ◌<◌, ◌≤◌, ◌-◌, ◌+◌, ℕ, zero, suc, Bool, true, false, cond, not, ◌&&◌, ◌||◌, List, [], ◌∷◌, ◌++◌, map, length, take, Option, Some, None, refl, ap, sym, ◌∙◌, subst, arith, inl, inr}
-use Rattle.std.specs.Prelude.{slice_get, is_some, ◌⊎◌, IfSome, unwrap_or, ◌==◌, nat_lt}
-use Rattle.std.specs.List.{list_any, list_all}
-use Rattle.std.proofs.lemmas.Bool.{and_parts, cases_Bool, eqb-true, eq-eqb, ne_eqb, lt-ltb, ltb-true}
-use Rattle.std.proofs.lemmas.Bool.Decides.{nat_tests}
+use Rattle.std.proofs.Common.{◌≡◌, ◌≢◌, ℕ, Bool, true, false, cond, ◌&&◌, ◌||◌, List, [], ◌∷◌, ◌++◌, Option, Some, None, refl, ap, sym, ◌∙◌, subst, arith}
+use Rattle.std.specs.Prelude.{slice_get, ◌==◌}
+use Rattle.std.proofs.lemmas.Bool.{cases_Bool, eqb-true, eq-eqb}
 use Rattle.grs_base.specs.Same.{same_res, same_task}
-use Rattle.grs_base.specs.Lists.{owns, has_task}
-use Rattle.grs_base.specs.State.{State, list_of}
 use Rattle.grs_base.specs.declared.resource.Res.{Res}
 use Rattle.grs_base.specs.declared.resource.TaskId.{TaskId}
-use Rattle.grs_base.specs.declared.decision.Code.TheVariants.{C00}
 use Rattle.grs_base.specs.declared.line.Line.{Line}
-use Rattle.grs_base.proofs.SameLaws.{same_res-exact, same_res-itself, same_task-exact, same_task-itself}
+use Rattle.grs_base.proofs.SameLaws.{same_task-exact, same_task-itself}
 use Rattle.grs_wire.specs.declared.deck.Deck.{Deck}
 use Rattle.grs_wire.specs.declared.history.HistEntry.{HistEntry}
-use Rattle.grs_wire.specs.declared.told.Verb.TheVariants as verbs
 use Rattle.grs_wire.specs.declared.told.ToldLine.{ToldLine}
-use Rattle.grs_wire.specs.declared.told.ToldLine.TheVariants.{Coded, Post, Ended}
-use Rattle.grs_wire.specs.History.{replay}
-use Rattle.grs_legal.specs.Asks.{Script, scripts_of, lines_in, lines_at, lines_of}
-use Rattle.grs_legal.specs.Legal.{line_entries}
-use Rattle.task_state.specs.declared.state.Rec.{Rec}
-use Rattle.task_state.specs.declared.state.Phase.{Phase}
-use Rattle.task_state.specs.declared.state.Phase.TheVariants as phases
+use Rattle.grs_legal.specs.Asks.{Script, scripts_of, lines_at, lines_of}
 use Rattle.task_state.specs.declared.state.TaskState.{TaskState}
-use Rattle.task_state.specs.View.{TasksView, is_task, state_of, with_state, with_phase, with_told, telling, record_of, on_record, code_in}
-use Rattle.task_state.proofs.ViewLaws.{state_of-same, state_of-other, told-state, is_task-state, state_of-telling, told-telling, is_task-telling}
-use Rattle.grs_world.specs.Node.{is_held, is_held_for, tell_control, tell_untold, tell_record, passes_wait, tell_all}
-use Rattle.grs_world.specs.Agree.{Agrees, LineAgrees, told_task, tells_control, entry_of_line}
-use Rattle.grs_world.proofs.Invariant.{Each, IsRec, IsDue, Past, IsTask, has_res, has_ended}
-use Rattle.grs_world.proofs.Others.{task-told, recs-knows, any-last}
-use Rattle.grs_world.proofs.Control.{found, not_found, also, queued_control}
-use Rattle.grs_world.proofs.Granted.{past, task-coded, task-posted, task-passed}
-
--- a test with its equation
-pub by_test : {X : Type 0} (P : X → Type 0) (b : Bool) (x y : X) → (b ≡ true → P x) → (b ≡ false → P y) → P (cond b x y)
-by_test P true x y p q = p refl
-by_test P false x y p q = q refl
+use Rattle.task_state.specs.View.{TasksView, is_task, state_of, with_state, telling}
+use Rattle.task_state.proofs.ViewLaws.{state_of-other, is_task-state, state_of-telling, is_task-telling}
+use Rattle.grs_world.specs.Agree.{Agrees, LineAgrees, told_task}
+use Rattle.grs_world.proofs.Invariant.{IsTask}
+use Rattle.grs_world.proofs.Control.{also}
+use Rattle.grs_world.proofs.Granted.{past}
 
 -- a task of the deck that is of this system
 pub record IsOurs (deck : Deck) (v : TasksView) (t : TaskId) (ls : List Line) : Type 0 where
@@ -74,7 +55,7 @@ job_at job (Some x) ls h s e = go (x.job == job) refl h
     go true f g = let same : x ≡ s = cc in subst (λ (z : Script). z.job ≡ job) same (eqb-true x.job job f)
     go false f g = cc
 
-script_at : (job : ℕ) (o : Option Script) (ls : List Line) → lines_at job o ≡ Some ls → (s : Script) × (o ≡ Some s)
+pub script_at : (job : ℕ) (o : Option Script) (ls : List Line) → lines_at job o ≡ Some ls → (s : Script) × (o ≡ Some s)
 script_at job None ls h = absurd (cc)
 script_at job (Some s) ls h = (s, refl)
 
