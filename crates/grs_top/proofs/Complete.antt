@@ -1,5 +1,5 @@
 -- A deck that is told and no fault give the whole report.
-use Rattle.std.proofs.Common.{◌≡◌, ◌≤◌, ◌<◌, ◌⊎◌, ℕ, List, length, refl, sym, ap, subst, inl, inr, arith, Option, None, Some, ◌∙◌}
+use Rattle.std.proofs.Common.{◌≡◌, ◌≤◌, ◌<◌, ℕ, List, length, refl, sym, subst, inl, inr, arith, Option, None, Some, ◌∙◌}
 use Rattle.std.proofs.lemmas.List.{take_all}
 use Rattle.std.specs.Io.KnownBytes.{Appends}
 use Rattle.grs_base.specs.declared.fault.DeckFault.{DeckFault}
@@ -11,8 +11,8 @@ use Rattle.grs_io.specs.Moved.{TakesFirst}
 use Rattle.grs_top.specs.declared.status.Status.{Status}
 use Rattle.grs_top.specs.declared.status.Status.TheVariants as statuses
 use Rattle.grs_top.specs.Seen.{whole_report, ending}
-use Rattle.grs_top.specs.Answers.{Streams, TakesAll, Replays, Reports}
-use Rattle.grs_top.specs.Whole.{Tells, HasNoFault, IsWhole, WholeUnlessMemory}
+use Rattle.grs_top.specs.Answers.{Streams, TakesAll, Reports}
+use Rattle.grs_top.specs.Whole.{Tells, IsWhole, WholeUnlessMemory}
 
 all_spells : (old new : Option (List ℕ)) (text : List ℕ) (d : DeckValue) → Tells old d → TakesAll old new text → SpellsDeck text d
 all_spells None new text d tells read = absurd tells
