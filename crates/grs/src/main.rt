@@ -5,10 +5,9 @@
 use grs_io::{StdSink, StdSource};
 use grs_top::{Status, grs};
 use std::alloc::Alloc;
-use std::env;
 use std::env::Env;
-use std::io;
 use std::process::ExitCode;
+use std::{env, io};
 
 /// The words after the program's name. A word that is no UTF-8 is an error of kind `InvalidData`.
 fn words<R: Env + Alloc>(rt: &R) -> io::Result<Vec<String<R::A>, R::A>> {

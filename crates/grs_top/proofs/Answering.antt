@@ -1,16 +1,15 @@
 -- What stands after a text was read and its answer written.
-use Rattle.std.proofs.Common.{◌≡◌, ◌≤◌, ◌<◌, ◌⊎◌, ℕ, Bool, true, false, List, [], length, take, drop, refl, sym, ap, subst, inl, inr, min, arith, if◌then◌else◌, Option, None, Some, ◌∙◌}
+use Rattle.std.proofs.Common.{◌≡◌, ◌≤◌, ◌<◌, ◌⊎◌, ℕ, Bool, true, false, List, length, take, sym, subst, inl, inr, arith, if◌then◌else◌, Option, None, Some, ◌∙◌}
 use Rattle.std.proofs.lemmas.List.{length-take, take_all, drop_all}
 use Rattle.std.specs.Io.KnownBytes.{Appends}
-use Rattle.grs_io.specs.Faults.{HasRisen}
-use Rattle.grs_io.specs.Moved.{TakesFirst, AppendsPart}
+use Rattle.grs_io.specs.Moved.{TakesFirst}
 use Rattle.grs_wire.specs.declared.deck.Event.{Event}
 use Rattle.grs_wire.specs.declared.deck.Deck.{Deck as DeckValue}
 use Rattle.grs_report.specs.Ends.{all_ended}
 use Rattle.grs_top.specs.declared.status.Status.{Status}
 use Rattle.grs_top.specs.declared.status.Status.TheVariants as statuses
 use Rattle.grs_top.specs.Seen.{seen_of_run, ending}
-use Rattle.grs_top.specs.Due.{IsRefused, IsReported, IsDue}
+use Rattle.grs_top.specs.Due.{IsReported, IsDue}
 use Rattle.grs_top.specs.Answers.{Streams, TakesAll, ReadsDue, Writes, Replays, Reports}
 
 -- a front that is shorter than was asked for is all

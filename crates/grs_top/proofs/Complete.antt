@@ -1,5 +1,5 @@
 -- A deck that is told and no fault give the whole report.
-use Rattle.std.proofs.Common.{◌≡◌, ◌≤◌, ◌<◌, ◌⊎◌, ℕ, List, length, refl, sym, ap, subst, inl, inr, arith, Option, None, Some, ◌∙◌}
+use Rattle.std.proofs.Common.{◌≡◌, ◌≤◌, ◌<◌, ℕ, List, length, refl, sym, subst, inl, inr, arith, Option, None, Some, ◌∙◌}
 use Rattle.std.proofs.lemmas.List.{take_all}
 use Rattle.std.specs.Io.KnownBytes.{Appends}
 use Rattle.grs_base.specs.declared.fault.DeckFault.{DeckFault}
@@ -11,8 +11,8 @@ use Rattle.grs_io.specs.Moved.{TakesFirst}
 use Rattle.grs_top.specs.declared.status.Status.{Status}
 use Rattle.grs_top.specs.declared.status.Status.TheVariants as statuses
 use Rattle.grs_top.specs.Seen.{whole_report, ending}
-use Rattle.grs_top.specs.Answers.{Streams, TakesAll, Replays, Reports}
-use Rattle.grs_top.specs.Whole.{Tells, HasNoFault, IsWhole, WholeUnlessMemory}
+use Rattle.grs_top.specs.Answers.{Streams, TakesAll, Reports}
+use Rattle.grs_top.specs.Whole.{Tells, IsWhole, WholeUnlessMemory}
 
 all_spells : (old new : Option (List ℕ)) (text : List ℕ) (d : DeckValue) → Tells old d → TakesAll old new text → SpellsDeck text d
 all_spells None new text d tells read = absurd tells
@@ -34,9 +34,8 @@ not_refused : (text : List ℕ) (f : DeckFault) → fault text ≡ Some f → fa
 not_refused text f has none = cc
 
 module _
-  (one : (text : List ℕ) (d e : DeckValue) → SpellsDeck text d → SpellsDeck text e → d ≡ e)
-  (spelled : (text : List ℕ) (d : DeckValue) → SpellsDeck text d → fault text ≡ None) where
-
+    (one : (text : List ℕ) (d e : DeckValue) → SpellsDeck text d → SpellsDeck text e → d ≡ e)
+    (spelled : (text : List ℕ) (d : DeckValue) → SpellsDeck text d → fault text ≡ None) where
   reported : (d : DeckValue) (old new : Streams) (s : Status) → Tells old.left d → Reports old new s → IsWhole d old new s
   reported d old new s tells r =
       let same : r.reported.deck ≡ d = one r.text r.reported.deck d r.reported.spelled (all_spells old.left new.left r.text d tells r.read) in
@@ -51,7 +50,7 @@ module _
   whole d old new statuses.Deck replays tells none =
       let room : 1048576 < 1048577 = omega arith in
       absurd (not_refused replays.text replays.refused.first replays.refused.is_first
-          (spelled replays.text d (first_spells 1048577 old.left new.left replays.text d room tells replays.read)))
+      (spelled replays.text d (first_spells 1048577 old.left new.left replays.text d room tells replays.read)))
   whole d old new statuses.Words replays tells none = absurd replays
   whole d old new statuses.ReadFault replays tells none = absurd (not_risen old.reads new.reads none.reads none.reads_below replays.reads)
   whole d old new statuses.WriteFault replays tells none = absurd (not_risen old.writes new.writes none.writes none.writes_below replays.writes)

@@ -13,6 +13,7 @@ one_item (y ∷ z ∷ zs) x some few is = absurd (omega arith)
 pub one_word : (all : List (List ℕ)) (word xs ys text : List ℕ) (b : Bool)
     → all ≡ word ∷ [] → b ≡ bytes_eq xs ys → xs ≡ word → ys ≡ text
     → (IsTrue b → all ≡ text ∷ []) × (all ≡ text ∷ [] → IsTrue b)
-one_word all word xs ys text b single test left right =
-    (λ yes. let same : xs ≡ ys = (bytes_eq-Decides xs ys).0 (sym test ∙ yes) in cc,
-     λ is. let same : xs ≡ ys = cc in test ∙ (bytes_eq-Decides xs ys).1 same)
+one_word all word xs ys text b single test left right = (
+  λ yes. let same : xs ≡ ys = (bytes_eq-Decides xs ys).0 (sym test ∙ yes) in cc,
+  λ is. let same : xs ≡ ys = cc in test ∙ (bytes_eq-Decides xs ys).1 same,
+)

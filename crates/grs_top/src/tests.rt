@@ -164,12 +164,7 @@ fn calls(alloc: Global, call: u64) -> Result<List<u64>, NoMemory> {
     Ok(calls)
 }
 
-fn source_of(
-    alloc: Global,
-    deck: &[u8],
-    chunk: usize,
-    call: u64,
-) -> Result<MemSource, NoMemory> {
+fn source_of(alloc: Global, deck: &[u8], chunk: usize, call: u64) -> Result<MemSource, NoMemory> {
     let bytes = List::from_bytes(alloc, deck)?;
     Ok(MemSource::new(bytes, chunk.max(1), calls(alloc, call)?))
 }
@@ -205,7 +200,15 @@ fn words_of(alloc: Global, text: &str) -> Result<Vec<String>, Fail> {
 #[test]
 fn takes_words(rt: HostRuntime) -> Result<(), Fail> {
     let alloc = rt.alloc();
-    let wrong = ["", "Replay", "replay ", "replay replay", "run", "--help", "gen 07"];
+    let wrong = [
+        "",
+        "Replay",
+        "replay ",
+        "replay replay",
+        "run",
+        "--help",
+        "gen 07",
+    ];
     for text in wrong {
         let words = words_of(alloc, text)?;
         let mut source = source_of(alloc, FIRST, 5, 1)?;
@@ -217,7 +220,12 @@ fn takes_words(rt: HostRuntime) -> Result<(), Fail> {
     }
     let words = words_of(alloc, "replay")?;
     let mut sink = sink_of(alloc, 5, 0)?;
-    let status = grs(alloc, words.as_slice(), &mut source_of(alloc, FIRST, 5, 0)?, &mut sink);
+    let status = grs(
+        alloc,
+        words.as_slice(),
+        &mut source_of(alloc, FIRST, 5, 0)?,
+        &mut sink,
+    );
     assert_eq!(rt; status, Status::Done);
     assert!(rt; sink.bytes() == FIRST_REPORT);
     Ok(())
