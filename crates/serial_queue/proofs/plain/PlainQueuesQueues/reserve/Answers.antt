@@ -1,4 +1,4 @@
-use Rattle.std.proofs.Common.{◌<◌, arith}
+use Rattle.std.proofs.Common.{arith}
 use Rattle.std.proofs.lemmas.Bool.Decides.{nat_tests}
 use Rattle.serial_queue.proofs.PlainLemmas.{more}
 use Rattle.serial_queue.proofs.plain.PlainQueuesQueues.reserve.Goals as goal
