@@ -1,5 +1,5 @@
 -- A number that is let go: the last entry takes its place. What is found stays what it is without it.
-use Rattle.std.proofs.Common.{◌≡◌, ℕ, zero, suc, Bool, true, false, cond, not, ◌&&◌, List, [], ◌∷◌, length, take, set, get_or, Option, Some, None, is_some, refl, ap, sym, ◌∙◌, subst, arith, eqb}
+use Rattle.std.proofs.Common.{◌≡◌, ℕ, zero, suc, Bool, true, false, cond, not, ◌&&◌, [], ◌∷◌, length, take, get_or, Option, Some, None, is_some, refl, ap, sym, ◌∙◌, arith, eqb}
 use Rattle.std.proofs.Common.{◌<◌, ◌≤◌, ltb, nat_eq}
 use Rattle.std.specs.Prelude.{swap_remove}
 use Rattle.std.specs.List.{position_or_len}
@@ -10,7 +10,7 @@ use Rattle.std.proofs.lemmas.Bool.Decides.{nat_tests}
 use Rattle.grs_base.specs.Same.{same_res}
 use Rattle.grs_base.specs.declared.resource.Res.{Res}
 use Rattle.grs_base.specs.State.{Held, list_at}
-use Rattle.grs_base.proofs.SameLaws.{same_res-exact, same_res-itself}
+use Rattle.grs_base.proofs.SameLaws.{same_res-exact}
 use Rattle.indexmap.specs.IndexMap.{swap_remove_entry}
 use Rattle.queue_table.specs.Names.{Numbers, number_of, name_of, named, is_paired, all_numbers, all_named, IsTable}
 use Rattle.queue_table.proofs.NameLemmas.{same_res-sym_false, number_of-remove_none, name_of-remove_none, is_paired-remove, named-remove, all_numbers-remove}
