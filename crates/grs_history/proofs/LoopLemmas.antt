@@ -1,14 +1,11 @@
 -- What the loops over slices, entries and what was fixed have come to.
-use Rattle.std.proofs.Common.{◌≡◌, ◌<◌, ◌≤◌, ◌+◌, ◌-◌, ℕ, zero, suc, List, [], ◌∷◌, ◌++◌, length, drop, get_or, refl, ap, sym, ◌∙◌, arith, append_assoc, append-nil}
+use Rattle.std.proofs.Common.{◌≡◌, ◌<◌, ◌≤◌, ◌+◌, ◌-◌, ℕ, zero, suc, List, [], ◌∷◌, ◌++◌, length, drop, refl, ap, sym, ◌∙◌, arith, append_assoc}
 use Rattle.grs_base.specs.State.{State}
 use Rattle.grs_base.specs.Looks.{look}
 use Rattle.grs_base.specs.declared.look.Filter.{Filter}
 use Rattle.grs_base.specs.declared.look.Place.TheVariants.{Slice}
 use Rattle.grs_base.specs.declared.resource.TaskId.{TaskId}
-use Rattle.std.proofs.lemmas.Grind.{common_steps}
-use Rattle.grs_base.specs.declared.resource.SysId.{SysId}
-use Rattle.grs_wire.specs.History.{look_entries, replay_from, answered_from, fixed_entries, after_fixed}
-use Rattle.grs_wire.specs.declared.request.Fixed.{Fixed}
+use Rattle.grs_wire.specs.History.{look_entries, replay_from}
 use Rattle.grs_wire.specs.declared.history.HistEntry.{HistEntry}
 use Rattle.grs_wire.specs.declared.history.HistEntry.TheVariants.{Look}
 
