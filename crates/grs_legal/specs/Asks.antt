@@ -1,5 +1,5 @@
 -- What the lines of a task ask.
-use Rattle.std.specs.Prelude.{ℕ, zero, suc, Bool, true, false, ◌&&◌, ◌==◌, List, [], ◌∷◌, ◌++◌, map, cond, Option, Some, None, slice_get, is_some, ◌+◌}
+use Rattle.std.specs.Prelude.{ℕ, suc, Bool, ◌==◌, List, [], ◌∷◌, ◌++◌, length, map, cond, Option, Some, None, slice_get}
 use Rattle.grs_base.specs.declared.resource.Ctl.{Ctl}
 use Rattle.grs_base.specs.declared.resource.Ret.{Ret}
 use Rattle.grs_base.specs.declared.resource.Res.{Res}
@@ -8,12 +8,14 @@ use Rattle.grs_base.specs.declared.resource.TaskId.{TaskId}
 use Rattle.grs_base.specs.declared.line.Scope.{Scope}
 use Rattle.grs_base.specs.declared.line.Scope.TheVariants.{Step, System, Systems}
 use Rattle.grs_base.specs.declared.line.Line.{Line}
-use Rattle.grs_base.specs.declared.line.Line.TheVariants.{Enq, Deq, Wait}
+use Rattle.grs_base.specs.declared.line.Line.TheVariants as lines
 use Rattle.grs_base.specs.declared.line.Item.{Item}
 use Rattle.grs_wire.specs.declared.deck.Deck.{Deck}
 use Rattle.grs_wire.specs.declared.deck.SystemDef.{SystemDef}
 use Rattle.grs_wire.specs.declared.deck.JobDef.{JobDef}
 use Rattle.grs_wire.specs.declared.deck.TaskDef.{TaskDef}
+use Rattle.grs_legal.specs.declared.meaning.Meaning.{Meaning}
+use Rattle.grs_legal.specs.declared.meaning.Meaning.TheVariants.{Enq, Deq, Wait, Nothing}
 
 -- what is asked, without its answer
 pub data Ask : Type 0 where
@@ -27,22 +29,28 @@ resolved t Step q r = kinds.Step t.system t.job q r
 resolved t System q r = kinds.System t.system q r
 resolved t Systems q r = kinds.Systems q r
 
--- what a line asks: a WAIT asks nothing
-abbrev pub ask_of : TaskId → Line → Option Ask
-ask_of t (Enq [] ret rnl) = None
-ask_of t (Enq (i ∷ more) ret rnl) = Some (AsksEnq (resolved t i.scope i.q i.r) i.ctl ret)
-ask_of t (Deq q r scope have unit rnl) = Some (AsksDeq (resolved t scope q r) have)
-ask_of t (Wait q r scope rnl) = None
+-- what a line means
+abbrev pub meaning_of : TaskId → Line → Meaning
+meaning_of t (lines.Enq [] ret rnl) = Nothing
+meaning_of t (lines.Enq (i ∷ more) ret rnl) = Enq (resolved t i.scope i.q i.r) i.ctl ret None
+meaning_of t (lines.Deq q r scope have unit rnl) = Deq (resolved t scope q r) have
+meaning_of t (lines.Wait q r scope rnl) = Wait (resolved t scope q r)
 
--- what is asked, before the rest
-abbrev pub before_asks : Option Ask → List Ask → List Ask
-before_asks None rest = rest
-before_asks (Some a) rest = a ∷ rest
+-- what is asked by a line that means this, in order
+abbrev pub asks_in : Meaning → List Ask
+asks_in (Enq r c ret unit) = AsksEnq r c ret ∷ []
+asks_in (Deq r have) = AsksDeq r have ∷ []
+asks_in (Wait r) = []
+asks_in Nothing = []
 
 -- what these lines ask, in order
-abbrev pub asks_of : TaskId → List Line → List Ask
-asks_of t [] = []
-asks_of t (l ∷ ls) = before_asks (ask_of t l) (asks_of t ls)
+abbrev pub asks_of : List Meaning → List Ask
+asks_of [] = []
+asks_of (l ∷ ls) = asks_in l ++ asks_of ls
+
+-- whether a line asks nothing
+abbrev pub is_silent : Meaning → Bool
+is_silent l = length (asks_in l) == 0
 
 -- the place of a task's job, and the task's lines
 pub record Script : Type 0 where
@@ -76,6 +84,11 @@ lines_at job (Some s) = cond (s.job == job) (Some s.lines) None
 abbrev pub lines_in : List Script → TaskId → Option (List Line)
 lines_in scripts t = lines_at t.job (slice_get scripts t.task)
 
--- the lines of a task of the deck
-abbrev pub lines_of : Deck → TaskId → Option (List Line)
-lines_of deck t = lines_in (scripts_of deck t.system.0) t
+-- what the lines of a task mean, where it has lines
+abbrev pub meanings : TaskId → Option (List Line) → Option (List Meaning)
+meanings t None = None
+meanings t (Some ls) = Some (map (meaning_of t) ls)
+
+-- what the lines of a task of the deck mean
+abbrev pub lines_of : Deck → TaskId → Option (List Meaning)
+lines_of deck t = meanings t (lines_in (scripts_of deck t.system.0) t)

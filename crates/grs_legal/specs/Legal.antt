@@ -1,5 +1,5 @@
 -- Which histories are legal.
-use Rattle.std.specs.Prelude.{◌≡◌, ℕ, zero, suc, Bool, true, false, not, ◌&&◌, ◌||◌, List, [], ◌∷◌, ◌++◌, length, filter, cond, Option, Some, None, slice_get, is_some, IfSome, if◌then◌else◌}
+use Rattle.std.specs.Prelude.{◌≡◌, ℕ, zero, suc, Bool, true, false, not, ◌&&◌, ◌||◌, nat_lt, ◌-◌, List, [], ◌∷◌, ◌++◌, length, filter, cond, Option, Some, None, slice_get, is_some, IfSome, if◌then◌else◌}
 use Rattle.std.specs.List.{list_all}
 use Rattle.grs_base.specs.Same.{same_res, same_task}
 use Rattle.grs_base.specs.Lists.{owns, has_task}
@@ -8,13 +8,13 @@ use Rattle.grs_base.specs.declared.resource.Res.{Res}
 use Rattle.grs_base.specs.declared.resource.TaskId.{TaskId}
 use Rattle.grs_base.specs.declared.decision.Code.{Code}
 use Rattle.grs_base.specs.declared.decision.Code.TheVariants as codes
-use Rattle.grs_base.specs.declared.line.Line.{Line}
-use Rattle.grs_base.specs.declared.line.Line.TheVariants as lines
 use Rattle.grs_wire.specs.declared.deck.Deck.{Deck}
 use Rattle.grs_wire.specs.declared.history.HistEntry.{HistEntry}
 use Rattle.grs_wire.specs.declared.history.HistEntry.TheVariants.{Enq, Deq, Release}
 use Rattle.grs_wire.specs.History.{asker, code_of, res_of, reply_of, replay}
-use Rattle.grs_legal.specs.Asks.{Ask, AsksEnq, AsksDeq, AsksRelease, ask_of, asks_of, resolved, lines_of}
+use Rattle.grs_legal.specs.Asks.{Ask, AsksEnq, AsksDeq, AsksRelease, asks_in, asks_of, is_silent, lines_of}
+use Rattle.grs_legal.specs.declared.meaning.Meaning.{Meaning}
+use Rattle.grs_legal.specs.declared.meaning.Meaning.TheVariants as lines
 
 -- what an entry asks
 abbrev pub ask_in : HistEntry → Ask
@@ -66,27 +66,28 @@ or_else (Some a) other = Some a
 
 -- what a task with these lines asks after a history: what its next asking line asks; after an end, or
 -- behind the last line, the release of what it has, in the order in which that was queued
-abbrev pub next_ask : ℕ → TaskId → List Line → List HistEntry → Option Ask
+abbrev pub next_ask : ℕ → TaskId → List Meaning → List HistEntry → Option Ask
 next_ask limit t ls hist =
     or_else
-    (cond (is_some (end_code t hist)) None (slice_get (asks_of t ls) (length (line_entries t hist))))
+    (cond (is_some (end_code t hist)) None (slice_get (asks_of ls) (length (line_entries t hist))))
     (release_next (slice_get (queued_by (replay limit hist) t) 0))
 
--- the lines that ask nothing behind this many asking lines, up to the next asking line
-abbrev pub passed_behind : TaskId → ℕ → List Line → List Line
-passed_behind t n [] = []
-passed_behind t zero (l ∷ ls) = cond (is_some (ask_of t l)) [] (l ∷ passed_behind t zero ls)
-passed_behind t (suc n) (l ∷ ls) = cond (is_some (ask_of t l)) (passed_behind t n ls) (passed_behind t (suc n) ls)
+-- the lines that ask nothing behind the lines that asked this much, up to the next line that asks
+abbrev pub passed_behind : ℕ → List Meaning → List Meaning
+passed_behind n [] = []
+passed_behind zero (l ∷ ls) = cond (is_silent l) (l ∷ passed_behind zero ls) []
+passed_behind (suc n) (l ∷ ls) = cond (nat_lt (suc n) (length (asks_in l))) [] (passed_behind (suc n - length (asks_in l)) ls)
 
 -- the lines that ask nothing which a task passes before its next entry: none after an end
-abbrev pub passed_lines : TaskId → List Line → List HistEntry → List Line
-passed_lines t ls hist = cond (is_some (end_code t hist)) [] (passed_behind t (length (line_entries t hist)) ls)
+abbrev pub passed_lines : TaskId → List Meaning → List HistEntry → List Meaning
+passed_lines t ls hist = cond (is_some (end_code t hist)) [] (passed_behind (length (line_entries t hist)) ls)
 
 -- whether a WAIT line lets its task pass: the task owns the resource, or has no element there
-abbrev pub lets_pass : State → TaskId → Line → Bool
-lets_pass s t (lines.Enq items ret rnl) = true
-lets_pass s t (lines.Deq q r scope have unit rnl) = true
-lets_pass s t (lines.Wait q r scope rnl) = owns (list_of s (resolved t scope q r)) t || not (has_task (list_of s (resolved t scope q r)) t)
+abbrev pub lets_pass : State → TaskId → Meaning → Bool
+lets_pass s t (lines.Wait r) = owns (list_of s r) t || not (has_task (list_of s r) t)
+lets_pass s t (lines.Enq r ctl ret unit) = true
+lets_pass s t (lines.Deq r have) = true
+lets_pass s t lines.Nothing = true
 
 -- the last of these entries
 abbrev pub last_entry : List HistEntry → Option HistEntry
@@ -99,7 +100,7 @@ abbrev pub HasControl : State → HistEntry → Type 0
 HasControl s h = code_of h ≡ codes.Wait → owns (list_of s (res_of h)) (asker h) ≡ true
 
 -- An entry may stand behind a history.
-pub record IsLegal (limit : ℕ) (ls : List Line) (hist : List HistEntry) (h : HistEntry) : Type 0 where
+pub record IsLegal (limit : ℕ) (ls : List Meaning) (hist : List HistEntry) (h : HistEntry) : Type 0 where
   -- its reply is the one that the lists give
   pub reply : code_of h ≡ reply_of limit (replay limit hist) h
   -- it is what its task asks next
@@ -110,7 +111,7 @@ pub record IsLegal (limit : ℕ) (ls : List Line) (hist : List HistEntry) (h : H
   pub passed : list_all (lets_pass (replay limit hist) (asker h)) (passed_lines (asker h) ls hist) ≡ true
 
 -- an entry of a task with these lines may stand behind a history; a task that the deck lacks has none
-abbrev pub IsLegalOf : ℕ → Option (List Line) → List HistEntry → HistEntry → Type 0
+abbrev pub IsLegalOf : ℕ → Option (List Meaning) → List HistEntry → HistEntry → Type 0
 IsLegalOf limit None hist h = ⊥
 IsLegalOf limit (Some ls) hist h = IsLegal limit ls hist h
 

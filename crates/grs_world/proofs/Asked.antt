@@ -10,7 +10,7 @@ use Rattle.grs_base.specs.declared.resource.Res.{Res}
 use Rattle.grs_base.specs.declared.resource.TaskId.{TaskId}
 use Rattle.grs_base.specs.declared.decision.Code.{Code}
 use Rattle.grs_base.specs.declared.decision.Code.TheVariants.{C00, C04, C08, C14, C18, Wait, End}
-use Rattle.grs_base.specs.declared.line.Line.{Line}
+use Rattle.grs_legal.specs.declared.meaning.Meaning.{Meaning}
 use Rattle.grs_base.proofs.SameLaws.{same_res-itself}
 use Rattle.grs_wire.specs.declared.history.HistEntry.{HistEntry}
 use Rattle.grs_wire.specs.declared.request.Req.{Req}
@@ -19,7 +19,7 @@ use Rattle.grs_wire.specs.declared.told.Verb.TheVariants as verbs
 use Rattle.grs_wire.specs.declared.told.ToldLine.{ToldLine}
 use Rattle.grs_wire.specs.declared.told.ToldLine.TheVariants.{Coded, Post, Ended}
 use Rattle.grs_wire.specs.History.{asker, code_of}
-use Rattle.grs_legal.specs.Asks.{Ask, asks_of, ask_of}
+use Rattle.grs_legal.specs.Asks.{Ask, asks_of, asks_in}
 use Rattle.grs_legal.specs.Legal.{lets_pass, passed_behind, end_among, end_or}
 use Rattle.task_state.specs.declared.state.Rec.{Rec}
 use Rattle.task_state.specs.declared.state.Phase.{Phase}
@@ -108,16 +108,16 @@ unfolding Grows
 grows-control r c None o' g h = absurd (cc)
 grows-control r c (Some e) o' g h = ap (is_control_of r c) (g e refl) ∙ h
 
-module _ (ls : List Line) (E : List HistEntry) (h : HistEntry) (t : TaskId) where
-  grows-line : (k : ℕ) → Grows (entry_of_line t ls E k) (entry_of_line t ls (E ++ h ∷ []) k)
+module _ (ls : List Meaning) (E : List HistEntry) (h : HistEntry) (t : TaskId) where
+  grows-line : (k : ℕ) → Grows (entry_of_line ls E k) (entry_of_line ls (E ++ h ∷ []) k)
   unfolding Grows
-  grows-line k e f = asked_at-grows t (slice_get ls (k - 1)) E (h ∷ []) (length (asks_of t (take (k - 1) ls))) e f
+  grows-line k e f = asked_at-grows (slice_get ls (k - 1)) E (h ∷ []) (length (asks_of (take (k - 1) ls))) e f
 
   grows-tells : (r : Res) (l : ToldLine) → tells_control t ls E r l ≡ true → tells_control t ls (E ++ h ∷ []) r l ≡ true
-  grows-tells r (Coded u k part verbs.Enq code) e = and_kept (same_task t u) _ _ (grows-control r code (entry_of_line t ls E k) (entry_of_line t ls (E ++ h ∷ []) k) (grows-line k)) e
+  grows-tells r (Coded u k part verbs.Enq code) e = and_kept (same_task t u) _ _ (grows-control r code (entry_of_line ls E k) (entry_of_line ls (E ++ h ∷ []) k) (grows-line k)) e
   grows-tells r (Coded u k part verbs.Deq code) e = e
   grows-tells r (Coded u k part verbs.Wait code) e = e
-  grows-tells r (Post u k) e = and_kept (same_task t u) _ _ (grows-control r C00 (entry_of_line t ls E k) (entry_of_line t ls (E ++ h ∷ []) k) (grows-line k)) e
+  grows-tells r (Post u k) e = and_kept (same_task t u) _ _ (grows-control r C00 (entry_of_line ls E k) (entry_of_line ls (E ++ h ∷ []) k) (grows-line k)) e
   grows-tells r (Ended u code) e = e
 
   any-kept : {X : Type 0} (p q : X → Bool) → ((x : X) → p x ≡ true → q x ≡ true) → (xs : List X) → list_any p xs ≡ true → list_any q xs ≡ true
@@ -130,7 +130,7 @@ module _ (ls : List Line) (E : List HistEntry) (h : HistEntry) (t : TaskId) wher
   recs-asked T knows knows' n k verb c ph [] same e = tt
   recs-asked T knows knows' n k verb c ph (x ∷ xs) same e = (
     record {
-      entry = grows-on x.res (entry_of_line t ls E x.line) _ (grows-line x.line) e.0.entry;
+      entry = grows-on x.res (entry_of_line ls E x.line) _ (grows-line x.line) e.0.entry;
       low = e.0.low;
       high = omega (arith, e.0.high);
       known = e.0.known ∙ sym (same x.res (grind (arith, same_res-itself x.res)));
@@ -143,32 +143,32 @@ module _ (ls : List Line) (E : List HistEntry) (h : HistEntry) (t : TaskId) wher
       still : ((is_held phases.Ready ≡ true) × (x.line ≡ n)) ⊎ IsDue ls E T t x.line → ((is_held ph ≡ true) × (x.line ≡ suc n)) ⊎ IsDue ls (E ++ h ∷ []) (told_after T t k verb c) t x.line
       still (inl a) = absurd (cc (a.0))
       still (inr d) = inr (record {
-        ecb = grows-ecb (entry_of_line t ls E x.line) _ (grows-line x.line) d.ecb;
+        ecb = grows-ecb (entry_of_line ls E x.line) _ (grows-line x.line) d.ecb;
         coded = any-after (is_code_of t x.line) T t k verb c d.coded;
         unposted = unposted-after T t t k x.line verb c d.unposted;
       })
 
 -- a task's next line asks: what holds before, and which line it is
-pub record Asks (ls : List Line) (p : Past) (T : List ToldLine) (knows : Res → Bool) (t : TaskId) (n code : ℕ) (xs : List Rec) (o : Option Req) (l : Line) (a : Ask) : Type 0 where
+pub record Asks (ls : List Meaning) (p : Past) (T : List ToldLine) (knows : Res → Bool) (t : TaskId) (n code : ℕ) (xs : List Rec) (o : Option Req) (l : Meaning) (a : Ask) : Type 0 where
   pub before : IsTask ls p T knows t (record { line = n; phase = phases.Ready; code = code; records = xs; outstanding = o })
   pub at : slice_get ls n ≡ Some l
-  pub asks : ask_of t l ≡ Some a
+  pub asks : asks_in l ≡ a ∷ []
 
-module _ (ls : List Line) (p : Past) (T : List ToldLine) (knows : Res → Bool) (t : TaskId) (n code : ℕ) (xs : List Rec) (o : Option Req) (l : Line) (a : Ask) (k : Asks ls p T knows t n code xs o l a) (s' : State) (h : HistEntry) where
-  pub of_new_line : entry_of_line t ls (p.asked ++ h ∷ []) (suc n) ≡ Some h
+module _ (ls : List Meaning) (p : Past) (T : List ToldLine) (knows : Res → Bool) (t : TaskId) (n code : ℕ) (xs : List Rec) (o : Option Req) (l : Meaning) (a : Ask) (k : Asks ls p T knows t n code xs o l a) (s' : State) (h : HistEntry) where
+  pub of_new_line : entry_of_line ls (p.asked ++ h ∷ []) (suc n) ≡ Some h
   of_new_line =
       let line : slice_get ls (suc n - 1) ≡ Some l = ap (slice_get ls) (omega (arith)) ∙ k.at in
-      let place : length (asks_of t (take (suc n - 1) ls)) ≡ length p.asked = ap (λ m. length (asks_of t (take m ls))) (omega (arith)) ∙ sym (k.before.count refl) in
+      let place : length (asks_of (take (suc n - 1) ls)) ≡ length p.asked = ap (λ m. length (asks_of (take m ls))) (omega (arith)) ∙ sym (k.before.count refl) in
       rw (line, k.asks, place) (slice_get-end p.asked h [])
 
-  count_new : length (p.asked ++ h ∷ []) ≡ length (asks_of t (take (suc n) ls))
-  count_new = length-append p.asked (h ∷ []) ∙ ap (λ m. m + 1) (k.before.count refl) ∙ sym (length-append (asks_of t (take n ls)) (a ∷ [])) ∙ sym (ap length (asks-more t ls n l a k.at k.asks)) ∙ ap (λ m. length (asks_of t (take m ls))) (add-one n)
+  count_new : length (p.asked ++ h ∷ []) ≡ length (asks_of (take (suc n) ls))
+  count_new = length-append p.asked (h ∷ []) ∙ ap (λ m. m + 1) (k.before.count refl) ∙ sym (length-append (asks_of (take n ls)) (a ∷ [])) ∙ sym (ap length (asks-more ls n l a k.at k.asks)) ∙ ap (λ m. length (asks_of (take m ls))) (add-one n)
 
   passed_new : Passed ls (record { lists = s'; asked = p.asked ++ h ∷ []; last = Some h }) t (suc n)
   passed_new =
-      let none : passed_behind t (length (p.asked ++ h ∷ [])) (take (suc n) ls) ≡ [] =
-      ap (λ z. passed_behind t (length (p.asked ++ h ∷ [])) z) (ap (λ m. take m ls) (sym (add-one n)) ∙ take-more ls n l k.at)
-      ∙ passed-none t (take n ls) l a k.asks (length (p.asked ++ h ∷ [])) (length-append p.asked (h ∷ []) ∙ add-one (length p.asked) ∙ ap suc (k.before.count refl)) in
+      let none : passed_behind (length (p.asked ++ h ∷ [])) (take (suc n) ls) ≡ [] =
+      ap (λ z. passed_behind (length (p.asked ++ h ∷ [])) z) (ap (λ m. take m ls) (sym (add-one n)) ∙ take-more ls n l k.at)
+      ∙ passed-none (take n ls) l a k.asks (length (p.asked ++ h ∷ [])) (length-append p.asked (h ∷ []) ∙ add-one (length p.asked) ∙ ap suc (k.before.count refl)) in
       ap (list_all (lets_pass s' t)) none
 
   ended_new : (c : Code) → code_of h ≡ c → end_among (p.asked ++ h ∷ []) ≡ end_or c None

@@ -7,7 +7,7 @@ use Rattle.grs_base.specs.declared.resource.Res.{Res}
 use Rattle.grs_base.specs.declared.resource.Ret.TheVariants.{RetNone, RetUse, RetHave, RetTest, RetChng, RetEcb}
 use Rattle.grs_base.specs.declared.resource.TaskId.{TaskId}
 use Rattle.grs_base.specs.declared.decision.Code.TheVariants.{C00, C04, C08, C14, C18, Wait, End}
-use Rattle.grs_base.specs.declared.line.Line.{Line}
+use Rattle.grs_legal.specs.declared.meaning.Meaning.{Meaning}
 use Rattle.grs_base.proofs.SameLaws.{same_res-exact, same_res-itself, same_task-itself}
 use Rattle.grs_wire.specs.declared.history.HistEntry.{HistEntry}
 use Rattle.grs_wire.specs.declared.history.HistEntry.TheVariants.{Enq, Deq, Release}
@@ -89,11 +89,11 @@ queued_control r (Some (Enq u q c RetEcb code)) h = grind (arith, h.0, same_res-
 queued_control r (Some (Deq u q have code)) h = absurd h
 queued_control r (Some (Release u q)) h = absurd h
 
-module _ (ls : List Line) (E : List HistEntry) (T : List ToldLine) (knows : Res → Bool) (t : TaskId) (r : Res) (k : ℕ) (on : IsEntryOn r (entry_of_line t ls E k)) where
+module _ (ls : List Meaning) (E : List HistEntry) (T : List ToldLine) (knows : Res → Bool) (t : TaskId) (r : Res) (k : ℕ) (on : IsEntryOn r (entry_of_line ls E k)) where
   -- no other record is of that line
   other_line : (line : ℕ) (ph : Phase) (y : Rec) → IsRec ls E T knows t line ph y → same_res r y.res ≡ false → y.line ≡ k → ⊥
   other_line line ph y h apart e =
-      let same : y.res ≡ r = one_entry (entry_of_line t ls E k) y.res r (subst (λ n. IsEntryOn y.res (entry_of_line t ls E n)) e h.entry) on in
+      let same : y.res ≡ r = one_entry (entry_of_line ls E k) y.res r (subst (λ n. IsEntryOn y.res (entry_of_line ls E n)) e h.entry) on in
       grind (arith, apart, same, same_res-itself r)
 
   -- records after control is told by the code of line k, by which the task was held
@@ -131,7 +131,7 @@ module _ (ls : List Line) (E : List HistEntry) (T : List ToldLine) (knows : Res 
   recs-posted line ph (y ∷ ys) h = (go (same_res r y.res) refl, recs-posted line ph ys h.1)
     where
       posts : tells_control t ls E r (Post t k) ≡ true
-      posts = grind (arith, same_task-itself t, queued_control r (entry_of_line t ls E k) on)
+      posts = grind (arith, same_task-itself t, queued_control r (entry_of_line ls E k) on)
 
       other : same_res r y.res ≡ false → is_post_of t y.line (Post t k) ≡ false
       other apart = go (k == y.line) refl

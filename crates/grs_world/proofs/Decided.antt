@@ -20,7 +20,7 @@ use Rattle.grs_base.specs.declared.decision.Effect.{Effect}
 use Rattle.grs_base.specs.declared.decision.Effect.TheVariants.{Nothing, Append, MakeExclusive}
 use Rattle.grs_base.specs.declared.decision.Standing.{Standing}
 use Rattle.grs_base.specs.declared.decision.Standing.TheVariants.{Exclusive, OnlyShared, AmongShared, Waits, Absent}
-use Rattle.grs_base.specs.declared.line.Line.{Line}
+use Rattle.grs_legal.specs.declared.meaning.Meaning.{Meaning}
 use Rattle.grs_base.proofs.SameLaws.{same_task-itself}
 use Rattle.grs_base.proofs.ListLaws.{has_task-place, is_owner-standing}
 use Rattle.grs_base.proofs.StateLaws.{list_of-effect, list_of-effect_other, list_at-without_other, res_equality}
@@ -57,22 +57,22 @@ unposted-new t k (Post u j ∷ T) h = grind (arith, nat_tests, h, unposted-new t
 unposted-new t k (Ended u code ∷ T) h = unposted-new t k T h
 
 -- the records of a task after an ENQ was answered
-abbrev pub enq_records : Res → Ctl → Ret → Code → ℕ → List Rec → List Rec
-enq_records r c ret code line xs =
-    cond (is_queued ret code) (xs ++ record { res = r; ctl = c; rank = 0; told = is_granted code; unit = None; line = line } ∷ [])
+abbrev pub enq_records : Res → Ctl → Option ℕ → Ret → Code → ℕ → List Rec → List Rec
+enq_records r c unit ret code line xs =
+    cond (is_queued ret code) (xs ++ record { res = r; ctl = c; rank = 0; told = is_granted code; unit = unit; line = line } ∷ [])
     (cond (is_changed ret code) (on_record r (λ z. record z { ctl = ctls.E }) xs) xs)
 
 -- what a task knows of its control by the lists
 abbrev pub by_lists : State → TaskId → Res → Bool
 by_lists s t q = owns (list_of s q) t
 
-module _ (ls : List Line) (p : Past) (T : List ToldLine) (t : TaskId) (n code0 : ℕ) (xs : List Rec) (o : Option Req) (l : Line) (r : Res) (c : Ctl) (ret : Ret)
+module _ (ls : List Meaning) (p : Past) (T : List ToldLine) (t : TaskId) (n code0 : ℕ) (xs : List Rec) (o : Option Req) (l : Meaning) (r : Res) (c : Ctl) (unit : Option ℕ) (ret : Ret)
     (k : Asks ls p T (by_lists p.lists t) t n code0 xs o l (AsksEnq r c ret)) where
   -- the task after the code and the effect of its ENQ, and control only to an owner
   abbrev pub AfterEnq : Code → Effect → Type 0
   AfterEnq code e =
       IsTask ls (record { lists = after_effect p.lists r t c e; asked = p.asked ++ Enq t r c ret code ∷ []; last = Some (Enq t r c ret code) }) (told_after T t (suc n) verbs.Enq code) (by_lists (after_effect p.lists r t c e) t) t
-      (record { line = suc n; phase = phase_after code; code = code_in (phase_after code) code0; records = enq_records r c ret code (suc n) xs; outstanding = o })
+      (record { line = suc n; phase = phase_after code; code = code_in (phase_after code) code0; records = enq_records r c unit ret code (suc n) xs; outstanding = o })
       × (gets_control ret code ≡ true → owns (list_of (after_effect p.lists r t c e) r) t ≡ true)
 
   -- an element that went last
@@ -100,7 +100,7 @@ module _ (ls : List Line) (p : Past) (T : List ToldLine) (t : TaskId) (n code0 :
       (gets_control ret code ≡ true → is_granted code ≡ true) →
       AfterEnq code Append
   pushed code queued absent can control due gets =
-      let y : Rec = record { res = r; ctl = c; rank = 0; told = is_granted code; unit = None; line = suc n } in
+      let y : Rec = record { res = r; ctl = c; rank = 0; told = is_granted code; unit = unit; line = suc n } in
       let h : HistEntry = Enq t r c ret code in
       let s' : State = after_effect p.lists r t c Append in
       let own_new : owns (list_of s' r) t ≡ is_granted code = owns_pushed absent (is_granted code) can in
@@ -122,7 +122,7 @@ module _ (ls : List Line) (p : Past) (T : List ToldLine) (t : TaskId) (n code0 :
   -- whatever happened, its records are on the same resources, and it owns what it owned
   kept : (code : Code) (e : Effect) (ys : List Rec) → map key ys ≡ own (after_effect p.lists r t c e) t → is_distinct ys ≡ true →
       Each (IsRec ls (p.asked ++ Enq t r c ret code ∷ []) (told_after T t (suc n) verbs.Enq code) (by_lists (after_effect p.lists r t c e) t) t (suc n) (phase_after code)) ys →
-      ys ≡ enq_records r c ret code (suc n) xs → (gets_control ret code ≡ true → owns (list_of (after_effect p.lists r t c e) r) t ≡ true) → AfterEnq code e
+      ys ≡ enq_records r c unit ret code (suc n) xs → (gets_control ret code ≡ true → owns (list_of (after_effect p.lists r t c e) r) t ≡ true) → AfterEnq code e
   kept code e ys keys distinct recs is gets =
       let h : HistEntry = Enq t r c ret code in
       let s' : State = after_effect p.lists r t c e in (
@@ -176,14 +176,14 @@ module _ (ls : List Line) (p : Past) (T : List ToldLine) (t : TaskId) (n code0 :
       (keys-exclusive r xs ∙ ap (map (exclusive_on r)) k.before.keys ∙ sym (own-exclusive p.lists r t))
       (distinct-exclusive r xs ∙ k.before.distinct)
       (each-exclusive _ (exclusive_rec C00 MakeExclusive) r xs (recs-asked ls p.asked (Enq t r c ret C00) t T (by_lists p.lists t) (by_lists (after_effect p.lists r t c MakeExclusive) t) n (suc n) verbs.Enq C00 phases.Ready xs (other-exclusive only) k.before.records))
-      (ap (λ z. enq_records r c z C00 (suc n) xs) (sym chng))
+      (ap (λ z. enq_records r c unit z C00 (suc n) xs) (sym chng))
       (λ g. still_owns only)))
   by_case d apart (keeps code effect exclusive chng) = subst (λ z. AfterEnq z d.effect) (sym code) (subst (λ z. AfterEnq C00 z) (sym effect)
       (kept C00 Nothing (on_record r (λ z. record z { ctl = ctls.E }) xs)
       (keys-exclusive r xs ∙ ap (map (exclusive_on r)) k.before.keys ∙ own-exclusive_already p.lists t r (all_exclusive (list_of p.lists r) t apart exclusive))
       (distinct-exclusive r xs ∙ k.before.distinct)
       (each-exclusive _ (exclusive_rec C00 Nothing) r xs (recs-asked ls p.asked (Enq t r c ret C00) t T (by_lists p.lists t) (by_lists p.lists t) n (suc n) verbs.Enq C00 phases.Ready xs (λ q e. refl) k.before.records))
-      (ap (λ z. enq_records r c z C00 (suc n) xs) (sym chng))
+      (ap (λ z. enq_records r c unit z C00 (suc n) xs) (sym chng))
       (λ g. owner_by Exclusive exclusive refl)))
   by_case d apart (refused effect unqueued unchanged as_told no_control) = subst (λ z. AfterEnq d.code z) (sym effect)
       (kept d.code Nothing xs k.before.keys k.before.distinct
@@ -216,7 +216,7 @@ other-without s t r xs d q has = by_res q r _
 pub keys_taken : (s : State) (t : TaskId) (r : Res) (xs : List Rec) → map key xs ≡ own s t → is_distinct xs ≡ true → map key (without_first xs r) ≡ own (without same_res s r t) t
 keys_taken s t r xs keys d = keys-without r xs d ∙ ap (filter (λ k. not (same_res r k.0))) keys ∙ sym (own-without s r t)
 
-module _ (ls : List Line) (p : Past) (T : List ToldLine) (t : TaskId) (n code0 : ℕ) (xs : List Rec) (o : Option Req) (l : Line) (r : Res) (have : Bool)
+module _ (ls : List Meaning) (p : Past) (T : List ToldLine) (t : TaskId) (n code0 : ℕ) (xs : List Rec) (o : Option Req) (l : Meaning) (r : Res) (have : Bool)
     (k : Asks ls p T (by_lists p.lists t) t n code0 xs o l (AsksDeq r have)) where
   -- the task after its DEQ: the code, and whether its element was taken out
   abbrev pub AfterDeq : Code → Bool → Type 0

@@ -1,14 +1,14 @@
 -- The entries of a task, and of its lines, in a history that grows.
 use Rattle.std.proofs.Common.{◌≡◌, ℕ, zero, suc, Bool, true, false, cond, ◌&&◌, List, [], ◌∷◌, ◌++◌, length, Option, Some, None, refl, arith, append-nil}
-use Rattle.std.specs.Prelude.{filter, slice_get, is_some}
+use Rattle.std.specs.Prelude.{filter, slice_get}
 use Rattle.grs_base.specs.Same.{same_task}
 use Rattle.grs_base.specs.declared.resource.TaskId.{TaskId}
 use Rattle.grs_base.specs.declared.decision.Code.{Code}
 use Rattle.grs_base.specs.declared.decision.Code.TheVariants as codes
-use Rattle.grs_base.specs.declared.line.Line.{Line}
+use Rattle.grs_legal.specs.declared.meaning.Meaning.{Meaning}
 use Rattle.grs_wire.specs.declared.history.HistEntry.{HistEntry}
 use Rattle.grs_wire.specs.History.{asker, code_of}
-use Rattle.grs_legal.specs.Asks.{ask_of}
+use Rattle.grs_legal.specs.Asks.{is_silent}
 use Rattle.grs_legal.specs.Legal.{entries_of, is_of_line, line_entries, end_or, end_among, last_entry}
 use Rattle.grs_world.specs.Agree.{asked_at}
 
@@ -73,10 +73,10 @@ slice_get-end [] y ys = refl
 slice_get-end (x ∷ xs) y ys = slice_get-end xs y ys
 
 -- an entry of a line keeps its place when the history grows
-pub asked_at-grows : (t : TaskId) (l : Option Line) (xs ys : List HistEntry) (i : ℕ) (e : HistEntry) → asked_at t l (slice_get xs i) ≡ Some e → asked_at t l (slice_get (xs ++ ys) i) ≡ Some e
-asked_at-grows t None xs ys i e h = cc
-asked_at-grows t (Some l) xs ys i e h = cases (is_some (ask_of t l)) h
+pub asked_at-grows : (l : Option Meaning) (xs ys : List HistEntry) (i : ℕ) (e : HistEntry) → asked_at l (slice_get xs i) ≡ Some e → asked_at l (slice_get (xs ++ ys) i) ≡ Some e
+asked_at-grows None xs ys i e h = cc
+asked_at-grows (Some l) xs ys i e h = cases (is_silent l) h
   where
-    cases : (b : Bool) → cond b (slice_get xs i) None ≡ Some e → cond b (slice_get (xs ++ ys) i) None ≡ Some e
-    cases true k = slice_get-append xs ys i e k
-    cases false k = cc
+    cases : (b : Bool) → cond b None (slice_get xs i) ≡ Some e → cond b None (slice_get (xs ++ ys) i) ≡ Some e
+    cases true k = cc
+    cases false k = slice_get-append xs ys i e k

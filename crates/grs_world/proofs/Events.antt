@@ -1,5 +1,5 @@
 -- One event at the system: what it fixes is legal, what it tells agrees, and the system stays good.
-use Rattle.std.proofs.Common.{◌≡◌, ℕ, suc, Bool, true, false, cond, not, ◌&&◌, List, [], ◌∷◌, ◌++◌, map, length, Option, Some, refl, ap, sym, ◌∙◌, subst, arith}
+use Rattle.std.proofs.Common.{◌≡◌, ℕ, suc, Bool, true, false, cond, not, ◌&&◌, List, [], ◌∷◌, ◌++◌, map, length, Option, Some, None, refl, ap, sym, ◌∙◌, subst, arith}
 use Rattle.std.specs.Prelude.{slice_get, nat_le}
 use Rattle.std.specs.List.{list_all}
 use Rattle.std.proofs.lemmas.Bool.{and_parts, cases_Bool}
@@ -14,7 +14,7 @@ use Rattle.grs_base.specs.declared.decision.Code.{Code}
 use Rattle.grs_base.specs.declared.decision.Code.TheVariants.{C00, C04, C08, C14, C18, Wait, End}
 use Rattle.grs_base.specs.declared.decision.Effect.{Effect}
 use Rattle.grs_base.specs.declared.decision.Effect.TheVariants.{Nothing, Append, MakeExclusive}
-use Rattle.grs_base.specs.declared.line.Line.{Line}
+use Rattle.grs_legal.specs.declared.meaning.Meaning.{Meaning}
 use Rattle.grs_base.proofs.SameLaws.{same_res-itself, same_task-itself}
 use Rattle.grs_wire.specs.declared.deck.Deck.{Deck}
 use Rattle.grs_wire.specs.declared.history.HistEntry.{HistEntry}
@@ -30,7 +30,7 @@ use Rattle.grs_wire.specs.History.{asker, replay, entry_for}
 use Rattle.grs_wire.specs.Wants.{answer_to, after_want, res_wanted}
 use Rattle.grs_wire.proofs.HistoryLaws.{none_twice}
 use Rattle.grs_wire.proofs.WantLaws.{cond_both}
-use Rattle.grs_legal.specs.Asks.{Ask, AsksEnq, AsksDeq, lines_of, ask_of, asks_of}
+use Rattle.grs_legal.specs.Asks.{Ask, AsksEnq, AsksDeq, lines_of, asks_in, asks_of}
 use Rattle.grs_legal.specs.Legal.{line_entries, entries_of, IsLegal, IsLegalOf, lets_pass, passed_lines, next_ask}
 use Rattle.task_state.specs.declared.state.Rec.{Rec}
 use Rattle.task_state.specs.declared.state.Phase.TheVariants as phases
@@ -81,11 +81,11 @@ pub data Outcome (deck : Deck) (P : List HistEntry) (n : Node) (st : Step) : Typ
       Agreed deck (P ++ entry_for t w (answer_to (replay deck.limit P) t w) ∷ []) n.tasks.told st.node.tasks.told → Outcome deck P n st
 
 -- A request of a task of ours, decided; v are the tasks before the event, v1 those to whom the answer was told.
-module _ (deck : Deck) (P : List HistEntry) (n : Node) (good : IsGood deck P n) (t : TaskId) (w : Want) (h : HistEntry) (ls : List Line) (ours : IsOurs deck n.tasks t ls)
+module _ (deck : Deck) (P : List HistEntry) (n : Node) (good : IsGood deck P n) (t : TaskId) (w : Want) (h : HistEntry) (ls : List Meaning) (ours : IsOurs deck n.tasks t ls)
     (mine : asker h ≡ t) (after : replay deck.limit (P ++ h ∷ []) ≡ after_want (replay deck.limit P) t w)
     (v1 : TasksView) (x : TaskState) (T1 : List ToldLine) (did : Did n.tasks v1 t x T1)
     (own_task : IsTask ls (past deck.limit (P ++ h ∷ []) t) T1 (by_lists (replay deck.limit (P ++ h ∷ [])) t) t x)
-    (told : (u : TaskId) (ms : List Line) (q : Past) (knows : Res → Bool) (y : TaskState) → same_task u t ≡ false → IsTask ms q n.tasks.told knows u y → IsTask ms q T1 knows u y)
+    (told : (u : TaskId) (ms : List Meaning) (q : Past) (knows : Res → Bool) (y : TaskState) → same_task u t ≡ false → IsTask ms q n.tasks.told knows u y → IsTask ms q T1 knows u y)
     (agreed : Agreed deck (P ++ h ∷ []) n.tasks.told T1) where
   home : is_home deck t ≡ true
   home = ours-home deck n.tasks t ls ours
@@ -147,7 +147,7 @@ pub past-release : (limit : ℕ) (P : List HistEntry) (h : HistEntry) (t : TaskI
 past-release limit P h t mine asked = rw (asked, entries_of-own t P h mine, last_entry-push (entries_of t P) h) refl
 
 -- lines told after a code agree where the code does
-agreed-code : (deck : Deck) (Q : List HistEntry) (T : List ToldLine) (t : TaskId) (ls : List Line) (k : ℕ) (verb : Verb) → lines_of deck t ≡ Some ls → (c : Code) →
+agreed-code : (deck : Deck) (Q : List HistEntry) (T : List ToldLine) (t : TaskId) (ls : List Meaning) (k : ℕ) (verb : Verb) → lines_of deck t ≡ Some ls → (c : Code) →
     (told_as c ≡ c → LineAgrees deck.limit ls Q T (Coded t k 0 verb c)) → Agreed deck Q T (told_after T t k verb c)
 agreed-code deck Q T t ls k verb e Wait h = none
 agreed-code deck Q T t ls k verb e C00 h = more T (Coded t k 0 verb C00) none (agrees-ours deck ls Q T (Coded t k 0 verb C00) e (h refl))
@@ -158,16 +158,16 @@ agreed-code deck Q T t ls k verb e C18 h = more T (Coded t k 0 verb C18) none (a
 agreed-code deck Q T t ls k verb e (End m) h = more T (Coded t k 0 verb (End m)) none (agrees-ours deck ls Q T (Coded t k 0 verb (End m)) e (h refl))
 
 -- what a ready task's next line asks is what it asks next, and it may
-module _ (limit : ℕ) (ls : List Line) (P : List HistEntry) (T : List ToldLine) (t : TaskId) (n code : ℕ) (xs : List Rec) (o : Option Req) (l : Line) (a : Ask)
+module _ (limit : ℕ) (ls : List Meaning) (P : List HistEntry) (T : List ToldLine) (t : TaskId) (n code : ℕ) (xs : List Rec) (o : Option Req) (l : Meaning) (a : Ask)
     (k : Asks ls (past limit P t) T (by_lists (replay limit P) t) t n code xs o l a) where
   next_line : next_ask limit t ls P ≡ Some a
-  next_line = rw (k.before.phase.going.no_code, ap (slice_get (asks_of t ls)) (k.before.count refl) ∙ asks_of-at t ls n l a k.at k.asks) refl
+  next_line = rw (k.before.phase.going.no_code, ap (slice_get (asks_of ls)) (k.before.count refl) ∙ asks_of-at ls n l a k.at k.asks) refl
 
   passed_before : list_all (lets_pass (replay limit P) t) (passed_lines t ls P) ≡ true
-  passed_before = rw (k.before.phase.going.no_code, passed-stop t ls n l a k.at k.asks (length (line_entries t P)) (k.before.count refl)) k.before.phase.passed
+  passed_before = rw (k.before.phase.going.no_code, passed-stop ls n l a k.at k.asks (length (line_entries t P)) (k.before.count refl)) k.before.phase.passed
 
 -- a task of ours that is ready, by its parts
-module _ (deck : Deck) (P : List HistEntry) (n : Node) (good : IsGood deck P n) (t : TaskId) (ls : List Line) (ours : IsOurs deck n.tasks t ls) (ready : (state_of n.tasks t).phase ≡ phases.Ready) where
+module _ (deck : Deck) (P : List HistEntry) (n : Node) (good : IsGood deck P n) (t : TaskId) (ls : List Meaning) (ours : IsOurs deck n.tasks t ls) (ready : (state_of n.tasks t).phase ≡ phases.Ready) where
   pub is_ready : IsTask ls (past deck.limit P t) n.tasks.told (by_lists (replay deck.limit P) t) t (record { line = (state_of n.tasks t).line; phase = phases.Ready; code = (state_of n.tasks t).code; records = (state_of n.tasks t).records; outstanding = (state_of n.tasks t).outstanding })
   is_ready = subst (λ ph. IsTask ls (past deck.limit P t) n.tasks.told (by_lists (replay deck.limit P) t) t (record { line = (state_of n.tasks t).line; phase = ph; code = (state_of n.tasks t).code; records = (state_of n.tasks t).records; outstanding = (state_of n.tasks t).outstanding })) ready (good.tasks.each t ls ours)
 
@@ -183,10 +183,10 @@ module _ (deck : Deck) (P : List HistEntry) (n : Node) (good : IsGood deck P n) 
       same_length (y ∷ ys) = ap suc (same_length ys)
 
   -- an ENQ that is decided
-  pub enq_outcome : (l : Line) (r : Res) (c : Ctl) (ret : Ret) → slice_get ls (state_of n.tasks t).line ≡ Some l → ask_of t l ≡ Some (AsksEnq r c ret) →
-      Outcome deck P n (decide (record { tasks = with_line n.tasks t; held = replay deck.limit P }) t (Enq r c ret (has_most deck.limit (with_line n.tasks t) t)))
+  pub enq_outcome : (l : Meaning) (r : Res) (c : Ctl) (unit : Option ℕ) (ret : Ret) → slice_get ls (state_of n.tasks t).line ≡ Some l → asks_in l ≡ AsksEnq r c ret ∷ [] →
+      Outcome deck P n (decide (record { tasks = with_line n.tasks t; held = replay deck.limit P }) t (Enq r c ret (has_most deck.limit (with_line n.tasks t) t)) unit)
   unfolding decide
-  enq_outcome l r c ret at asks =
+  enq_outcome l r c unit ret at asks =
       let x : TaskState = state_of n.tasks t in
       let S : State = replay deck.limit P in
       let full : Bool = has_most deck.limit (with_line n.tasks t) t in
@@ -199,15 +199,15 @@ module _ (deck : Deck) (P : List HistEntry) (n : Node) (good : IsGood deck P n) 
       let asked : line_entries t (P ++ h ∷ []) ≡ line_entries t P ++ h ∷ [] = line_entries-own t P h mine refl in
       let past_is : past deck.limit (P ++ h ∷ []) t ≡ record { lists = after_want S t (Enq r c ret full); asked = line_entries t P ++ h ∷ []; last = Some h } =
       past-line deck.limit P h t mine asked ∙ ap (λ s. record { lists = s; asked = line_entries t P ++ h ∷ []; last = Some h }) after in
-      let task = task-enq ls (past deck.limit P t) n.tasks.told t x.line x.code x.records x.outstanding l r c ret k full (none_twice deck.limit P r) in
-      let did = did-answered_enq n.tasks (with_line n.tasks t) t (record x { line = suc x.line }) n.tasks.told ours.here taken r c ret full code in
-      let own_task = subst (λ p. IsTask ls p (told_after n.tasks.told t (suc x.line) verbs.Enq code) (by_lists p.lists t) t (record { line = suc x.line; phase = phase_after code; code = code_in (phase_after code) x.code; records = enq_records r c ret code (suc x.line) x.records; outstanding = x.outstanding })) (sym past_is) task.0 in
-      let entry : entry_of_line t ls (line_entries t (P ++ h ∷ [])) (suc x.line) ≡ Some h = ap (λ E. entry_of_line t ls E (suc x.line)) asked ∙ of_new_line ls (past deck.limit P t) n.tasks.told (by_lists S t) t x.line x.code x.records x.outstanding l (AsksEnq r c ret) k S h in
-      let tells : told_as code ≡ code → TellsEnq (replay deck.limit (P ++ h ∷ [])) t code (entry_of_line t ls (line_entries t (P ++ h ∷ [])) (suc x.line)) =
+      let task = task-enq ls (past deck.limit P t) n.tasks.told t x.line x.code x.records x.outstanding l r c unit ret k full (none_twice deck.limit P r) in
+      let did = did-answered_enq n.tasks (with_line n.tasks t) t (record x { line = suc x.line }) n.tasks.told ours.here taken r c unit ret full code in
+      let own_task = subst (λ p. IsTask ls p (told_after n.tasks.told t (suc x.line) verbs.Enq code) (by_lists p.lists t) t (record { line = suc x.line; phase = phase_after code; code = code_in (phase_after code) x.code; records = enq_records r c unit ret code (suc x.line) x.records; outstanding = x.outstanding })) (sym past_is) task.0 in
+      let entry : entry_of_line ls (line_entries t (P ++ h ∷ [])) (suc x.line) ≡ Some h = ap (λ E. entry_of_line ls E (suc x.line)) asked ∙ of_new_line ls (past deck.limit P t) n.tasks.told (by_lists S t) t x.line x.code x.records x.outstanding l (AsksEnq r c ret) k S h in
+      let tells : told_as code ≡ code → TellsEnq (replay deck.limit (P ++ h ∷ [])) t code (entry_of_line ls (line_entries t (P ++ h ∷ [])) (suc x.line)) =
       λ e. subst (λ z. TellsEnq (replay deck.limit (P ++ h ∷ [])) t code z) (sym entry) (e, λ g. ap (λ s. owns (list_of s r) t) after ∙ task.1 g) in
       let agreed : Agreed deck (P ++ h ∷ []) n.tasks.told (told_after n.tasks.told t (suc x.line) verbs.Enq code) =
       agreed-code deck (P ++ h ∷ []) n.tasks.told t ls (suc x.line) verbs.Enq ours.lines code (λ e. (omega arith, tells e, is_ready.codes, is_ready.phase.going.no_end)) in
-      let told = λ (u : TaskId) (ms : List Line) (q : Past) (knows : Res → Bool) (y : TaskState) (apart : same_task u t ≡ false) (j : IsTask ms q n.tasks.told knows u y). task-told_after ms q n.tasks.told knows u y t (suc x.line) verbs.Enq code apart j in
+      let told = λ (u : TaskId) (ms : List Meaning) (q : Past) (knows : Res → Bool) (y : TaskState) (apart : same_task u t ≡ false) (j : IsTask ms q n.tasks.told knows u y). task-told_after ms q n.tasks.told knows u y t (suc x.line) verbs.Enq code apart j in
       let legal : IsLegal deck.limit ls P h = record {
         reply = ap (λ b. (decide_enq (list_of S r) t c ret b).code) full_is;
         next = next_line deck.limit ls P n.tasks.told t x.line x.code x.records x.outstanding l (AsksEnq r c ret) k;
@@ -219,8 +219,8 @@ module _ (deck : Deck) (P : List HistEntry) (n : Node) (good : IsGood deck P n) 
       (agreed_decided deck P n good t (Enq r c ret full) h ls ours refl after _ _ _ did own_task told agreed)
 
   -- a DEQ that is decided
-  pub deq_outcome : (l : Line) (r : Res) (have : Bool) → slice_get ls (state_of n.tasks t).line ≡ Some l → ask_of t l ≡ Some (AsksDeq r have) →
-      Outcome deck P n (decide (record { tasks = with_line n.tasks t; held = replay deck.limit P }) t (Deq r have))
+  pub deq_outcome : (l : Meaning) (r : Res) (have : Bool) → slice_get ls (state_of n.tasks t).line ≡ Some l → asks_in l ≡ AsksDeq r have ∷ [] →
+      Outcome deck P n (decide (record { tasks = with_line n.tasks t; held = replay deck.limit P }) t (Deq r have) None)
   unfolding decide
   deq_outcome l r have at asks =
       let x : TaskState = state_of n.tasks t in
@@ -233,13 +233,13 @@ module _ (deck : Deck) (P : List HistEntry) (n : Node) (good : IsGood deck P n) 
       let asked : line_entries t (P ++ h ∷ []) ≡ line_entries t P ++ h ∷ [] = line_entries-own t P h mine refl in
       let past_is : past deck.limit (P ++ h ∷ []) t ≡ record { lists = after_want S t (Deq r have); asked = line_entries t P ++ h ∷ []; last = Some h } =
       past-line deck.limit P h t mine asked ∙ ap (λ s. record { lists = s; asked = line_entries t P ++ h ∷ []; last = Some h }) after in
-      let did = did-answered_deq n.tasks (with_line n.tasks t) t (record x { line = suc x.line }) n.tasks.told ours.here taken r have code in
+      let did = did-answered_deq n.tasks (with_line n.tasks t) t (record x { line = suc x.line }) n.tasks.told ours.here taken r have None code in
       let own_task = subst (λ p. IsTask ls p (told_after n.tasks.told t (suc x.line) verbs.Deq code) (by_lists p.lists t) t (record { line = suc x.line; phase = phase_after code; code = code_in (phase_after code) x.code; records = cond (is_granted code) (without_first x.records r) x.records; outstanding = x.outstanding })) (sym past_is)
       (task-deq ls (past deck.limit P t) n.tasks.told t x.line x.code x.records x.outstanding l r have k) in
-      let entry : entry_of_line t ls (line_entries t (P ++ h ∷ [])) (suc x.line) ≡ Some h = ap (λ E. entry_of_line t ls E (suc x.line)) asked ∙ of_new_line ls (past deck.limit P t) n.tasks.told (by_lists S t) t x.line x.code x.records x.outstanding l (AsksDeq r have) k S h in
+      let entry : entry_of_line ls (line_entries t (P ++ h ∷ [])) (suc x.line) ≡ Some h = ap (λ E. entry_of_line ls E (suc x.line)) asked ∙ of_new_line ls (past deck.limit P t) n.tasks.told (by_lists S t) t x.line x.code x.records x.outstanding l (AsksDeq r have) k S h in
       let agreed : Agreed deck (P ++ h ∷ []) n.tasks.told (told_after n.tasks.told t (suc x.line) verbs.Deq code) =
       agreed-code deck (P ++ h ∷ []) n.tasks.told t ls (suc x.line) verbs.Deq ours.lines code (λ e. (omega arith, rw entry refl, is_ready.codes, is_ready.phase.going.no_end)) in
-      let told = λ (u : TaskId) (ms : List Line) (q : Past) (knows : Res → Bool) (y : TaskState) (apart : same_task u t ≡ false) (j : IsTask ms q n.tasks.told knows u y). task-told_after ms q n.tasks.told knows u y t (suc x.line) verbs.Deq code apart j in
+      let told = λ (u : TaskId) (ms : List Meaning) (q : Past) (knows : Res → Bool) (y : TaskState) (apart : same_task u t ≡ false) (j : IsTask ms q n.tasks.told knows u y). task-told_after ms q n.tasks.told knows u y t (suc x.line) verbs.Deq code apart j in
       let legal : IsLegal deck.limit ls P h = record {
         reply = refl;
         next = next_line deck.limit ls P n.tasks.told t x.line x.code x.records x.outstanding l (AsksDeq r have) k;

@@ -11,7 +11,7 @@ use Rattle.grs_base.specs.declared.resource.Elem.{Elem}
 use Rattle.grs_base.specs.declared.resource.TaskId.{TaskId}
 use Rattle.grs_base.specs.declared.decision.Code.{Code}
 use Rattle.grs_base.specs.declared.decision.Code.TheVariants.{C00, C04, C08, C14, C18, Wait, End}
-use Rattle.grs_base.specs.declared.line.Line.{Line}
+use Rattle.grs_legal.specs.declared.meaning.Meaning.{Meaning}
 use Rattle.grs_base.proofs.SameLaws.{same_res-exact, same_res-itself, same_task-exact, same_task-itself}
 use Rattle.grs_base.proofs.ListLaws.{same_task-sym}
 use Rattle.grs_wire.specs.declared.deck.Deck.{Deck}
@@ -94,7 +94,7 @@ some_of (Some x) h = (x, refl)
 pub home-ours : (deck : Deck) (v : TasksView) (t : TaskId) → is_home deck t ≡ true → is_task v t ≡ true → IsHome deck v t
 home-ours deck v t h here = let s = some_of (lines_of deck t) (and_parts _ _ h).1 in record { lines = s.0; ours = record { lines = s.1; home = eqb-true _ _ (and_parts _ _ h).0; here = here } }
 
-pub ours-home : (deck : Deck) (v : TasksView) (t : TaskId) (ls : List Line) → IsOurs deck v t ls → is_home deck t ≡ true
+pub ours-home : (deck : Deck) (v : TasksView) (t : TaskId) (ls : List Meaning) → IsOurs deck v t ls → is_home deck t ≡ true
 ours-home deck v t ls o = let a : (t.system.0 == 0) ≡ true = eq-eqb _ _ o.home in rw (a, o.lines) refl
 
 -- no task became owner twice
@@ -140,7 +140,7 @@ holds-knows deck P knows knows' v same h = record {
   };
 }
 
-pub task-knows : (ls : List Line) (p : Past) (T : List ToldLine) (knows knows' : Res → Bool) (t : TaskId) (x : TaskState) → ((q : Res) → knows' q ≡ knows q) → IsTask ls p T knows t x → IsTask ls p T knows' t x
+pub task-knows : (ls : List Meaning) (p : Past) (T : List ToldLine) (knows knows' : Res → Bool) (t : TaskId) (x : TaskState) → ((q : Res) → knows' q ≡ knows q) → IsTask ls p T knows t x → IsTask ls p T knows' t x
 task-knows ls p T knows knows' t x same k = record {
   keys = k.keys;
   distinct = k.distinct;
@@ -158,7 +158,7 @@ pub past-other : (limit : ℕ) (P : List HistEntry) (h : HistEntry) (u : TaskId)
 past-other limit P h u apart = rw (line_entries-other u P h apart, entries_of-other u P h apart) refl
 
 -- a code told to one task leaves the others
-pub task-told_after : (ls : List Line) (p : Past) (T : List ToldLine) (knows : Res → Bool) (u : TaskId) (x : TaskState) (t : TaskId) (k : ℕ) (verb : Verb) (c : Code) → same_task u t ≡ false → IsTask ls p T knows u x → IsTask ls p (told_after T t k verb c) knows u x
+pub task-told_after : (ls : List Meaning) (p : Past) (T : List ToldLine) (knows : Res → Bool) (u : TaskId) (x : TaskState) (t : TaskId) (k : ℕ) (verb : Verb) (c : Code) → same_task u t ≡ false → IsTask ls p T knows u x → IsTask ls p (told_after T t k verb c) knows u x
 task-told_after ls p T knows u x t k verb Wait apart h = h
 task-told_after ls p T knows u x t k verb C00 apart h = task-told ls p T knows u x _ apart h
 task-told_after ls p T knows u x t k verb C04 apart h = task-told ls p T knows u x _ apart h
@@ -245,7 +245,7 @@ module _ (deck : Deck) (P : List HistEntry) (t : TaskId) (w : Want) (h : HistEnt
       at = rw (same_res-itself (res_wanted w)) (pieces (owns (list_of (after_want (replay deck.limit P) t w) (res_wanted w)) u) (is_among u became) owner) ∙ ap (λ s. owns (list_of s (res_wanted w)) u) (sym after)
 
   -- another task after the entry, before those that became owners are told
-  pub other-decided : (ls : List Line) (T T' : List ToldLine) (u : TaskId) (x : TaskState) → same_task u t ≡ false →
+  pub other-decided : (ls : List Meaning) (T T' : List ToldLine) (u : TaskId) (x : TaskState) → same_task u t ≡ false →
       IsTask ls (past deck.limit P u) T (λ q. owned deck P q u) u x →
       ((q : Past) (knows : Res → Bool) → IsTask ls q T knows u x → IsTask ls q T' knows u x) →
       IsTask ls (past deck.limit (P ++ h ∷ []) u) T' (λ q. before_telling q u) u x

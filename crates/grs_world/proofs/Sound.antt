@@ -5,7 +5,7 @@ use Rattle.std.proofs.lemmas.Bool.{and_parts, eqb-true, eq-eqb, lt-ltb}
 use Rattle.grs_base.specs.State.{State}
 use Rattle.grs_base.specs.declared.resource.SysId.{SysId}
 use Rattle.grs_base.specs.declared.resource.TaskId.{TaskId}
-use Rattle.grs_base.specs.declared.line.Line.{Line}
+use Rattle.grs_legal.specs.declared.meaning.Meaning.{Meaning}
 use Rattle.grs_wire.specs.declared.deck.Deck.{Deck}
 use Rattle.grs_wire.specs.declared.deck.Event.{Event}
 use Rattle.grs_wire.specs.declared.deck.Choice.{Choice}
@@ -36,7 +36,7 @@ use Rattle.grs_world.proofs.Events.{Outcome, quiet, fixes}
 use Rattle.grs_world.proofs.Turns.{phase_outcome}
 
 -- an event of a task
-task_outcome : (deck : Deck) (P : List HistEntry) (n : Node) → IsGood deck P n → (t : TaskId) (o : Option (List Line)) → lines_of deck t ≡ o → Outcome deck P n (task_step deck.limit n t o)
+task_outcome : (deck : Deck) (P : List HistEntry) (n : Node) → IsGood deck P n → (t : TaskId) (o : Option (List Meaning)) → lines_of deck t ≡ o → Outcome deck P n (task_step deck.limit n t o)
 unfolding task_step
 task_outcome deck P n good t None e = quiet refl good none
 task_outcome deck P n good t (Some ls) e = by_test (Outcome deck P n) (is_task n.tasks t) _ _
@@ -194,7 +194,7 @@ unfolding first_node
 first_here deck t h =
     let zero_system : t.system.0 ≡ 0 = eqb-true _ _ (and_parts _ _ h).0 in
     let ls = some_of (lines_of deck t) (and_parts _ _ h).1 in
-    let s = script_at t.job (slice_get (scripts_of deck t.system.0) t.task) ls.0 ls.1 in
+    let s = script_at t (slice_get (scripts_of deck t.system.0) t.task) ls.0 ls.1 in
     let at : slice_get (scripts_of deck 0) t.task ≡ Some s.0 = ap (λ n. slice_get (scripts_of deck n) t.task) (sym zero_system) ∙ s.1 in
     let within : nat_lt t.task (length (new_tasks (length (scripts_of deck 0)))) ≡ true = ap (nat_lt t.task) (length-new_tasks (length (scripts_of deck 0))) ∙ lt-ltb _ _ (slice_get-within (scripts_of deck 0) t.task s.0 at) in
     let system : (0 == t.system.0) ≡ true = eq-eqb _ _ (sym zero_system) in
@@ -204,7 +204,7 @@ first_home : (deck : Deck) (t : TaskId) → is_task (first_node deck).tasks t �
 unfolding first_node
 first_home deck t h = sym (is_task-system (record { system = 0; tasks = new_tasks (length (scripts_of deck 0)); told = [] }) t h)
 
-new_good : (limit : ℕ) (ls : List Line) (deck : Deck) (t : TaskId) → IsTask ls (past limit [] t) [] (λ r. owned deck [] r t) t new_task
+new_good : (limit : ℕ) (ls : List Meaning) (deck : Deck) (t : TaskId) → IsTask ls (past limit [] t) [] (λ r. owned deck [] r t) t new_task
 new_good limit ls deck t = record {
   keys = refl;
   distinct = refl;

@@ -9,7 +9,7 @@ use Rattle.grs_base.specs.State.{list_of}
 use Rattle.grs_base.specs.declared.resource.Res.{Res}
 use Rattle.grs_base.specs.declared.resource.TaskId.{TaskId}
 use Rattle.grs_base.specs.declared.decision.Code.TheVariants.{C00}
-use Rattle.grs_base.specs.declared.line.Line.{Line}
+use Rattle.grs_legal.specs.declared.meaning.Meaning.{Meaning}
 use Rattle.grs_base.proofs.SameLaws.{same_res-exact, same_task-exact, same_task-itself}
 use Rattle.grs_wire.specs.declared.deck.Deck.{Deck}
 use Rattle.grs_wire.specs.declared.history.HistEntry.{HistEntry}
@@ -70,7 +70,7 @@ pub record Learned (deck : Deck) (P : List HistEntry) (T0 : List ToldLine) (know
   pub holds : Holds deck P (learns knows r t) w
   pub agreed : Agreed deck P T0 w.told
 
-module _ (deck : Deck) (P : List HistEntry) (T0 : List ToldLine) (knows : Res → TaskId → Bool) (r : Res) (t : TaskId) (ls : List Line) where
+module _ (deck : Deck) (P : List HistEntry) (T0 : List ToldLine) (knows : Res → TaskId → Bool) (r : Res) (t : TaskId) (ls : List Meaning) where
   -- records on other resources know what they knew
   learned-none : (v : TasksView) → Holds deck P knows v → IsOurs deck v t ls → Agreed deck P T0 v.told → has_res r (state_of v t).records ≡ false → Learned deck P T0 knows v v r t
   learned-none v h ours agreed absent = record {
@@ -85,7 +85,7 @@ module _ (deck : Deck) (P : List HistEntry) (T0 : List ToldLine) (knows : Res �
       also-absent q [] a e = cc
       also-absent q (x ∷ xs) a e = grind (arith, a, e, same_res-exact r q, cases_Bool (same_res r q), cases_Bool (knows q t))
 
-      knowing : (ms : List Line) (u : TaskId) (x : TaskState) → ((q : Res) → has_res q x.records ≡ true → learns knows r t q u ≡ knows q u) → IsTask ms (past deck.limit P u) v.told (λ q. knows q u) u x → IsTask ms (past deck.limit P u) v.told (λ q. learns knows r t q u) u x
+      knowing : (ms : List Meaning) (u : TaskId) (x : TaskState) → ((q : Res) → has_res q x.records ≡ true → learns knows r t q u ≡ knows q u) → IsTask ms (past deck.limit P u) v.told (λ q. knows q u) u x → IsTask ms (past deck.limit P u) v.told (λ q. learns knows r t q u) u x
       knowing ms u x same k = record {
         keys = k.keys;
         distinct = k.distinct;
@@ -99,7 +99,7 @@ module _ (deck : Deck) (P : List HistEntry) (T0 : List ToldLine) (knows : Res �
       }
 
   -- another task after the event told this one something
-  other-told : (v : TasksView) (l : ToldLine) (u : TaskId) (ms : List Line) → told_task l ≡ t → same_task u t ≡ false → IsTask ms (past deck.limit P u) v.told (λ q. knows q u) u (state_of v u) → IsTask ms (past deck.limit P u) (v.told ++ l ∷ []) (λ q. learns knows r t q u) u (state_of v u)
+  other-told : (v : TasksView) (l : ToldLine) (u : TaskId) (ms : List Meaning) → told_task l ≡ t → same_task u t ≡ false → IsTask ms (past deck.limit P u) v.told (λ q. knows q u) u (state_of v u) → IsTask ms (past deck.limit P u) (v.told ++ l ∷ []) (λ q. learns knows r t q u) u (state_of v u)
   other-told v l u ms e apart k =
       let k2 = task-told ms (past deck.limit P u) v.told (λ q. knows q u) u (state_of v u) l (subst (λ z. same_task u z ≡ false) (sym e) apart) k in
       record {
@@ -177,7 +177,7 @@ module _ (deck : Deck) (P : List HistEntry) (T0 : List ToldLine) (knows : Res �
       (task-posted deck.limit ls P v.told (λ q. knows q t) t r y (state_of v t) (h.each t ls ours) rec due going same own)
 
 -- tasks after one of them passed a WAIT line
-module _ (deck : Deck) (P : List HistEntry) (T0 : List ToldLine) (knows : Res → TaskId → Bool) (r : Res) (t : TaskId) (ls : List Line) where
+module _ (deck : Deck) (P : List HistEntry) (T0 : List ToldLine) (knows : Res → TaskId → Bool) (r : Res) (t : TaskId) (ls : List Meaning) where
   pub record Passes (v w : TasksView) : Type 0 where
     pub changed : IsChanged v w t
     pub holds : Holds deck P knows w
@@ -218,11 +218,11 @@ module _ (deck : Deck) (P : List HistEntry) (T0 : List ToldLine) (knows : Res �
       (λ held. passes-held v h ours agreed own control held)
       (λ free. record { changed = changed-none v t; holds = h; agreed = agreed })
 
-module _ (deck : Deck) (P : List HistEntry) (T0 : List ToldLine) (knows : Res → TaskId → Bool) (r : Res) (t : TaskId) (ls : List Line) where
-  posts_control : (E : List HistEntry) (T : List ToldLine) (y : Rec) → IsEntryOn y.res (entry_of_line t ls E y.line) → same_res r y.res ≡ true → list_any (tells_control t ls E r) (T ++ Post t y.line ∷ []) ≡ true
+module _ (deck : Deck) (P : List HistEntry) (T0 : List ToldLine) (knows : Res → TaskId → Bool) (r : Res) (t : TaskId) (ls : List Meaning) where
+  posts_control : (E : List HistEntry) (T : List ToldLine) (y : Rec) → IsEntryOn y.res (entry_of_line ls E y.line) → same_res r y.res ≡ true → list_any (tells_control t ls E r) (T ++ Post t y.line ∷ []) ≡ true
   posts_control E T y on same =
-      let on_r : IsEntryOn r (entry_of_line t ls E y.line) = subst (λ q. IsEntryOn q (entry_of_line t ls E y.line)) (sym (same_res-exact r y.res same)) on in
-      any-last (tells_control t ls E r) T (Post t y.line) (grind (arith, same_task-itself t, queued_control r (entry_of_line t ls E y.line) on_r))
+      let on_r : IsEntryOn r (entry_of_line ls E y.line) = subst (λ q. IsEntryOn q (entry_of_line ls E y.line)) (sym (same_res-exact r y.res same)) on in
+      any-last (tells_control t ls E r) T (Post t y.line) (grind (arith, same_task-itself t, queued_control r (entry_of_line ls E y.line) on_r))
 
   -- an untold record is told
   learned-record : (v : TasksView) (y : Rec) → Holds deck P knows v → IsOurs deck v t ls → Agreed deck P T0 v.told → owns (list_of (replay deck.limit P) r) t ≡ true →
@@ -299,7 +299,7 @@ pub record LearnedAll (deck : Deck) (P : List HistEntry) (T0 : List ToldLine) (k
 
 -- a task of the deck and of this system
 pub record IsHome (deck : Deck) (v : TasksView) (t : TaskId) : Type 0 where
-  pub lines : List Line
+  pub lines : List Meaning
   pub ours : IsOurs deck v t lines
 
 -- control is told, one by one, to tasks that own, weren't told, and are all different

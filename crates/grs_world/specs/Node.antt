@@ -3,13 +3,14 @@ use Rattle.std.specs.Prelude.{ℕ, Bool, true, false, ◌&&◌, ◌==◌, nat_le
 use Rattle.grs_base.specs.Same.{same_res}
 use Rattle.grs_base.specs.State.{State, list_of, is_systems}
 use Rattle.grs_base.specs.declared.resource.Res.{Res}
+use Rattle.grs_base.specs.declared.resource.Ctl.{Ctl}
 use Rattle.grs_base.specs.declared.resource.Ret.{Ret}
 use Rattle.grs_base.specs.declared.resource.Ret.TheVariants.{RetNone, RetUse, RetHave, RetChng, RetEcb}
 use Rattle.grs_base.specs.declared.resource.TaskId.{TaskId}
 use Rattle.grs_base.specs.declared.decision.Code.{Code}
 use Rattle.grs_base.specs.declared.decision.Code.TheVariants.{C00, C04, C08, C14, C18, Wait, End}
-use Rattle.grs_base.specs.declared.line.Line.{Line}
-use Rattle.grs_base.specs.declared.line.Line.TheVariants as lines
+use Rattle.grs_legal.specs.declared.meaning.Meaning.{Meaning}
+use Rattle.grs_legal.specs.declared.meaning.Meaning.TheVariants as lines
 use Rattle.grs_wire.specs.Wants.{answer_to, after_want, res_wanted, became_owners}
 use Rattle.grs_wire.specs.declared.request.Want.{Want}
 use Rattle.grs_wire.specs.declared.request.Want.TheVariants.{Enq, Deq, Release}
@@ -17,7 +18,6 @@ use Rattle.grs_wire.specs.declared.request.Req.{Req}
 use Rattle.grs_wire.specs.declared.told.Verb.TheVariants as verbs
 use Rattle.grs_wire.specs.declared.told.Verb.{Verb}
 use Rattle.grs_wire.specs.declared.told.ToldLine.TheVariants.{Coded, Post, Ended}
-use Rattle.grs_legal.specs.Asks.{resolved}
 use Rattle.task_state.specs.declared.state.Rec.{Rec}
 use Rattle.task_state.specs.declared.state.Phase.{Phase}
 use Rattle.task_state.specs.declared.state.Phase.TheVariants as phases
@@ -79,21 +79,21 @@ tell_code v t verb C14 = telling v (Coded t (state_of v t).line 0 verb C14)
 tell_code v t verb C18 = telling v (Coded t (state_of v t).line 0 verb C18)
 tell_code v t verb (End n) = telling v (Coded t (state_of v t).line 0 verb (End n))
 
--- the record of an ENQ of a task's last line
-abbrev pub new_record : TasksView → TaskId → Res → Rattle.grs_base.specs.declared.resource.Ctl.Ctl → Code → Rec
-new_record v t r c code = record { res = r; ctl = c; rank = 0; told = is_granted code; unit = None; line = (state_of v t).line }
+-- the record of an ENQ or RESERVE of a task's last line, with the unit that it reserves
+abbrev pub new_record : TasksView → TaskId → Res → Ctl → Option ℕ → Code → Rec
+new_record v t r c unit code = record { res = r; ctl = c; rank = 0; told = is_granted code; unit = unit; line = (state_of v t).line }
 
 -- the records of a task after an ENQ was answered
-unfoldable pub record_enq : TasksView → TaskId → Res → Rattle.grs_base.specs.declared.resource.Ctl.Ctl → Ret → Code → TasksView
-record_enq v t r c ret code =
-    cond (is_queued ret code) (with_record v t (new_record v t r c code))
+unfoldable pub record_enq : TasksView → TaskId → Res → Ctl → Option ℕ → Ret → Code → TasksView
+record_enq v t r c unit ret code =
+    cond (is_queued ret code) (with_record v t (new_record v t r c unit code))
     (cond (is_changed ret code) (with_exclusive v t r) v)
 
--- a task after its own request was answered
-unfoldable pub answered : TasksView → TaskId → Want → Code → TasksView
-answered v t (Enq r c ret full) code = tell_code (with_phase (record_enq v t r c ret code) t (phase_after code)) t verbs.Enq code
-answered v t (Deq r have) code = tell_code (with_phase (cond (is_granted code) (without_record v t r) v) t (phase_after code)) t verbs.Deq code
-answered v t (Release r) code = without_record v t r
+-- a task after its own request was answered; a record that it makes has this unit
+unfoldable pub answered : TasksView → TaskId → Want → Option ℕ → Code → TasksView
+answered v t (Enq r c ret full) unit code = tell_code (with_phase (record_enq v t r c unit ret code) t (phase_after code)) t verbs.Enq code
+answered v t (Deq r have) unit code = tell_code (with_phase (cond (is_granted code) (without_record v t r) v) t (phase_after code)) t verbs.Deq code
+answered v t (Release r) unit code = without_record v t r
 
 -- whether a task is held by the answer of its last line
 abbrev pub is_held : Phase → Bool
@@ -142,12 +142,12 @@ tell_all v r [] = v
 tell_all v r (t ∷ ts) = tell_all (tell_control v r t) r ts
 
 -- a request decided by the local lists: the asker's answer first, then control for the tasks that became owners
-unfoldable pub decide : Node → TaskId → Want → Step
-decide n t w =
+unfoldable pub decide : Node → TaskId → Want → Option ℕ → Step
+decide n t w unit =
     let held = after_want n.held t w in
     record {
       node = record {
-        tasks = tell_all (answered n.tasks t w (answer_to n.held t w)) (res_wanted w) (became_owners (list_of n.held (res_wanted w)) (list_of held (res_wanted w)) t);
+        tasks = tell_all (answered n.tasks t w unit (answer_to n.held t w)) (res_wanted w) (became_owners (list_of n.held (res_wanted w)) (list_of held (res_wanted w)) t);
         held = held;
       };
       fixed = record { task = t; want = w } ∷ [];
@@ -162,11 +162,11 @@ abbrev pub with_tasks : Node → TasksView → Node
 with_tasks n v = record { tasks = v; held = n.held }
 
 -- a request: decided at once, or, for a resource of the whole complex, kept until it can be sent
-unfoldable pub ask : Node → TaskId → Want → Step
-ask n t w =
+unfoldable pub ask : Node → TaskId → Want → Option ℕ → Step
+ask n t w unit =
     cond (is_systems (res_wanted w))
     (only (with_tasks n (with_outstanding (with_phase n.tasks t phases.ToSend) t (Some (record { task = t; want = w })))))
-    (decide n t w)
+    (decide n t w unit)
 
 -- a WAIT line: 00 where control was told, 08 where there is no request on record, else the task is held
 unfoldable pub wait : TasksView → TaskId → Res → Option Rec → TasksView
@@ -177,25 +177,25 @@ wait v t r (Some x) = cond x.told (tell_code v t verbs.Wait C00) (with_phase v t
 abbrev pub has_most : ℕ → TasksView → TaskId → Bool
 has_most limit v t = nat_le limit (length (state_of v t).records)
 
--- a line that was taken
-unfoldable pub take_line : ℕ → Node → TaskId → Line → Step
-take_line limit n t (lines.Enq [] ret rnl) = only n
-take_line limit n t (lines.Enq (i ∷ more) ret rnl) = ask n t (Enq (resolved t i.scope i.q i.r) i.ctl ret (has_most limit n.tasks t))
-take_line limit n t (lines.Deq q r scope have unit rnl) = ask n t (Deq (resolved t scope q r) have)
-take_line limit n t (lines.Wait q r scope rnl) = only (with_tasks n (wait n.tasks t (resolved t scope q r) (record_of (state_of n.tasks t).records (resolved t scope q r))))
+-- a line that was taken, by what it means
+unfoldable pub take_line : ℕ → Node → TaskId → Meaning → Step
+take_line limit n t (lines.Enq r c ret unit) = ask n t (Enq r c ret (has_most limit n.tasks t)) unit
+take_line limit n t (lines.Deq r have) = ask n t (Deq r have) None
+take_line limit n t (lines.Wait r) = only (with_tasks n (wait n.tasks t r (record_of (state_of n.tasks t).records r)))
+take_line limit n t lines.Nothing = only n
 
 -- a task that is ending: it releases the first request on record, or has ended
 unfoldable pub end_step : Node → TaskId → ℕ → List Rec → Step
 end_step n t code [] = only (with_tasks n (telling (with_phase n.tasks t phases.Ended) (Ended t code)))
-end_step n t code (x ∷ xs) = decide n t (Release x.res)
+end_step n t code (x ∷ xs) = decide n t (Release x.res) None
 
 -- a task that is Ready: it takes its next line, or begins to end
-unfoldable pub ready_step : ℕ → Node → TaskId → Option Line → Step
+unfoldable pub ready_step : ℕ → Node → TaskId → Option Meaning → Step
 ready_step limit n t None = let v = with_phase n.tasks t (phases.Ending 0) in end_step (with_tasks n v) t 0 (state_of v t).records
 ready_step limit n t (Some l) = take_line limit (with_tasks n (with_line n.tasks t)) t l
 
 -- what a task does by its phase
-unfoldable pub phase_step : ℕ → Node → TaskId → List Line → Phase → Step
+unfoldable pub phase_step : ℕ → Node → TaskId → List Meaning → Phase → Step
 phase_step limit n t ls phases.Ready = ready_step limit n t (slice_get ls (state_of n.tasks t).line)
 phase_step limit n t ls (phases.Ending c) = end_step n t c (state_of n.tasks t).records
 phase_step limit n t ls phases.ToSend = only n
@@ -205,6 +205,6 @@ phase_step limit n t ls (phases.HeldLine r) = only n
 phase_step limit n t ls phases.Ended = only n
 
 -- a task of the deck goes on; any other does nothing
-unfoldable pub task_step : ℕ → Node → TaskId → Option (List Line) → Step
+unfoldable pub task_step : ℕ → Node → TaskId → Option (List Meaning) → Step
 task_step limit n t None = only n
 task_step limit n t (Some ls) = cond (is_task n.tasks t) (phase_step limit n t ls (state_of n.tasks t).phase) (only n)

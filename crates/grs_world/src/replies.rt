@@ -38,7 +38,7 @@ pub(crate) fn tell_code(
     }
 }
 
-/// Keeps the records of a task whose ENQ was answered.
+/// Keeps the records of a task whose ENQ was answered; `unit` is the unit that it reserves.
 #[tactic(auto, using(crate::proofs::Keeps::keeps), unfolding(crate::specs::Node::record_enq))]
 fn record_enq(
     alloc: Global,
@@ -46,11 +46,12 @@ fn record_enq(
     task: TaskId,
     res: &Res,
     ctl: Ctl,
+    unit: Option<u16>,
     ret: Ret,
     code: Code,
 ) -> Result<(), NoMemory>
     requires { is_task tasks.old task ≡ true }
-    ensures step { OnOk result (tasks.new ≡ steps.record_enq tasks.old task res.now ctl ret code) }
+    ensures step { OnOk result (tasks.new ≡ steps.record_enq tasks.old task res.now ctl unit ret code) }
     ensures system { tasks.new.system ≡ tasks.old.system }
 {
     if is_queued(ret, code) {
@@ -59,7 +60,7 @@ fn record_enq(
             ctl,
             rank: 0,
             told: is_granted(code),
-            unit: None,
+            unit,
             line: tasks.state(task).line,
         };
         tasks.add_record(task, rec)
@@ -83,22 +84,23 @@ fn record_deq(tasks: &mut Tasks, task: TaskId, res: &Res, code: Code)
     }
 }
 
-/// Answers a task's own request.
+/// Answers a task's own request; a record that it makes has this unit.
 #[tactic(auto, using(crate::proofs::Keeps::keeps), unfolding(crate::specs::Node::answered))]
 pub(crate) fn answered(
     alloc: Global,
     tasks: &mut Tasks,
     task: TaskId,
     want: &Want,
+    unit: Option<u16>,
     code: Code,
 ) -> Result<(), NoMemory>
     requires { is_task tasks.old task ≡ true }
-    ensures step { OnOk result (tasks.new ≡ steps.answered tasks.old task want.now code) }
+    ensures step { OnOk result (tasks.new ≡ steps.answered tasks.old task want.now unit code) }
     ensures system { tasks.new.system ≡ tasks.old.system }
 {
     match want {
         Want::Enq { res, ctl, ret, .. } => {
-            record_enq(alloc, tasks, task, res, *ctl, *ret, code)?;
+            record_enq(alloc, tasks, task, res, *ctl, unit, *ret, code)?;
             tasks.set_phase(task, phase_after(code));
             tell_code(tasks, task, Verb::Enq, code)
         }

@@ -2,7 +2,7 @@
 //! There is one system, and events of others do nothing.
 ghost use Rattle.std.specs.Prelude.{◌≡◌, ◌++◌, drop, option_copied, IfOk, OnOk};
 ghost use Rattle.std.specs.Option.{option_to_list};
-ghost use Rattle.grs_legal.specs.Asks.{scripts_of, lines_of};
+ghost use Rattle.grs_legal.specs.Asks.{scripts_of, meanings};
 ghost use Rattle.grs_world.specs.Node as steps;
 ghost use Rattle.grs_world.specs.World as runs;
 ghost use Rattle.grs_world.specs.Running.{stepped, starting, after, ran, end_in, end_of};
@@ -51,7 +51,7 @@ fn task_step(
     lines: Option<&List<Line>>,
     limit: u32,
 ) -> Result<Option<Req>, NoMemory>
-    ensures step { IfOk result (λ fixed. stepped node.new fixed ≡ steps.task_step limit node.old task (option_copied lines.entry)) }
+    ensures step { IfOk result (λ fixed. stepped node.new fixed ≡ steps.task_step limit node.old task (meanings task (option_copied lines.entry))) }
     ensures system { node.new.tasks.system ≡ node.old.tasks.system }
 {
     let Some(lines) = lines else {
