@@ -20,3 +20,4 @@ pub mod Turns
 pub mod Sound
 pub mod Samples
 pub mod Keeps
+pub mod UnitCounts

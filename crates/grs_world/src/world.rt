@@ -1,10 +1,11 @@
 //! The world of a run: the system with the lines of its tasks, what its events fixed and what it told.
 //! There is one system, and events of others do nothing.
-ghost use Rattle.std.specs.Prelude.{◌≡◌, ◌++◌, drop, option_copied, IfOk, OnOk};
+ghost use Rattle.std.specs.Prelude.{◌≡◌, ◌++◌, drop, map, option_copied, IfOk, OnOk};
 ghost use Rattle.std.specs.Option.{option_to_list};
 ghost use Rattle.grs_legal.specs.Asks.{scripts_of, meanings};
 ghost use Rattle.grs_world.specs.Node as steps;
 ghost use Rattle.grs_world.specs.World as runs;
+ghost use Rattle.grs_world.specs.Units.{counted, reserved_of, units_at};
 ghost use Rattle.grs_world.specs.Running.{stepped, starting, after, ran, end_in, end_of};
 
 use super::node::Node;
@@ -13,7 +14,7 @@ use grs_base::{Line, List, NoMemory, SysId, TaskId};
 use grs_wire::{Choice, Deck, Event, Fixed, Req, TaskEnd, Told, ToldLine};
 use std::alloc::Global;
 use std::marker::Model;
-use task_state::Phase;
+use task_state::{Phase, Tasks};
 
 /// The most events of a run.
 const MOST_EVENTS: u64 = 1 << 57;
@@ -33,6 +34,7 @@ pub struct World<'d> {
 impl<'d> Model for World<'d> {
     ghost use Rattle.std.specs.Prelude.{◌≡◌};
     ghost use Rattle.grs_legal.specs.Asks.{scripts_of};
+    ghost use Rattle.grs_world.specs.Units.{counted, reserved_of, units_at};
     ghost use Rattle.grs_world.specs.Running.{Running};
 
     ghost Value = { Running };
@@ -158,6 +160,42 @@ fn add_told(
     Ok(())
 }
 
+/// The units that tasks reserve, each with its count.
+#[tactic(auto, using(crate::proofs::UnitCounts::counted_units))]
+fn counted_units(tasks: &Tasks) -> Result<List<(u16, u32)>, NoMemory>
+    ensures { IfOk result (λ counts. counts ≡ counted (reserved_of tasks.now.tasks)) }
+{
+    let counts = tasks.units()?;
+    Ok(counts)
+}
+
+/// The counts of units of a system.
+fn with_system(
+    alloc: Global,
+    system: SysId,
+    counts: &[(u16, u32)],
+) -> Result<List<(SysId, u16, u32)>, NoMemory>
+    ensures { IfOk result (λ units. units ≡ map (λ c. (system, c.0, c.1)) counts.now) }
+{
+    let mut units = List::new(alloc);
+    for (unit, count) in counts {
+        units.push((system, *unit, *count))?;
+    }
+    Ok(units)
+}
+
+/// The units that the tasks of a system reserve, each with its count.
+fn units_of(
+    alloc: Global,
+    system: SysId,
+    tasks: &Tasks,
+) -> Result<List<(SysId, u16, u32)>, NoMemory>
+    ensures { IfOk result (λ units. units ≡ units_at system tasks.now.tasks) }
+{
+    let counts = counted_units(tasks)?;
+    with_system(alloc, system, counts.as_slice())
+}
+
 /// The end of a task in this phase.
 fn end_by(phase: &Phase) -> TaskEnd
     ensures { result ≡ end_in phase.now }
@@ -222,6 +260,13 @@ impl<'d> World<'d> {
         ensures { result.now ≡ self.now.world.told }
     {
         &self.told
+    }
+
+    /// The units that the tasks reserve in hardware, each with its count, by system and unit.
+    pub fn units(&self) -> Result<List<(SysId, u16, u32)>, NoMemory>
+        ensures { IfOk result (λ units. units ≡ units_at (record { 0 = 0 }) self.now.world.node.tasks.tasks) }
+    {
+        units_of(self.alloc, SysId(0), self.node.tasks())
     }
 
     /// How a task stands. One that isn't there is open.
