@@ -3,10 +3,10 @@
 //! "Resource name lists".)
 #![tactic(auto)]
 
-mod find;
+mod entry;
 mod pattern;
 #[cfg(test)]
 mod tests;
 
-pub use find::{find, matches};
+pub use entry::{find, matches};
 pub use pattern::matches_pattern;

@@ -1,7 +1,7 @@
 //! Patterns. A pattern is read from its end, and each place of the text is marked: whether what was read of
 //! the pattern matches the text from there on. So there are at most as many steps as the pattern's length
 //! times the number of places, however many stars the pattern has.
-ghost use Rattle.std.specs.Prelude.{◌≡◌, ◌≤◌, ◌∷◌, [], ℕ, Bool, List, length};
+ghost use Rattle.std.specs.Prelude.{◌≡◌, ◌≤◌, ◌∷◌, ◌==◌, ◌||◌, ◌&&◌, [], ℕ, Bool, List, length};
 ghost use Rattle.rnl_match.specs.Matches.{matches_pattern, some_rest, one_byte};
 ghost use Rattle.rnl_match.specs.Marks.{Marks};
 
@@ -16,9 +16,24 @@ fn at_end(text: &[u8]) -> PlaceMarks
     requires { length text.now ≤ MOST_BYTES }
     ensures { Marks result text.now (matches_pattern []) }
 {
+    let end = text.len();
     let mut marks = [false; 256];
-    marks[text.len()] = true;
+    marks[end] = true;
     marks
+}
+
+/// Whether one of two marks is set.
+fn either(here: bool, later: bool) -> bool
+    ensures { result ≡ (here || later) }
+{
+    here || later
+}
+
+/// Whether a pattern's byte stands for a byte of a text, and what is behind it passes.
+fn stands_for(pattern: u8, byte: u8, behind: bool) -> bool
+    ensures { result ≡ ((pattern == 63 || pattern == byte) && behind) }
+{
+    (pattern == b'?' || pattern == byte) && behind
 }
 
 /// Marks each place from which some rest of the text passes.
@@ -27,7 +42,7 @@ fn some_rest(marks: &mut PlaceMarks, text: &[u8])
     ensures { (passes : List ℕ → Bool) → Marks marks.old text.now passes → Marks marks.new text.now (some_rest passes) }
 {
     for i in (0..text.len()).rev() {
-        marks[i] = marks[i] || marks[i + 1];
+        marks[i] = either(marks[i], marks[i + 1]);
     }
 }
 
@@ -37,7 +52,7 @@ fn one_byte(marks: &mut PlaceMarks, text: &[u8], byte: u8)
     ensures { (passes : List ℕ → Bool) → Marks marks.old text.now passes → Marks marks.new text.now (one_byte byte passes) }
 {
     for i in 0..text.len() {
-        marks[i] = (byte == b'?' || byte == text[i]) && marks[i + 1];
+        marks[i] = stands_for(byte, text[i], marks[i + 1]);
     }
     marks[text.len()] = false;
 }

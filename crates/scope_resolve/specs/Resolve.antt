@@ -8,7 +8,7 @@ use Rattle.grs_base.specs.declared.resource.Res.TheVariants as kinds
 use Rattle.grs_base.specs.declared.line.Scope.{Scope}
 use Rattle.grs_base.specs.declared.line.Scope.TheVariants.{Step, System, Systems}
 use Rattle.rnl_match.specs.Matches.{find}
-use Rattle.scope_resolve.specs.declared.resolve.Resolved.{Resolved}
+use Rattle.scope_resolve.specs.declared.decide.Resolved.{Resolved}
 
 -- whether some entry of a list matches
 abbrev pub is_listed : RnlView → List ℕ → List ℕ → Bool

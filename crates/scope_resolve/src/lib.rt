@@ -4,8 +4,8 @@
 //! own.)
 #![tactic(auto)]
 
-mod resolve;
+mod decide;
 #[cfg(test)]
 mod tests;
 
-pub use resolve::{Ask, Resolved, resolve, resolve_kind};
+pub use decide::{Ask, Resolved, resolve, resolve_kind};
