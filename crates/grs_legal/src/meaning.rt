@@ -1,8 +1,9 @@
-//! What a line of a task means once its names are resolved.
+//! What a line of a task means once its names are resolved by the name lists of the deck.
 ghost use Rattle.std.specs.Prelude.{◌≡◌, IfOk};
-ghost use Rattle.grs_legal.specs.Asks.{resolved, meaning_of};
+ghost use Rattle.grs_legal.specs.Asks.{named, reserved, meaning_of};
 
-use grs_base::{Ctl, Item, Line, NoMemory, Qname, Res, Ret, Rname, Scope, TaskId};
+use grs_base::{Ctl, Item, Line, Lists, NoMemory, Qname, Res, Ret, Rname, Scope, TaskId};
+use scope_resolve::{Ask, Resolved, resolve};
 use std::alloc::Global;
 
 /// What a line of a task means.
@@ -28,70 +29,117 @@ pub enum Meaning {
     Nothing,
 }
 
-/// The resource of these names in a task's line: of the task's job for scope STEP, of its system for scope
-/// SYSTEM.
-fn resolve(alloc: Global, task: TaskId, scope: Scope, q: &Qname, r: &Rname) -> Result<Res, NoMemory>
-    ensures { IfOk result (λ res. res ≡ resolved task scope q.now r.now) }
+/// What a RESERVE comes to, of which this was resolved.
+fn reserved(found: Resolved, ctl: Ctl, unit: u16, ret: Ret) -> Meaning
+    ensures { result ≡ reserved found ctl unit ret }
 {
-    let q = q.copy(alloc)?;
-    let r = r.copy(alloc)?;
-    match scope {
-        Scope::Step => Ok(Res::Step {
-            system: task.system,
-            job: task.job,
-            q,
-            r,
-        }),
-        Scope::System => Ok(Res::System {
-            system: task.system,
-            q,
-            r,
-        }),
-        Scope::Systems => Ok(Res::Systems { q, r }),
+    let unit = if found.hardware { Some(unit) } else { None };
+    Meaning::Enq {
+        res: found.res,
+        ctl,
+        ret,
+        unit,
     }
 }
 
 /// What an ENQ line means. Until an ENQ can name several, it means its first item.
 fn meaning_of_items(
     alloc: Global,
+    lists: &Lists,
     task: TaskId,
     items: &[Item],
     ret: Ret,
     rnl: bool,
 ) -> Result<Meaning, NoMemory>
-    ensures { IfOk result (λ m. m ≡ meaning_of task (Line.Enq items.now ret rnl)) }
+    ensures { IfOk result (λ m. m ≡ meaning_of lists.now task (Line.Enq items.now ret rnl)) }
 {
-    match items.split_first() {
-        None => Ok(Meaning::Nothing),
-        Some((item, _)) => Ok(Meaning::Enq {
-            res: resolve(alloc, task, item.scope, &item.q, &item.r)?,
-            ctl: item.ctl,
-            ret,
-            unit: None,
-        }),
-    }
+    let Some((item, _)) = items.split_first() else {
+        return Ok(Meaning::Nothing);
+    };
+    let ask = Ask {
+        reserve: false,
+        q: &item.q,
+        r: &item.r,
+        scope: item.scope,
+        rnl,
+    };
+    let found = resolve(alloc, lists, &ask, task.system, task.job)?;
+    Ok(Meaning::Enq {
+        res: found.res,
+        ctl: item.ctl,
+        ret,
+        unit: None,
+    })
 }
 
-/// What a line of a task means.
-pub fn meaning_of(alloc: Global, task: TaskId, line: &Line) -> Result<Meaning, NoMemory>
-    ensures { IfOk result (λ m. m ≡ meaning_of task line.now) }
+/// The resource of a DEQ or a WAIT, which resolves as that of an ENQ does.
+fn named(
+    alloc: Global,
+    lists: &Lists,
+    task: TaskId,
+    scope: Scope,
+    q: &Qname,
+    r: &Rname,
+    rnl: bool,
+) -> Result<Res, NoMemory>
+    ensures { IfOk result (λ res. res ≡ named lists.now task scope q.now r.now rnl) }
+{
+    let ask = Ask {
+        reserve: false,
+        q,
+        r,
+        scope,
+        rnl,
+    };
+    let found = resolve(alloc, lists, &ask, task.system, task.job)?;
+    Ok(found.res)
+}
+
+/// What a line of a task means by these name lists.
+pub fn meaning_of(
+    alloc: Global,
+    lists: &Lists,
+    task: TaskId,
+    line: &Line,
+) -> Result<Meaning, NoMemory>
+    ensures { IfOk result (λ m. m ≡ meaning_of lists.now task line.now) }
 {
     match line {
         Line::Enq { items, ret, rnl } => {
-            meaning_of_items(alloc, task, items.as_slice(), *ret, *rnl)
+            meaning_of_items(alloc, lists, task, items.as_slice(), *ret, *rnl)
+        }
+        Line::Reserve {
+            q,
+            r,
+            ctl,
+            unit,
+            ret,
+            rnl,
+        } => {
+            let ask = Ask {
+                reserve: true,
+                q,
+                r,
+                scope: Scope::Systems,
+                rnl: *rnl,
+            };
+            let found = resolve(alloc, lists, &ask, task.system, task.job)?;
+            Ok(reserved(found, *ctl, *unit, *ret))
         }
         Line::Deq {
             q,
             r,
             scope,
             have,
+            rnl,
             ..
         } => Ok(Meaning::Deq {
-            res: resolve(alloc, task, *scope, q, r)?,
+            res: named(alloc, lists, task, *scope, q, r, *rnl)?,
             have: *have,
         }),
-        Line::Wait { q, r, scope, .. } => Ok(Meaning::Wait {
-            res: resolve(alloc, task, *scope, q, r)?,
+        Line::Wait { q, r, scope, rnl } => Ok(Meaning::Wait {
+            res: named(alloc, lists, task, *scope, q, r, *rnl)?,
         }),
+        Line::Gqscan { .. } | Line::DisplayC | Line::DisplayRes { .. } => Ok(Meaning::Nothing),
     }
 }

@@ -7,6 +7,7 @@ use Rattle.std.proofs.lemmas.Bool.Decides.{nat_tests}
 use Rattle.grs_base.specs.Same.{same_res, same_task}
 use Rattle.grs_base.specs.State.{State}
 use Rattle.grs_base.specs.declared.resource.Res.{Res}
+use Rattle.grs_base.specs.declared.resource.Row.{Row}
 use Rattle.grs_base.specs.declared.resource.TaskId.{TaskId}
 use Rattle.grs_base.specs.declared.decision.Code.{Code}
 use Rattle.grs_base.specs.declared.decision.Code.TheVariants.{C00, C04, C08, C14, C18, Wait, End}
@@ -17,8 +18,8 @@ use Rattle.grs_wire.specs.declared.request.Req.{Req}
 use Rattle.grs_wire.specs.declared.told.Verb.{Verb}
 use Rattle.grs_wire.specs.declared.told.Verb.TheVariants as verbs
 use Rattle.grs_wire.specs.declared.told.ToldLine.{ToldLine}
-use Rattle.grs_wire.specs.declared.told.ToldLine.TheVariants.{Coded, Post, Ended}
-use Rattle.grs_wire.specs.History.{asker, code_of}
+use Rattle.grs_wire.specs.declared.told.ToldLine.TheVariants.{Coded, Shown, Post, Ended, Desk}
+use Rattle.grs_wire.specs.History.{code_of}
 use Rattle.grs_legal.specs.Asks.{Ask, asks_of, asks_in}
 use Rattle.grs_legal.specs.Legal.{lets_pass, passed_behind, end_among, end_or}
 use Rattle.task_state.specs.declared.state.Rec.{Rec}
@@ -73,6 +74,8 @@ posts-after T t k n verb c h =
     post_later (Coded u j part v code) e = refl
     post_later (Post u j) e = grind (arith, nat_tests, e)
     post_later (Ended u code) e = refl
+    post_later (Shown u j verb code rows) e = refl
+    post_later (Desk j said) e = refl
 
 -- codes told so far are of lines up to the one that was answered
 codes-after : (T : List ToldLine) (t : TaskId) (k : ℕ) (verb : Verb) (c : Code) → list_all (is_code_before t k) T ≡ true → list_all (is_code_before t (code_bound (phase_after c) k)) (told_after T t k verb c) ≡ true
@@ -117,8 +120,12 @@ module _ (ls : List Meaning) (E : List HistEntry) (h : HistEntry) (t : TaskId) w
   grows-tells r (Coded u k part verbs.Enq code) e = and_kept (same_task t u) _ _ (grows-control r code (entry_of_line ls E k) (entry_of_line ls (E ++ h ∷ []) k) (grows-line k)) e
   grows-tells r (Coded u k part verbs.Deq code) e = e
   grows-tells r (Coded u k part verbs.Wait code) e = e
+  grows-tells r (Coded u k part verbs.Gqscan code) e = e
+  grows-tells r (Coded u k part verbs.Display code) e = e
+  grows-tells r (Shown u k verb code rows) e = e
   grows-tells r (Post u k) e = and_kept (same_task t u) _ _ (grows-control r C00 (entry_of_line ls E k) (entry_of_line ls (E ++ h ∷ []) k) (grows-line k)) e
   grows-tells r (Ended u code) e = e
+  grows-tells r (Desk k said) e = e
 
   any-kept : {X : Type 0} (p q : X → Bool) → ((x : X) → p x ≡ true → q x ≡ true) → (xs : List X) → list_any p xs ≡ true → list_any q xs ≡ true
   any-kept p q k [] e = e
@@ -149,12 +156,12 @@ module _ (ls : List Meaning) (E : List HistEntry) (h : HistEntry) (t : TaskId) w
       })
 
 -- a task's next line asks: what holds before, and which line it is
-pub record Asks (ls : List Meaning) (p : Past) (T : List ToldLine) (knows : Res → Bool) (t : TaskId) (n code : ℕ) (xs : List Rec) (o : Option Req) (l : Meaning) (a : Ask) : Type 0 where
-  pub before : IsTask ls p T knows t (record { line = n; phase = phases.Ready; code = code; records = xs; outstanding = o })
+pub record Asks (ls : List Meaning) (p : Past) (T : List ToldLine) (knows : Res → Bool) (t : TaskId) (n code : ℕ) (xs : List Rec) (o : Option Req) (ws : List Row) (l : Meaning) (a : Ask) : Type 0 where
+  pub before : IsTask ls p T knows t (record { line = n; phase = phases.Ready; code = code; records = xs; outstanding = o; rows = ws })
   pub at : slice_get ls n ≡ Some l
   pub asks : asks_in l ≡ a ∷ []
 
-module _ (ls : List Meaning) (p : Past) (T : List ToldLine) (knows : Res → Bool) (t : TaskId) (n code : ℕ) (xs : List Rec) (o : Option Req) (l : Meaning) (a : Ask) (k : Asks ls p T knows t n code xs o l a) (s' : State) (h : HistEntry) where
+module _ (ls : List Meaning) (p : Past) (T : List ToldLine) (knows : Res → Bool) (t : TaskId) (n code : ℕ) (xs : List Rec) (o : Option Req) (ws : List Row) (l : Meaning) (a : Ask) (k : Asks ls p T knows t n code xs o ws l a) (s' : State) (h : HistEntry) where
   pub of_new_line : entry_of_line ls (p.asked ++ h ∷ []) (suc n) ≡ Some h
   of_new_line =
       let line : slice_get ls (suc n - 1) ≡ Some l = ap (slice_get ls) (omega (arith)) ∙ k.at in
@@ -175,22 +182,21 @@ module _ (ls : List Meaning) (p : Past) (T : List ToldLine) (knows : Res → Boo
   ended_new c e = end_among-push p.asked h k.before.phase.going.no_code ∙ ap (λ z. end_or z None) e
 
   -- the phase by the code
-  phase_new : (verb : Verb) (c : Code) → code_of h ≡ c → asker h ≡ t → IsInPhase ls (record { lists = s'; asked = p.asked ++ h ∷ []; last = Some h }) (told_after T t (suc n) verb c) t (suc n) (phase_after c)
-  phase_new verb Wait e mine = record {
+  phase_new : (verb : Verb) (c : Code) → code_of h ≡ c → IsInPhase ls (record { lists = s'; asked = p.asked ++ h ∷ []; last = Some h }) (told_after T t (suc n) verb c) t (suc n) (phase_after c)
+  phase_new verb Wait e = record {
     going = record { no_code = ended_new Wait e; no_end = k.before.phase.going.no_end };
     passed = passed_new;
     last = h;
     is_last = refl;
     of_line = of_new_line;
     waits = e;
-    mine = mine;
   }
-  phase_new verb C00 e mine = record { going = record { no_code = ended_new C00 e; no_end = no_end-after T t t (suc n) verb C00 k.before.phase.going.no_end }; free = λ w. absurd (cc); passed = passed_new }
-  phase_new verb C04 e mine = record { going = record { no_code = ended_new C04 e; no_end = no_end-after T t t (suc n) verb C04 k.before.phase.going.no_end }; free = λ w. absurd (cc); passed = passed_new }
-  phase_new verb C08 e mine = record { going = record { no_code = ended_new C08 e; no_end = no_end-after T t t (suc n) verb C08 k.before.phase.going.no_end }; free = λ w. absurd (cc); passed = passed_new }
-  phase_new verb C14 e mine = record { going = record { no_code = ended_new C14 e; no_end = no_end-after T t t (suc n) verb C14 k.before.phase.going.no_end }; free = λ w. absurd (cc); passed = passed_new }
-  phase_new verb C18 e mine = record { going = record { no_code = ended_new C18 e; no_end = no_end-after T t t (suc n) verb C18 k.before.phase.going.no_end }; free = λ w. absurd (cc); passed = passed_new }
-  phase_new verb (End c) e mine = record { no_end = no_end-after T t t (suc n) verb (End c) k.before.phase.going.no_end; code = ap (λ z. unwrap_or z 0) (sym (ended_new (End c) e)); free = λ w. absurd (cc); all_lines = λ none. absurd (let w : Some c ≡ None = sym (ended_new (End c) e) ∙ none in cc) }
+  phase_new verb C00 e = record { going = record { no_code = ended_new C00 e; no_end = no_end-after T t t (suc n) verb C00 k.before.phase.going.no_end }; free = λ w. absurd (cc); passed = passed_new }
+  phase_new verb C04 e = record { going = record { no_code = ended_new C04 e; no_end = no_end-after T t t (suc n) verb C04 k.before.phase.going.no_end }; free = λ w. absurd (cc); passed = passed_new }
+  phase_new verb C08 e = record { going = record { no_code = ended_new C08 e; no_end = no_end-after T t t (suc n) verb C08 k.before.phase.going.no_end }; free = λ w. absurd (cc); passed = passed_new }
+  phase_new verb C14 e = record { going = record { no_code = ended_new C14 e; no_end = no_end-after T t t (suc n) verb C14 k.before.phase.going.no_end }; free = λ w. absurd (cc); passed = passed_new }
+  phase_new verb C18 e = record { going = record { no_code = ended_new C18 e; no_end = no_end-after T t t (suc n) verb C18 k.before.phase.going.no_end }; free = λ w. absurd (cc); passed = passed_new }
+  phase_new verb (End c) e = record { no_end = no_end-after T t t (suc n) verb (End c) k.before.phase.going.no_end; code = ap (λ z. unwrap_or z 0) (sym (ended_new (End c) e)); free = λ w. absurd (cc); all_lines = λ none. absurd (let w : Some c ≡ None = sym (ended_new (End c) e) ∙ none in cc) }
 
   unsent_after : (c : Code) → is_unsent (phase_after c) ≡ false
   unsent_after Wait = refl
@@ -211,10 +217,10 @@ module _ (ls : List Meaning) (p : Past) (T : List ToldLine) (knows : Res → Boo
   not_ended_after (End c) = refl
 
   -- the task afterwards, given its records
-  pub task-asked : (verb : Verb) (c : Code) (knows' : Res → Bool) (ys : List Rec) → code_of h ≡ c → asker h ≡ t → map key ys ≡ own s' t → is_distinct ys ≡ true →
+  pub task-asked : (verb : Verb) (c : Code) (knows' : Res → Bool) (ys : List Rec) → code_of h ≡ c → map key ys ≡ own s' t → is_distinct ys ≡ true →
       Each (IsRec ls (p.asked ++ h ∷ []) (told_after T t (suc n) verb c) knows' t (suc n) (phase_after c)) ys →
-      IsTask ls (record { lists = s'; asked = p.asked ++ h ∷ []; last = Some h }) (told_after T t (suc n) verb c) knows' t (record { line = suc n; phase = phase_after c; code = code_in (phase_after c) code; records = ys; outstanding = o })
-  task-asked verb c knows' ys e mine keys distinct recs = record {
+      IsTask ls (record { lists = s'; asked = p.asked ++ h ∷ []; last = Some h }) (told_after T t (suc n) verb c) knows' t (record { line = suc n; phase = phase_after c; code = code_in (phase_after c) code; records = ys; outstanding = o; rows = ws })
+  task-asked verb c knows' ys e keys distinct recs = record {
     keys = keys;
     distinct = distinct;
     within = slice_get-within ls n l k.at;
@@ -222,6 +228,6 @@ module _ (ls : List Meaning) (p : Past) (T : List ToldLine) (knows : Res → Boo
     records = recs;
     codes = codes-after T t (suc n) verb c k.before.codes;
     posts = posts-after T t (suc n) (suc n) verb c k.before.posts;
-    phase = phase_new verb c e mine;
+    phase = phase_new verb c e;
     emptied = λ u. absurd (grind (arith, u, not_ended_after c));
   }

@@ -102,17 +102,17 @@ module _ (v w : TasksView) (t : TaskId) (x : TaskState) (T : List ToldLine) (her
 
 -- a task after the answer to its own request
 pub did-answered_enq : (v w : TasksView) (t : TaskId) (x : TaskState) (T : List ToldLine) → is_task v t ≡ true → Did v w t x T → (r : Res) (c : Ctl) (unit : Option ℕ) (ret : Ret) (full : Bool) (code : Code) →
-    Did v (answered w t (Enq r c ret full) unit code) t (record { line = x.line; phase = phase_after code; code = code_in (phase_after code) x.code; records = enq_records r c unit ret code x.line x.records; outstanding = x.outstanding }) (told_after T t x.line verbs.Enq code)
+    Did v (answered w t (Enq r c ret full) unit code) t (record { line = x.line; phase = phase_after code; code = code_in (phase_after code) x.code; records = enq_records r c unit ret code x.line x.records; outstanding = x.outstanding; rows = x.rows }) (told_after T t x.line verbs.Enq code)
 unfolding answered
 did-answered_enq v w t x T here d r c unit ret full code =
-    did-code v (with_phase (record_enq w t r c unit ret code) t (phase_after code)) t (record { line = x.line; phase = phase_after code; code = code_in (phase_after code) x.code; records = enq_records r c unit ret code x.line x.records; outstanding = x.outstanding }) T here
+    did-code v (with_phase (record_enq w t r c unit ret code) t (phase_after code)) t (record { line = x.line; phase = phase_after code; code = code_in (phase_after code) x.code; records = enq_records r c unit ret code x.line x.records; outstanding = x.outstanding; rows = x.rows }) T here
     (did-phase v (record_enq w t r c unit ret code) t (record x { records = enq_records r c unit ret code x.line x.records }) T here (did-enq v w t x T here d r c unit ret code) (phase_after code)) verbs.Enq code
 
 pub did-answered_deq : (v w : TasksView) (t : TaskId) (x : TaskState) (T : List ToldLine) → is_task v t ≡ true → Did v w t x T → (r : Res) (have : Bool) (unit : Option ℕ) (code : Code) →
-    Did v (answered w t (Deq r have) unit code) t (record { line = x.line; phase = phase_after code; code = code_in (phase_after code) x.code; records = cond (is_granted code) (without_first x.records r) x.records; outstanding = x.outstanding }) (told_after T t x.line verbs.Deq code)
+    Did v (answered w t (Deq r have) unit code) t (record { line = x.line; phase = phase_after code; code = code_in (phase_after code) x.code; records = cond (is_granted code) (without_first x.records r) x.records; outstanding = x.outstanding; rows = x.rows }) (told_after T t x.line verbs.Deq code)
 unfolding answered
 did-answered_deq v w t x T here d r have unit code =
-    did-code v (with_phase (cond (is_granted code) (without_record w t r) w) t (phase_after code)) t (record { line = x.line; phase = phase_after code; code = code_in (phase_after code) x.code; records = cond (is_granted code) (without_first x.records r) x.records; outstanding = x.outstanding }) T here
+    did-code v (with_phase (cond (is_granted code) (without_record w t r) w) t (phase_after code)) t (record { line = x.line; phase = phase_after code; code = code_in (phase_after code) x.code; records = cond (is_granted code) (without_first x.records r) x.records; outstanding = x.outstanding; rows = x.rows }) T here
     (did-phase v (cond (is_granted code) (without_record w t r) w) t (record x { records = cond (is_granted code) (without_first x.records r) x.records }) T here (did-taken v w t x T here d r (is_granted code)) (phase_after code)) verbs.Deq code
 
 pub did-answered_release : (v w : TasksView) (t : TaskId) (x : TaskState) (T : List ToldLine) → is_task v t ≡ true → Did v w t x T → (r : Res) (unit : Option ℕ) (code : Code) →

@@ -12,10 +12,10 @@ use Rattle.grs_base.specs.declared.decision.Code.TheVariants.{C04, Wait}
 use Rattle.grs_legal.specs.declared.meaning.Meaning.{Meaning}
 use Rattle.grs_legal.specs.declared.meaning.Meaning.TheVariants as lines
 use Rattle.grs_wire.specs.declared.history.HistEntry.{HistEntry}
-use Rattle.grs_wire.specs.declared.history.HistEntry.TheVariants.{Enq, Deq, Release}
+use Rattle.grs_wire.specs.declared.history.HistEntry.TheVariants.{Enq, Deq, Release, Look, Remove}
 use Rattle.grs_wire.specs.declared.told.ToldLine.{ToldLine}
-use Rattle.grs_wire.specs.declared.told.ToldLine.TheVariants.{Coded, Post, Ended}
-use Rattle.grs_wire.specs.History.{asker, code_of}
+use Rattle.grs_wire.specs.declared.told.ToldLine.TheVariants.{Coded, Shown, Post, Ended, Desk}
+use Rattle.grs_wire.specs.History.{code_of}
 use Rattle.grs_legal.specs.Asks.{asks_of}
 use Rattle.grs_legal.specs.Legal.{end_among, passed_behind, lets_pass, HasControl}
 use Rattle.task_state.specs.declared.state.Rec.{Rec}
@@ -50,6 +50,8 @@ IsEntryOn r None = ⊥
 IsEntryOn r (Some (Enq u q c ret code)) = (q ≡ r) × (is_queued ret code ≡ true)
 IsEntryOn r (Some (Deq u q have code)) = ⊥
 IsEntryOn r (Some (Release u q)) = ⊥
+IsEntryOn r (Some (Look u place filter rows)) = ⊥
+IsEntryOn r (Some (Remove by target)) = ⊥
 
 -- the entry of a record's line asked by ECB and was answered 04
 abbrev pub IsEcb : Option HistEntry → Type 0
@@ -57,12 +59,16 @@ IsEcb None = ⊥
 IsEcb (Some (Enq u q c ret code)) = (ret ≡ RetEcb) × (code ≡ C04)
 IsEcb (Some (Deq u q have code)) = ⊥
 IsEcb (Some (Release u q)) = ⊥
+IsEcb (Some (Look u place filter rows)) = ⊥
+IsEcb (Some (Remove by target)) = ⊥
 
 -- whether a line is no post of the task, or one of an earlier line
 abbrev pub is_post_before : TaskId → ℕ → ToldLine → Bool
 is_post_before t k (Coded u j part verb code) = true
 is_post_before t k (Post u j) = not (same_task t u) || nat_lt j k
 is_post_before t k (Ended u code) = true
+is_post_before t k (Shown u j verb code rows) = true
+is_post_before t k (Desk j said) = true
 
 -- whether the code of a task's last line is still to come
 abbrev pub is_waiting : Phase → Bool
@@ -115,22 +121,18 @@ pub record Past : Type 0 where
   pub asked : List HistEntry
   pub last : Option HistEntry
 
--- a task's last entry is its own
-abbrev pub IsMine : Past → TaskId → Type 0
-IsMine p t = (h : HistEntry) → p.last ≡ Some h → asker h ≡ t
-
 -- lines up to a place that ask nothing let the task pass
 abbrev pub Passed : List Meaning → Past → TaskId → ℕ → Type 0
 Passed ls p t n = list_all (lets_pass p.lists t) (passed_behind (length p.asked) (take n ls)) ≡ true
 
 -- a task whose last entry doesn't wait any more
-abbrev pub IsFree : Past → Type 0
-IsFree p = IfSome p.last (HasControl p.lists)
+abbrev pub IsFree : Past → TaskId → Type 0
+IsFree p t = IfSome p.last (HasControl p.lists t)
 
 -- A task that may take its next line.
 pub record IsReady (ls : List Meaning) (p : Past) (T : List ToldLine) (t : TaskId) (line : ℕ) : Type 0 where
   pub going : IsGoing p.asked T t
-  pub free : IsFree p
+  pub free : IsFree p t
   pub passed : Passed ls p t line
 
 -- A task held by its last answer: its last entry is that of its last line, and waits.
@@ -141,7 +143,6 @@ pub record IsHeld (ls : List Meaning) (p : Past) (T : List ToldLine) (t : TaskId
   pub is_last : p.last ≡ Some last
   pub of_line : entry_of_line ls p.asked line ≡ Some last
   pub waits : code_of last ≡ Wait
-  pub mine : asker last ≡ t
 
 -- a WAIT line for this resource
 abbrev pub IsWaitFor : Res → Option Meaning → Type 0
@@ -154,7 +155,7 @@ IsWaitFor r (Some lines.Nothing) = ⊥
 -- A task held at a WAIT line.
 pub record IsHeldLine (ls : List Meaning) (p : Past) (T : List ToldLine) (t : TaskId) (line : ℕ) (r : Res) : Type 0 where
   pub going : IsGoing p.asked T t
-  pub free : IsFree p
+  pub free : IsFree p t
   pub begun : 0 < line
   pub at : IsWaitFor r (slice_get ls (line - 1))
   pub passed : Passed ls p t (line - 1)
@@ -163,7 +164,7 @@ pub record IsHeldLine (ls : List Meaning) (p : Past) (T : List ToldLine) (t : Ta
 pub record IsEnding (ls : List Meaning) (p : Past) (T : List ToldLine) (t : TaskId) (line : ℕ) (c : ℕ) : Type 0 where
   pub no_end : list_any (is_end_of t) T ≡ false
   pub code : c ≡ unwrap_or (end_among p.asked) 0
-  pub free : IsFree p
+  pub free : IsFree p t
   pub all_lines : end_among p.asked ≡ None → (line ≡ length ls) × Passed ls p t line
 
 -- what holds of a task by its phase

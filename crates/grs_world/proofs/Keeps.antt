@@ -47,11 +47,11 @@ task_step-absent limit n t None h = refl
 task_step-absent limit n t (Some ls) h = rw h refl
 
 -- the lines of a task of the first system stand among its scripts
-pub task_step-first : (deck : Deck) (n : Node) (t : TaskId) → n.tasks.system ≡ 0 → task_step deck.limit n t (meanings t (lines_in (scripts_of deck 0) t)) ≡ task_step deck.limit n t (lines_of deck t)
+pub task_step-first : (deck : Deck) (n : Node) (t : TaskId) → n.tasks.system ≡ 0 → task_step deck.limit n t (meanings deck.lists t (lines_in (scripts_of deck 0) t)) ≡ task_step deck.limit n t (lines_of deck t)
 task_step-first deck n t h = go (is_task n.tasks t) refl
   where
-    go : (b : Bool) → is_task n.tasks t ≡ b → task_step deck.limit n t (meanings t (lines_in (scripts_of deck 0) t)) ≡ task_step deck.limit n t (lines_of deck t)
-    go true here = let home : 0 ≡ t.system.0 = sym h ∙ is_task-system n.tasks t here in ap (λ k. task_step deck.limit n t (meanings t (lines_in (scripts_of deck k) t))) home
+    go : (b : Bool) → is_task n.tasks t ≡ b → task_step deck.limit n t (meanings deck.lists t (lines_in (scripts_of deck 0) t)) ≡ task_step deck.limit n t (lines_of deck t)
+    go true here = let home : 0 ≡ t.system.0 = sym h ∙ is_task-system n.tasks t here in ap (λ k. task_step deck.limit n t (meanings deck.lists t (lines_in (scripts_of deck k) t))) home
     go false away = task_step-absent deck.limit n t _ away ∙ sym (task_step-absent deck.limit n t _ away)
 
 pub ruleset of_first = (task_step-first)

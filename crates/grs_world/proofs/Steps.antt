@@ -8,6 +8,7 @@ use Rattle.grs_base.specs.Lists.{owns, has_task}
 use Rattle.grs_base.specs.State.{State, list_of, without, queued_by}
 use Rattle.grs_base.specs.declared.resource.Res.{Res}
 use Rattle.grs_base.specs.declared.resource.Ctl.{Ctl}
+use Rattle.grs_base.specs.declared.resource.Row.{Row}
 use Rattle.grs_base.specs.declared.resource.TaskId.{TaskId}
 use Rattle.grs_base.specs.declared.decision.Code.{Code}
 use Rattle.grs_base.specs.declared.decision.Code.TheVariants.{C00, Wait}
@@ -18,7 +19,7 @@ use Rattle.grs_wire.specs.declared.history.HistEntry.{HistEntry}
 use Rattle.grs_wire.specs.declared.request.Req.{Req}
 use Rattle.grs_wire.specs.declared.told.Verb.TheVariants as verbs
 use Rattle.grs_wire.specs.declared.told.ToldLine.{ToldLine}
-use Rattle.grs_wire.specs.declared.told.ToldLine.TheVariants.{Coded, Post, Ended}
+use Rattle.grs_wire.specs.declared.told.ToldLine.TheVariants.{Coded, Shown, Post, Ended, Desk}
 use Rattle.grs_wire.specs.History.{code_of, replay}
 use Rattle.grs_wire.proofs.WantLaws.{by_res}
 use Rattle.grs_legal.specs.Asks.{asks_of, asks_in}
@@ -57,10 +58,10 @@ lets_pass-released s t r (lines.Wait q) h = wait-released s t r q h
 lets_pass-released s t r lines.Nothing h = refl
 
 -- an ending task that released a resource
-pub task-released : (ls : List Meaning) (p : Past) (T : List ToldLine) (t : TaskId) (n c code : ℕ) (xs : List Rec) (o : Option Req) (r : Res) (h : HistEntry) → code_of h ≡ C00 →
-    IsTask ls p T (by_lists p.lists t) t (record { line = n; phase = phases.Ending c; code = code; records = xs; outstanding = o }) →
-    IsTask ls (record { lists = without same_res p.lists r t; asked = p.asked; last = Some h }) T (by_lists (without same_res p.lists r t) t) t (record { line = n; phase = phases.Ending c; code = code; records = without_first xs r; outstanding = o })
-task-released ls p T t n c code xs o r h is_00 k = record {
+pub task-released : (ls : List Meaning) (p : Past) (T : List ToldLine) (t : TaskId) (n c code : ℕ) (xs : List Rec) (o : Option Req) (ws : List Row) (r : Res) (h : HistEntry) → code_of h ≡ C00 →
+    IsTask ls p T (by_lists p.lists t) t (record { line = n; phase = phases.Ending c; code = code; records = xs; outstanding = o; rows = ws }) →
+    IsTask ls (record { lists = without same_res p.lists r t; asked = p.asked; last = Some h }) T (by_lists (without same_res p.lists r t) t) t (record { line = n; phase = phases.Ending c; code = code; records = without_first xs r; outstanding = o; rows = ws })
+task-released ls p T t n c code xs o ws r h is_00 k = record {
   keys = keys_taken p.lists t r xs k.keys k.distinct;
   distinct = distinct-without r xs k.distinct;
   within = k.within;
@@ -105,12 +106,14 @@ posts_later t n (Post u j) e = or_later (not (same_task t u)) (nat_lt j n) (nat_
     or_later true b c f g = refl
     or_later false b c f g = f g
 posts_later t n (Ended u code) e = refl
+posts_later t n (Shown u j verb code rows) e = refl
+posts_later t n (Desk j said) e = refl
 
 all-posts_later : (t : TaskId) (n : ℕ) (T : List ToldLine) → list_all (is_post_before t n) T ≡ true → list_all (is_post_before t (suc n)) T ≡ true
 all-posts_later t n T h = all-kept (is_post_before t n) (is_post_before t (suc n)) (posts_later t n) T h
 
-module _ (ls : List Meaning) (p : Past) (T : List ToldLine) (knows : Res → Bool) (t : TaskId) (n code : ℕ) (xs : List Rec) (o : Option Req) (l : Meaning)
-    (k : IsTask ls p T knows t (record { line = n; phase = phases.Ready; code = code; records = xs; outstanding = o }))
+module _ (ls : List Meaning) (p : Past) (T : List ToldLine) (knows : Res → Bool) (t : TaskId) (n code : ℕ) (xs : List Rec) (o : Option Req) (ws : List Row) (l : Meaning)
+    (k : IsTask ls p T knows t (record { line = n; phase = phases.Ready; code = code; records = xs; outstanding = o; rows = ws }))
     (at : slice_get ls n ≡ Some l) (asks : asks_in l ≡ []) where
   count_same : length p.asked ≡ length (asks_of (take (suc n) ls))
   count_same = k.count refl ∙ sym (ap length (asks-same ls n l at asks)) ∙ ap (λ m. length (asks_of (take m ls))) (add-one n)
@@ -119,7 +122,7 @@ module _ (ls : List Meaning) (p : Past) (T : List ToldLine) (knows : Res → Boo
   passed_line lets = subst (λ m. Passed ls p t m) (add-one n) (passed-line ls p t n l at asks (k.count refl) lets k.phase.passed)
 
   -- a line that asks nothing and lets the task pass, untold
-  pub task-skipped : lets_pass p.lists t l ≡ true → IsTask ls p T knows t (record { line = suc n; phase = phases.Ready; code = code; records = xs; outstanding = o })
+  pub task-skipped : lets_pass p.lists t l ≡ true → IsTask ls p T knows t (record { line = suc n; phase = phases.Ready; code = code; records = xs; outstanding = o; rows = ws })
   task-skipped lets = record {
     keys = k.keys;
     distinct = k.distinct;
@@ -133,7 +136,7 @@ module _ (ls : List Meaning) (p : Past) (T : List ToldLine) (knows : Res → Boo
   }
 
   -- a WAIT line that lets the task pass, told by its code
-  pub task-waited : (c : Code) → lets_pass p.lists t l ≡ true → IsTask ls p (T ++ Coded t (suc n) 0 verbs.Wait c ∷ []) knows t (record { line = suc n; phase = phases.Ready; code = code; records = xs; outstanding = o })
+  pub task-waited : (c : Code) → lets_pass p.lists t l ≡ true → IsTask ls p (T ++ Coded t (suc n) 0 verbs.Wait c ∷ []) knows t (record { line = suc n; phase = phases.Ready; code = code; records = xs; outstanding = o; rows = ws })
   task-waited c lets = record {
     keys = k.keys;
     distinct = k.distinct;
@@ -147,7 +150,7 @@ module _ (ls : List Meaning) (p : Past) (T : List ToldLine) (knows : Res → Boo
   }
 
   -- a WAIT line that holds the task
-  pub task-held : (r : Res) → IsWaitFor r (Some l) → IsTask ls p T knows t (record { line = suc n; phase = phases.HeldLine r; code = code; records = xs; outstanding = o })
+  pub task-held : (r : Res) → IsWaitFor r (Some l) → IsTask ls p T knows t (record { line = suc n; phase = phases.HeldLine r; code = code; records = xs; outstanding = o; rows = ws })
   task-held r waits = record {
     keys = k.keys;
     distinct = k.distinct;
@@ -167,10 +170,10 @@ module _ (ls : List Meaning) (p : Past) (T : List ToldLine) (knows : Res → Boo
   }
 
 -- a task whose request can't be sent yet
-pub task-to_send : (ls : List Meaning) (p : Past) (T : List ToldLine) (knows : Res → Bool) (t : TaskId) (n code : ℕ) (xs : List Rec) (o o' : Option Req) (l : Meaning) →
-    IsTask ls p T knows t (record { line = n; phase = phases.Ready; code = code; records = xs; outstanding = o }) → slice_get ls n ≡ Some l →
-    IsTask ls p T knows t (record { line = suc n; phase = phases.ToSend; code = code; records = xs; outstanding = o' })
-task-to_send ls p T knows t n code xs o o' l k at = record {
+pub task-to_send : (ls : List Meaning) (p : Past) (T : List ToldLine) (knows : Res → Bool) (t : TaskId) (n code : ℕ) (xs : List Rec) (o o' : Option Req) (ws : List Row) (l : Meaning) →
+    IsTask ls p T knows t (record { line = n; phase = phases.Ready; code = code; records = xs; outstanding = o; rows = ws }) → slice_get ls n ≡ Some l →
+    IsTask ls p T knows t (record { line = suc n; phase = phases.ToSend; code = code; records = xs; outstanding = o'; rows = ws })
+task-to_send ls p T knows t n code xs o o' ws l k at = record {
   keys = k.keys;
   distinct = k.distinct;
   within = slice_get-within ls n l at;
@@ -201,10 +204,10 @@ recs-ending ls E T knows t n c (x ∷ xs) h = (
     still (inr d) = inr d
 
 -- a task without lines left begins to end
-pub task-ending : (ls : List Meaning) (p : Past) (T : List ToldLine) (knows : Res → Bool) (t : TaskId) (n code : ℕ) (xs : List Rec) (o : Option Req) →
-    IsTask ls p T knows t (record { line = n; phase = phases.Ready; code = code; records = xs; outstanding = o }) → slice_get ls n ≡ None →
-    IsTask ls p T knows t (record { line = n; phase = phases.Ending 0; code = 0; records = xs; outstanding = o })
-task-ending ls p T knows t n code xs o k past_end = record {
+pub task-ending : (ls : List Meaning) (p : Past) (T : List ToldLine) (knows : Res → Bool) (t : TaskId) (n code : ℕ) (xs : List Rec) (o : Option Req) (ws : List Row) →
+    IsTask ls p T knows t (record { line = n; phase = phases.Ready; code = code; records = xs; outstanding = o; rows = ws }) → slice_get ls n ≡ None →
+    IsTask ls p T knows t (record { line = n; phase = phases.Ending 0; code = 0; records = xs; outstanding = o; rows = ws })
+task-ending ls p T knows t n code xs o ws k past_end = record {
   keys = k.keys;
   distinct = k.distinct;
   within = k.within;
@@ -222,10 +225,10 @@ task-ending ls p T knows t n code xs o k past_end = record {
 }
 
 -- what an ending task asks next: the release of the first resource on record
-pub next-release : (limit : ℕ) (ls : List Meaning) (P : List HistEntry) (T : List ToldLine) (knows : Res → Bool) (t : TaskId) (n c code : ℕ) (xs : List Rec) (o : Option Req) →
-    IsTask ls (past limit P t) T knows t (record { line = n; phase = phases.Ending c; code = code; records = xs; outstanding = o }) →
+pub next-release : (limit : ℕ) (ls : List Meaning) (P : List HistEntry) (T : List ToldLine) (knows : Res → Bool) (t : TaskId) (n c code : ℕ) (xs : List Rec) (o : Option Req) (ws : List Row) →
+    IsTask ls (past limit P t) T knows t (record { line = n; phase = phases.Ending c; code = code; records = xs; outstanding = o; rows = ws }) →
     next_ask limit t ls P ≡ release_next (slice_get (map (λ y. y.res) xs) 0)
-next-release limit ls P T knows t n c code xs o k =
+next-release limit ls P T knows t n c code xs o ws k =
     ap (λ z. or_else z (release_next (slice_get (queued_by (replay limit P) t) 0))) (no_line (end_code t P) refl) ∙ ap (λ z. release_next (slice_get z 0)) queued
   where
     queued : queued_by (replay limit P) t ≡ map (λ y. y.res) xs
@@ -240,10 +243,10 @@ next-release limit ls P T knows t n c code xs o k =
     no_line None e = slice_get-none (asks_of ls) (length (line_entries t P)) (omega (arith, k.count refl, ap (λ m. length (asks_of (take m ls))) (k.phase.all_lines e).0, ap (λ zs. length (asks_of zs)) (take-whole ls)))
 
 -- a task with nothing on record has ended
-pub task-ended : (limit : ℕ) (ls : List Meaning) (P : List HistEntry) (T : List ToldLine) (knows : Res → Bool) (t : TaskId) (n c code : ℕ) (o : Option Req) →
-    IsTask ls (past limit P t) T knows t (record { line = n; phase = phases.Ending c; code = code; records = []; outstanding = o }) →
-    IsTask ls (past limit P t) (T ++ Ended t c ∷ []) knows t (record { line = n; phase = phases.Ended; code = code; records = []; outstanding = o }) × LineAgrees limit ls P T (Ended t c)
-task-ended limit ls P T knows t n c code o k = (
+pub task-ended : (limit : ℕ) (ls : List Meaning) (P : List HistEntry) (T : List ToldLine) (knows : Res → Bool) (t : TaskId) (n c code : ℕ) (o : Option Req) (ws : List Row) →
+    IsTask ls (past limit P t) T knows t (record { line = n; phase = phases.Ending c; code = code; records = []; outstanding = o; rows = ws }) →
+    IsTask ls (past limit P t) (T ++ Ended t c ∷ []) knows t (record { line = n; phase = phases.Ended; code = code; records = []; outstanding = o; rows = ws }) × LineAgrees limit ls P T (Ended t c)
+task-ended limit ls P T knows t n c code o ws k = (
   record {
     keys = k.keys;
     distinct = k.distinct;
@@ -255,5 +258,5 @@ task-ended limit ls P T knows t n c code o k = (
     phase = tt;
     emptied = λ e. refl;
   },
-  (queued_by-own (replay limit P) t ∙ ap (map (λ z. z.0)) (sym k.keys), next-release limit ls P T knows t n c code [] o k, k.phase.code, k.phase.no_end),
+  (queued_by-own (replay limit P) t ∙ ap (map (λ z. z.0)) (sym k.keys), next-release limit ls P T knows t n c code [] o ws k, k.phase.code, k.phase.no_end),
 )

@@ -30,8 +30,8 @@ use Rattle.task_state.specs.declared.state.Phase.{Phase}
 use Rattle.task_state.specs.declared.state.Phase.TheVariants as phases
 use Rattle.task_state.specs.declared.state.TaskState.{TaskState}
 use Rattle.task_state.specs.View.{TasksView, state_of, with_line, with_phase, with_outstanding, telling, record_of, without_first}
-use Rattle.grs_world.specs.Node.{Node, tell_code, decide, only, with_tasks, ask, wait, has_most, take_line, end_step, ready_step, phase_step}
-use Rattle.grs_world.specs.Agree.{LineAgrees, TellsWait, is_end_of, entry_of_line, told_task}
+use Rattle.grs_world.specs.Node.{Node, tell_code, tell_new, replied, decide, only, with_tasks, ask, wait, has_most, take_line, end_step, ready_step, phase_step}
+use Rattle.grs_world.specs.Agree.{LineAgrees, TellsWait, is_end_of, entry_of_line}
 use Rattle.grs_world.proofs.Entries.{line_entries-release}
 use Rattle.grs_world.proofs.Lines.{take-whole}
 use Rattle.grs_world.proofs.Invariant.{IsRec, Past, IsTask}
@@ -66,11 +66,11 @@ module _ (deck : Deck) (P : List HistEntry) (n : Node) (good : IsGood deck P n) 
   idle = quiet refl good none
 
   -- an ending task, by its parts
-  module _ (v : TasksView) (c code : ℕ) (xs : List Rec) (did : Did n.tasks v t (record { line = (state_of n.tasks t).line; phase = phases.Ending c; code = code; records = xs; outstanding = (state_of n.tasks t).outstanding }) n.tasks.told)
-      (k : IsTask ls (past deck.limit P t) n.tasks.told (by_lists (replay deck.limit P) t) t (record { line = (state_of n.tasks t).line; phase = phases.Ending c; code = code; records = xs; outstanding = (state_of n.tasks t).outstanding })) where
+  module _ (v : TasksView) (c code : ℕ) (xs : List Rec) (did : Did n.tasks v t (record { line = (state_of n.tasks t).line; phase = phases.Ending c; code = code; records = xs; outstanding = (state_of n.tasks t).outstanding; rows = (state_of n.tasks t).rows }) n.tasks.told)
+      (k : IsTask ls (past deck.limit P t) n.tasks.told (by_lists (replay deck.limit P) t) t (record { line = (state_of n.tasks t).line; phase = phases.Ending c; code = code; records = xs; outstanding = (state_of n.tasks t).outstanding; rows = (state_of n.tasks t).rows })) where
     -- it releases the first resource on record
     released : (y : Rec) (ys : List Rec) → xs ≡ y ∷ ys → Outcome deck P n (decide (record { tasks = v; held = replay deck.limit P }) t (Release y.res) None)
-    unfolding decide
+    unfolding decide tell_new replied
     released y ys e =
         let S : State = replay deck.limit P in
         let r : Res = y.res in
@@ -81,15 +81,15 @@ module _ (deck : Deck) (P : List HistEntry) (n : Node) (good : IsGood deck P n) 
         let asked : line_entries t (P ++ h ∷ []) ≡ line_entries t P = line_entries-release t P h refl in
         let past_is : past deck.limit (P ++ h ∷ []) t ≡ record { lists = without same_res S r t; asked = line_entries t P; last = Some h } =
         past-release deck.limit P h t mine asked ∙ ap (λ s. record { lists = s; asked = line_entries t P; last = Some h }) after in
-        let did1 = did-answered_release n.tasks v t (record { line = x.line; phase = phases.Ending c; code = code; records = xs; outstanding = x.outstanding }) n.tasks.told ours.here did r None C00 in
-        let own_task = subst (λ p. IsTask ls p n.tasks.told (by_lists p.lists t) t (record { line = x.line; phase = phases.Ending c; code = code; records = without_first xs r; outstanding = x.outstanding })) (sym past_is)
-        (task-released ls (past deck.limit P t) n.tasks.told t x.line c code xs x.outstanding r h refl k) in
+        let did1 = did-answered_release n.tasks v t (record { line = x.line; phase = phases.Ending c; code = code; records = xs; outstanding = x.outstanding; rows = x.rows }) n.tasks.told ours.here did r None C00 in
+        let own_task = subst (λ p. IsTask ls p n.tasks.told (by_lists p.lists t) t (record { line = x.line; phase = phases.Ending c; code = code; records = without_first xs r; outstanding = x.outstanding; rows = x.rows })) (sym past_is)
+        (task-released ls (past deck.limit P t) n.tasks.told t x.line c code xs x.outstanding x.rows r h refl k) in
         let told = λ (u : TaskId) (ms : List Meaning) (q : Past) (knows : Res → Bool) (z : TaskState) (apart : same_task u t ≡ false) (j : IsTask ms q n.tasks.told knows u z). j in
-        let next : next_ask deck.limit t ls P ≡ Some (AsksRelease r) = next-release deck.limit ls P n.tasks.told (by_lists S t) t x.line c code xs x.outstanding k ∙ ap (λ zs. release_next (slice_get (map (λ z. z.res) zs) 0)) e in
-        let legal : IsLegal deck.limit ls P h = record { reply = refl; next = next; waited = k.phase.free; passed = passed_before } in
-        fixes t (Release r) refl after (subst (λ z. IsLegalOf deck.limit z P h) (sym ours.lines) legal)
-        (good_decided deck P n good t (Release r) h ls ours refl after _ _ _ did1 own_task told none)
-        (agreed_decided deck P n good t (Release r) h ls ours refl after _ _ _ did1 own_task told none)
+        let next : next_ask deck.limit t ls P ≡ Some (AsksRelease r) = next-release deck.limit ls P n.tasks.told (by_lists S t) t x.line c code xs x.outstanding x.rows k ∙ ap (λ zs. release_next (slice_get (map (λ z. z.res) zs) 0)) e in
+        let legal : IsLegal deck.limit t ls P h = record { reply = refl; next = next; waited = k.phase.free; passed = passed_before } in
+        fixes t (Release r) h refl refl after (subst (λ z. IsLegalOf deck.limit t z P h) (sym ours.lines) legal)
+        (good_decided deck P n good t (Release r) r (λ q. refl) h ls ours (λ u. refl) after _ _ _ did1 own_task told none)
+        (agreed_decided deck P n good t (Release r) r (λ q. refl) h ls ours (λ u. refl) after _ _ _ did1 own_task told none)
       where
         passed_before : list_all (lets_pass (replay deck.limit P) t) (passed_lines t ls P) ≡ true
         passed_before = by_end (end_code t P) refl
@@ -104,14 +104,14 @@ module _ (deck : Deck) (P : List HistEntry) (n : Node) (good : IsGood deck P n) 
     ended : xs ≡ [] → Outcome deck P n (only (with_tasks n (telling (with_phase v t phases.Ended) (Ended t c))))
     ended e =
         let x : TaskState = state_of n.tasks t in
-        let none_left = subst (λ zs. IsTask ls (past deck.limit P t) n.tasks.told (by_lists (replay deck.limit P) t) t (record { line = x.line; phase = phases.Ending c; code = code; records = zs; outstanding = x.outstanding })) e k in
-        let both = task-ended deck.limit ls P n.tasks.told (by_lists (replay deck.limit P) t) t x.line c code x.outstanding none_left in
-        let did1 = did-telling n.tasks (with_phase v t phases.Ended) t (record { line = x.line; phase = phases.Ended; code = code; records = xs; outstanding = x.outstanding }) n.tasks.told (Ended t c)
-        (did-phase n.tasks v t (record { line = x.line; phase = phases.Ending c; code = code; records = xs; outstanding = x.outstanding }) n.tasks.told ours.here did phases.Ended) in
+        let none_left = subst (λ zs. IsTask ls (past deck.limit P t) n.tasks.told (by_lists (replay deck.limit P) t) t (record { line = x.line; phase = phases.Ending c; code = code; records = zs; outstanding = x.outstanding; rows = x.rows })) e k in
+        let both = task-ended deck.limit ls P n.tasks.told (by_lists (replay deck.limit P) t) t x.line c code x.outstanding x.rows none_left in
+        let did1 = did-telling n.tasks (with_phase v t phases.Ended) t (record { line = x.line; phase = phases.Ended; code = code; records = xs; outstanding = x.outstanding; rows = x.rows }) n.tasks.told (Ended t c)
+        (did-phase n.tasks v t (record { line = x.line; phase = phases.Ending c; code = code; records = xs; outstanding = x.outstanding; rows = x.rows }) n.tasks.told ours.here did phases.Ended) in
         quiet_by (telling (with_phase v t phases.Ended) (Ended t c)) _ _ did1
-        (subst (λ zs. IsTask ls (past deck.limit P t) (n.tasks.told ++ Ended t c ∷ []) (by_lists (replay deck.limit P) t) t (record { line = x.line; phase = phases.Ended; code = code; records = zs; outstanding = x.outstanding })) (sym e) both.0)
+        (subst (λ zs. IsTask ls (past deck.limit P t) (n.tasks.told ++ Ended t c ∷ []) (by_lists (replay deck.limit P) t) t (record { line = x.line; phase = phases.Ended; code = code; records = zs; outstanding = x.outstanding; rows = x.rows })) (sym e) both.0)
         (λ u ms y apart j. task-told ms (past deck.limit P u) n.tasks.told (λ r. owned deck P r u) u y (Ended t c) apart j)
-        (more n.tasks.told (Ended t c) none (agrees-ours deck ls P n.tasks.told (Ended t c) ours.lines both.1))
+        (more n.tasks.told (Ended t c) none (agrees-ours deck t ls P n.tasks.told (Ended t c) ours.lines both.1))
 
     -- a step of its end
     end_outcome : Outcome deck P n (end_step (record { tasks = v; held = replay deck.limit P }) t c xs)
@@ -132,10 +132,10 @@ module _ (deck : Deck) (P : List HistEntry) (n : Node) (good : IsGood deck P n) 
         let T : List ToldLine = n.tasks.told in
         let line = taken deck P n good t ls ours ready in
         let sent = did-phase n.tasks (with_line n.tasks t) t (record x { line = suc x.line }) T ours.here line phases.ToSend in
-        let out = did-outstanding n.tasks (with_phase (with_line n.tasks t) t phases.ToSend) t (record { line = suc x.line; phase = phases.ToSend; code = x.code; records = x.records; outstanding = x.outstanding }) T ours.here sent (Some (record { task = t; want = w })) in
+        let out = did-outstanding n.tasks (with_phase (with_line n.tasks t) t phases.ToSend) t (record { line = suc x.line; phase = phases.ToSend; code = x.code; records = x.records; outstanding = x.outstanding; rows = x.rows }) T ours.here sent (Some (record { task = t; want = w })) in
         subst (λ s. Outcome deck P n (only (record { tasks = with_outstanding (with_phase (with_line n.tasks t) t phases.ToSend) t (Some (record { task = t; want = w })); held = s }))) good.held
         (quiet_by _ _ _ out
-        (task-to_send ls (past deck.limit P t) T (by_lists (replay deck.limit P) t) t x.line x.code x.records x.outstanding (Some (record { task = t; want = w })) l (is_ready deck P n good t ls ours ready) at)
+        (task-to_send ls (past deck.limit P t) T (by_lists (replay deck.limit P) t) t x.line x.code x.records x.outstanding (Some (record { task = t; want = w })) x.rows l (is_ready deck P n good t ls ours ready) at)
         (λ u ms y apart j. j) none)
 
     -- a line that asks nothing and is passed
@@ -144,8 +144,8 @@ module _ (deck : Deck) (P : List HistEntry) (n : Node) (good : IsGood deck P n) 
         let x : TaskState = state_of n.tasks t in
         subst (λ s. Outcome deck P n (only (record { tasks = with_line n.tasks t; held = s }))) good.held
         (quiet_by _ _ _ (taken deck P n good t ls ours ready)
-        (subst (λ ph. IsTask ls (past deck.limit P t) n.tasks.told (by_lists (replay deck.limit P) t) t (record { line = suc x.line; phase = ph; code = x.code; records = x.records; outstanding = x.outstanding })) (sym ready)
-        (task-skipped ls (past deck.limit P t) n.tasks.told (by_lists (replay deck.limit P) t) t x.line x.code x.records x.outstanding l (is_ready deck P n good t ls ours ready) at asks lets))
+        (subst (λ ph. IsTask ls (past deck.limit P t) n.tasks.told (by_lists (replay deck.limit P) t) t (record { line = suc x.line; phase = ph; code = x.code; records = x.records; outstanding = x.outstanding; rows = x.rows })) (sym ready)
+        (task-skipped ls (past deck.limit P t) n.tasks.told (by_lists (replay deck.limit P) t) t x.line x.code x.records x.outstanding x.rows l (is_ready deck P n good t ls ours ready) at asks lets))
         (λ u ms y apart j. j) none)
 
     -- a WAIT line told by its code
@@ -163,10 +163,10 @@ module _ (deck : Deck) (P : List HistEntry) (n : Node) (good : IsGood deck P n) 
         subst (λ z. Outcome deck P n (only (record { tasks = z; held = replay deck.limit P }))) (sym is)
         (subst (λ s. Outcome deck P n (only (record { tasks = telling (with_line n.tasks t) told_line; held = s }))) good.held
         (quiet_by _ _ _ did1
-        (subst (λ ph. IsTask ls (past deck.limit P t) (T ++ told_line ∷ []) (by_lists (replay deck.limit P) t) t (record { line = suc x.line; phase = ph; code = x.code; records = x.records; outstanding = x.outstanding })) (sym ready)
-        (task-waited ls (past deck.limit P t) T (by_lists (replay deck.limit P) t) t x.line x.code x.records x.outstanding l k at asks c lets))
+        (subst (λ ph. IsTask ls (past deck.limit P t) (T ++ told_line ∷ []) (by_lists (replay deck.limit P) t) t (record { line = suc x.line; phase = ph; code = x.code; records = x.records; outstanding = x.outstanding; rows = x.rows })) (sym ready)
+        (task-waited ls (past deck.limit P t) T (by_lists (replay deck.limit P) t) t x.line x.code x.records x.outstanding x.rows l k at asks c lets))
         (λ u ms y apart j. task-told ms (past deck.limit P u) T (λ r. owned deck P r u) u y told_line apart j)
-        (more T told_line none (agrees-ours deck ls P T told_line ours.lines agrees))))
+        (more T told_line none (agrees-ours deck t ls P T told_line ours.lines agrees))))
 
     -- a WAIT line
     wait_outcome : (q : Res) → slice_get ls (state_of n.tasks t).line ≡ Some (lines.Wait q) →
@@ -202,7 +202,7 @@ module _ (deck : Deck) (P : List HistEntry) (n : Node) (good : IsGood deck P n) 
                 let did1 = did-phase n.tasks (with_line n.tasks t) t (record x { line = suc x.line }) n.tasks.told ours.here (taken deck P n good t ls ours ready) (phases.HeldLine q) in
                 subst (λ z. Outcome deck P n (only (record { tasks = with_phase (with_line n.tasks t) t (phases.HeldLine q); held = z }))) good.held
                 (quiet_by _ _ _ did1
-                (task-held ls (past deck.limit P t) n.tasks.told (by_lists (replay deck.limit P) t) t x.line x.code x.records x.outstanding (lines.Wait q) (is_ready deck P n good t ls ours ready) at refl q refl)
+                (task-held ls (past deck.limit P t) n.tasks.told (by_lists (replay deck.limit P) t) t x.line x.code x.records x.outstanding x.rows (lines.Wait q) (is_ready deck P n good t ls ours ready) at refl q refl)
                 (λ u ms z apart j. j) none)
 
     -- any line
@@ -227,7 +227,7 @@ module _ (deck : Deck) (P : List HistEntry) (n : Node) (good : IsGood deck P n) 
         by_line None e =
             let x : TaskState = state_of n.tasks t in
             let did1 = did-phase n.tasks n.tasks t x n.tasks.told ours.here (did-none n.tasks t) (phases.Ending 0) in
-            let k = task-ending ls (past deck.limit P t) n.tasks.told (by_lists (replay deck.limit P) t) t x.line x.code x.records x.outstanding (is_ready deck P n good t ls ours ready) e in
+            let k = task-ending ls (past deck.limit P t) n.tasks.told (by_lists (replay deck.limit P) t) t x.line x.code x.records x.outstanding x.rows (is_ready deck P n good t ls ours ready) e in
             subst (λ zs. Outcome deck P n (end_step (with_tasks n (with_phase n.tasks t (phases.Ending 0))) t 0 zs)) (sym (ap (λ (y : TaskState). y.records) did1.state))
             (subst (λ s. Outcome deck P n (end_step (record { tasks = with_phase n.tasks t (phases.Ending 0); held = s }) t 0 x.records)) (sym good.held)
             (end_outcome (with_phase n.tasks t (phases.Ending 0)) 0 0 x.records did1 k))
@@ -243,8 +243,8 @@ module _ (deck : Deck) (P : List HistEntry) (n : Node) (good : IsGood deck P n) 
           let x : TaskState = state_of n.tasks t in
           subst (λ s. Outcome deck P n (end_step (record { tasks = n.tasks; held = s }) t c x.records)) (sym good.held)
           (end_outcome n.tasks c x.code x.records
-          (subst (λ ph. Did n.tasks n.tasks t (record { line = x.line; phase = ph; code = x.code; records = x.records; outstanding = x.outstanding }) n.tasks.told) e (did-none n.tasks t))
-          (subst (λ ph. IsTask ls (past deck.limit P t) n.tasks.told (by_lists (replay deck.limit P) t) t (record { line = x.line; phase = ph; code = x.code; records = x.records; outstanding = x.outstanding })) e (good.tasks.each t ls ours)))
+          (subst (λ ph. Did n.tasks n.tasks t (record { line = x.line; phase = ph; code = x.code; records = x.records; outstanding = x.outstanding; rows = x.rows }) n.tasks.told) e (did-none n.tasks t))
+          (subst (λ ph. IsTask ls (past deck.limit P t) n.tasks.told (by_lists (replay deck.limit P) t) t (record { line = x.line; phase = ph; code = x.code; records = x.records; outstanding = x.outstanding; rows = x.rows })) e (good.tasks.each t ls ours)))
       by_phase phases.ToSend e = idle
       by_phase phases.Sent e = idle
       by_phase phases.HeldAnswer e = idle

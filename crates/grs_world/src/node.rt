@@ -1,16 +1,15 @@
 //! One system: its tasks and the lists of its local resources. Each step is one event of one task.
-ghost use Rattle.std.specs.Prelude.{◌≡◌, [], true, map, length, slice_get, IfOk, OnOk};
+ghost use Rattle.std.specs.Prelude.{◌≡◌, [], true, map, slice_get, option_copied, sum, IfOk, OnOk};
 ghost use Rattle.grs_wire.specs.Wants.{res_wanted};
 ghost use Rattle.task_state.specs.View.{new_tasks, is_task, state_of, record_of};
 ghost use Rattle.grs_legal.specs.Asks.{meaning_of};
-ghost use Rattle.grs_base.specs.State.{is_systems};
 ghost use Rattle.grs_world.specs.Node as steps;
 ghost use Rattle.grs_world.specs.Running.{stepped};
 
-use super::replies::{answered, tell_all, tell_code};
-use grs_base::{Code, Line, List, NoMemory, Res, SysId, TaskId};
+use super::replies::{replied, tell_code, tell_new};
+use grs_base::{Code, Line, List, Lists, NoMemory, Res, SysId, TaskId};
 use grs_legal::{Meaning, meaning_of};
-use grs_wire::{Answer, Req, ToldLine, Verb, Want};
+use grs_wire::{Req, ToldLine, Verb, Want};
 use local_queue::Local;
 use std::alloc::Global;
 use std::marker::Model;
@@ -31,20 +30,21 @@ impl Model for Node {
     ghost view = { λ a. record { tasks = a.tasks; held = a.held } };
 }
 
-/// The resource that is spoken of.
-fn res_of(want: &Want) -> &Res
-    ensures { result.now ≡ res_wanted want.now }
+/// The resource that is spoken of, if one is.
+fn res_of(want: &Want) -> Option<&Res>
+    ensures { option_copied result ≡ res_wanted want.now }
 {
     match want {
-        Want::Enq { res, .. } | Want::Deq { res, .. } | Want::Release { res } => res,
+        Want::Enq { res, .. } | Want::Deq { res, .. } | Want::Release { res } => Some(res),
+        Want::Look { .. } => None,
     }
 }
 
-/// Whether a resource is shared by the whole complex.
-fn is_shared_by_all(res: &Res) -> bool
-    ensures { result ≡ is_systems res.now }
+/// Whether a request is for the whole complex. Looks that aren't local are.
+fn is_for_all(res: Option<&Res>) -> bool
+    ensures { result ≡ steps.is_for_all (option_copied res.entry) }
 {
-    matches!(res, Res::Systems { .. })
+    matches!(res, None | Some(Res::Systems { .. }))
 }
 
 /// A WAIT line: 00 where control was told, 08 where there is no request on record, else the task is held.
@@ -68,26 +68,27 @@ fn wait(tasks: &mut Tasks, task: TaskId, res: Res) -> Result<(), NoMemory>
 #[tactic(auto, using(crate::proofs::Lines::of_lines))]
 fn meaning_at(
     alloc: Global,
+    lists: &Lists,
     task: TaskId,
     lines: &List<Line>,
     place: u32,
 ) -> Result<Option<Meaning>, NoMemory>
-    ensures { IfOk result (λ m. m ≡ slice_get (map (meaning_of task) lines.now) place) }
+    ensures { IfOk result (λ m. m ≡ slice_get (map (meaning_of lists.now task) lines.now) place) }
 {
     match lines.as_slice().get(place as usize) {
         None => Ok(None),
-        Some(line) => Ok(Some(meaning_of(alloc, task, line)?)),
+        Some(line) => Ok(Some(meaning_of(alloc, lists, task, line)?)),
     }
 }
 
 impl Node {
-    /// A system with this many tasks at the start, and nothing queued.
-    pub(crate) fn new(alloc: Global, system: SysId, count: usize) -> Result<Node, NoMemory>
-        ensures { IfOk result (λ n. n ≡ record { tasks = record { system = system.0; tasks = new_tasks count; told = [] }; held = [] }) }
+    /// A system at the start, and nothing queued. `jobs` has the number of tasks of each of its jobs.
+    pub(crate) fn new(alloc: Global, system: SysId, jobs: &[u32]) -> Result<Node, NoMemory>
+        ensures { IfOk result (λ n. n ≡ record { tasks = record { system = system.0; tasks = new_tasks (sum jobs.now); told = [] }; held = [] }) }
     {
         Ok(Node {
-            tasks: Tasks::new(alloc, system, count)?,
-            held: Local::new(alloc),
+            tasks: Tasks::new(alloc, system, jobs)?,
+            held: Local::new(alloc, system),
         })
     }
 
@@ -114,9 +115,15 @@ impl Node {
     {
         let req = Req { task, want };
         let outcome = self.held.request(&req)?;
-        let Answer::Coded(code) = outcome.answer;
-        answered(alloc, &mut self.tasks, task, &req.want, unit, code)?;
-        tell_all(
+        replied(
+            alloc,
+            &mut self.tasks,
+            task,
+            &req.want,
+            unit,
+            &outcome.answer,
+        )?;
+        tell_new(
             &mut self.tasks,
             res_of(&req.want),
             outcome.owners.as_slice(),
@@ -137,7 +144,7 @@ impl Node {
         ensures step { IfOk result (λ fixed. stepped self.new fixed ≡ steps.ask self.old task want unit) }
         ensures system { self.new.tasks.system ≡ self.old.tasks.system }
     {
-        if is_shared_by_all(res_of(&want)) {
+        if is_for_all(res_of(&want)) {
             self.tasks.set_phase(task, Phase::ToSend);
             self.tasks.set_outstanding(task, Some(Req { task, want }));
             Ok(None)
@@ -241,18 +248,19 @@ impl Node {
     pub(crate) fn phase_step(
         &mut self,
         alloc: Global,
+        lists: &Lists,
         task: TaskId,
         lines: &List<Line>,
         limit: u32,
     ) -> Result<Option<Req>, NoMemory>
         requires { is_task self.old.tasks task ≡ true }
-        ensures step { IfOk result (λ fixed. stepped self.new fixed ≡ steps.phase_step limit self.old task (map (meaning_of task) lines.now) (state_of self.old.tasks task).phase) }
+        ensures step { IfOk result (λ fixed. stepped self.new fixed ≡ steps.phase_step limit self.old task (map (meaning_of lists.now task) lines.now) (state_of self.old.tasks task).phase) }
         ensures system { self.new.tasks.system ≡ self.old.tasks.system }
     {
         let state = self.tasks.state(task);
         match &state.phase {
             Phase::Ready => {
-                let line = meaning_at(alloc, task, lines, state.line)?;
+                let line = meaning_at(alloc, lists, task, lines, state.line)?;
                 self.ready_step(alloc, task, line, limit)
             }
             Phase::Ending(code) => {

@@ -1,13 +1,13 @@
 //! What the tasks of a system are told: the answers to their own requests, and control that another's
 //! request gave them. Only the tasks change here, never the lists.
-ghost use Rattle.std.specs.Prelude.{◌≡◌, true, cond, OnOk};
+ghost use Rattle.std.specs.Prelude.{◌≡◌, true, cond, option_copied, OnOk};
 ghost use Rattle.task_state.specs.View.{is_task, without_record};
 ghost use Rattle.grs_world.specs.Node as steps;
 ghost use Rattle.grs_world.specs.Running.{tell_line};
 
 use super::codes::{is_changed, is_granted, is_held, is_held_for, is_queued, phase_after};
 use grs_base::{Code, Ctl, NoMemory, Res, Ret, TaskId};
-use grs_wire::{ToldLine, Verb, Want};
+use grs_wire::{Answer, ToldLine, Verb, Want};
 use std::alloc::Global;
 use task_state::{Phase, Rec, Tasks};
 
@@ -86,7 +86,7 @@ fn record_deq(tasks: &mut Tasks, task: TaskId, res: &Res, code: Code)
 
 /// Answers a task's own request; a record that it makes has this unit.
 #[tactic(auto, using(crate::proofs::Keeps::keeps), unfolding(crate::specs::Node::answered))]
-pub(crate) fn answered(
+fn answered(
     alloc: Global,
     tasks: &mut Tasks,
     task: TaskId,
@@ -113,6 +113,27 @@ pub(crate) fn answered(
             let _ = tasks.take_record(task, res);
             Ok(())
         }
+        Want::Look { .. } => Ok(()),
+    }
+}
+
+/// The same by the whole answer. No task asks for looks yet.
+#[tactic(auto, using(crate::proofs::Keeps::keeps), unfolding(crate::specs::Node::replied))]
+pub(crate) fn replied(
+    alloc: Global,
+    tasks: &mut Tasks,
+    task: TaskId,
+    want: &Want,
+    unit: Option<u16>,
+    answer: &Answer,
+) -> Result<(), NoMemory>
+    requires { is_task tasks.old task ≡ true }
+    ensures step { OnOk result (tasks.new ≡ steps.replied tasks.old task want.now unit answer.now) }
+    ensures system { tasks.new.system ≡ tasks.old.system }
+{
+    match answer {
+        Answer::Coded(code) => answered(alloc, tasks, task, want, unit, *code),
+        Answer::Rows(_) => Ok(()),
     }
 }
 
@@ -184,7 +205,7 @@ fn tell_control(tasks: &mut Tasks, res: &Res, task: TaskId) -> Result<(), NoMemo
 
 /// Tells these tasks control in order.
 #[tactic(auto, using(crate::proofs::Keeps::keeps), unfolding(crate::specs::Node::tell_all))]
-pub(crate) fn tell_all(tasks: &mut Tasks, res: &Res, owners: &[TaskId]) -> Result<(), NoMemory>
+fn tell_all(tasks: &mut Tasks, res: &Res, owners: &[TaskId]) -> Result<(), NoMemory>
     ensures step { OnOk result (tasks.new ≡ steps.tell_all tasks.old res.now owners.now) }
     ensures system { tasks.new.system ≡ tasks.old.system }
 {
@@ -194,4 +215,20 @@ pub(crate) fn tell_all(tasks: &mut Tasks, res: &Res, owners: &[TaskId]) -> Resul
         rest = tail;
     }
     Ok(())
+}
+
+/// Tells control to the tasks that became owners of this resource, if it is one.
+#[tactic(auto, using(crate::proofs::Keeps::keeps), unfolding(crate::specs::Node::tell_new))]
+pub(crate) fn tell_new(
+    tasks: &mut Tasks,
+    res: Option<&Res>,
+    owners: &[TaskId],
+) -> Result<(), NoMemory>
+    ensures step { OnOk result (tasks.new ≡ steps.tell_new tasks.old (option_copied res.entry) owners.now) }
+    ensures system { tasks.new.system ≡ tasks.old.system }
+{
+    match res {
+        None => Ok(()),
+        Some(res) => tell_all(tasks, res, owners),
+    }
 }

@@ -9,8 +9,8 @@ ghost use Rattle.grs_world.specs.Units.{counted, reserved_of, units_at};
 ghost use Rattle.grs_world.specs.Running.{stepped, starting, after, ran, end_in, end_of};
 
 use super::node::Node;
-use super::scripts::{Script, lines_among, scripts_of_first};
-use grs_base::{Line, List, NoMemory, SysId, TaskId};
+use super::scripts::{Script, lines_among, scripts_of_first, sizes_of_first};
+use grs_base::{Line, List, Lists, NoMemory, SysId, TaskId};
 use grs_wire::{Choice, Deck, Event, Fixed, Req, TaskEnd, Told, ToldLine};
 use std::alloc::Global;
 use std::marker::Model;
@@ -48,19 +48,20 @@ impl<'d> Model for World<'d> {
 #[tactic(auto, unfolding(crate::specs::Node::task_step))]
 fn task_step(
     alloc: Global,
+    lists: &Lists,
     node: &mut Node,
     task: TaskId,
     lines: Option<&List<Line>>,
     limit: u32,
 ) -> Result<Option<Req>, NoMemory>
-    ensures step { IfOk result (λ fixed. stepped node.new fixed ≡ steps.task_step limit node.old task (meanings task (option_copied lines.entry))) }
+    ensures step { IfOk result (λ fixed. stepped node.new fixed ≡ steps.task_step limit node.old task (meanings lists.now task (option_copied lines.entry))) }
     ensures system { node.new.tasks.system ≡ node.old.tasks.system }
 {
     let Some(lines) = lines else {
         return Ok(None);
     };
     if node.tasks().has(task) {
-        node.phase_step(alloc, task, lines, limit)
+        node.phase_step(alloc, lists, task, lines, limit)
     } else {
         Ok(None)
     }
@@ -82,7 +83,8 @@ fn choose(
 {
     match choice {
         Choice::Task(task) => {
-            task_step(alloc, node, task, lines_among(scripts, task), deck.limit)
+            let lines = lines_among(scripts, task);
+            task_step(alloc, &deck.lists, node, task, lines, deck.limit)
         }
         Choice::Turn
         | Choice::Send(_)
@@ -143,6 +145,7 @@ fn lines_from(lines: &[ToldLine], place: usize) -> &[ToldLine]
 
 /// Adds what a system told in an event.
 fn add_told(
+    alloc: Global,
     told: &mut List<Told>,
     event: u64,
     system: SysId,
@@ -154,7 +157,7 @@ fn add_told(
         told.push(Told {
             event,
             system,
-            line: *line,
+            line: line.copy(alloc)?,
         })?;
     }
     Ok(())
@@ -209,12 +212,13 @@ fn end_by(phase: &Phase) -> TaskEnd
 
 impl<'d> World<'d> {
     /// A deck before its first event: nothing is queued and no task has begun.
-    #[tactic(auto, unfolding(crate::specs::World::first_world, crate::specs::World::first_node))]
+    #[tactic(auto, using(crate::proofs::ScriptCounts::counts), unfolding(crate::specs::World::first_world, crate::specs::World::first_node))]
     pub fn new(alloc: Global, deck: &'d Deck) -> Result<World<'d>, NoMemory>
         ensures { IfOk result (λ w. w ≡ starting deck.now) }
     {
         let scripts = scripts_of_first(alloc, deck)?;
-        let node = Node::new(alloc, SysId(0), scripts.len())?;
+        let jobs = sizes_of_first(alloc, deck)?;
+        let node = Node::new(alloc, SysId(0), jobs.as_slice())?;
         Ok(World {
             deck,
             scripts,
@@ -245,7 +249,7 @@ impl<'d> World<'d> {
         self.events += 1;
         add_fixed(&mut self.fixed, event.system, req)?;
         let lines = lines_from(self.node.tasks().told().as_slice(), before);
-        add_told(&mut self.told, self.events, event.system, lines)
+        add_told(self.alloc, &mut self.told, self.events, event.system, lines)
     }
 
     /// What the events fixed, each request with its system, in order.
