@@ -1,11 +1,11 @@
 use Rattle.std.proofs.Common.{refl}
 use Rattle.grs_top.specs.Answers.{streams}
-use Rattle.grs_top.proofs.Answering.{replays}
-use Rattle.grs_top.proofs.command.replay_command.Goals as goal
+use Rattle.grs_top.proofs.Answering.{answers}
+use Rattle.grs_top.proofs.command.answer.Goals as goal
 
 pub returns-in-Ok : goal.returns-in-Ok
 returns-in-Ok g c =
-    replays
+    answers c.args.command
     (streams (g.S.Source.left c.args.source.now) (g.K.Sink.written c.args.sink.now) (g.S.Source.faults c.args.source.now) (g.K.Sink.faults c.args.sink.now))
     (streams (g.S.Source.left c.read_due.new.source) (g.K.Sink.written c.write_due.new.sink) (g.S.Source.faults c.read_due.new.source) (g.K.Sink.faults c.write_due.new.sink))
     c.in-Ok.due.out c.in-Ok.due.status c.write_due.result c.in-Ok.ensures.due c.in-Ok.ensures.kept c.write_due.ensures
