@@ -37,7 +37,7 @@ fn main(rt: HostRuntime) -> ExitCode {
         Err(error) => status_without_words(&error),
     };
     if status == Status::Words {
-        let _ = eprintln!(rt; "usage: grs replay < DECK");
+        let _ = eprintln!(rt; "usage: grs replay < DECK, or grs lists < DECK");
     }
     ExitCode::from(status.number())
 }

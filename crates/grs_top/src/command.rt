@@ -15,11 +15,7 @@ use std::alloc::Global;
 const MOST: usize = 1_048_576;
 
 /// Reads a text, up to one byte more than a deck may have, and builds what it is answered by.
-fn read_due<S: Source>(
-    alloc: Global,
-    command: Command,
-    source: &mut S,
-) -> Result<Due, ReadFailure>
+fn read_due<S: Source>(alloc: Global, command: Command, source: &mut S) -> Result<Due, ReadFailure>
     ensures due { IfOk result (λ due. ReadsDue command (S.left source.old) (S.left source.new) due.out due.status) }
     ensures kept { OnOk result (S.faults source.new ≡ S.faults source.old) }
     ensures failed { result ≡ Err ReadFailure.Failed

@@ -2,11 +2,12 @@
 //! lists and the tasks.
 ghost use Rattle.std.specs.Prelude.{◌≡◌, IfOk};
 ghost use Rattle.grs_world.specs.World.{run, hist, told};
+ghost use Rattle.grs_world.specs.Units.{units_at};
 ghost use Rattle.grs_top.specs.Tasks.{tasks_of, ends_at};
 ghost use Rattle.grs_top.specs.Seen.{seen_of_run};
 
 use super::ends::ends_of;
-use grs_base::{List, NoMemory, TaskId};
+use grs_base::{List, NoMemory, SysId, TaskId, copy_all};
 use grs_history::{answers, queues_after};
 use grs_wire::{Deck, Event, HistEntry, Seen, TaskEnd, Told};
 use grs_world::replay;
@@ -22,21 +23,13 @@ fn events_of(alloc: Global, events: &[Event]) -> Result<List<Event>, NoMemory>
     Ok(list)
 }
 
-fn told_of(alloc: Global, told: &[Told]) -> Result<List<Told>, NoMemory>
-    ensures { IfOk result (λ list. list ≡ told.now) }
-{
-    let mut list = List::new(alloc);
-    for line in told {
-        list.push(*line)?;
-    }
-    Ok(list)
-}
-
-/// What is seen of a run itself: its history, what was told, and the end of each task.
+/// What is seen of a run itself: its history, what was told, the units that are reserved, and the end of each
+/// task.
 #[derive(Drop)]
 struct Run {
     hist: List<HistEntry>,
     told: List<Told>,
+    units: List<(SysId, u16, u32)>,
     ended: List<(TaskId, TaskEnd)>,
 }
 
@@ -44,14 +37,22 @@ struct Run {
 fn run_of(alloc: Global, deck: &Deck) -> Result<Run, NoMemory>
     ensures hist { IfOk result (λ seen. seen.hist ≡ hist deck.now deck.now.events) }
     ensures told { IfOk result (λ seen. seen.told ≡ told deck.now deck.now.events) }
+    ensures units { IfOk result (λ seen.
+        seen.units ≡ units_at (record { 0 = 0 }) (run deck.now deck.now.events).node.tasks.tasks) }
     ensures ended { IfOk result (λ seen.
         seen.ended ≡ ends_at (run deck.now deck.now.events).node.tasks (tasks_of deck.now)) }
 {
     let world = replay(alloc, deck, deck.events.as_slice())?;
     let hist = answers(alloc, world.fixed().as_slice())?;
-    let told = told_of(alloc, world.told().as_slice())?;
+    let told = copy_all(alloc, world.told().as_slice())?;
+    let units = world.units()?;
     let ended = ends_of(alloc, deck, &world)?;
-    Ok(Run { hist, told, ended })
+    Ok(Run {
+        hist,
+        told,
+        units,
+        ended,
+    })
 }
 
 /// What the run of a deck's events shows.
@@ -71,7 +72,7 @@ pub fn seen_of(alloc: Global, deck: &Deck) -> Result<Seen, NoMemory>
         hist: run.hist,
         told: run.told,
         queues,
-        units: List::new(alloc),
+        units: run.units,
         words: List::new(alloc),
         star: deck.star,
         ended: run.ended,

@@ -27,7 +27,7 @@ impl Model for Node {
 
     ghost Value = { steps.Node };
 
-    ghost view = { λ a. record { tasks = a.tasks; held = a.held } };
+    ghost view = { λ a. record { tasks = a.tasks; held = a.held.held } };
 }
 
 /// The resource that is spoken of, if one is.

@@ -11,3 +11,6 @@ returns-clause-told c =
 
 pub returns-clause-ended : goal.returns-clause-ended
 returns-clause-ended c = rw (c.in_ok-ended.ensures, c.in_ok-world.ensures, c.as_slice.ensures) refl
+
+pub returns-clause-units : goal.returns-clause-units
+returns-clause-units c = rw (c.in_ok-units.ensures, c.in_ok-world.ensures, c.as_slice.ensures) refl
