@@ -1,3 +1,4 @@
+pub mod Masks
 pub mod Wants
 pub mod History
 pub mod Laws
