@@ -1,0 +1,2 @@
+//! The medium that the systems of a complex share.
+#![tactic(auto)]
