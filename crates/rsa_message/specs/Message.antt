@@ -44,6 +44,11 @@ abbrev pub or_else : Option SysId → SysId → SysId
 or_else None s = s
 or_else (Some t) s = t
 
+-- the number of a system, 0 where there is none
+abbrev pub number_of : Option SysId → ℕ
+number_of None = 0
+number_of (Some s) = s.0
+
 -- an entry is unseen by s where s is in its mask
 abbrev pub is_unseen : SysId → RingEntry → Bool
 is_unseen s e = has e.mask s.0
