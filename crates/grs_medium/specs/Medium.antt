@@ -1,5 +1,5 @@
 -- The medium: the part of a complex that all its systems share.
-use Rattle.std.specs.Prelude.{ℕ, Bool, true, false, cond, ◌&&◌, List, [], ◌∷◌, ◌++◌, slice_index, slice_index_or, slice_set, replicate}
+use Rattle.std.specs.Prelude.{ℕ, Bool, cond, ◌&&◌, ◌==◌, List, [], ◌∷◌, ◌++◌, length, slice_index, slice_index_or, slice_set, replicate}
 use Rattle.grs_base.specs.declared.resource.SysId.{SysId}
 use Rattle.grs_wire.specs.declared.medium.Mail.{Mail}
 use Rattle.grs_wire.specs.Masks.{has, without, others, all_others}
@@ -39,8 +39,7 @@ abbrev pub inbox : MediumState → ℕ → List Mail
 inbox m s = slice_index_or m.inboxes s []
 
 abbrev pub is_empty : List Mail → Bool
-is_empty [] = true
-is_empty (mail ∷ mails) = false
+is_empty mails = length mails == 0
 
 -- whether nothing is left to do with the medium: all live inboxes are empty, no entry of the message is left,
 -- and no system has yet to change to star mode

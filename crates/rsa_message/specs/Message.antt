@@ -93,10 +93,14 @@ turn_reply m c count =
     (Turned (unseen c m.entries) (cond m.closed 0 count) m.closed)
     (NotYours m.holder)
 
--- the flags of rest after a Turn of c: its own is cleared where something was given or put in, and by each
--- Turn at a closed message
+-- whether such a Turn clears the flag of rest of c: where something was given or put in, and at the closed
+-- message always
+unfoldable pub wakes : Message → SysId → ℕ → Bool
+wakes m c count = is_at m.holder c && (m.closed || moves m c count)
+
+-- the flags of rest after a Turn of c
 unfoldable pub rest_after_turn : Message → SysId → ℕ → ℕ → ℕ
-rest_after_turn m c count rest = cond (is_at m.holder c && (m.closed || moves m c count)) (without rest c.0) rest
+rest_after_turn m c count rest = cond (wakes m c count) (without rest c.0) rest
 
 -- a Turn at the open message
 abbrev pub turned_open : Message → SysId → List Req → ℕ → ℕ → Message

@@ -1,6 +1,6 @@
 //! The message as a whole.
 ghost use Rattle.std.specs.Prelude.{◌≡◌, ◌+◌, ◌<◌, ◌≤◌, ◌^◌, max, length, if◌then◌else◌, None, IfOk, OnOk};
-ghost use Rattle.rsa_message.specs.Message.{opened, never_opened, unseen, first_number, turn_reply, turned, turned_open, turned_closed, turn_changes, dropped, closed_by, message_at_end};
+ghost use Rattle.rsa_message.specs.Message.{opened, never_opened, unseen, first_number, turn_reply, turned, turned_open, turned_closed, turn_changes, wakes, dropped, closed_by, message_at_end};
 ghost use Rattle.rsa_message.specs.Room.{HasRoom};
 
 use crate::entries::{clear, copy_unseen, first_of_unseen, has_unseen, put};
@@ -146,6 +146,7 @@ impl Rsa {
         requires room { HasRoom self.old.room caller (length out) }
         ensures reply { result ≡ turn_reply self.old.message caller (length out) }
         ensures message { self.new.message ≡ turned self.old.message caller out live rest }
+        ensures systems { self.new.message.systems ≡ self.old.message.systems }
     {
         if !stands_at(self.holder, caller) {
             return Reply::NotYours { at: self.holder };
@@ -167,6 +168,17 @@ impl Rsa {
             taken,
             closed,
         }
+    }
+
+    /// Whether a Turn of the system with so many requests clears its flag of rest: where an entry is given or put in,
+    /// and at the closed message always.
+    #[tactic(auto, unfolding(crate::specs::Message::wakes))]
+    pub fn wakes(&self, caller: SysId, out: u32) -> bool
+        requires { caller.0 < self.now.message.systems }
+        ensures { result ≡ wakes self.now.message caller out }
+    {
+        stands_at(self.holder, caller)
+            && (self.closed || has_unseen(self.entries.as_slice(), caller) || out != 0)
     }
 
     /// The reply that `turn` with so many requests would give, and whether it would change the message.
@@ -209,7 +221,8 @@ impl Rsa {
     pub fn drop_system(&mut self, caller: SysId, target: SysId, live: u32)
         requires target { target.0 < self.old.message.systems }
         requires room { HasRoom self.old.room caller 0 }
-        ensures { self.new.message ≡ dropped self.old.message caller target live }
+        ensures message { self.new.message ≡ dropped self.old.message caller target live }
+        ensures systems { self.new.message.systems ≡ self.old.message.systems }
     {
         self.ready = None;
         self.given = List::new(self.alloc);
