@@ -5,17 +5,17 @@
 mod deck;
 mod history;
 pub mod laws;
+mod log;
 pub mod masks;
 mod medium;
 mod request;
 mod seen;
 mod told;
 
-pub use deck::{Choice, Deck, Event, JobDef, Name, SystemDef, TaskDef};
+pub use deck::{Choice, Deck, Desk, Event, JobDef, Name, Order, SystemDef, TaskDef};
 pub use history::HistEntry;
-pub use medium::{
-    Act, Call, JEntry, Mail, Reply, RingBody, RingEntry, copy_entries, copy_requests,
-};
+pub use log::{NodeLog, StepDone};
+pub use medium::{Act, Call, JEntry, Mail, Reply, RingBody, RingEntry};
 pub use request::{Answer, Fixed, Req, Want};
 pub use seen::{Names, Seen, TaskEnd};
-pub use told::{Told, ToldLine, Verb};
+pub use told::{Said, Told, ToldLine, Verb};

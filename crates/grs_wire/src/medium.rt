@@ -3,7 +3,7 @@
 ghost use Rattle.std.specs.Prelude.{◌≡◌, IfOk};
 
 use super::request::{Answer, Req};
-use grs_base::{List, NoMemory, Res, SysId, TaskId};
+use grs_base::{Copied, List, NoMemory, Res, SysId, TaskId, copy_all};
 use std::alloc::Global;
 
 /// What an entry of the authority message says.
@@ -169,26 +169,10 @@ impl RingEntry {
     }
 }
 
-/// Equal requests.
-pub fn copy_requests(alloc: Global, requests: &[Req]) -> Result<List<Req>, NoMemory>
-    ensures { IfOk result (λ list. list ≡ requests.now) }
-{
-    let mut list = List::new(alloc);
-    for req in requests {
-        list.push(req.copy(alloc)?)?;
+impl Copied for RingEntry {
+    fn copied(&self, alloc: Global) -> Result<RingEntry, NoMemory> {
+        self.copy(alloc)
     }
-    Ok(list)
-}
-
-/// Equal entries.
-pub fn copy_entries(alloc: Global, entries: &[RingEntry]) -> Result<List<RingEntry>, NoMemory>
-    ensures { IfOk result (λ list. list ≡ entries.now) }
-{
-    let mut list = List::new(alloc);
-    for entry in entries {
-        list.push(entry.copy(alloc)?)?;
-    }
-    Ok(list)
 }
 
 impl Mail {
@@ -205,11 +189,14 @@ impl Mail {
                     req,
                 })
             }
-            Mail::Answered { task, answer, rank } => Ok(Mail::Answered {
-                task: *task,
-                answer: *answer,
-                rank: *rank,
-            }),
+            Mail::Answered { task, answer, rank } => {
+                let answer = answer.copy(alloc)?;
+                Ok(Mail::Answered {
+                    task: *task,
+                    answer,
+                    rank: *rank,
+                })
+            }
             Mail::Granted { task, res } => {
                 let res = res.copy(alloc)?;
                 Ok(Mail::Granted { task: *task, res })
@@ -225,7 +212,7 @@ impl Act {
     {
         match self {
             Act::Turn { out } => Ok(Act::Turn {
-                out: copy_requests(alloc, out.as_slice())?,
+                out: copy_all(alloc, out.as_slice())?,
             }),
             Act::Switch { words } => Ok(Act::Switch {
                 words: words.copy(alloc)?,
@@ -274,7 +261,7 @@ impl Reply {
                 taken,
                 closed,
             } => {
-                let entries = copy_entries(alloc, entries.as_slice())?;
+                let entries = copy_all(alloc, entries.as_slice())?;
                 Ok(Reply::Turned {
                     entries,
                     taken: *taken,
@@ -318,5 +305,11 @@ impl JEntry {
             call,
             reply,
         })
+    }
+}
+
+impl Copied for JEntry {
+    fn copied(&self, alloc: Global) -> Result<JEntry, NoMemory> {
+        self.copy(alloc)
     }
 }
