@@ -76,7 +76,7 @@ pub fn resolve_kind(lists: &Lists, ask: &Ask<'_>) -> (Scope, bool)
         (true, true) => reserve_looked_up(lists, ask.q, ask.r),
         (true, false) => (Scope::Systems, true),
         (false, true) => (looked_up(lists, ask.scope, ask.q, ask.r), false),
-        (false, false) => (looked_up(lists, ask.scope, ask.q, ask.r), false),
+        (false, false) => (ask.scope, false),
     }
 }
 
