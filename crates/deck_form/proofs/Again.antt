@@ -22,7 +22,7 @@ use Rattle.deck_form.specs.declared.event.Act.{Act}
 use Rattle.deck_form.specs.declared.event.Act.TheVariants as acts
 use Rattle.deck_form.specs.declared.form.Stmt.{Stmt}
 use Rattle.deck_form.specs.declared.form.Stmt.TheVariants as stmts
-use Rattle.deck_form.specs.Tokens.{name_at, maybe}
+use Rattle.deck_scan.specs.Next.{name_at, maybe}
 use Rattle.deck_form.specs.Words.{is_name_byte, all_name, is_name, short_at, parted, dotted_at, number_of}
 use Rattle.deck_form.specs.Options.{no_opts, ret_of, rnl_of, chosen, option_at, options_at}
 use Rattle.deck_form.specs.Ask.{ctl_at, scope_at, names_at, place_at, enq_may, deq_may, wait_may, enq_at, deq_at, wait_at}
@@ -36,109 +36,6 @@ use Rattle.deck_form.specs.Spelled.{IsName, Names, ctl_word, scope_word, Sets, O
 named_again : (n : List ℕ) → IsName n → named_at (Word n ∷ []) ≡ Some n
 unfolding named_at short_at
 named_again n h = rw h refl
-
-name_again : (t : Token) (n : List ℕ) (rest : List Token) → Names t n → name_at (t ∷ rest) ≡ Some (n, rest)
-name_again (Word w) n rest h = rw h refl
-name_again (Name w) n rest h = rw h refl
-name_again _ n rest h = absurd h
-
-names_again : (q r : Token) (qname rname : List ℕ) (rest : List Token) → Names q qname → Names r rname → names_at (Open ∷ q ∷ Comma ∷ r ∷ Comma ∷ rest) ≡ Some (qname, rname, rest)
-unfolding names_at
-names_again q r qname rname rest hq hr = rw (name_again q qname (Comma ∷ r ∷ Comma ∷ rest) hq, name_again r rname (Comma ∷ rest) hr) refl
-
-ctl_again : (c : Ctl) (rest : List Token) → ctl_at (Word (ctl_word c) ∷ rest) ≡ Some (c, rest)
-unfolding ctl_at
-ctl_again E rest = refl
-ctl_again S rest = refl
-
-scope_again : (s : Scope) (rest : List Token) → scope_at (Word (scope_word s) ∷ rest) ≡ Some (s, rest)
-unfolding scope_at
-scope_again scopes.Step rest = refl
-scope_again scopes.System rest = refl
-scope_again scopes.Systems rest = refl
-
--- ---- options
-
-option_again : (x : Opt) (o : Opts) (rest : List Token) → IsFree x o → option_at o (option x ++ rest) ≡ Some (set x o, rest)
-unfolding option_at chosen ret_of rnl_of
-option_again (Given RetNone) o rest h = rw h refl
-option_again (Given RetUse) o rest h = rw h refl
-option_again (Given RetHave) o rest h = rw h refl
-option_again (Given RetTest) o rest h = rw h refl
-option_again (Given RetChng) o rest h = rw h refl
-option_again (Given RetEcb) o rest h = rw h refl
-option_again (Lists true) o rest h = rw h refl
-option_again (Lists false) o rest h = rw h refl
-option_again (On w unit) o rest h = rw (h.1, h.0) refl
-
-long : (x : Opt) (rest : List Token) → eqb (length (option x ++ rest)) 0 ≡ false
-long (Given RetNone) rest = ne_eqb _ 0 (λ e. omega (arith, e))
-long (Given RetUse) rest = ne_eqb _ 0 (λ e. omega (arith, e))
-long (Given RetHave) rest = ne_eqb _ 0 (λ e. omega (arith, e))
-long (Given RetTest) rest = ne_eqb _ 0 (λ e. omega (arith, e))
-long (Given RetChng) rest = ne_eqb _ 0 (λ e. omega (arith, e))
-long (Given RetEcb) rest = ne_eqb _ 0 (λ e. omega (arith, e))
-long (Lists b) rest = ne_eqb _ 0 (λ e. omega (arith, e))
-long (On w unit) rest = ne_eqb _ 0 (λ e. omega (arith, e))
-
-maybe_again : (x : Opt) (o : Opts) (rest : List Token) → IsFree x o → maybe option_at o (option x ++ rest) ≡ Some (set x o, rest)
-maybe_again x o rest h = rw (long x rest) (option_again x o rest h)
-
--- how many kinds of options are free
-is_free : {A : Type 0} → Option A → ℕ
-is_free None = 1
-is_free (Some x) = 0
-
-free_kinds : Opts → ℕ
-free_kinds o = is_free o.ret + is_free o.rnl + is_free o.unit
-
-fewer : (x : Opt) (o : Opts) → IsFree x o → free_kinds o ≡ suc (free_kinds (set x o))
-unfolding free_kinds is_free
-fewer (Given r) o h = rw h (omega arith)
-fewer (Lists b) o h = rw h (omega arith)
-fewer (On w unit) o h = rw h.0 (omega arith)
-
-three_kinds : free_kinds no_opts ≡ 3
-unfolding free_kinds is_free
-three_kinds = refl
-
-options_again : (given : List Opt) (o : Opts) → Sets IsFree set no_opts given o → options_at (flat_map option given) ≡ Some o
-unfolding options_at
-options_again [] o h = rw h refl
-options_again (x ∷ []) o h = rw (flat_map-cons option x [], maybe_again x no_opts [] h.0, h.1) refl
-options_again (x ∷ y ∷ []) o h = rw (flat_map-cons option x (y ∷ []), maybe_again x no_opts (flat_map option (y ∷ [])) h.0, flat_map-cons option y [], maybe_again y (set x no_opts) [] h.1.0, h.1.1) refl
-options_again (x ∷ y ∷ z ∷ []) o h =
-    rw (flat_map-cons option x (y ∷ z ∷ []), maybe_again x no_opts (flat_map option (y ∷ z ∷ [])) h.0, flat_map-cons option y (z ∷ []), maybe_again y (set x no_opts) (flat_map option (z ∷ [])) h.1.0, flat_map-cons option z [], maybe_again z (set y (set x no_opts)) [] h.1.1.0, h.1.1.1) refl
-options_again (x ∷ y ∷ z ∷ v ∷ vs) o h =
-    let a = fewer x no_opts h.0 in
-    let b = fewer y (set x no_opts) h.1.0 in
-    let c = fewer z (set y (set x no_opts)) h.1.1.0 in
-    let d = fewer v (set z (set y (set x no_opts))) h.1.1.1.0 in
-    absurd (omega (arith, three_kinds, a, b, c, d))
-
--- ---- ENQ, DEQ and WAIT
-
-place_again : (s : Scope) (given : List Opt) (o : Opts) → Sets IsFree set no_opts given o → place_at (Word (scope_word s) ∷ Close ∷ flat_map option given) ≡ Some (s, o)
-unfolding place_at
-place_again s given o h = rw (scope_again s (Close ∷ flat_map option given), options_again given o h) refl
-
-enq_again : (ts : List Token) (e : EnqAsk) → IsAsk (Word (ctl_word e.ctl) ∷ Comma ∷ []) enq_may ts e.ask → enq_at ts ≡ Some e
-unfolding enq_at
-enq_again ts e h =
-    let place = Word (scope_word e.ask.scope) ∷ Close ∷ flat_map option h.given in
-    rw (h.spelled, names_again h.q h.r e.ask.q e.ask.r (Word (ctl_word e.ctl) ∷ Comma ∷ place) h.named_q h.named_r, ctl_again e.ctl (Comma ∷ place), place_again e.ask.scope h.given e.ask.opts h.options, h.allowed) refl
-
-deq_again : (ts : List Token) (a : Ask) → IsAsk [] deq_may ts a → deq_at ts ≡ Some a
-unfolding deq_at
-deq_again ts a h =
-    let place = Word (scope_word a.scope) ∷ Close ∷ flat_map option h.given in
-    rw (h.spelled, names_again h.q h.r a.q a.r place h.named_q h.named_r, place_again a.scope h.given a.opts h.options, h.allowed) refl
-
-wait_again : (ts : List Token) (a : Ask) → IsAsk [] wait_may ts a → wait_at ts ≡ Some a
-unfolding wait_at
-wait_again ts a h =
-    let place = Word (scope_word a.scope) ∷ Close ∷ flat_map option h.given in
-    rw (h.spelled, names_again h.q h.r a.q a.r place h.named_q h.named_r, place_again a.scope h.given a.opts h.options, h.allowed) refl
 
 -- ---- COMPLEX
 

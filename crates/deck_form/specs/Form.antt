@@ -12,7 +12,7 @@ use Rattle.deck_form.specs.declared.form.Key.{Key}
 use Rattle.deck_form.specs.declared.form.Key.TheVariants as keys
 use Rattle.deck_form.specs.declared.form.FormError.{FormError}
 use Rattle.deck_form.specs.declared.form.FormError.TheVariants as errors
-use Rattle.deck_form.specs.Tokens.{◌>>=◌, end_at}
+use Rattle.deck_scan.specs.Next.{◌>>=◌, end_at}
 use Rattle.deck_form.specs.Words.{short_at}
 use Rattle.deck_form.specs.Ask.{enq_at, deq_at, wait_at}
 use Rattle.deck_form.specs.Complex.{complex_at}

@@ -32,74 +32,9 @@ use Rattle.deck_form.specs.UnbuiltWord.{is_unbuilt_word}
 abbrev pub IsName : List ℕ → Type 0
 IsName n = is_name n ≡ true
 
--- A resource name stands plain, or quoted or in hexadecimal.
-abbrev pub Names : Token → List ℕ → Type 0
-Names (Word w) n = w ≡ n
-Names (Name w) n = w ≡ n
-Names _ n = ⊥
-
-abbrev pub ctl_word : Ctl → List ℕ
-ctl_word E = codes "E"
-ctl_word S = codes "S"
-
-abbrev pub scope_word : Scope → List ℕ
-scope_word scopes.Step = codes "STEP"
-scope_word scopes.System = codes "SYSTEM"
-scope_word scopes.Systems = codes "SYSTEMS"
-
-abbrev pub rnl_word : Bool → List ℕ
-rnl_word true = codes "YES"
-rnl_word false = codes "NO"
-
 abbrev pub mode_word : Bool → List ℕ
 mode_word true = codes "STAR"
 mode_word false = codes "RING"
-
--- Things that stand one behind the other, each where it is free; each sets its value.
-abbrev pub Sets : {O X : Type 0} → (X → O → Type 0) → (X → O → O) → O → List X → O → Type 0
-Sets free set o [] p = p ≡ o
-Sets free set o (x ∷ xs) p = free x o × Sets free set (set x o) xs p
-
--- An option of a task line: RET or ECB; RNL; UCB with its word and the unit that the word writes.
-pub data Opt : Type 0 where
-  Given : Ret → Opt
-  Lists : Bool → Opt
-  On : List ℕ → ℕ → Opt
-
-abbrev pub valued : List ℕ → List ℕ → List Token
-valued word value = Comma ∷ Word word ∷ Equals ∷ Word value ∷ []
-
-abbrev pub option : Opt → List Token
-option (Given RetNone) = valued (codes "RET") (codes "NONE")
-option (Given RetUse) = valued (codes "RET") (codes "USE")
-option (Given RetHave) = valued (codes "RET") (codes "HAVE")
-option (Given RetTest) = valued (codes "RET") (codes "TEST")
-option (Given RetChng) = valued (codes "RET") (codes "CHNG")
-option (Given RetEcb) = Comma ∷ Word (codes "ECB") ∷ []
-option (Lists b) = valued (codes "RNL") (rnl_word b)
-option (On w unit) = valued (codes "UCB") w
-
--- None of its kind stands yet, and its word is right.
-abbrev pub IsFree : Opt → Opts → Type 0
-IsFree (Given r) o = o.ret ≡ None
-IsFree (Lists b) o = o.rnl ≡ None
-IsFree (On w unit) o = (o.unit ≡ None) × (unit_of w ≡ Some unit)
-
-abbrev pub set : Opt → Opts → Opts
-set (Given r) o = record o { ret = Some r }
-set (Lists b) o = record o { rnl = Some b }
-set (On w unit) o = record o { unit = Some unit }
-
--- ( q , r , then what stands before the scope, the scope, ) and the options, which the line may have.
-pub record IsAsk (front : List Token) (may : Opts → Bool) (ts : List Token) (a : Ask) : Type 0 where
-  pub q : Token
-  pub r : Token
-  pub given : List Opt
-  pub spelled : ts ≡ Open ∷ q ∷ Comma ∷ r ∷ Comma ∷ (front ++ Word (scope_word a.scope) ∷ Close ∷ flat_map option given)
-  pub named_q : Names q a.q
-  pub named_r : Names r a.r
-  pub options : Sets IsFree set no_opts given a.opts
-  pub allowed : may a.opts ≡ true
 
 -- An operand of COMPLEX: MODE; ENTRIES and LIMIT with their words and the numbers that these write.
 pub data Operand : Type 0 where

@@ -1,6 +1,6 @@
 //! The operands of COMPLEX, in any order, each at most once.
 ghost use Rattle.std.specs.Prelude.{◌≡◌};
-ghost use Rattle.deck_form.specs.Tokens.{Reads, maybe};
+ghost use Rattle.deck_scan.specs.Next.{Reads, maybe};
 ghost use Rattle.deck_form.specs.Complex.{mode_of, is_entries, entries_of, limit_of, with_star, with_entries, with_limit, with_operand, operand_at, complex_at};
 
 use crate::miss::Miss;

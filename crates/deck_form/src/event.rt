@@ -1,6 +1,6 @@
 //! Event lines: a system, what it does, and on what.
 ghost use Rattle.std.specs.Prelude.{◌≡◌};
-ghost use Rattle.deck_form.specs.Tokens.{Reads};
+ghost use Rattle.deck_scan.specs.Next.{Reads};
 ghost use Rattle.deck_form.specs.Event.{verb, pair_at, alone_at, entry_at, other_at, act_at, event_at};
 
 use crate::miss::Miss;

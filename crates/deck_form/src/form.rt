@@ -1,6 +1,6 @@
 //! The statements of a deck.
 ghost use Rattle.std.specs.Prelude.{◌≡◌, Option};
-ghost use Rattle.deck_form.specs.Tokens.{Reads};
+ghost use Rattle.deck_scan.specs.Next.{Reads};
 ghost use Rattle.deck_form.specs.Form.{named_at, plain_form, first_form, event_form, form, key, or_bad, Forms};
 ghost use Rattle.deck_form.specs.Spelled.{Answers};
 ghost use Rattle.deck_form.specs.declared.form.Stmt.{Stmt as StmtValue};

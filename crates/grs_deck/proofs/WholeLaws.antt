@@ -17,7 +17,7 @@ use Rattle.grs_wire.specs.declared.deck.Choice.TheVariants as choices
 use Rattle.grs_wire.specs.declared.deck.Deck.{Deck}
 use Rattle.deck_scan.specs.declared.token.Token.{Token}
 use Rattle.deck_scan.specs.declared.token.TokenLine.{TokenLine}
-use Rattle.deck_form.specs.Tokens.{◌>>=◌}
+use Rattle.deck_scan.specs.Next.{◌>>=◌}
 use Rattle.deck_form.specs.declared.event.Act.{Act}
 use Rattle.deck_form.specs.declared.event.Act.TheVariants as acts
 use Rattle.deck_form.specs.declared.complex.Setup.{Setup}

@@ -1,0 +1,6 @@
+pub mod Unit
+pub mod Options
+pub mod Ask
+pub mod Display
+pub mod Said
+pub mod Spelled

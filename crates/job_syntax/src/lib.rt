@@ -1,0 +1,14 @@
+//! Task lines: from the tokens of a line to what it says, and from a line back to its text. It knows
+//! the forms of single lines, and nothing of systems, jobs and tasks.
+#![tactic(auto)]
+
+mod ask;
+mod display;
+mod options;
+mod said;
+mod unit;
+
+pub use ask::{Ask, EnqAsk};
+pub use display::{ScanAsk, Shown, Wanted};
+pub use options::Opts;
+pub use said::{Said, Verb, said_at, verb_of};
