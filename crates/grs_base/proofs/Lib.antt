@@ -4,3 +4,4 @@ pub mod NameLaws
 pub mod ListLaws
 pub mod StateLaws
 pub mod OrderLaws
+pub mod Samples

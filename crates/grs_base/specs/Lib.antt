@@ -5,3 +5,6 @@ pub mod Lists
 pub mod State
 pub mod ResOrder
 pub mod Rows
+pub mod Slices
+pub mod Looks
+pub mod Rnl

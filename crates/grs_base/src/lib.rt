@@ -6,11 +6,14 @@ mod decision;
 mod fault;
 mod line;
 mod list;
+mod look;
 mod name;
 mod order;
 mod print;
 mod queues;
 mod resource;
+mod rnl;
+mod slice;
 #[cfg(test)]
 mod tests;
 
@@ -18,7 +21,10 @@ pub use decision::{Code, Decision, Effect, Standing};
 pub use fault::{DeckFault, Kind, NameFault, NoMemory, ReadError};
 pub use line::{Item, Line, Scope};
 pub use list::List;
+pub use look::{Filter, Place};
 pub use name::{Qname, Rname, is_qname, is_rname};
 pub use print::{is_plain_byte, is_printable, print_name};
 pub use queues::Queues;
 pub use resource::{Ctl, Elem, Res, Ret, Row, SysId, TaskId, is_same_res, is_same_task};
+pub use rnl::{Form, Lists, MOST_ENTRIES, RnlEntry, RnlList, Which};
+pub use slice::{SLICES, entry_of, slice_of};

@@ -3,6 +3,7 @@ ghost use Rattle.std.specs.Prelude.{◌≡◌, ◌++◌, IfOk};
 
 use super::NoMemory;
 use super::list::List;
+use super::look::Filter;
 use super::name::{Qname, Rname};
 use super::resource::{Ctl, Ret};
 use std::alloc::Global;
@@ -33,6 +34,16 @@ pub enum Line {
         ret: Ret,
         rnl: bool,
     },
+    /// An ENQ of a resource of the whole complex that stands for the reserve of a device, the `unit`, a
+    /// number of 16 bits. (z/OS MVS Programming: Authorized Assembler Services Reference, "RESERVE".)
+    Reserve {
+        q: Qname,
+        r: Rname,
+        ctl: Ctl,
+        unit: u16,
+        ret: Ret,
+        rnl: bool,
+    },
     /// `have` is RET=HAVE. The unit is read and changes nothing.
     Deq {
         q: Qname,
@@ -47,6 +58,19 @@ pub enum Line {
         r: Rname,
         scope: Scope,
         rnl: bool,
+    },
+    /// Shows the lists of the own system, or (`global`) those of the whole complex. The filter isn't
+    /// `Contended`.
+    Gqscan {
+        global: bool,
+        filter: Filter,
+    },
+    /// Shows the lists on which somebody waits.
+    DisplayC,
+    /// Shows the lists of these names.
+    DisplayRes {
+        q: Qname,
+        r: Rname,
     },
 }
 
@@ -88,6 +112,25 @@ impl Line {
                 ret: *ret,
                 rnl: *rnl,
             }),
+            Line::Reserve {
+                q,
+                r,
+                ctl,
+                unit,
+                ret,
+                rnl,
+            } => {
+                let q = q.copy(alloc)?;
+                let r = r.copy(alloc)?;
+                Ok(Line::Reserve {
+                    q,
+                    r,
+                    ctl: *ctl,
+                    unit: *unit,
+                    ret: *ret,
+                    rnl: *rnl,
+                })
+            }
             Line::Deq {
                 q,
                 r,
@@ -116,6 +159,16 @@ impl Line {
                     scope: *scope,
                     rnl: *rnl,
                 })
+            }
+            Line::Gqscan { global, filter } => Ok(Line::Gqscan {
+                global: *global,
+                filter: filter.copy(alloc)?,
+            }),
+            Line::DisplayC => Ok(Line::DisplayC),
+            Line::DisplayRes { q, r } => {
+                let q = q.copy(alloc)?;
+                let r = r.copy(alloc)?;
+                Ok(Line::DisplayRes { q, r })
             }
         }
     }

@@ -1,6 +1,6 @@
 //! Names of resources.
 ghost use Rattle.std.specs.Prelude.{◌≡◌, ◌<◌, ◌≤◌, ◌↔◌, length, List, ℕ, IfOk, IsOk, OnOk, Err, true, false};
-ghost use Rattle.grs_base.specs.Names.{trim_blanks, is_qname, is_rname};
+ghost use Rattle.grs_base.specs.Names.{trim_blanks, is_qname, is_rname, IsQname};
 
 use super::fault::{NameFault, NoMemory};
 use std::alloc::Global;
@@ -14,13 +14,15 @@ pub struct Qname {
 }
 
 impl Model for Qname {
-    ghost use Rattle.std.specs.Prelude.{List, ℕ, length, ◌≤◌};
+    ghost use Rattle.std.specs.Prelude.{List, ℕ};
 
     ghost Value = { List ℕ };
 
     ghost view = { λ a. a.bytes.items };
 
-    ghost invariant = { λ a. length a.bytes.items ≤ 8 };
+    ghost use Rattle.grs_base.specs.Names.{IsQname};
+
+    ghost invariant = { λ a. IsQname a.bytes.items };
 }
 
 /// How many bytes stand before the trailing blanks.
@@ -92,6 +94,7 @@ impl Qname {
     pub fn bytes(&self) -> &[u8]
         ensures bytes { result.now ≡ self.now }
         ensures short { length self.now ≤ 8 }
+        ensures name { IsQname self.now }
     {
         self.bytes.as_slice()
     }
@@ -139,13 +142,15 @@ pub struct Rname {
 }
 
 impl Model for Rname {
-    ghost use Rattle.std.specs.Prelude.{List, ℕ, length, ◌≤◌};
+    ghost use Rattle.std.specs.Prelude.{List, ℕ, ◌≡◌, true};
 
     ghost Value = { List ℕ };
 
     ghost view = { λ a. a.bytes.items };
 
-    ghost invariant = { λ a. length a.bytes.items ≤ 255 };
+    ghost use Rattle.grs_base.specs.Names.{is_rname};
+
+    ghost invariant = { λ a. is_rname a.bytes.items ≡ true };
 }
 
 impl Rname {
@@ -174,6 +179,7 @@ impl Rname {
     pub fn bytes(&self) -> &[u8]
         ensures bytes { result.now ≡ self.now }
         ensures short { length self.now ≤ 255 }
+        ensures name { is_rname self.now ≡ true }
     {
         self.bytes.as_slice()
     }

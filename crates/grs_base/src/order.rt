@@ -68,7 +68,7 @@ fn order_of_groups(a: &Res, b: &Res) -> Ordering
 
 /// A qname with blanks behind it, up to eight bytes.
 #[tactic(auto, using(crate::proofs::OrderLaws::pads))]
-fn padded(name: &Qname) -> [u8; 8]
+pub(crate) fn padded(name: &Qname) -> [u8; 8]
     ensures { result ≡ padded_name name.now }
 {
     let bytes = name.bytes();
