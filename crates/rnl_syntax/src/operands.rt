@@ -1,5 +1,5 @@
 //! The operands of RNLDEF, in any order, each at most once.
-ghost use Rattle.std.specs.Prelude.{◌≡◌, false, IfOk};
+ghost use Rattle.std.specs.Prelude.{◌≡◌, true, false, IfOk};
 ghost use Rattle.grs_base.specs.Names.{is_qname, is_rname, trim_blanks};
 ghost use Rattle.deck_scan.specs.Next.{Reads, maybe};
 ghost use Rattle.rnl_syntax.specs.Operands.{no_operands, which_of, form_of, with_which, with_form, with_q, with_r, value_of, operand_at, is_specific, whole, rnldef_at, is_bad_r, is_bad, entry_of};
