@@ -20,7 +20,7 @@ mod tests;
 pub use decision::{Code, Decision, Effect, Standing};
 pub use fault::{DeckFault, Kind, NameFault, NoMemory, ReadError};
 pub use line::{Item, Line, Scope};
-pub use list::List;
+pub use list::{Copied, List, copy_all};
 pub use look::{Filter, Place};
 pub use name::{Qname, Rname, is_qname, is_rname};
 pub use print::{is_plain_byte, is_printable, print_name};

@@ -1,8 +1,8 @@
 //! What a task's lines say.
-ghost use Rattle.std.specs.Prelude.{◌≡◌, ◌++◌, IfOk};
+ghost use Rattle.std.specs.Prelude.{◌≡◌, IfOk};
 
 use super::NoMemory;
-use super::list::List;
+use super::list::{Copied, List, copy_all};
 use super::look::Filter;
 use super::name::{Qname, Rname};
 use super::resource::{Ctl, Ret};
@@ -90,15 +90,10 @@ impl Item {
     }
 }
 
-/// Equal items.
-fn copy_items(alloc: Global, items: &[Item]) -> Result<List<Item>, NoMemory>
-    ensures { IfOk result (λ list. list ≡ items.now) }
-{
-    let mut list = List::new(alloc);
-    for item in items {
-        list.push(item.copy(alloc)?)?;
+impl Copied for Item {
+    fn copied(&self, alloc: Global) -> Result<Item, NoMemory> {
+        self.copy(alloc)
     }
-    Ok(list)
 }
 
 impl Line {
@@ -108,7 +103,7 @@ impl Line {
     {
         match self {
             Line::Enq { items, ret, rnl } => Ok(Line::Enq {
-                items: copy_items(alloc, items.as_slice())?,
+                items: copy_all(alloc, items.as_slice())?,
                 ret: *ret,
                 rnl: *rnl,
             }),
@@ -171,5 +166,11 @@ impl Line {
                 Ok(Line::DisplayRes { q, r })
             }
         }
+    }
+}
+
+impl Copied for Line {
+    fn copied(&self, alloc: Global) -> Result<Line, NoMemory> {
+        self.copy(alloc)
     }
 }

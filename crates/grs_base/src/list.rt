@@ -1,4 +1,6 @@
 //! A list.
+ghost use Rattle.std.specs.Prelude.{◌≡◌, IfOk};
+
 use super::NoMemory;
 use std::alloc::Global;
 use std::marker::Model;
@@ -125,4 +127,22 @@ impl List<u8> {
             Err(_) => Err(NoMemory),
         }
     }
+}
+
+/// What can be copied where there is memory.
+pub trait Copied: Drop {
+    /// An equal value.
+    fn copied(&self, alloc: Global) -> Result<Self, NoMemory>
+        ensures { IfOk result (λ copied. copied ≡ self.now) };
+}
+
+/// Equal items, in order.
+pub fn copy_all<T: Copied>(alloc: Global, items: &[T]) -> Result<List<T>, NoMemory>
+    ensures { IfOk result (λ list. list ≡ items.now) }
+{
+    let mut list = List::new(alloc);
+    for item in items {
+        list.push(item.copied(alloc)?)?;
+    }
+    Ok(list)
 }

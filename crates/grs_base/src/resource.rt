@@ -3,7 +3,7 @@ ghost use Rattle.std.specs.Prelude.{◌≡◌, IfOk};
 ghost use Rattle.grs_base.specs.Same.{same_res, same_task};
 
 use super::NoMemory;
-use super::list::List;
+use super::list::{Copied, List};
 use super::name::{Qname, Rname};
 use std::alloc::Global;
 
@@ -119,6 +119,12 @@ impl Row {
             elems,
             owners: self.owners,
         })
+    }
+}
+
+impl Copied for Row {
+    fn copied(&self, alloc: Global) -> Result<Row, NoMemory> {
+        self.copy(alloc)
     }
 }
 

@@ -3,7 +3,7 @@
 ghost use Rattle.std.specs.Prelude.{◌≡◌, IfOk};
 
 use super::NoMemory;
-use super::list::List;
+use super::list::{Copied, List, copy_all};
 use super::look::copy_rname;
 use super::name::{Qname, Rname};
 use std::alloc::Global;
@@ -57,6 +57,12 @@ impl RnlEntry {
     }
 }
 
+impl Copied for RnlEntry {
+    fn copied(&self, alloc: Global) -> Result<RnlEntry, NoMemory> {
+        self.copy(alloc)
+    }
+}
+
 /// The most entries of a name list.
 pub const MOST_ENTRIES: usize = 4096;
 
@@ -76,7 +82,7 @@ impl Model for RnlList {
 }
 
 impl RnlList {
-    ghost use Rattle.std.specs.Prelude.{◌≡◌, ◌<◌, ◌++◌, ◌∷◌, [], length, OnOk, OnErr, slice_get, Some};
+    ghost use Rattle.std.specs.Prelude.{◌≡◌, ◌<◌, ◌++◌, ◌∷◌, [], length, OnOk, OnErr, IfOk, slice_get, Some};
     ghost use Rattle.grs_base.specs.Rnl.{no_entries};
 
     /// A list without entries.
@@ -128,6 +134,16 @@ impl RnlList {
     {
         self.entries.as_slice()
     }
+
+    /// An equal list.
+    pub fn copy(&self, alloc: Global) -> Result<RnlList, NoMemory>
+        ensures { IfOk result (λ list. list ≡ self.now) }
+    {
+        Ok(RnlList {
+            which: self.which,
+            entries: copy_all(alloc, self.entries.as_slice())?,
+        })
+    }
 }
 
 /// The three name lists of a deck.
@@ -150,5 +166,15 @@ impl Lists {
             excl: RnlList::new(alloc, Which::Excl),
             con: RnlList::new(alloc, Which::Con),
         }
+    }
+
+    /// Equal lists.
+    pub fn copy(&self, alloc: Global) -> Result<Lists, NoMemory>
+        ensures { IfOk result (λ lists. lists ≡ self.now) }
+    {
+        let incl = self.incl.copy(alloc)?;
+        let excl = self.excl.copy(alloc)?;
+        let con = self.con.copy(alloc)?;
+        Ok(Lists { incl, excl, con })
     }
 }

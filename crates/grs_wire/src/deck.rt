@@ -1,5 +1,8 @@
 //! What a deck says.
-use grs_base::{Line, List, SysId, TaskId};
+ghost use Rattle.std.specs.Prelude.{◌≡◌, IfOk};
+
+use grs_base::{Copied, Line, List, Lists, NoMemory, SysId, TaskId, copy_all};
+use std::alloc::Global;
 
 /// The name of a system, a job or a task: its bytes.
 pub type Name = List<u8>;
@@ -17,9 +20,26 @@ pub struct JobDef {
     pub tasks: List<TaskDef>,
 }
 
+/// What an operator commands.
+#[derive(Clone, Copy, Debug, PartialEq, Eq)]
+pub enum Order {
+    /// SETGRS MODE=STAR: the complex changes to star mode.
+    Star,
+    /// VARY GRS(system),PURGE: this system is removed.
+    Vary(SysId),
+}
+
+/// A command at a system's desk, to be given once the system has made about `at` events.
+#[derive(Clone, Copy, Debug, PartialEq, Eq)]
+pub struct Desk {
+    pub at: u32,
+    pub order: Order,
+}
+
 #[derive(Drop)]
 pub struct SystemDef {
     pub name: Name,
+    pub desk: List<Desk>,
     pub jobs: List<JobDef>,
 }
 
@@ -56,12 +76,85 @@ pub struct Event {
 }
 
 /// What a deck says: the mode at the start, the number of lock entries (1, 2, 4, 8, 16, 32 or 64), the
-/// limit of concurrent requests of a task (1 to 4,096), the systems in order, and the schedule.
+/// limit of concurrent requests of a task (1 to 4,096), the name lists, the systems in order, and the
+/// schedule.
 #[derive(Drop)]
 pub struct Deck {
     pub star: bool,
     pub entries: u32,
     pub limit: u32,
+    pub lists: Lists,
     pub systems: List<SystemDef>,
     pub events: List<Event>,
+}
+
+impl TaskDef {
+    /// An equal task.
+    pub fn copy(&self, alloc: Global) -> Result<TaskDef, NoMemory>
+        ensures { IfOk result (λ def. def ≡ self.now) }
+    {
+        let name = self.name.copy(alloc)?;
+        let lines = copy_all(alloc, self.lines.as_slice())?;
+        Ok(TaskDef { name, lines })
+    }
+}
+
+impl Copied for TaskDef {
+    fn copied(&self, alloc: Global) -> Result<TaskDef, NoMemory> {
+        self.copy(alloc)
+    }
+}
+
+impl JobDef {
+    /// An equal job.
+    pub fn copy(&self, alloc: Global) -> Result<JobDef, NoMemory>
+        ensures { IfOk result (λ def. def ≡ self.now) }
+    {
+        let name = self.name.copy(alloc)?;
+        let tasks = copy_all(alloc, self.tasks.as_slice())?;
+        Ok(JobDef { name, tasks })
+    }
+}
+
+impl Copied for JobDef {
+    fn copied(&self, alloc: Global) -> Result<JobDef, NoMemory> {
+        self.copy(alloc)
+    }
+}
+
+impl SystemDef {
+    /// An equal system.
+    pub fn copy(&self, alloc: Global) -> Result<SystemDef, NoMemory>
+        ensures { IfOk result (λ def. def ≡ self.now) }
+    {
+        let name = self.name.copy(alloc)?;
+        let desk = self.desk.copy(alloc)?;
+        let jobs = copy_all(alloc, self.jobs.as_slice())?;
+        Ok(SystemDef { name, desk, jobs })
+    }
+}
+
+impl Copied for SystemDef {
+    fn copied(&self, alloc: Global) -> Result<SystemDef, NoMemory> {
+        self.copy(alloc)
+    }
+}
+
+impl Deck {
+    /// An equal deck.
+    pub fn copy(&self, alloc: Global) -> Result<Deck, NoMemory>
+        ensures { IfOk result (λ deck. deck ≡ self.now) }
+    {
+        let lists = self.lists.copy(alloc)?;
+        let systems = copy_all(alloc, self.systems.as_slice())?;
+        let events = self.events.copy(alloc)?;
+        Ok(Deck {
+            star: self.star,
+            entries: self.entries,
+            limit: self.limit,
+            lists,
+            systems,
+            events,
+        })
+    }
 }

@@ -1,10 +1,10 @@
 //! The history of a run.
 ghost use Rattle.std.specs.Prelude.{◌≡◌, IfOk};
 
-use grs_base::{Code, Ctl, NoMemory, Res, Ret, TaskId};
+use grs_base::{Code, Copied, Ctl, Filter, List, NoMemory, Place, Res, Ret, Row, SysId, TaskId, copy_all};
 use std::alloc::Global;
 
-/// A request at its place in the history, with the reply that was given to it.
+/// A request at its place in the history, with the reply that was given to it; or a removal.
 #[derive(Drop)]
 pub enum HistEntry {
     Enq {
@@ -24,6 +24,18 @@ pub enum HistEntry {
     Release {
         task: TaskId,
         res: Res,
+    },
+    /// A look at one place, with the lists that it showed.
+    Look {
+        task: TaskId,
+        place: Place,
+        filter: Filter,
+        rows: List<Row>,
+    },
+    /// The system `by` removed the system `target`.
+    Remove {
+        by: SysId,
+        target: SysId,
     },
 }
 
@@ -67,6 +79,31 @@ impl HistEntry {
                 let res = res.copy(alloc)?;
                 Ok(HistEntry::Release { task: *task, res })
             }
+            HistEntry::Look {
+                task,
+                place,
+                filter,
+                rows,
+            } => {
+                let filter = filter.copy(alloc)?;
+                let rows = copy_all(alloc, rows.as_slice())?;
+                Ok(HistEntry::Look {
+                    task: *task,
+                    place: *place,
+                    filter,
+                    rows,
+                })
+            }
+            HistEntry::Remove { by, target } => Ok(HistEntry::Remove {
+                by: *by,
+                target: *target,
+            }),
         }
+    }
+}
+
+impl Copied for HistEntry {
+    fn copied(&self, alloc: Global) -> Result<HistEntry, NoMemory> {
+        self.copy(alloc)
     }
 }

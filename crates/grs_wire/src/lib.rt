@@ -5,12 +5,14 @@
 mod deck;
 mod history;
 pub mod laws;
+mod log;
 mod request;
 mod seen;
 mod told;
 
-pub use deck::{Choice, Deck, Event, JobDef, Name, SystemDef, TaskDef};
+pub use deck::{Choice, Deck, Desk, Event, JobDef, Name, Order, SystemDef, TaskDef};
 pub use history::HistEntry;
+pub use log::{NodeLog, StepDone};
 pub use request::{Answer, Fixed, Req, Want};
 pub use seen::{Names, Seen, TaskEnd};
-pub use told::{Told, ToldLine, Verb};
+pub use told::{Said, Told, ToldLine, Verb};

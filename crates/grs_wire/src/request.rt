@@ -1,7 +1,7 @@
 //! Requests and their answers.
 ghost use Rattle.std.specs.Prelude.{◌≡◌, IfOk};
 
-use grs_base::{Code, Ctl, NoMemory, Res, Ret, TaskId};
+use grs_base::{Code, Copied, Ctl, Filter, List, NoMemory, Res, Ret, Row, SysId, TaskId, copy_all};
 use std::alloc::Global;
 
 /// What a task asks for. `full` tells whether the task had as many elements as it may when it asked.
@@ -22,6 +22,12 @@ pub enum Want {
     Release {
         res: Res,
     },
+    /// Looks at `count` slices of the Systems resources, from slice `first` on.
+    Look {
+        first: u32,
+        count: u32,
+        filter: Filter,
+    },
 }
 
 #[derive(Drop)]
@@ -30,16 +36,27 @@ pub struct Req {
     pub want: Want,
 }
 
-/// The answer to a request. A RELEASE is answered with the code 00.
-#[derive(Clone, Copy, Debug, PartialEq, Eq)]
+/// The answer to a request: a code, or for looks the lists that they show. A RELEASE is answered with the
+/// code 00.
+#[derive(Drop)]
 pub enum Answer {
     Coded(Code),
+    Rows(List<Row>),
 }
 
-/// What an event fixed: a request that has its place in the history from then on.
+/// What an event fixed: what has its place in the history from then on.
 #[derive(Drop)]
 pub enum Fixed {
     Asked(Req),
+    /// A look at the Step and System resources of the task's system.
+    LocalLook {
+        task: TaskId,
+        filter: Filter,
+    },
+    /// A system was removed.
+    Purged {
+        target: SysId,
+    },
 }
 
 impl Want {
@@ -70,6 +87,18 @@ impl Want {
                 let res = res.copy(alloc)?;
                 Ok(Want::Release { res })
             }
+            Want::Look {
+                first,
+                count,
+                filter,
+            } => {
+                let filter = filter.copy(alloc)?;
+                Ok(Want::Look {
+                    first: *first,
+                    count: *count,
+                    filter,
+                })
+            }
         }
     }
 }
@@ -87,6 +116,24 @@ impl Req {
     }
 }
 
+impl Copied for Req {
+    fn copied(&self, alloc: Global) -> Result<Req, NoMemory> {
+        self.copy(alloc)
+    }
+}
+
+impl Answer {
+    /// An equal answer.
+    pub fn copy(&self, alloc: Global) -> Result<Answer, NoMemory>
+        ensures { IfOk result (λ answer. answer ≡ self.now) }
+    {
+        match self {
+            Answer::Coded(code) => Ok(Answer::Coded(*code)),
+            Answer::Rows(rows) => Ok(Answer::Rows(copy_all(alloc, rows.as_slice())?)),
+        }
+    }
+}
+
 impl Fixed {
     /// An equal value.
     pub fn copy(&self, alloc: Global) -> Result<Fixed, NoMemory>
@@ -94,6 +141,17 @@ impl Fixed {
     {
         match self {
             Fixed::Asked(req) => Ok(Fixed::Asked(req.copy(alloc)?)),
+            Fixed::LocalLook { task, filter } => Ok(Fixed::LocalLook {
+                task: *task,
+                filter: filter.copy(alloc)?,
+            }),
+            Fixed::Purged { target } => Ok(Fixed::Purged { target: *target }),
         }
+    }
+}
+
+impl Copied for Fixed {
+    fn copied(&self, alloc: Global) -> Result<Fixed, NoMemory> {
+        self.copy(alloc)
     }
 }
