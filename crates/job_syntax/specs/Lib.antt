@@ -4,3 +4,4 @@ pub mod Ask
 pub mod Display
 pub mod Said
 pub mod Spelled
+pub mod Lines

@@ -4,11 +4,13 @@
 
 mod ask;
 mod display;
+mod line;
 mod options;
 mod said;
 mod unit;
 
 pub use ask::{Ask, EnqAsk};
 pub use display::{ScanAsk, Shown, Wanted};
+pub use line::{is_bad, line_of};
 pub use options::Opts;
 pub use said::{Said, Verb, said_at, verb_of};
