@@ -1,37 +1,34 @@
 -- What is spelled so is read.
-use Rattle.std.proofs.Common.{◌≡◌, ℕ, suc, ◌+◌, ◌<◌, Bool, true, false, eqb, ltb, List, [], ◌∷◌, ◌++◌, length, take, drop, Option, Some, None, Ok, refl, sym, ap, subst, ◌∙◌, arith, append_assoc, length-append}
+use Rattle.std.proofs.Common.{◌≡◌, inl, inr, ◌⊎◌, ℕ, suc, ◌+◌, ◌<◌, Bool, true, false, eqb, ltb, List, [], ◌∷◌, ◌++◌, length, take, drop, Option, Some, None, Ok, refl, sym, ap, subst, ◌∙◌, arith, lit≤, append_assoc, length-append}
 use Rattle.std.specs.Prelude.{codes, position}
 use Rattle.std.specs.List.{flat_map, position_or_len}
 use Rattle.std.specs.Str.{bytes_eq}
-use Rattle.std.proofs.lemmas.List.Concat.{flat_map-cons}
 use Rattle.std.proofs.lemmas.Bool.{and_parts, ne_eqb, lt-ltb}
 use Rattle.std.proofs.lemmas.List.{take_at, drop_at}
-use Rattle.grs_base.specs.declared.line.Scope.{Scope}
-use Rattle.grs_base.specs.declared.line.Scope.TheVariants as scopes
-use Rattle.grs_base.specs.declared.resource.Ctl.{Ctl}
-use Rattle.grs_base.specs.declared.resource.Ctl.TheVariants.{E, S}
-use Rattle.grs_base.specs.declared.resource.Ret.TheVariants.{RetNone, RetUse, RetHave, RetTest, RetChng, RetEcb}
 use Rattle.deck_scan.specs.declared.token.Token.{Token}
-use Rattle.deck_scan.specs.declared.token.Token.TheVariants.{Word, Name, Open, Close, Comma}
+use Rattle.deck_scan.specs.declared.token.Token.TheVariants.{Word, Open, Close}
 use Rattle.deck_scan.specs.declared.token.TokenLine.{TokenLine}
-use Rattle.deck_form.specs.declared.options.Opts.{Opts}
-use Rattle.deck_form.specs.declared.ask.Ask.{Ask}
-use Rattle.deck_form.specs.declared.ask.EnqAsk.{EnqAsk}
+use Rattle.deck_scan.specs.Next.{Sets}
+use Rattle.deck_scan.proofs.Again.{is_free, all_again}
+use Rattle.deck_scan.proofs.Taking.{same_bytes}
+use Rattle.job_syntax.specs.declared.said.Verb.{Verb}
+use Rattle.job_syntax.specs.declared.said.Verb.TheVariants as lines
+use Rattle.job_syntax.specs.Said.{verb}
+use Rattle.job_syntax.specs.Spelled.{IsWord, verb_for}
+use Rattle.job_syntax.proofs.Again.{said_again}
+use Rattle.rnl_syntax.proofs.Again.{rnldef_again}
 use Rattle.deck_form.specs.declared.complex.Setup.{Setup}
 use Rattle.deck_form.specs.declared.event.Act.{Act}
 use Rattle.deck_form.specs.declared.event.Act.TheVariants as acts
 use Rattle.deck_form.specs.declared.form.Stmt.{Stmt}
 use Rattle.deck_form.specs.declared.form.Stmt.TheVariants as stmts
-use Rattle.deck_scan.specs.Next.{name_at, maybe}
+use Rattle.deck_form.specs.declared.form.Key.TheVariants as keys
 use Rattle.deck_form.specs.Words.{is_name_byte, all_name, is_name, short_at, parted, dotted_at, number_of}
-use Rattle.deck_form.specs.Options.{no_opts, ret_of, rnl_of, chosen, option_at, options_at}
-use Rattle.deck_form.specs.Ask.{ctl_at, scope_at, names_at, place_at, enq_may, deq_may, wait_may, enq_at, deq_at, wait_at}
 use Rattle.deck_form.specs.Complex.{no_setup, mode_of, entries_of, limit_of, with_operand, operand_at, complex_at}
-use Rattle.deck_form.specs.Event.{verb, pair_at, entry_at, other_at, act_at, event_at}
+use Rattle.deck_form.specs.Event.{verb as event_verb, pair_at, entry_at, other_at, act_at, event_at}
 use Rattle.deck_form.specs.UnbuiltWord.{is_unbuilt_word}
 use Rattle.deck_form.specs.Form.{named_at, key, plain_form, keyed, first_form, event_form, form}
-use Rattle.deck_form.proofs.Taken.{same_bytes}
-use Rattle.deck_form.specs.Spelled.{IsName, Names, ctl_word, scope_word, Sets, Opt, Given, Lists, On, option, IsFree, set, IsAsk, Operand, Mode, Entries, Limit, operand, IsFreeOperand, set_operand, IsComplex, IsFirst, IsAct, IsEvent, Spells}
+use Rattle.deck_form.specs.Spelled.{IsName, Operand, Mode, Entries, Limit, operand, IsFreeOperand, set_operand, IsComplex, IsFirst, IsAct, IsEvent, Spells}
 
 named_again : (n : List ℕ) → IsName n → named_at (Word n ∷ []) ≡ Some n
 unfolding named_at short_at
@@ -51,35 +48,18 @@ long_operand (Mode b) rest = ne_eqb _ 0 (λ e. omega (arith, e))
 long_operand (Entries w n) rest = ne_eqb _ 0 (λ e. omega (arith, e))
 long_operand (Limit w n) rest = ne_eqb _ 0 (λ e. omega (arith, e))
 
-maybe_operand_again : (x : Operand) (o : Setup) (rest : List Token) → IsFreeOperand x o → maybe operand_at o (operand x ++ rest) ≡ Some (set_operand x o, rest)
-maybe_operand_again x o rest h = rw (long_operand x rest) (operand_again x o rest h)
-
 free_operands : Setup → ℕ
 free_operands o = is_free o.star + is_free o.entries + is_free o.limit
 
 fewer_operands : (x : Operand) (o : Setup) → IsFreeOperand x o → free_operands o ≡ suc (free_operands (set_operand x o))
-unfolding free_operands is_free
+unfolding free_operands
 fewer_operands (Mode b) o h = rw h (omega arith)
 fewer_operands (Entries w n) o h = rw h.0 (omega arith)
 fewer_operands (Limit w n) o h = rw h.0 (omega arith)
 
-three_operands : free_operands no_setup ≡ 3
-unfolding free_operands is_free
-three_operands = refl
-
 operands_again : (given : List Operand) (c : Setup) → Sets IsFreeOperand set_operand no_setup given c → complex_at (flat_map operand given) ≡ Some c
-unfolding complex_at
-operands_again [] o h = rw h refl
-operands_again (x ∷ []) o h = rw (flat_map-cons operand x [], maybe_operand_again x no_setup [] h.0, h.1) refl
-operands_again (x ∷ y ∷ []) o h = rw (flat_map-cons operand x (y ∷ []), maybe_operand_again x no_setup (flat_map operand (y ∷ [])) h.0, flat_map-cons operand y [], maybe_operand_again y (set_operand x no_setup) [] h.1.0, h.1.1) refl
-operands_again (x ∷ y ∷ z ∷ []) o h =
-    rw (flat_map-cons operand x (y ∷ z ∷ []), maybe_operand_again x no_setup (flat_map operand (y ∷ z ∷ [])) h.0, flat_map-cons operand y (z ∷ []), maybe_operand_again y (set_operand x no_setup) (flat_map operand (z ∷ [])) h.1.0, flat_map-cons operand z [], maybe_operand_again z (set_operand y (set_operand x no_setup)) [] h.1.1.0, h.1.1.1) refl
-operands_again (x ∷ y ∷ z ∷ v ∷ vs) o h =
-    let a = fewer_operands x no_setup h.0 in
-    let b = fewer_operands y (set_operand x no_setup) h.1.0 in
-    let c = fewer_operands z (set_operand y (set_operand x no_setup)) h.1.1.0 in
-    let d = fewer_operands v (set_operand z (set_operand y (set_operand x no_setup))) h.1.1.1.0 in
-    absurd (omega (arith, three_operands, a, b, c, d))
+unfolding complex_at free_operands
+operands_again given c h = all_again IsFreeOperand set_operand operand operand_at free_operands long_operand operand_again fewer_operands 3 given no_setup c (lit≤ tt) h
 
 complex_again : (ts : List Token) (c : Setup) → IsComplex ts c → complex_at ts ≡ Some c
 complex_again ts c h = rw h.spelled (operands_again h.given c h.operands)
@@ -110,17 +90,9 @@ built_task : is_unbuilt_word (codes "TASK") ≡ false
 unfolding is_unbuilt_word
 built_task = refl
 
-built_enq : is_unbuilt_word (codes "ENQ") ≡ false
+built_rnldef : is_unbuilt_word (codes "RNLDEF") ≡ false
 unfolding is_unbuilt_word
-built_enq = refl
-
-built_deq : is_unbuilt_word (codes "DEQ") ≡ false
-unfolding is_unbuilt_word
-built_deq = refl
-
-built_wait : is_unbuilt_word (codes "WAIT") ≡ false
-unfolding is_unbuilt_word
-built_wait = refl
+built_rnldef = refl
 
 built_schedule : is_unbuilt_word (codes "SCHEDULE") ≡ false
 unfolding is_unbuilt_word
@@ -129,18 +101,28 @@ built_schedule = refl
 unbuilt_again : (w : List ℕ) (rest : List Token) → is_unbuilt_word w ≡ true → keyed (key w) rest ≡ Ok stmts.Unbuilt
 unfolding key plain_form
 unbuilt_again w rest h =
-    rw (other_word w (codes "COMPLEX") h built_complex, other_word w (codes "SYSTEM") h built_system, other_word w (codes "JOB") h built_job, other_word w (codes "TASK") h built_task, other_word w (codes "ENQ") h built_enq, other_word w (codes "DEQ") h built_deq, other_word w (codes "WAIT") h built_wait, other_word w (codes "SCHEDULE") h built_schedule, h) refl
+    rw (other_word w (codes "COMPLEX") h built_complex, other_word w (codes "RNLDEF") h built_rnldef, other_word w (codes "SYSTEM") h built_system, other_word w (codes "JOB") h built_job, other_word w (codes "TASK") h built_task, other_word w (codes "SCHEDULE") h built_schedule, h) refl
+
+-- the key of a task line whose word is built
+line_again : (v : Verb) (w : List ℕ) → IsWord v w → is_unbuilt_word w ≡ false → key w ≡ keys.Line v
+unfolding key is_unbuilt_word verb
+line_again lines.Enq w h k = rw h refl
+line_again lines.Reserve w h k = rw h refl
+line_again lines.Deq w h k = rw h refl
+line_again lines.Wait w h k = rw h refl
+line_again lines.Gqscan w h k = absurd (let z : true ≡ false = ap is_unbuilt_word (sym h) ∙ k in cc)
+line_again lines.Display w (inl h) k = absurd (let z : true ≡ false = ap is_unbuilt_word (sym h) ∙ k in cc)
+line_again lines.Display w (inr h) k = absurd (let z : true ≡ false = ap is_unbuilt_word (sym h) ∙ k in cc)
 
 first_again : (ts : List Token) (st : Stmt) → IsFirst ts st → first_form false ts ≡ Ok st
 unfolding first_form key plain_form
 first_again ts stmts.Unbuilt h = rw h.1.1 (unbuilt_again h.0 h.1.0 h.1.2)
 first_again ts (stmts.Complex c) h = rw (h.1, complex_again h.0 c h.2) refl
+first_again ts (stmts.Rnldef d) h = rw (h.1, rnldef_again h.0 d h.2) refl
 first_again ts (stmts.System n) h = rw (h.0, named_again n h.1) refl
 first_again ts (stmts.Job n) h = rw (h.0, named_again n h.1) refl
 first_again ts (stmts.Task n) h = rw (h.0, named_again n h.1) refl
-first_again ts (stmts.Enq e) h = rw (h.1, enq_again h.0 e h.2) refl
-first_again ts (stmts.Deq a) h = rw (h.1, deq_again h.0 a h.2) refl
-first_again ts (stmts.Wait a) h = rw (h.1, wait_again h.0 a h.2) refl
+first_again ts (stmts.Line s) h = rw (h.0.parts, line_again (verb_for s) h.0.word h.0.is_word h.1, said_again h.0.behind s h.0.is_behind) refl
 first_again ts stmts.Schedule h = rw h refl
 first_again ts (stmts.Event s a) h = absurd h
 
@@ -185,11 +167,11 @@ other_again n h = rw h refl
 
 -- the word of an event and what stands behind it
 abbrev acted : ℕ → List Token → Option Act
-acted entries (Word w ∷ ts) = act_at entries (verb w) ts
+acted entries (Word w ∷ ts) = act_at entries (event_verb w) ts
 acted entries _ = None
 
 act_again : (entries : ℕ) (ts : List Token) (a : Act) → IsAct entries ts a → acted entries ts ≡ Some a
-unfolding act_at verb
+unfolding act_at event_verb
 act_again entries ts (acts.Task j t) h = rw (h.0, pair_again j t h.1 h.2) refl
 act_again entries ts acts.Turn h = rw h refl
 act_again entries ts (acts.Send j t) h = rw (h.0, pair_again j t h.1 h.2) refl

@@ -1,25 +1,23 @@
 -- What is read is spelled so.
-use Rattle.std.proofs.Common.{◌≡◌, ℕ, ◌+◌, ◌<◌, Bool, true, false, cond, eqb, ltb, List, [], ◌∷◌, ◌++◌, length, get_or, take, drop, Option, Some, None, Ok, refl, sym, ap, subst, ◌∙◌, arith, drop-cons, add-one, append_assoc, append-nil}
+use Rattle.std.proofs.Common.{◌≡◌, ℕ, ◌+◌, ◌<◌, Bool, true, false, cond, eqb, ltb, List, [], ◌∷◌, ◌++◌, length, get_or, take, drop, Option, Some, None, Ok, refl, sym, ap, subst, ◌∙◌, arith, drop-cons, add-one}
 use Rattle.std.specs.Prelude.{codes, position, ◌&&◌}
 use Rattle.std.specs.List.{flat_map}
 use Rattle.std.specs.Str.{bytes_eq}
-use Rattle.std.proofs.lemmas.Bool.{and_parts, eqb-true, ne_eqb, ltb-true}
+use Rattle.std.proofs.lemmas.Bool.{and_parts, eqb-true, ltb-true}
 use Rattle.std.proofs.lemmas.List.{take-append-drop}
-use Rattle.std.proofs.lemmas.List.Concat.{flat_map-cons, flat_map-append}
 use Rattle.std.proofs.lemmas.List.Quantifiers.{position-Some}
-use Rattle.std.proofs.lemmas.Slice.Eq.{bytes_eq-Decides}
-use Rattle.grs_base.specs.declared.line.Scope.{Scope}
-use Rattle.grs_base.specs.declared.line.Scope.TheVariants as scopes
-use Rattle.grs_base.specs.declared.resource.Ctl.{Ctl}
-use Rattle.grs_base.specs.declared.resource.Ctl.TheVariants.{E, S}
-use Rattle.grs_base.specs.declared.resource.Ret.{Ret}
-use Rattle.grs_base.specs.declared.resource.Ret.TheVariants.{RetNone, RetUse, RetHave, RetTest, RetChng, RetEcb}
 use Rattle.deck_scan.specs.declared.token.Token.{Token}
-use Rattle.deck_scan.specs.declared.token.Token.TheVariants.{Word, Name, Open, Close, Comma, Equals, Unclosed}
+use Rattle.deck_scan.specs.declared.token.Token.TheVariants.{Word, Open, Close, Unclosed}
 use Rattle.deck_scan.specs.declared.token.TokenLine.{TokenLine}
-use Rattle.deck_form.specs.declared.options.Opts.{Opts}
-use Rattle.deck_form.specs.declared.ask.Ask.{Ask}
-use Rattle.deck_form.specs.declared.ask.EnqAsk.{EnqAsk}
+use Rattle.deck_scan.specs.Next.{◌>>=◌, open_at, close_at, end_at, any_word_at, up_to, Sets}
+use Rattle.deck_scan.proofs.Taking.{bind_some, guard_some, some_is, same_bytes, once_some, open_taken, close_taken, end_taken, any_word_taken, TookOne, all_taken}
+use Rattle.job_syntax.specs.declared.said.Verb.{Verb as LineVerb}
+use Rattle.job_syntax.specs.Said.{verb as line_verb, said_at}
+use Rattle.job_syntax.specs.Spelled.{IsWord, IsSaid}
+use Rattle.job_syntax.proofs.Taken.{said_taken, verb_taken}
+use Rattle.rnl_syntax.specs.Lines.{is_rnldef_word}
+use Rattle.rnl_syntax.specs.Operands.{rnldef_at}
+use Rattle.rnl_syntax.proofs.Taken.{rnldef_taken}
 use Rattle.deck_form.specs.declared.complex.Setup.{Setup}
 use Rattle.deck_form.specs.declared.event.Act.{Act}
 use Rattle.deck_form.specs.declared.event.Act.TheVariants as acts
@@ -29,15 +27,12 @@ use Rattle.deck_form.specs.declared.form.Stmt.{Stmt}
 use Rattle.deck_form.specs.declared.form.Stmt.TheVariants as stmts
 use Rattle.deck_form.specs.declared.form.Key.{Key}
 use Rattle.deck_form.specs.declared.form.Key.TheVariants as keys
-use Rattle.deck_scan.specs.Next.{◌>>=◌, open_at, close_at, comma_at, equals_at, end_at, any_word_at, value_at, name_at, maybe, up_to_three, once}
-use Rattle.deck_form.specs.Words.{is_name, short_at, parted, dotted_at, number_of, unit_of}
-use Rattle.deck_form.specs.Options.{no_opts, ret_of, rnl_of, with_ret, with_rnl, with_unit, chosen, option_at, options_at}
-use Rattle.deck_form.specs.Ask.{ctl_at, scope_at, names_at, place_at, enq_may, deq_may, wait_may, enq_at, deq_at, wait_at}
+use Rattle.deck_form.specs.Words.{is_name, short_at, parted, dotted_at, number_of}
 use Rattle.deck_form.specs.Complex.{no_setup, mode_of, is_entries, is_limit, entries_of, limit_of, with_star, with_entries, with_limit, with_operand, operand_at, complex_at}
 use Rattle.deck_form.specs.Event.{verb, pair_at, entry_at, other_at, alone_at, act_at, event_at}
 use Rattle.deck_form.specs.UnbuiltWord.{is_unbuilt_word}
-use Rattle.deck_form.specs.Form.{named_at, key, plain_form, or_bad, keyed, first_form, event_form, form}
-use Rattle.deck_form.specs.Spelled.{IsName, Names, ctl_word, scope_word, rnl_word, mode_word, Sets, Opt, Given, Lists, On, valued, option, IsFree, set, IsAsk, Operand, Mode, Entries, Limit, enclosed, operand, IsFreeOperand, set_operand, IsComplex, IsFirst, IsAct, IsEvent, Spells}
+use Rattle.deck_form.specs.Form.{named_at, line_key, key, plain_form, or_bad, keyed, first_form, event_form, form}
+use Rattle.deck_form.specs.Spelled.{IsName, mode_word, Operand, Mode, Entries, Limit, enclosed, operand, IsFreeOperand, set_operand, IsComplex, IsFirst, IsAct, IsEvent, Spells}
 
 short_taken : (ts : List Token) (x : List ℕ × List Token) → short_at ts ≡ Some x → (ts ≡ Word x.0 ∷ x.1) × IsName x.0
 unfolding short_at
@@ -147,7 +142,7 @@ operand_taken o ts x e =
 complex_taken : (ts : List Token) (c : Setup) → complex_at ts ≡ Some c → IsComplex ts c
 unfolding complex_at
 complex_taken ts c e =
-    let t = three_taken IsFreeOperand set_operand operand operand_at operand_taken no_setup ts c e in
+    let t = all_taken IsFreeOperand set_operand operand operand_at operand_taken 3 no_setup ts c e in
     record { given = t.0; spelled = t.1; operands = t.2 }
 
 -- ---- event lines
@@ -288,32 +283,37 @@ event_taken entries ts st e =
 -- the word of a key
 abbrev Worded : List ℕ → Key → Type 0
 Worded w keys.Complex = w ≡ codes "COMPLEX"
+Worded w keys.Rnldef = w ≡ codes "RNLDEF"
 Worded w keys.System = w ≡ codes "SYSTEM"
 Worded w keys.Job = w ≡ codes "JOB"
 Worded w keys.Task = w ≡ codes "TASK"
-Worded w keys.Enq = w ≡ codes "ENQ"
-Worded w keys.Deq = w ≡ codes "DEQ"
-Worded w keys.Wait = w ≡ codes "WAIT"
 Worded w keys.Schedule = w ≡ codes "SCHEDULE"
 Worded w keys.Unbuilt = is_unbuilt_word w ≡ true
+Worded w (keys.Line v) = (line_verb w ≡ Some v) × (is_unbuilt_word w ≡ false)
 Worded w keys.Unknown = Unit {0}
 
 by_test : (P : Key → Type 0) (b : Bool) (x y : Key) → (b ≡ true → P x) → P y → P (cond b x y)
 by_test P true x y p q = p refl
 by_test P false x y p q = q
 
+by_both : (P : Key → Type 0) (b : Bool) (x y : Key) → (b ≡ true → P x) → (b ≡ false → P y) → P (cond b x y)
+by_both P true x y p q = p refl
+by_both P false x y p q = q refl
+
+line_worded : (w : List ℕ) (o : Option LineVerb) → line_verb w ≡ o → is_unbuilt_word w ≡ false → Worded w (line_key o)
+line_worded w None is h = tt
+line_worded w (Some v) is h = (is, h)
+
 worded : (w : List ℕ) → Worded w (key w)
 unfolding key
 worded w =
     by_test (Worded w) (bytes_eq w (codes "COMPLEX")) _ _ (same_bytes w _)
+    (by_test (Worded w) (is_rnldef_word w) _ _ (same_bytes w _)
     (by_test (Worded w) (bytes_eq w (codes "SYSTEM")) _ _ (same_bytes w _)
     (by_test (Worded w) (bytes_eq w (codes "JOB")) _ _ (same_bytes w _)
     (by_test (Worded w) (bytes_eq w (codes "TASK")) _ _ (same_bytes w _)
-    (by_test (Worded w) (bytes_eq w (codes "ENQ")) _ _ (same_bytes w _)
-    (by_test (Worded w) (bytes_eq w (codes "DEQ")) _ _ (same_bytes w _)
-    (by_test (Worded w) (bytes_eq w (codes "WAIT")) _ _ (same_bytes w _)
     (by_test (Worded w) (bytes_eq w (codes "SCHEDULE")) _ _ (same_bytes w _)
-    (by_test (Worded w) (is_unbuilt_word w) _ _ (λ h. h) tt))))))))
+    (by_both (Worded w) (is_unbuilt_word w) _ _ (λ h. h) (line_worded w (line_verb w) refl)))))))
 
 ok_taken : (o : Option Stmt) (st : Stmt) → or_bad o ≡ Ok st → o ≡ Some st
 ok_taken (Some x) st e = cc
@@ -326,6 +326,9 @@ keyed_taken keys.Unbuilt w ts st is e = subst (IsFirst (Word w ∷ ts)) (some_is
 keyed_taken keys.Complex w ts st is e =
     let b = bind_some (complex_at ts) (λ c. Some (stmts.Complex c)) st (ok_taken _ st e) in
     subst (IsFirst (Word w ∷ ts)) (some_is (stmts.Complex b.0) st b.2) (ts, front w _ ts _ is refl, complex_taken ts b.0 b.1)
+keyed_taken keys.Rnldef w ts st is e =
+    let b = bind_some (rnldef_at ts) (λ d. Some (stmts.Rnldef d)) st (ok_taken _ st e) in
+    subst (IsFirst (Word w ∷ ts)) (some_is (stmts.Rnldef b.0) st b.2) (ts, front w _ ts _ is refl, rnldef_taken ts b.0 b.1)
 keyed_taken keys.System w ts st is e =
     let b = bind_some (named_at ts) (λ n. Some (stmts.System n)) st (ok_taken _ st e) in
     let n = named_taken ts b.0 b.1 in
@@ -338,15 +341,11 @@ keyed_taken keys.Task w ts st is e =
     let b = bind_some (named_at ts) (λ n. Some (stmts.Task n)) st (ok_taken _ st e) in
     let n = named_taken ts b.0 b.1 in
     subst (IsFirst (Word w ∷ ts)) (some_is (stmts.Task b.0) st b.2) (front w _ ts _ is n.0, n.1)
-keyed_taken keys.Enq w ts st is e =
-    let b = bind_some (enq_at ts) (λ a. Some (stmts.Enq a)) st (ok_taken _ st e) in
-    subst (IsFirst (Word w ∷ ts)) (some_is (stmts.Enq b.0) st b.2) (ts, front w _ ts _ is refl, enq_taken ts b.0 b.1)
-keyed_taken keys.Deq w ts st is e =
-    let b = bind_some (deq_at ts) (λ a. Some (stmts.Deq a)) st (ok_taken _ st e) in
-    subst (IsFirst (Word w ∷ ts)) (some_is (stmts.Deq b.0) st b.2) (ts, front w _ ts _ is refl, deq_taken ts b.0 b.1)
-keyed_taken keys.Wait w ts st is e =
-    let b = bind_some (wait_at ts) (λ a. Some (stmts.Wait a)) st (ok_taken _ st e) in
-    subst (IsFirst (Word w ∷ ts)) (some_is (stmts.Wait b.0) st b.2) (ts, front w _ ts _ is refl, wait_taken ts b.0 b.1)
+keyed_taken (keys.Line v) w ts st is e =
+    let b = bind_some (said_at v ts) (λ x. Some (stmts.Line x)) st (ok_taken _ st e) in
+    let said = said_taken v ts b.0 b.1 in
+    let made : IsSaid (Word w ∷ ts) b.0 = record { word = w; behind = ts; parts = refl; is_word = subst (λ (x : LineVerb). IsWord x w) (sym said.of) (verb_taken w v is.0); is_behind = said.behind } in
+    subst (IsFirst (Word w ∷ ts)) (some_is (stmts.Line b.0) st b.2) (made, is.1)
 keyed_taken keys.Schedule w ts st is e =
     let b = bind_some (end_at ts) (λ end. Some stmts.Schedule) st (ok_taken _ st e) in
     subst (IsFirst (Word w ∷ ts)) (some_is stmts.Schedule st b.2) (front w _ ts _ is (end_taken ts b.0 b.1))

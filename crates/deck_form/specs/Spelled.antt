@@ -1,20 +1,12 @@
 -- How the tokens of a line spell a statement, by cases on the statement.
-use Rattle.std.specs.Prelude.{◌≡◌, ℕ, Bool, true, false, ◌||◌, ◌<◌, ◌⊎◌, List, [], ◌∷◌, ◌++◌, codes, Some, None, Result, Ok, Err}
+use Rattle.std.specs.Prelude.{◌≡◌, ℕ, Bool, true, false, ◌||◌, ◌<◌, ◌⊎◌, List, [], ◌∷◌, ◌++◌, codes, Some, None, is_some, Result, Ok, Err}
 use Rattle.std.specs.List.{flat_map}
 use Rattle.std.specs.Str.{bytes_eq}
 use Rattle.grs_base.specs.declared.fault.Kind.{Kind}
 use Rattle.grs_base.specs.declared.fault.Kind.TheVariants.{UnknownStatement, BadOperand}
-use Rattle.grs_base.specs.declared.line.Scope.{Scope}
-use Rattle.grs_base.specs.declared.line.Scope.TheVariants as scopes
-use Rattle.grs_base.specs.declared.resource.Ctl.{Ctl}
-use Rattle.grs_base.specs.declared.resource.Ctl.TheVariants.{E, S}
-use Rattle.grs_base.specs.declared.resource.Ret.{Ret}
-use Rattle.grs_base.specs.declared.resource.Ret.TheVariants.{RetNone, RetUse, RetHave, RetTest, RetChng, RetEcb}
 use Rattle.deck_scan.specs.declared.token.Token.{Token}
-use Rattle.deck_scan.specs.declared.token.Token.TheVariants.{Word, Name, Open, Close, Comma, Equals, Unclosed}
+use Rattle.deck_scan.specs.declared.token.Token.TheVariants.{Word, Open, Close, Unclosed}
 use Rattle.deck_scan.specs.declared.token.TokenLine.{TokenLine}
-use Rattle.deck_form.specs.declared.options.Opts.{Opts}
-use Rattle.deck_form.specs.declared.ask.Ask.{Ask}
 use Rattle.deck_form.specs.declared.complex.Setup.{Setup}
 use Rattle.deck_form.specs.declared.event.Act.{Act}
 use Rattle.deck_form.specs.declared.event.Act.TheVariants as acts
@@ -22,9 +14,12 @@ use Rattle.deck_form.specs.declared.form.Stmt.{Stmt}
 use Rattle.deck_form.specs.declared.form.Stmt.TheVariants as stmts
 use Rattle.deck_form.specs.declared.form.FormError.{FormError}
 use Rattle.deck_form.specs.declared.form.FormError.TheVariants as errors
-use Rattle.deck_form.specs.Words.{is_name, number_of, unit_of}
-use Rattle.deck_form.specs.Options.{no_opts}
-use Rattle.deck_form.specs.Ask.{enq_may, deq_may, wait_may}
+use Rattle.deck_scan.specs.Next.{Sets}
+use Rattle.job_syntax.specs.Said.{verb}
+use Rattle.job_syntax.specs.Spelled.{IsSaid}
+use Rattle.rnl_syntax.specs.Lines.{is_rnldef_word}
+use Rattle.rnl_syntax.specs.Spelled.{IsRnldef}
+use Rattle.deck_form.specs.Words.{is_name, number_of}
 use Rattle.deck_form.specs.Complex.{no_setup, is_entries, is_limit}
 use Rattle.deck_form.specs.UnbuiltWord.{is_unbuilt_word}
 
@@ -66,16 +61,15 @@ pub record IsComplex (ts : List Token) (c : Setup) : Type 0 where
   pub spelled : ts ≡ flat_map operand given
   pub operands : Sets IsFreeOperand set_operand no_setup given c
 
--- A statement before SCHEDULE, and SCHEDULE.
+-- A statement before SCHEDULE, and SCHEDULE. A task line has a word that is built.
 abbrev pub IsFirst : List Token → Stmt → Type 0
 IsFirst ts stmts.Unbuilt = (w : List ℕ) × ((rest : List Token) × (ts ≡ Word w ∷ rest) × (is_unbuilt_word w ≡ true))
 IsFirst ts (stmts.Complex c) = (rest : List Token) × (ts ≡ Word (codes "COMPLEX") ∷ rest) × IsComplex rest c
+IsFirst ts (stmts.Rnldef d) = (rest : List Token) × (ts ≡ Word (codes "RNLDEF") ∷ rest) × IsRnldef rest d
 IsFirst ts (stmts.System n) = (ts ≡ Word (codes "SYSTEM") ∷ Word n ∷ []) × IsName n
 IsFirst ts (stmts.Job n) = (ts ≡ Word (codes "JOB") ∷ Word n ∷ []) × IsName n
 IsFirst ts (stmts.Task n) = (ts ≡ Word (codes "TASK") ∷ Word n ∷ []) × IsName n
-IsFirst ts (stmts.Enq e) = (rest : List Token) × (ts ≡ Word (codes "ENQ") ∷ rest) × IsAsk (Word (ctl_word e.ctl) ∷ Comma ∷ []) enq_may rest e.ask
-IsFirst ts (stmts.Deq a) = (rest : List Token) × (ts ≡ Word (codes "DEQ") ∷ rest) × IsAsk [] deq_may rest a
-IsFirst ts (stmts.Wait a) = (rest : List Token) × (ts ≡ Word (codes "WAIT") ∷ rest) × IsAsk [] wait_may rest a
+IsFirst ts (stmts.Line s) = (h : IsSaid ts s) × (is_unbuilt_word h.word ≡ false)
 IsFirst ts stmts.Schedule = ts ≡ Word (codes "SCHEDULE") ∷ []
 IsFirst ts (stmts.Event s a) = ⊥
 
@@ -113,14 +107,13 @@ Spells true entries l st = IsEvent entries l.tokens st
 abbrev pub is_statement_word : List ℕ → Bool
 is_statement_word w =
     bytes_eq w (codes "COMPLEX")
+    || (is_rnldef_word w
     || (bytes_eq w (codes "SYSTEM")
     || (bytes_eq w (codes "JOB")
     || (bytes_eq w (codes "TASK")
-    || (bytes_eq w (codes "ENQ")
-    || (bytes_eq w (codes "DEQ")
-    || (bytes_eq w (codes "WAIT")
     || (bytes_eq w (codes "SCHEDULE")
-    || is_unbuilt_word w)))))))
+    || (is_unbuilt_word w
+    || is_some (verb w)))))))
 
 abbrev pub BeginsOtherwise : List Token → Type 0
 BeginsOtherwise (Word w ∷ ts) = is_statement_word w ≡ false

@@ -48,6 +48,9 @@ form_taken w x e = subst (FormWord w) e
     (form_by w (bytes_eq w (codes "GENERIC")) (Some Generic) _ (same_bytes w _)
     (form_by w (bytes_eq w (codes "PATTERN")) (Some Pattern) None (same_bytes w _) tt)))
 
+enclosed_is : (word v w : List ℕ) (x : List ℕ) → w ≡ word → v ≡ x → enclosed w (Word v) ≡ enclosed word (Word x)
+enclosed_is word v w x h k = rw (h, k) refl
+
 -- ---- operands
 
 -- the value of an operand, and what stands behind it
@@ -65,7 +68,7 @@ which_value o w ts x is e =
     let y = bind_some (which_of v.0.0) (λ y. with_which o y >>= λ p. Some (p, v.0.1)) x v.2 in
     let p = bind_some (with_which o y.0) (λ p. Some (p, v.0.1)) x y.2 in
     let k = once_some o.which (record o { which = Some y.0 }) p.0 p.1 in
-    let word : enclosed w (Word v.0.0) ≡ operand (Of y.0) = rw (is, which_taken v.0.0 y.0 y.1) refl in
+    let word : enclosed w (Word v.0.0) ≡ operand (Of y.0) = enclosed_is (codes "RNL") v.0.0 w (which_word y.0) is (which_taken v.0.0 y.0 y.1) in
     let made : Valued o w ts p.0 v.0.1 = record { given = Of y.0; value = Word v.0.0; fresh = k.0; is = k.1; spelled = any_word_taken ts v.0 v.1; of = word } in
     subst (λ (z : Operands × List Token). Valued o w ts z.0 z.1) (some_is (p.0, v.0.1) x p.2) made
 
@@ -75,7 +78,7 @@ form_value o w ts x is e =
     let y = bind_some (form_of v.0.0) (λ y. with_form o y >>= λ p. Some (p, v.0.1)) x v.2 in
     let p = bind_some (with_form o y.0) (λ p. Some (p, v.0.1)) x y.2 in
     let k = once_some o.form (record o { form = Some y.0 }) p.0 p.1 in
-    let word : enclosed w (Word v.0.0) ≡ operand (As y.0) = rw (is, form_taken v.0.0 y.0 y.1) refl in
+    let word : enclosed w (Word v.0.0) ≡ operand (As y.0) = enclosed_is (codes "TYPE") v.0.0 w (form_word y.0) is (form_taken v.0.0 y.0 y.1) in
     let made : Valued o w ts p.0 v.0.1 = record { given = As y.0; value = Word v.0.0; fresh = k.0; is = k.1; spelled = any_word_taken ts v.0 v.1; of = word } in
     subst (λ (z : Operands × List Token). Valued o w ts z.0 z.1) (some_is (p.0, v.0.1) x p.2) made
 
@@ -142,7 +145,7 @@ whole_taken o d e =
     let which = bind_some o.which (λ which. o.form >>= λ form. o.q >>= λ q. cond (is_specific form && is_none o.r) None (Some (record { which = which; form = form; q = q; r = o.r }))) d e in
     let form = bind_some o.form (λ form. o.q >>= λ q. cond (is_specific form && is_none o.r) None (Some (record { which = which.0; form = form; q = q; r = o.r }))) d which.2 in
     let q = bind_some o.q (λ q. cond (is_specific form.0 && is_none o.r) None (Some (record { which = which.0; form = form.0; q = q; r = o.r }))) d form.2 in
-    let made = record { which = which.0; form = form.0; q = q.0; r = o.r } in
+    let made : Rnldef = record { which = which.0; form = form.0; q = q.0; r = o.r } in
     let u = unless_some (is_specific form.0 && is_none o.r) made d q.2 in
     subst (Whole o) u.1 (record { all = all_three o which.0 form.0 q.0 which.1 form.1 q.1; needed = u.0 })
 
