@@ -1,2 +1,3 @@
 pub mod WantLaws
+pub mod RemoveLaws
 pub mod HistoryLaws

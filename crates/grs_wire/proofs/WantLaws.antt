@@ -15,9 +15,9 @@ use Rattle.grs_base.specs.declared.decision.Standing.TheVariants.{OnlyShared, Ab
 use Rattle.grs_base.proofs.SameLaws.{same_res-exact, same_task-exact, same_task-itself}
 use Rattle.grs_base.proofs.ListLaws.{owns-append, owns-filter, owns-place, same_place, owners-le, has_task-place, is_apart-push, is_apart-filter, is_apart-exclusive}
 use Rattle.grs_base.proofs.StateLaws.{list_at-without, list_at-without_other, res_equality, list_of-effect, list_of-effect_other, only_owner, appends_absent}
-use Rattle.grs_wire.specs.Wants.{after_want, res_wanted}
+use Rattle.grs_wire.specs.Wants.{after_want}
 use Rattle.grs_wire.specs.declared.request.Want.{Want}
-use Rattle.grs_wire.specs.declared.request.Want.TheVariants.{Enq, Deq, Release}
+use Rattle.grs_wire.specs.declared.request.Want.TheVariants.{Enq, Deq, Release, Look}
 
 -- a property of both branches
 pub cond_both : {X : Type 0} (b : Bool) (x y : X) (P : X → Type 0) → P x → P y → P (cond b x y)
@@ -33,11 +33,19 @@ by_test P false x y p q = q refl
 pub by_res : (q r : Res) (P : Type 0) → (q ≡ r → P) → (same_res q r ≡ false → P) → P
 by_res q r P same other = elim (same_res q r) as (λ b. same_res q r ≡ b → P) [ true ↦ λ p. same (same_res-exact q r p) | false ↦ other ] refl
 
+-- whether a request may change the list of a resource
+abbrev pub speaks_of : Want → Res → Bool
+speaks_of (Enq r c ret full) q = same_res q r
+speaks_of (Deq r have) q = same_res q r
+speaks_of (Release r) q = same_res q r
+speaks_of (Look first count f) q = false
+
 -- other lists stay
-pub list_of-want_other : (s : State) (t : TaskId) (w : Want) (q : Res) → same_res q (res_wanted w) ≡ false → list_of (after_want s t w) q ≡ list_of s q
+pub list_of-want_other : (s : State) (t : TaskId) (w : Want) (q : Res) → speaks_of w q ≡ false → list_of (after_want s t w) q ≡ list_of s q
 list_of-want_other s t (Enq r c ret full) q h = list_of-effect_other s q r t c _ h
 list_of-want_other s t (Deq r have) q h = cond_both (is_owner (standing_of (list_of s r) t)) (without same_res s r t) s (λ x. list_of x q ≡ list_of s q) (list_at-without_other same_res res_equality s q r t h) refl
 list_of-want_other s t (Release r) q h = list_at-without_other same_res res_equality s q r t h
+list_of-want_other s t (Look first count f) q h = refl
 
 only_shared-place : (es : List Elem) (u : TaskId) → standing_of es u ≡ OnlyShared → (place_of es u ≡ 0) × (owners es ≡ 1)
 only_shared-place es u h = grind (arith, nat_tests, h)
@@ -71,6 +79,7 @@ pub owns-want : (s : State) (u : TaskId) (w : Want) (q : Res) (t : TaskId) → s
 owns-want s u (Enq r c ret full) q t apart own = owns-effect s q r t u c _ apart (only_owner (list_of s r) u c ret full) own
 owns-want s u (Deq r have) q t apart own = cond_both (is_owner (standing_of (list_of s r) u)) (without same_res s r u) s (λ x. owns (list_of x q) t ≡ true) (owns-without s q r t u apart own) own
 owns-want s u (Release r) q t apart own = owns-without s q r t u apart own
+owns-want s u (Look first count f) q t apart own = own
 
 absent-has : (es : List Elem) (u : TaskId) → standing_of es u ≡ Absent → has_task es u ≡ false
 absent-has es u h = grind (arith, nat_tests, h, has_task-place es u)
@@ -93,3 +102,4 @@ apart-want s u (Enq r c ret full) q all = by_res q r _
     (λ other. ap is_apart (list_of-effect_other s q r u c _ other) ∙ all q)
 apart-want s u (Deq r have) q all = cond_both (is_owner (standing_of (list_of s r) u)) (without same_res s r u) s (λ x. is_apart (list_of x q) ≡ true) (apart-without s q r u (all q)) (all q)
 apart-want s u (Release r) q all = apart-without s q r u (all q)
+apart-want s u (Look first count f) q all = all q

@@ -1,0 +1,12 @@
+//! Which entry of a name list matches a resource's names. An entry is compared by its own form alone;
+//! what a match does to a request is not known here. (z/OS MVS Planning: Global Resource Serialization,
+//! "Resource name lists".)
+#![tactic(auto)]
+
+mod entry;
+mod pattern;
+#[cfg(test)]
+mod tests;
+
+pub use entry::{find, matches};
+pub use pattern::matches_pattern;

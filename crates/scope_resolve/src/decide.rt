@@ -1,0 +1,117 @@
+//! Resolution by the name lists.
+ghost use Rattle.std.specs.Prelude.{◌≡◌, IfOk};
+ghost use Rattle.scope_resolve.specs.Resolve.{is_listed, unless_excluded, looked_up, scope_of, reserve_looked_up, reserve_kind, kind_of, res_in, resolved};
+
+use grs_base::{Lists, NoMemory, Qname, Res, RnlList, Rname, Scope, SysId};
+use rnl_match::find;
+use std::alloc::Global;
+
+/// What a line asks for: names, a scope, and whether the name lists are looked at (`rnl`). A RESERVE is for
+/// the whole complex, whatever the scope says.
+#[derive(Clone, Copy)]
+pub struct Ask<'a> {
+    pub reserve: bool,
+    pub q: &'a Qname,
+    pub r: &'a Rname,
+    pub scope: Scope,
+    pub rnl: bool,
+}
+
+/// The resource that is meant, and whether the request reserves its device (`hardware`).
+#[derive(Drop)]
+pub struct Resolved {
+    pub res: Res,
+    pub hardware: bool,
+}
+
+fn is_listed(list: &RnlList, q: &Qname, r: &Rname) -> bool
+    ensures { result ≡ is_listed list.now q.now r.now }
+{
+    find(list, q, r).is_some()
+}
+
+/// A request for the whole complex.
+fn unless_excluded(lists: &Lists, q: &Qname, r: &Rname) -> Scope
+    ensures { result ≡ unless_excluded lists.now q.now r.now }
+{
+    if is_listed(&lists.excl, q, r) {
+        Scope::System
+    } else {
+        Scope::Systems
+    }
+}
+
+/// A request that is looked up.
+fn looked_up(lists: &Lists, scope: Scope, q: &Qname, r: &Rname) -> Scope
+    ensures { result ≡ looked_up lists.now scope q.now r.now }
+{
+    match scope {
+        Scope::Step => Scope::Step,
+        Scope::System if !is_listed(&lists.incl, q, r) => Scope::System,
+        Scope::System | Scope::Systems => unless_excluded(lists, q, r),
+    }
+}
+
+/// A RESERVE that is looked up.
+fn reserve_looked_up(lists: &Lists, q: &Qname, r: &Rname) -> (Scope, bool)
+    ensures { result ≡ reserve_looked_up lists.now q.now r.now }
+{
+    if is_listed(&lists.excl, q, r) {
+        (Scope::System, true)
+    } else {
+        (Scope::Systems, !is_listed(&lists.con, q, r))
+    }
+}
+
+/// The scope of what is asked for, and whether its device is reserved.
+///
+/// A request of a system that the inclusion list names goes to the whole complex, and one for the whole
+/// complex that the exclusion list names stays in its system. A RESERVE that the exclusion list names stays
+/// in its system and reserves its device; one that the conversion list names is for the whole complex and
+/// doesn't; any other does both. Requests of a step, and those with RNL=NO, aren't looked up.
+pub fn resolve_kind(lists: &Lists, ask: &Ask<'_>) -> (Scope, bool)
+    ensures { result ≡ kind_of lists.now ask.now.reserve ask.now.scope ask.now.rnl ask.now.q.now ask.now.r.now }
+{
+    match (ask.reserve, ask.rnl) {
+        (true, true) => reserve_looked_up(lists, ask.q, ask.r),
+        (true, false) => (Scope::Systems, true),
+        (false, true) => (looked_up(lists, ask.scope, ask.q, ask.r), false),
+        (false, false) => (ask.scope, false),
+    }
+}
+
+/// The resource of these names and this scope.
+fn res_in(
+    alloc: Global,
+    scope: Scope,
+    system: SysId,
+    job: u16,
+    q: &Qname,
+    r: &Rname,
+) -> Result<Res, NoMemory>
+    ensures { IfOk result (λ res. res ≡ res_in scope system job q.now r.now) }
+{
+    let q = q.copy(alloc)?;
+    let r = r.copy(alloc)?;
+    match scope {
+        Scope::Step => Ok(Res::Step { system, job, q, r }),
+        Scope::System => Ok(Res::System { system, q, r }),
+        Scope::Systems => Ok(Res::Systems { q, r }),
+    }
+}
+
+/// The resource that a job of a system asks for, and whether the device is reserved, as `resolve_kind` says.
+/// Memory is taken for the names alone.
+pub fn resolve(
+    alloc: Global,
+    lists: &Lists,
+    ask: &Ask<'_>,
+    system: SysId,
+    job: u16,
+) -> Result<Resolved, NoMemory>
+    ensures { IfOk result (λ found. found ≡ resolved lists.now ask.now.reserve ask.now.scope ask.now.rnl system job ask.now.q.now ask.now.r.now) }
+{
+    let (scope, hardware) = resolve_kind(lists, ask);
+    let res = res_in(alloc, scope, system, job, ask.q, ask.r)?;
+    Ok(Resolved { res, hardware })
+}
