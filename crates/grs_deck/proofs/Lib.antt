@@ -6,3 +6,4 @@ pub mod SpellsLaws
 pub mod Least
 pub mod First
 pub mod WholeLaws
+pub mod Samples

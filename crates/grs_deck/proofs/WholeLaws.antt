@@ -23,6 +23,7 @@ use Rattle.deck_form.specs.declared.complex.Setup.{Setup}
 use Rattle.deck_form.specs.declared.form.Stmt.{Stmt}
 use Rattle.deck_form.specs.declared.form.Stmt.TheVariants as stmts
 use Rattle.deck_form.specs.Complex.{no_setup, is_entries, is_limit}
+use Rattle.deck_form.specs.Statements.{statements}
 use Rattle.deck_scan.specs.Next.{◌>>=◌, Sets}
 use Rattle.deck_form.specs.Spelled.{Operand, Mode, Entries, Limit, IsFreeOperand, set_operand, IsComplex, IsAct, Spells}
 use Rattle.deck_scan.proofs.Taking.{bind_some}
@@ -200,7 +201,7 @@ first_draft = record { lists = record { incl = no_list Incl; excl = no_list Excl
 -- Each deck that is spelled is whole.
 pub spelled_whole : (text : List ℕ) (d : Deck) → SpellsDeck text d → IsDeck d
 spelled_whole text d h =
-    let w = says_keeps h.lines no_draft h.draft h.says first_draft in
+    let w = says_keeps (statements h.lines) no_draft h.draft h.says first_draft in
     let some : 0 < length h.draft.deck.systems = subst (λ (x : Deck). 0 < length x.systems) (sym h.is) h.system in
     let made : IsDeck h.draft.deck = record { some = some; fits = w.fits; entries = w.entries; limit = w.limit; lists = w.lists; events = w.events } in
     subst IsDeck h.is made

@@ -9,3 +9,6 @@ mod print;
 pub use lines::{goes_on, is_rnldef_word, with_line};
 pub use operands::{Operands, Rnldef, entry_of, is_bad, rnldef_at};
 pub use print::print_rnldef;
+
+#[cfg(test)]
+mod tests;
