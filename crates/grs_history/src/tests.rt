@@ -44,7 +44,7 @@ fn ask(fixed: &mut List<(SysId, Fixed)>, number: u16, res: Res, ctl: Ctl) -> Res
 fn code_of(entry: &HistEntry) -> Code {
     match entry {
         HistEntry::Enq { code, .. } | HistEntry::Deq { code, .. } => *code,
-        HistEntry::Release { .. } => Code::C00,
+        HistEntry::Release { .. } | HistEntry::Look { .. } | HistEntry::Remove { .. } => Code::C00,
     }
 }
 

@@ -1,48 +1,68 @@
 -- What the lines of a task ask.
-use Rattle.std.specs.Prelude.{ℕ, zero, suc, Bool, true, false, ◌&&◌, ◌==◌, List, [], ◌∷◌, ◌++◌, map, cond, Option, Some, None, slice_get, is_some, ◌+◌}
+use Rattle.std.specs.Prelude.{ℕ, suc, Bool, true, false, if◌then◌else◌, ◌==◌, List, [], ◌∷◌, ◌++◌, length, map, cond, Option, Some, None, slice_get}
 use Rattle.grs_base.specs.declared.resource.Ctl.{Ctl}
 use Rattle.grs_base.specs.declared.resource.Ret.{Ret}
 use Rattle.grs_base.specs.declared.resource.Res.{Res}
-use Rattle.grs_base.specs.declared.resource.Res.TheVariants as kinds
 use Rattle.grs_base.specs.declared.resource.TaskId.{TaskId}
 use Rattle.grs_base.specs.declared.line.Scope.{Scope}
-use Rattle.grs_base.specs.declared.line.Scope.TheVariants.{Step, System, Systems}
+use Rattle.grs_base.specs.declared.line.Scope.TheVariants.{Systems}
 use Rattle.grs_base.specs.declared.line.Line.{Line}
-use Rattle.grs_base.specs.declared.line.Line.TheVariants.{Enq, Deq, Wait}
+use Rattle.grs_base.specs.declared.line.Line.TheVariants as lines
 use Rattle.grs_base.specs.declared.line.Item.{Item}
+use Rattle.grs_base.specs.declared.look.Place.{Place}
+use Rattle.grs_base.specs.declared.look.Filter.{Filter}
+use Rattle.grs_base.specs.declared.rnl.Lists.{Lists}
 use Rattle.grs_wire.specs.declared.deck.Deck.{Deck}
 use Rattle.grs_wire.specs.declared.deck.SystemDef.{SystemDef}
 use Rattle.grs_wire.specs.declared.deck.JobDef.{JobDef}
 use Rattle.grs_wire.specs.declared.deck.TaskDef.{TaskDef}
+use Rattle.scope_resolve.specs.declared.decide.Resolved.{Resolved}
+use Rattle.scope_resolve.specs.Resolve.{resolved}
+use Rattle.grs_legal.specs.declared.meaning.Meaning.{Meaning}
+use Rattle.grs_legal.specs.declared.meaning.Meaning.TheVariants.{Enq, Deq, Wait, Nothing}
 
 -- what is asked, without its answer
 pub data Ask : Type 0 where
   AsksEnq : (res : Res) → (ctl : Ctl) → (ret : Ret) → Ask
   AsksDeq : (res : Res) → (have : Bool) → Ask
   AsksRelease : (res : Res) → Ask
+  AsksLook : (place : Place) → (filter : Filter) → Ask
 
 -- the resource of two names in a task's line
-abbrev pub resolved : TaskId → Scope → List ℕ → List ℕ → Res
-resolved t Step q r = kinds.Step t.system t.job q r
-resolved t System q r = kinds.System t.system q r
-resolved t Systems q r = kinds.Systems q r
+abbrev pub named : Lists → TaskId → Scope → List ℕ → List ℕ → Bool → Res
+named lists t scope q r rnl = (resolved lists false scope rnl t.system t.job q r).res
 
--- what a line asks: a WAIT asks nothing
-abbrev pub ask_of : TaskId → Line → Option Ask
-ask_of t (Enq [] ret rnl) = None
-ask_of t (Enq (i ∷ more) ret rnl) = Some (AsksEnq (resolved t i.scope i.q i.r) i.ctl ret)
-ask_of t (Deq q r scope have unit rnl) = Some (AsksDeq (resolved t scope q r) have)
-ask_of t (Wait q r scope rnl) = None
+-- what a RESERVE means that was resolved like this: it has its unit where it also reserves in hardware
+abbrev pub reserved : Resolved → Ctl → ℕ → Ret → Meaning
+reserved found ctl unit ret = Enq found.res ctl ret (if found.hardware then Some unit else None)
 
--- what is asked, before the rest
-abbrev pub before_asks : Option Ask → List Ask → List Ask
-before_asks None rest = rest
-before_asks (Some a) rest = a ∷ rest
+-- what a line means: a RESERVE asks as an ENQ does, and DEQ and WAIT resolve as ENQ does; no line that shows
+-- lists asks anything yet
+abbrev pub meaning_of : Lists → TaskId → Line → Meaning
+meaning_of lists t (lines.Enq [] ret rnl) = Nothing
+meaning_of lists t (lines.Enq (i ∷ more) ret rnl) = Enq (named lists t i.scope i.q i.r rnl) i.ctl ret None
+meaning_of lists t (lines.Reserve q r ctl unit ret rnl) = reserved (resolved lists true Systems rnl t.system t.job q r) ctl unit ret
+meaning_of lists t (lines.Deq q r scope have unit rnl) = Deq (named lists t scope q r rnl) have
+meaning_of lists t (lines.Wait q r scope rnl) = Wait (named lists t scope q r rnl)
+meaning_of lists t (lines.Gqscan global filter) = Nothing
+meaning_of lists t lines.DisplayC = Nothing
+meaning_of lists t (lines.DisplayRes q r) = Nothing
+
+-- what is asked by a line that means this, in order
+abbrev pub asks_in : Meaning → List Ask
+asks_in (Enq r c ret unit) = AsksEnq r c ret ∷ []
+asks_in (Deq r have) = AsksDeq r have ∷ []
+asks_in (Wait r) = []
+asks_in Nothing = []
 
 -- what these lines ask, in order
-abbrev pub asks_of : TaskId → List Line → List Ask
-asks_of t [] = []
-asks_of t (l ∷ ls) = before_asks (ask_of t l) (asks_of t ls)
+abbrev pub asks_of : List Meaning → List Ask
+asks_of [] = []
+asks_of (l ∷ ls) = asks_in l ++ asks_of ls
+
+-- whether a line asks nothing
+abbrev pub is_silent : Meaning → Bool
+is_silent l = length (asks_in l) == 0
 
 -- the place of a task's job, and the task's lines
 pub record Script : Type 0 where
@@ -76,6 +96,11 @@ lines_at job (Some s) = cond (s.job == job) (Some s.lines) None
 abbrev pub lines_in : List Script → TaskId → Option (List Line)
 lines_in scripts t = lines_at t.job (slice_get scripts t.task)
 
--- the lines of a task of the deck
-abbrev pub lines_of : Deck → TaskId → Option (List Line)
-lines_of deck t = lines_in (scripts_of deck t.system.0) t
+-- what the lines of a task mean, where it has lines
+abbrev pub meanings : Lists → TaskId → Option (List Line) → Option (List Meaning)
+meanings lists t None = None
+meanings lists t (Some ls) = Some (map (meaning_of lists t) ls)
+
+-- what the lines of a task of the deck mean
+abbrev pub lines_of : Deck → TaskId → Option (List Meaning)
+lines_of deck t = meanings deck.lists t (lines_in (scripts_of deck t.system.0) t)

@@ -2,6 +2,6 @@
 //! and the plain lists.
 #![tactic(auto)]
 
-mod resource;
+mod meaning;
 
-pub use resource::resolve;
+pub use meaning::{Meaning, meaning_of};

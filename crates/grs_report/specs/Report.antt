@@ -24,7 +24,7 @@ report deck seen =
     head_line
     ++ schedule_text names seen.events
     ++ history_text names seen.hist
-    ++ told_text seen.told seen.ended deck.systems
+    ++ told_text names seen.told seen.ended deck.systems
     ++ queues_text names seen.queues
     ++ units_text names seen.units
     ++ words_text names seen.words

@@ -3,8 +3,8 @@ ghost use Rattle.std.specs.Prelude.{◌≡◌, ◌++◌, OnOk, IfOk};
 ghost use Rattle.grs_report.specs.History.{history_line, history_lines, history_text};
 
 use super::lines::{number, put_line};
-use super::names::task_word;
-use super::rows::res_word;
+use super::names::{name_at, task_word};
+use super::rows::{filter_word, place_word, put_line_with_rows, res_word};
 use super::spelled::{code_word, ctl_word, have_word, ret_word};
 use grs_base::{List, NoMemory};
 use grs_wire::{HistEntry, Names};
@@ -68,6 +68,32 @@ fn put_entry(
                     code.as_slice(),
                 ],
             )
+        }
+        HistEntry::Look {
+            task,
+            place,
+            filter,
+            rows,
+        } => {
+            let task = task_word(alloc, names, *task)?;
+            let place = place_word(alloc, *place)?;
+            let filter = filter_word(alloc, filter)?;
+            let count = number(alloc, rows.len() as u64)?;
+            let words = [
+                b"H".as_slice(),
+                n.as_slice(),
+                task.as_slice(),
+                b"LOOK",
+                place.as_slice(),
+                filter.as_slice(),
+                count.as_slice(),
+            ];
+            put_line_with_rows(alloc, names, &words, rows.as_slice(), out)
+        }
+        HistEntry::Remove { by, target } => {
+            let by = name_at(&names.systems, usize::from(by.0));
+            let target = name_at(&names.systems, usize::from(target.0));
+            put_line(out, &[b"H".as_slice(), n.as_slice(), by, b"REMOVE", target])
         }
         HistEntry::Release { task, res } => {
             let task = task_word(alloc, names, *task)?;

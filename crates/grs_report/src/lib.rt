@@ -13,6 +13,7 @@ mod state;
 #[cfg(test)]
 mod tests;
 mod told;
+mod told_line;
 mod whole;
 
 pub use ends::all_ended;

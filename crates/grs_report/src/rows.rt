@@ -1,13 +1,14 @@
 //! Resources and their lists as lines. Names of resources are printed so that they can be read back.
-ghost use Rattle.std.specs.Prelude.{◌≡◌, ◌<◌, ◌++◌, ◌∷◌, [], OnOk, OnErr, IfOk};
+ghost use Rattle.std.specs.Prelude.{◌≡◌, ◌<◌, ◌++◌, ◌∷◌, [], map, OnOk, OnErr, IfOk};
 ghost use Rattle.grs_base.specs.Printed.{printed_name};
-ghost use Rattle.grs_report.specs.Lines.{spaced};
-ghost use Rattle.grs_report.specs.Rows.{names_word, res_word, elem_word, elem_words, row_line};
+ghost use Rattle.std.specs.List.{flat_map};
+ghost use Rattle.grs_report.specs.Lines.{spaced, line};
+ghost use Rattle.grs_report.specs.Rows.{names_word, res_word, elem_word, elem_words, row_line, place_word, filter_word};
 
-use super::lines::put_word;
+use super::lines::{number, put_line, put_word};
 use super::names::{name_at, name_in, task_word};
 use super::spelled::ctl_word;
-use grs_base::{Elem, List, NoMemory, Qname, Res, Rname, Row, print_name};
+use grs_base::{Elem, Filter, List, NoMemory, Place, Qname, Res, Rname, Row, print_name};
 use grs_wire::Names;
 use std::alloc::Global;
 
@@ -112,4 +113,75 @@ pub fn print_row(
     put_word(out, res.as_slice())?;
     put_elems(alloc, names, row.owners, row.elems.as_slice(), out)?;
     out.push(b'\n')
+}
+
+/// Puts rows behind a text, each as a line that begins with this letter.
+pub(crate) fn put_rows(
+    alloc: Global,
+    names: &Names,
+    letter: u8,
+    rows: &[Row],
+    out: &mut List<u8>,
+) -> Result<(), NoMemory>
+    ensures { OnOk result (out.new ≡ out.old ++ flat_map (row_line names.now letter) rows.now) }
+{
+    for row in rows {
+        print_row(alloc, letter, row, names, out)?;
+    }
+    Ok(())
+}
+
+/// Puts a line of words behind a text, and the rows that it tells of.
+pub(crate) fn put_line_with_rows(
+    alloc: Global,
+    names: &Names,
+    words: &[&[u8]],
+    rows: &[Row],
+    out: &mut List<u8>,
+) -> Result<(), NoMemory>
+    ensures { OnOk result (out.new ≡ out.old
+        ++ (line (map (λ w. w.now) words.now) ++ flat_map (row_line names.now 82) rows.now)) }
+{
+    put_line(out, words)?;
+    put_rows(alloc, names, b'R', rows, out)
+}
+
+/// Where a look was taken.
+#[tactic(auto, unfolding(crate::specs::Rows::place_word))]
+pub(crate) fn place_word(alloc: Global, place: Place) -> Result<List<u8>, NoMemory>
+    ensures { IfOk result (λ text. text ≡ place_word place) }
+{
+    match place {
+        Place::Slice(slice) => number(alloc, u64::from(slice)),
+        Place::Local(_) => List::from_bytes(alloc, b"LOCAL"),
+    }
+}
+
+/// The names that a look asks for.
+#[tactic(auto, unfolding(crate::specs::Rows::filter_word))]
+fn asked_names(alloc: Global, q: &Option<Qname>, r: &Option<Rname>) -> Result<List<u8>, NoMemory>
+    ensures { IfOk result (λ text. text ≡ filter_word (Filter.Named q.now r.now)) }
+{
+    let mut text = List::from_bytes(alloc, b"(")?;
+    if let Some(q) = q {
+        put_name(alloc, q.bytes(), &mut text)?;
+    }
+    if let Some(r) = r {
+        text.push(b',')?;
+        put_name(alloc, r.bytes(), &mut text)?;
+    }
+    text.push(b')')?;
+    Ok(text)
+}
+
+/// What a look shows.
+#[tactic(auto, unfolding(crate::specs::Rows::filter_word))]
+pub(crate) fn filter_word(alloc: Global, filter: &Filter) -> Result<List<u8>, NoMemory>
+    ensures { IfOk result (λ text. text ≡ filter_word filter.now) }
+{
+    match filter {
+        Filter::All => List::from_bytes(alloc, b"ALL"),
+        Filter::Contended => List::from_bytes(alloc, b"C"),
+        Filter::Named { q, r } => asked_names(alloc, q, r),
+    }
 }

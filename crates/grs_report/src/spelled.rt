@@ -1,11 +1,11 @@
 //! How controls, answers and numbers are written. No names are known here.
 ghost use Rattle.std.specs.Prelude.{◌≡◌, ◌<◌, IfOk};
 ghost use Rattle.grs_base.specs.Printed.{hex_digit};
-ghost use Rattle.grs_report.specs.Spelled.{ctl_word, ret_word, have_word, code_word, verb_word, end_word, event_word, three_digits, unit_word};
+ghost use Rattle.grs_report.specs.Spelled.{ctl_word, ret_word, have_word, code_word, verb_word, order_word, said_word, end_word, event_word, three_digits, unit_word};
 
 use super::lines::number;
 use grs_base::{Code, Ctl, List, NoMemory, Ret};
-use grs_wire::{TaskEnd, Verb};
+use grs_wire::{Said, TaskEnd, Verb};
 use std::alloc::Global;
 
 pub(crate) fn ctl_word(ctl: Ctl) -> &'static [u8]
@@ -43,6 +43,30 @@ pub(crate) fn verb_word(verb: Verb) -> &'static [u8]
         Verb::Enq => b"ENQ",
         Verb::Deq => b"DEQ",
         Verb::Wait => b"WAIT",
+        Verb::Gqscan => b"GQSCAN",
+        Verb::Display => b"DISPLAY",
+    }
+}
+
+/// The order that was given at a desk.
+pub(crate) fn order_word(said: Said) -> &'static [u8]
+    ensures { result.now ≡ order_word said }
+{
+    match said {
+        Said::StarDone | Said::StarAlready => b"SETGRS",
+        Said::VaryDone | Said::VaryNoSuch | Said::VaryInStar => b"VARY",
+    }
+}
+
+/// What was said to an order.
+pub(crate) fn said_word(said: Said) -> &'static [u8]
+    ensures { result.now ≡ said_word said }
+{
+    match said {
+        Said::StarDone | Said::VaryDone => b"DONE",
+        Said::StarAlready => b"ALREADY",
+        Said::VaryNoSuch => b"NOSUCH",
+        Said::VaryInStar => b"INSTAR",
     }
 }
 

@@ -2,25 +2,15 @@
 //! which they are given.
 ghost use Rattle.std.specs.Prelude.{◌≡◌, ◌++◌, OnOk, IfOk};
 ghost use Rattle.std.specs.List.{flat_map};
-ghost use Rattle.grs_report.specs.Rows.{row_line};
 ghost use Rattle.grs_report.specs.State.{queues_text, unit_line, units_text, mask_of, manager_of, epoch_of, manager_word, word_line, word_lines, words_text, mode_line};
 
 use super::lines::{number, put_line};
 use super::names::name_at;
-use super::rows::print_row;
+use super::rows::put_rows;
 use super::spelled::unit_word;
 use grs_base::{List, NoMemory, Row, SysId};
 use grs_wire::Names;
 use std::alloc::Global;
-
-fn put_rows(alloc: Global, names: &Names, rows: &[Row], out: &mut List<u8>) -> Result<(), NoMemory>
-    ensures { OnOk result (out.new ≡ out.old ++ flat_map (row_line names.now 81) rows.now) }
-{
-    for row in rows {
-        print_row(alloc, b'Q', row, names, out)?;
-    }
-    Ok(())
-}
 
 /// Puts the lists that aren't empty behind a text.
 #[tactic(auto, unfolding(crate::specs::State::queues_text))]
@@ -33,7 +23,7 @@ pub(crate) fn put_queues(
     ensures { OnOk result (out.new ≡ out.old ++ queues_text names.now rows.now) }
 {
     put_line(out, &[b"QUEUES".as_slice()])?;
-    put_rows(alloc, names, rows, out)
+    put_rows(alloc, names, b'Q', rows, out)
 }
 
 #[tactic(auto, unfolding(crate::specs::State::unit_line))]

@@ -1,5 +1,7 @@
 use super::{all_ended, names_of, print_row, report};
-use grs_base::{Code, Ctl, Elem, List, NoMemory, Qname, Res, Ret, Rname, Row, SysId, TaskId};
+use grs_base::{
+    Code, Ctl, Elem, List, Lists, NoMemory, Qname, Res, Ret, Rname, Row, SysId, TaskId,
+};
 use grs_wire::{
     Choice, Deck, Event, HistEntry, JobDef, Seen, SystemDef, TaskDef, TaskEnd, Told, ToldLine, Verb,
 };
@@ -42,12 +44,14 @@ fn deck(alloc: Global) -> Result<Deck, NoMemory> {
     };
     let system = SystemDef {
         name: List::from_bytes(alloc, b"SYA")?,
+        desk: List::new(alloc),
         jobs: one(alloc, job)?,
     };
     Ok(Deck {
         star: false,
         entries: 64,
         limit: 4096,
+        lists: Lists::new(alloc),
         systems: one(alloc, system)?,
         events: List::new(alloc),
     })

@@ -1,15 +1,15 @@
 //! What was told, system by system and task by task. The lines of a system are picked out of all lines once,
 //! and those of a task out of its system's.
-ghost use Rattle.std.specs.Prelude.{◌≡◌, ◌++◌, ◌+◌, OnOk, IfOk};
-ghost use Rattle.std.specs.List.{flat_map};
+ghost use Rattle.std.specs.Prelude.{◌≡◌, ◌++◌, ◌+◌, map, OnOk, IfOk};
 ghost use Rattle.grs_base.specs.Same.{same_task};
-ghost use Rattle.grs_report.specs.Told.{told_line, told_task, task_at, told_by, told_to, end_of, task_text, tasks_text, jobs_text, system_text, systems_text, told_text};
+ghost use Rattle.grs_report.specs.Told.{told_lines, is_told_to, is_told_at_desk, task_at, told_by, told_to, told_at_desk, end_of, task_text, tasks_text, jobs_text, system_text, systems_text, told_text};
 
-use super::lines::{number, put_line};
+use super::lines::put_line;
 use super::names::dotted;
-use super::spelled::{code_word, end_word, event_word, three_digits, verb_word};
+use super::spelled::end_word;
+use super::told_line::put_told_line;
 use grs_base::{List, NoMemory, TaskId};
-use grs_wire::{JobDef, SystemDef, TaskDef, TaskEnd, Told, ToldLine};
+use grs_wire::{JobDef, Names, SystemDef, TaskDef, TaskEnd, Told, ToldLine};
 use std::alloc::Global;
 
 /// The places of a task: its system in the deck, its job in the system, and itself in the system.
@@ -33,58 +33,6 @@ impl Place {
     }
 }
 
-/// Puts a told line behind a text.
-#[tactic(auto, unfolding(crate::specs::Told::told_line, crate::specs::Told::told_words))]
-fn put_told_line(alloc: Global, told: Told, out: &mut List<u8>) -> Result<(), NoMemory>
-    ensures { OnOk result (out.new ≡ out.old ++ told_line told) }
-{
-    let event = event_word(alloc, told.event)?;
-    match told.line {
-        ToldLine::Coded {
-            task: _,
-            k,
-            part: _,
-            verb,
-            code,
-        } => {
-            let k = number(alloc, u64::from(k))?;
-            let code = code_word(alloc, code)?;
-            put_line(
-                out,
-                &[
-                    b"T".as_slice(),
-                    k.as_slice(),
-                    verb_word(verb),
-                    code.as_slice(),
-                    event.as_slice(),
-                ],
-            )
-        }
-        ToldLine::Post { task: _, k } => {
-            let k = number(alloc, u64::from(k))?;
-            put_line(
-                out,
-                &[b"T".as_slice(), k.as_slice(), b"POST", event.as_slice()],
-            )
-        }
-        ToldLine::Ended { task: _, code } => {
-            let code = three_digits(code);
-            put_line(out, &[b"T".as_slice(), b"END", &code, event.as_slice()])
-        }
-    }
-}
-
-/// The task to which a line is told.
-fn told_task(line: &ToldLine) -> TaskId
-    ensures { result ≡ told_task line.now }
-{
-    match line {
-        ToldLine::Coded { task, .. } => *task,
-        ToldLine::Post { task, .. } => *task,
-        ToldLine::Ended { task, .. } => *task,
-    }
-}
-
 /// Whether a task stands at these places.
 fn stands_at(place: Place, task: TaskId) -> bool
     ensures { result ≡ same_task (task_at place.system place.job place.task) task }
@@ -94,32 +42,77 @@ fn stands_at(place: Place, task: TaskId) -> bool
         && usize::from(task.task) == place.task
 }
 
-/// What one system told.
-fn told_by(alloc: Global, system: usize, told: &[Told]) -> Result<List<Told>, NoMemory>
-    ensures { IfOk result (λ own. own ≡ told_by system told.now) }
+/// Whether a line is told to the task at these places.
+fn is_told_to(place: Place, line: &ToldLine) -> bool
+    ensures { result ≡ is_told_to (task_at place.system place.job place.task) line.now }
 {
-    let mut own = List::new(alloc);
+    match line {
+        ToldLine::Coded { task, .. }
+        | ToldLine::Shown { task, .. }
+        | ToldLine::Post { task, .. }
+        | ToldLine::Ended { task, .. } => stands_at(place, *task),
+        ToldLine::Desk { .. } => false,
+    }
+}
+
+/// Whether a line is told at a desk.
+fn is_told_at_desk(line: &ToldLine) -> bool
+    ensures { result ≡ is_told_at_desk line.now }
+{
+    match line {
+        ToldLine::Coded { .. }
+        | ToldLine::Shown { .. }
+        | ToldLine::Post { .. }
+        | ToldLine::Ended { .. } => false,
+        ToldLine::Desk { .. } => true,
+    }
+}
+
+/// What one system told.
+fn told_by<'t>(alloc: Global, system: usize, told: &'t [Told]) -> Result<Vec<&'t Told>, NoMemory>
+    ensures { IfOk result (λ own. map (λ t. t.now) own.items ≡ told_by system told.now) }
+{
+    let mut own = Vec::new(alloc);
     for line in told {
-        if usize::from(line.system.0) == system {
-            own.push(*line)?;
+        if usize::from(line.system.0) == system && own.push(line).is_err() {
+            return Err(NoMemory);
         }
     }
     Ok(own)
 }
 
-/// Puts what one task was told behind a text.
-fn put_told_to(
+/// Puts what was told at a desk behind a text.
+fn put_told_at_desk(
     alloc: Global,
-    place: Place,
-    told: &[Told],
+    names: &Names,
+    told: &[&Told],
     out: &mut List<u8>,
 ) -> Result<(), NoMemory>
     ensures { OnOk result (out.new ≡ out.old
-        ++ flat_map told_line (told_to (task_at place.system place.job place.task) told.now)) }
+        ++ told_lines names.now (told_at_desk (map (λ t. t.now) told.now))) }
 {
     for line in told {
-        if stands_at(place, told_task(&line.line)) {
-            put_told_line(alloc, *line, out)?;
+        if is_told_at_desk(&line.line) {
+            put_told_line(alloc, names, line, out)?;
+        }
+    }
+    Ok(())
+}
+
+/// Puts what one task was told behind a text.
+fn put_told_to(
+    alloc: Global,
+    names: &Names,
+    place: Place,
+    told: &[&Told],
+    out: &mut List<u8>,
+) -> Result<(), NoMemory>
+    ensures { OnOk result (out.new ≡ out.old
+        ++ told_lines names.now (told_to (task_at place.system place.job place.task) (map (λ t. t.now) told.now))) }
+{
+    for line in told {
+        if is_told_to(place, &line.line) {
+            put_told_line(alloc, names, line, out)?;
         }
     }
     Ok(())
@@ -141,7 +134,8 @@ fn end_of(place: Place, ended: &[(TaskId, TaskEnd)]) -> TaskEnd
 #[tactic(auto, unfolding(crate::specs::Told::task_text))]
 fn put_task(
     alloc: Global,
-    told: &[Told],
+    names: &Names,
+    told: &[&Told],
     ended: &[(TaskId, TaskEnd)],
     job: &[u8],
     place: Place,
@@ -149,31 +143,33 @@ fn put_task(
     out: &mut List<u8>,
 ) -> Result<(), NoMemory>
     ensures { OnOk result (out.new ≡ out.old
-        ++ task_text told.now ended.now job.now (task_at place.system place.job place.task) name.now) }
+        ++ task_text names.now (map (λ t. t.now) told.now) ended.now job.now (task_at place.system place.job place.task) name.now) }
 {
     let word = dotted(alloc, job, name)?;
     put_line(out, &[b"TASK".as_slice(), word.as_slice()])?;
-    put_told_to(alloc, place, told, out)?;
+    put_told_to(alloc, names, place, told, out)?;
     put_line(out, &[b"S".as_slice(), end_word(end_of(place, ended))])
 }
 
 /// Puts the tasks of a job behind a text. `first` has the places of the first.
 fn put_tasks(
     alloc: Global,
-    told: &[Told],
+    names: &Names,
+    told: &[&Told],
     ended: &[(TaskId, TaskEnd)],
     job: &JobDef,
     first: Place,
     out: &mut List<u8>,
 ) -> Result<(), NoMemory>
     ensures { OnOk result (out.new ≡ out.old
-        ++ tasks_text told.now ended.now job.now.name first.system first.job first.task job.now.tasks) }
+        ++ tasks_text names.now (map (λ t. t.now) told.now) ended.now job.now.name first.system first.job first.task job.now.tasks) }
 {
     let tasks = job.tasks.as_slice();
     let mut place = first;
     for task in tasks {
         put_task(
             alloc,
+            names,
             told,
             ended,
             job.name.as_slice(),
@@ -189,13 +185,14 @@ fn put_tasks(
 /// Puts the jobs of a system behind a text.
 fn put_jobs(
     alloc: Global,
-    told: &[Told],
+    names: &Names,
+    told: &[&Told],
     ended: &[(TaskId, TaskEnd)],
     system: usize,
     jobs: &[JobDef],
     out: &mut List<u8>,
 ) -> Result<(), NoMemory>
-    ensures { OnOk result (out.new ≡ out.old ++ jobs_text told.now ended.now system 0 0 jobs.now) }
+    ensures { OnOk result (out.new ≡ out.old ++ jobs_text names.now (map (λ t. t.now) told.now) ended.now system 0 0 jobs.now) }
 {
     let mut first = Place {
         system,
@@ -203,7 +200,7 @@ fn put_jobs(
         task: 0,
     };
     for (job, def) in jobs.iter().enumerate() {
-        put_tasks(alloc, told, ended, def, Place { job, ..first }, out)?;
+        put_tasks(alloc, names, told, ended, def, Place { job, ..first }, out)?;
         first = first.after(def.tasks.len())?;
     }
     Ok(())
@@ -213,18 +210,21 @@ fn put_jobs(
 #[tactic(auto, unfolding(crate::specs::Told::system_text))]
 fn put_system(
     alloc: Global,
+    names: &Names,
     told: &[Told],
     ended: &[(TaskId, TaskEnd)],
     system: usize,
     def: &SystemDef,
     out: &mut List<u8>,
 ) -> Result<(), NoMemory>
-    ensures { OnOk result (out.new ≡ out.old ++ system_text told.now ended.now system def.now) }
+    ensures { OnOk result (out.new ≡ out.old ++ system_text names.now told.now ended.now system def.now) }
 {
     put_line(out, &[b"SYSTEM".as_slice(), def.name.as_slice()])?;
     let own = told_by(alloc, system, told)?;
+    put_told_at_desk(alloc, names, own.as_slice(), out)?;
     put_jobs(
         alloc,
+        names,
         own.as_slice(),
         ended,
         system,
@@ -235,15 +235,16 @@ fn put_system(
 
 fn put_systems(
     alloc: Global,
+    names: &Names,
     told: &[Told],
     ended: &[(TaskId, TaskEnd)],
     systems: &[SystemDef],
     out: &mut List<u8>,
 ) -> Result<(), NoMemory>
-    ensures { OnOk result (out.new ≡ out.old ++ systems_text told.now ended.now 0 systems.now) }
+    ensures { OnOk result (out.new ≡ out.old ++ systems_text names.now told.now ended.now 0 systems.now) }
 {
     for (system, def) in systems.iter().enumerate() {
-        put_system(alloc, told, ended, system, def, out)?;
+        put_system(alloc, names, told, ended, system, def, out)?;
     }
     Ok(())
 }
@@ -252,13 +253,14 @@ fn put_systems(
 #[tactic(auto, unfolding(crate::specs::Told::told_text))]
 pub(crate) fn put_told(
     alloc: Global,
+    names: &Names,
     told: &[Told],
     ended: &[(TaskId, TaskEnd)],
     systems: &[SystemDef],
     out: &mut List<u8>,
 ) -> Result<(), NoMemory>
-    ensures { OnOk result (out.new ≡ out.old ++ told_text told.now ended.now systems.now) }
+    ensures { OnOk result (out.new ≡ out.old ++ told_text names.now told.now ended.now systems.now) }
 {
     put_line(out, &[b"TOLD".as_slice()])?;
-    put_systems(alloc, told, ended, systems, out)
+    put_systems(alloc, names, told, ended, systems, out)
 }

@@ -47,6 +47,7 @@ pub fn report(alloc: Global, deck: &Deck, seen: &Seen) -> Result<List<u8>, NoMem
     put_history(alloc, &names, seen.hist.as_slice(), &mut out)?;
     put_told(
         alloc,
+        &names,
         seen.told.as_slice(),
         ended,
         deck.systems.as_slice(),

@@ -8,9 +8,11 @@ use Rattle.grs_wire.specs.declared.deck.Deck.{Deck as DeckValue}
 use Rattle.grs_report.specs.Ends.{all_ended}
 use Rattle.grs_top.specs.declared.status.Status.{Status}
 use Rattle.grs_top.specs.declared.status.Status.TheVariants as statuses
+use Rattle.grs_top.specs.declared.words.Command.{Command}
+use Rattle.grs_top.specs.declared.words.Command.TheVariants.{Replay, Lists}
 use Rattle.grs_top.specs.Seen.{seen_of_run, ending}
-use Rattle.grs_top.specs.Due.{IsReported, IsDue}
-use Rattle.grs_top.specs.Answers.{Streams, TakesAll, ReadsDue, Writes, Replays, Reports}
+use Rattle.grs_top.specs.Due.{status_of, IsAnswered, IsDue}
+use Rattle.grs_top.specs.Answers.{Streams, TakesAll, ReadsDue, Writes, Answers, Completes}
 
 -- a front that is shorter than was asked for is all
 front_is_all : (n : ℕ) (xs : List ℕ) → length (take n xs) < n → length xs ≤ n
@@ -32,41 +34,45 @@ ending_either : (d : DeckValue) (es : List Event) (s : Status) → s ≡ ending 
 unfolding ending
 ending_either d es s e = ends_either (all_ended (seen_of_run d es).ended) s e
 
-replays_either : (old new : Streams) (s : Status) → (s ≡ statuses.Done) ⊎ (s ≡ statuses.Waits) → Reports old new s → Replays old new s
-replays_either old new s (inl e) reports = subst (Replays old new) (sym e) (subst (Reports old new) e reports)
-replays_either old new s (inr e) reports = subst (Replays old new) (sym e) (subst (Reports old new) e reports)
+status_either : (c : Command) (d : DeckValue) (s : Status) → s ≡ status_of c d → (s ≡ statuses.Done) ⊎ (s ≡ statuses.Waits)
+status_either Replay d s e = ending_either d d.events s e
+status_either Lists d s e = inl e
 
-reports_whole : (old new : Streams) (text out : List ℕ) (s : Status)
-    → TakesFirst 1048577 old.left new.left text → IsReported text out s
-    → Appends old.written new.written out → new.reads ≡ old.reads → new.writes ≡ old.writes → Reports old new s
-reports_whole old new text out s read reported written reads writes =
-    let short : length text < 1048577 = omega (arith, reported.spelled.short) in
+answers_either : (c : Command) (old new : Streams) (s : Status) → (s ≡ statuses.Done) ⊎ (s ≡ statuses.Waits) → Completes c old new s → Answers c old new s
+answers_either c old new s (inl e) done = subst (Answers c old new) (sym e) (subst (Completes c old new) e done)
+answers_either c old new s (inr e) done = subst (Answers c old new) (sym e) (subst (Completes c old new) e done)
+
+completes_whole : (c : Command) (old new : Streams) (text out : List ℕ) (s : Status)
+    → TakesFirst 1048577 old.left new.left text → IsAnswered c text out s
+    → Appends old.written new.written out → new.reads ≡ old.reads → new.writes ≡ old.writes → Completes c old new s
+completes_whole c old new text out s read answered written reads writes =
+    let short : length text < 1048577 = omega (arith, answered.spelled.short) in
     record {
       text = text;
       out = out;
       read = takes_all 1048577 old.left new.left text read short;
-      reported = reported;
+      answered = answered;
       written = written;
       reads = reads;
       writes = writes;
     }
 
-writes_whole : (old new : Streams) (text out : List ℕ) (s : Status)
-    → TakesFirst 1048577 old.left new.left text → IsDue text out s
-    → Appends old.written new.written out → new.reads ≡ old.reads → new.writes ≡ old.writes → Replays old new s
-writes_whole old new text out s read (inl refused) written reads writes =
-    subst (Replays old new) (sym refused.1)
+writes_whole : (c : Command) (old new : Streams) (text out : List ℕ) (s : Status)
+    → TakesFirst 1048577 old.left new.left text → IsDue c text out s
+    → Appends old.written new.written out → new.reads ≡ old.reads → new.writes ≡ old.writes → Answers c old new s
+writes_whole c old new text out s read (inl refused) written reads writes =
+    subst (Answers c old new) (sym refused.1)
     (record { text = text; out = out; read = read; refused = refused.0; written = written; reads = reads; writes = writes })
-writes_whole old new text out s read (inr reported) written reads writes =
-    replays_either old new s (ending_either reported.deck reported.deck.events s reported.ends)
-    (reports_whole old new text out s read reported written reads writes)
+writes_whole c old new text out s read (inr answered) written reads writes =
+    answers_either c old new s (status_either c answered.deck s answered.ends)
+    (completes_whole c old new text out s read answered written reads writes)
 
 -- what is due is written, or a write fails
-pub replays : (old new : Streams) (out : List ℕ) (s result : Status)
-    → ReadsDue old.left new.left out s → new.reads ≡ old.reads
-    → Writes old.written new.written old.writes new.writes out s result → Replays old new result
-replays old new out s result due reads (inl whole) =
-    subst (Replays old new) (sym whole.2) (writes_whole old new due.text out s due.read due.due whole.0 reads whole.1)
-replays old new out s result due reads (inr part) =
-    subst (Replays old new) (sym part.2)
+pub answers : (c : Command) (old new : Streams) (out : List ℕ) (s result : Status)
+    → ReadsDue c old.left new.left out s → new.reads ≡ old.reads
+    → Writes old.written new.written old.writes new.writes out s result → Answers c old new result
+answers c old new out s result due reads (inl whole) =
+    subst (Answers c old new) (sym whole.2) (writes_whole c old new due.text out s due.read due.due whole.0 reads whole.1)
+answers c old new out s result due reads (inr part) =
+    subst (Answers c old new) (sym part.2)
     (record { text = due.text; out = out; status = s; read = due.read; due = due.due; written = part.0; reads = reads; writes = part.1 })

@@ -1,4 +1,4 @@
--- A deck that is told and no fault give the whole report.
+-- A deck that is told and no fault give the whole text.
 use Rattle.std.proofs.Common.{◌≡◌, ◌≤◌, ◌<◌, ℕ, List, length, refl, sym, subst, inl, inr, arith, Option, None, Some, ◌∙◌}
 use Rattle.std.proofs.lemmas.List.{take_all}
 use Rattle.std.specs.Io.KnownBytes.{Appends}
@@ -10,8 +10,9 @@ use Rattle.grs_io.specs.Faults.{HasRisen}
 use Rattle.grs_io.specs.Moved.{TakesFirst}
 use Rattle.grs_top.specs.declared.status.Status.{Status}
 use Rattle.grs_top.specs.declared.status.Status.TheVariants as statuses
-use Rattle.grs_top.specs.Seen.{whole_report, ending}
-use Rattle.grs_top.specs.Answers.{Streams, TakesAll, Reports}
+use Rattle.grs_top.specs.declared.words.Command.{Command}
+use Rattle.grs_top.specs.Due.{whole_text, status_of}
+use Rattle.grs_top.specs.Answers.{Streams, TakesAll, Completes}
 use Rattle.grs_top.specs.Whole.{Tells, IsWhole, WholeUnlessMemory}
 
 all_spells : (old new : Option (List ℕ)) (text : List ℕ) (d : DeckValue) → Tells old d → TakesAll old new text → SpellsDeck text d
@@ -36,22 +37,22 @@ not_refused text f has none = cc
 module _
     (one : (text : List ℕ) (d e : DeckValue) → SpellsDeck text d → SpellsDeck text e → d ≡ e)
     (spelled : (text : List ℕ) (d : DeckValue) → SpellsDeck text d → fault text ≡ None) where
-  reported : (d : DeckValue) (old new : Streams) (s : Status) → Tells old.left d → Reports old new s → IsWhole d old new s
-  reported d old new s tells r =
-      let same : r.reported.deck ≡ d = one r.text r.reported.deck d r.reported.spelled (all_spells old.left new.left r.text d tells r.read) in
+  completed : (c : Command) (d : DeckValue) (old new : Streams) (s : Status) → Tells old.left d → Completes c old new s → IsWhole c d old new s
+  completed c d old new s tells r =
+      let same : r.answered.deck ≡ d = one r.text r.answered.deck d r.answered.spelled (all_spells old.left new.left r.text d tells r.read) in
       record {
-        written = subst (λ (e : DeckValue). Appends old.written new.written (whole_report e)) same (subst (Appends old.written new.written) r.reported.report r.written);
-        ends = subst (λ (e : DeckValue). s ≡ ending e e.events) same r.reported.ends;
+        written = subst (λ (e : DeckValue). Appends old.written new.written (whole_text c e)) same (subst (Appends old.written new.written) r.answered.whole r.written);
+        ends = subst (λ (e : DeckValue). s ≡ status_of c e) same r.answered.ends;
       }
 
   pub whole : WholeUnlessMemory
-  whole d old new statuses.Done replays tells none = inl (reported d old new statuses.Done tells replays)
-  whole d old new statuses.Waits replays tells none = inl (reported d old new statuses.Waits tells replays)
-  whole d old new statuses.Deck replays tells none =
+  whole c d old new statuses.Done done tells none = inl (completed c d old new statuses.Done tells done)
+  whole c d old new statuses.Waits done tells none = inl (completed c d old new statuses.Waits tells done)
+  whole c d old new statuses.Deck done tells none =
       let room : 1048576 < 1048577 = omega arith in
-      absurd (not_refused replays.text replays.refused.first replays.refused.is_first
-      (spelled replays.text d (first_spells 1048577 old.left new.left replays.text d room tells replays.read)))
-  whole d old new statuses.Words replays tells none = absurd replays
-  whole d old new statuses.ReadFault replays tells none = absurd (not_risen old.reads new.reads none.reads none.reads_below replays.reads)
-  whole d old new statuses.WriteFault replays tells none = absurd (not_risen old.writes new.writes none.writes none.writes_below replays.writes)
-  whole d old new statuses.NoMemory replays tells none = inr refl
+      absurd (not_refused done.text done.refused.first done.refused.is_first
+      (spelled done.text d (first_spells 1048577 old.left new.left done.text d room tells done.read)))
+  whole c d old new statuses.Words done tells none = absurd done
+  whole c d old new statuses.ReadFault done tells none = absurd (not_risen old.reads new.reads none.reads none.reads_below done.reads)
+  whole c d old new statuses.WriteFault done tells none = absurd (not_risen old.writes new.writes none.writes none.writes_below done.writes)
+  whole c d old new statuses.NoMemory done tells none = inr refl

@@ -4,18 +4,17 @@ use Rattle.grs_base.specs.declared.fault.DeckFault.{DeckFault}
 use Rattle.grs_wire.specs.declared.deck.Deck.{Deck as DeckValue}
 use Rattle.grs_deck.specs.Reading.{fault}
 use Rattle.grs_deck.specs.Spells.{SpellsDeck}
-use Rattle.grs_world.specs.Agree.{Sound}
 use Rattle.grs_top.specs.declared.status.Status.TheVariants.{Deck}
+use Rattle.grs_top.specs.declared.words.Command.{Command}
 use Rattle.grs_top.specs.declared.due.Due.{Due}
-use Rattle.grs_top.specs.Seen.{whole_report, ending}
-use Rattle.grs_top.specs.Due.{fault_line, IsDue}
+use Rattle.grs_top.specs.Due.{fault_line, whole_text, status_of, IsSoundBy, IsDue}
 
-pub reported_due : {E : Type 0} (text : List ℕ) (d : DeckValue) (r : Result Due E) → SpellsDeck text d → Sound d d.events
-    → IfOk r (λ due. due.out ≡ whole_report d) → IfOk r (λ due. due.status ≡ ending d d.events) → IfOk r (λ due. IsDue text due.out due.status)
-reported_due text d (Ok due) spelled sound out status = inr (record { deck = d; spelled = spelled; report = out; ends = status; sound = sound })
-reported_due text d (Err e) spelled sound out status = tt
+pub answered_due : {E : Type 0} (c : Command) (text : List ℕ) (d : DeckValue) (r : Result Due E) → SpellsDeck text d → IsSoundBy c d
+    → IfOk r (λ due. due.out ≡ whole_text c d) → IfOk r (λ due. due.status ≡ status_of c d) → IfOk r (λ due. IsDue c text due.out due.status)
+answered_due c text d (Ok due) spelled sound out status = inr (record { deck = d; spelled = spelled; whole = out; ends = status; sound = sound })
+answered_due c text d (Err e) spelled sound out status = tt
 
-pub refused_due : {E : Type 0} (text : List ℕ) (f : DeckFault) (r : Result Due E) → fault text ≡ Some f
-    → IfOk r (λ due. due.out ≡ fault_line f) → IfOk r (λ due. due.status ≡ Deck) → IfOk r (λ due. IsDue text due.out due.status)
-refused_due text f (Ok due) first out status = inl (record { first = f; is_first = first; line = out }, status)
-refused_due text f (Err e) first out status = tt
+pub refused_due : {E : Type 0} (c : Command) (text : List ℕ) (f : DeckFault) (r : Result Due E) → fault text ≡ Some f
+    → IfOk r (λ due. due.out ≡ fault_line f) → IfOk r (λ due. due.status ≡ Deck) → IfOk r (λ due. IsDue c text due.out due.status)
+refused_due c text f (Ok due) first out status = inl (record { first = f; is_first = first; line = out }, status)
+refused_due c text f (Err e) first out status = tt

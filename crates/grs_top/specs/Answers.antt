@@ -1,11 +1,12 @@
 -- What a command does to its source and its sink, by the status that it answers.
-use Rattle.std.specs.Prelude.{◌≡◌, ◌⊎◌, ℕ, List, [], ◌∷◌, codes, Option, None, Some}
+use Rattle.std.specs.Prelude.{◌≡◌, ◌⊎◌, ℕ, List, [], Option, None, Some}
 use Rattle.std.specs.Io.KnownBytes.{Appends}
 use Rattle.grs_io.specs.Faults.{HasRisen}
 use Rattle.grs_io.specs.Moved.{TakesFirst, AppendsPart}
 use Rattle.grs_top.specs.declared.status.Status.{Status}
 use Rattle.grs_top.specs.declared.status.Status.TheVariants as statuses
-use Rattle.grs_top.specs.Due.{IsRefused, IsReported, IsDue}
+use Rattle.grs_top.specs.declared.words.Command.{Command}
+use Rattle.grs_top.specs.Due.{IsRefused, IsAnswered, IsDue}
 
 -- What is seen of a source and a sink: the bytes left and the bytes written, where these are told, and how
 -- many reads and writes failed.
@@ -25,10 +26,10 @@ TakesAll (Some xs) None text = ⊥
 TakesAll (Some xs) (Some ys) text = (text ≡ xs) × (ys ≡ [])
 
 -- What is due for the text that was read.
-pub record ReadsDue (old new : Option (List ℕ)) (out : List ℕ) (status : Status) : Type 0 where
+pub record ReadsDue (c : Command) (old new : Option (List ℕ)) (out : List ℕ) (status : Status) : Type 0 where
   pub text : List ℕ
   pub read : TakesFirst 1048577 old new text
-  pub due : IsDue text out status
+  pub due : IsDue c text out status
 
 -- What is due is written whole, and answered by its status, or a write failed and only a part is written.
 abbrev pub Writes : Option (List ℕ) → Option (List ℕ) → ℕ → ℕ → List ℕ → Status → Status → Type 0
@@ -36,13 +37,13 @@ Writes old new writes writes' out status result =
     (Appends old new out × (writes' ≡ writes) × (result ≡ status))
     ⊎ (AppendsPart old new out × HasRisen writes writes' × (result ≡ statuses.WriteFault))
 
--- Done and Waits: the source was read to its end, no read or write failed, and the report of the deck that
--- was read is written whole.
-pub record Reports (old new : Streams) (status : Status) : Type 0 where
+-- Done and Waits: the source was read to its end, no read or write failed, and what the command writes for
+-- the deck that was read is written whole.
+pub record Completes (c : Command) (old new : Streams) (status : Status) : Type 0 where
   pub text : List ℕ
   pub out : List ℕ
   pub read : TakesAll old.left new.left text
-  pub reported : IsReported text out status
+  pub answered : IsAnswered c text out status
   pub written : Appends old.written new.written out
   pub reads : new.reads ≡ old.reads
   pub writes : new.writes ≡ old.writes
@@ -66,12 +67,12 @@ pub record FailsToRead (old new : Streams) : Type 0 where
 
 -- WriteFault: the text was read, a write failed, and a part of what is due for the text is written, but not
 -- all of it.
-pub record FailsToWrite (old new : Streams) : Type 0 where
+pub record FailsToWrite (c : Command) (old new : Streams) : Type 0 where
   pub text : List ℕ
   pub out : List ℕ
   pub status : Status
   pub read : TakesFirst 1048577 old.left new.left text
-  pub due : IsDue text out status
+  pub due : IsDue c text out status
   pub written : AppendsPart old.written new.written out
   pub reads : new.reads ≡ old.reads
   pub writes : HasRisen old.writes new.writes
@@ -82,16 +83,12 @@ pub record WantsMemory (old new : Streams) : Type 0 where
   pub reads : new.reads ≡ old.reads
   pub writes : new.writes ≡ old.writes
 
--- What stands after `replay`, by its status. It has its words already, so it never answers Words.
-abbrev pub Replays : Streams → Streams → Status → Type 0
-Replays old new statuses.Done = Reports old new statuses.Done
-Replays old new statuses.Waits = Reports old new statuses.Waits
-Replays old new statuses.Deck = Refuses old new
-Replays old new statuses.Words = ⊥
-Replays old new statuses.ReadFault = FailsToRead old new
-Replays old new statuses.WriteFault = FailsToWrite old new
-Replays old new statuses.NoMemory = WantsMemory old new
-
--- The words are `replay` alone.
-abbrev pub IsReplay : List (List ℕ) → Type 0
-IsReplay words = words ≡ codes "replay" ∷ []
+-- What stands after a command, by its status. It has its words already, so it never answers Words.
+abbrev pub Answers : Command → Streams → Streams → Status → Type 0
+Answers c old new statuses.Done = Completes c old new statuses.Done
+Answers c old new statuses.Waits = Completes c old new statuses.Waits
+Answers c old new statuses.Deck = Refuses old new
+Answers c old new statuses.Words = ⊥
+Answers c old new statuses.ReadFault = FailsToRead old new
+Answers c old new statuses.WriteFault = FailsToWrite c old new
+Answers c old new statuses.NoMemory = WantsMemory old new

@@ -8,7 +8,10 @@ use Rattle.grs_deck.specs.Reading.{fault}
 use Rattle.grs_deck.specs.Spells.{SpellsDeck}
 use Rattle.grs_world.specs.Agree.{Sound}
 use Rattle.grs_top.specs.declared.status.Status.{Status}
-use Rattle.grs_top.specs.declared.status.Status.TheVariants.{Deck}
+use Rattle.grs_top.specs.declared.status.Status.TheVariants.{Deck, Done}
+use Rattle.grs_top.specs.declared.words.Command.{Command}
+use Rattle.grs_top.specs.declared.words.Command.TheVariants.{Replay, Lists}
+use Rattle.grs_top.specs.Lists.{lists_text}
 use Rattle.grs_top.specs.Seen.{whole_report, ending}
 
 -- FAULT LINE l KIND k, and a line end
@@ -21,15 +24,29 @@ pub record IsRefused (text out : List ℕ) : Type 0 where
   pub is_first : fault text ≡ Some first
   pub line : out ≡ fault_line first
 
--- A text that spells a deck is answered by the report of the run of the deck's events. The status says
--- how that run ends, and the run is sound.
-pub record IsReported (text out : List ℕ) (status : Status) : Type 0 where
+-- what a command writes for a deck
+abbrev pub whole_text : Command → DeckValue → List ℕ
+whole_text Replay deck = whole_report deck
+whole_text Lists deck = lists_text deck
+
+-- how a command ends that has written all of it; `lists` has nothing to wait for
+abbrev pub status_of : Command → DeckValue → Status
+status_of Replay deck = ending deck deck.events
+status_of Lists deck = Done
+
+-- the run that a command reports is sound
+abbrev pub IsSoundBy : Command → DeckValue → Type 0
+IsSoundBy Replay deck = Sound deck deck.events
+IsSoundBy Lists deck = Unit {0}
+
+-- A text that spells a deck is answered by what the command writes for the deck.
+pub record IsAnswered (c : Command) (text out : List ℕ) (status : Status) : Type 0 where
   pub deck : DeckValue
   pub spelled : SpellsDeck text deck
-  pub report : out ≡ whole_report deck
-  pub ends : status ≡ ending deck deck.events
-  pub sound : Sound deck deck.events
+  pub whole : out ≡ whole_text c deck
+  pub ends : status ≡ status_of c deck
+  pub sound : IsSoundBy c deck
 
 -- What is due for a text, and the status where it is written whole.
-abbrev pub IsDue : List ℕ → List ℕ → Status → Type 0
-IsDue text out status = (IsRefused text out × (status ≡ Deck)) ⊎ IsReported text out status
+abbrev pub IsDue : Command → List ℕ → List ℕ → Status → Type 0
+IsDue c text out status = (IsRefused text out × (status ≡ Deck)) ⊎ IsAnswered c text out status

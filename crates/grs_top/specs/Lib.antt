@@ -1,4 +1,6 @@
 pub mod Status
+pub mod Words
+pub mod Lists
 pub mod Tasks
 pub mod Seen
 pub mod Due

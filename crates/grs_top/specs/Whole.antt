@@ -1,12 +1,13 @@
--- When a command writes the whole report.
+-- When a command writes all that it has to.
 use Rattle.std.specs.Prelude.{◌≡◌, ◌<◌, ◌⊎◌, ℕ, List, Option, None, Some}
 use Rattle.std.specs.Io.KnownBytes.{Appends}
 use Rattle.grs_wire.specs.declared.deck.Deck.{Deck as DeckValue}
 use Rattle.grs_deck.specs.Spells.{SpellsDeck}
 use Rattle.grs_top.specs.declared.status.Status.{Status}
 use Rattle.grs_top.specs.declared.status.Status.TheVariants as statuses
-use Rattle.grs_top.specs.Seen.{whole_report, ending}
-use Rattle.grs_top.specs.Answers.{Streams, Replays}
+use Rattle.grs_top.specs.declared.words.Command.{Command}
+use Rattle.grs_top.specs.Due.{whole_text, status_of}
+use Rattle.grs_top.specs.Answers.{Streams, Answers}
 
 -- the source tells its bytes, and these spell the deck
 abbrev pub Tells : Option (List ℕ) → DeckValue → Type 0
@@ -20,13 +21,13 @@ pub record HasNoFault (old new : Streams) : Type 0 where
   pub reads_below : old.reads < 18446744073709551615
   pub writes_below : old.writes < 18446744073709551615
 
--- The report of the deck is written whole, and the status is how the run of its events ends.
-pub record IsWhole (deck : DeckValue) (old new : Streams) (status : Status) : Type 0 where
-  pub written : Appends old.written new.written (whole_report deck)
-  pub ends : status ≡ ending deck deck.events
+-- What the command writes for the deck is written whole, and the status says how the command ends.
+pub record IsWhole (c : Command) (deck : DeckValue) (old new : Streams) (status : Status) : Type 0 where
+  pub written : Appends old.written new.written (whole_text c deck)
+  pub ends : status ≡ status_of c deck
 
--- A source whose bytes spell a deck and no fault give the whole report, unless memory is wanted.
+-- A source whose bytes spell a deck and no fault give the whole text, unless memory is wanted.
 abbrev pub WholeUnlessMemory : Type 0
-WholeUnlessMemory = (deck : DeckValue) (old new : Streams) (status : Status)
-    → Replays old new status → Tells old.left deck → HasNoFault old new
-    → IsWhole deck old new status ⊎ (status ≡ statuses.NoMemory)
+WholeUnlessMemory = (c : Command) (deck : DeckValue) (old new : Streams) (status : Status)
+    → Answers c old new status → Tells old.left deck → HasNoFault old new
+    → IsWhole c deck old new status ⊎ (status ≡ statuses.NoMemory)

@@ -1,12 +1,13 @@
-//! The commands: which words name one, and what it does to its source and its sink.
-ghost use Rattle.std.specs.Prelude.{◌≡◌, ◌↔◌, IsTrue, IfOk, OnOk, Err, map, string_bytes};
+//! The commands: what each does to its source and its sink. All read and write in the same way.
+ghost use Rattle.std.specs.Prelude.{◌≡◌, ◌≢◌, IfOk, OnOk, IfSome, IfNone, Err, map, string_bytes};
 ghost use Rattle.grs_io.specs.Faults.{HasRisen};
 ghost use Rattle.grs_io.specs.Moved.{TakesFirst};
-ghost use Rattle.grs_top.specs.Due.{IsDue};
-ghost use Rattle.grs_top.specs.Answers.{streams, Replays, IsReplay, ReadsDue, Writes};
+ghost use Rattle.grs_top.specs.Answers.{streams, Answers, ReadsDue, Writes};
+ghost use Rattle.grs_top.specs.Words.{command_of};
 
 use super::Status;
 use super::due::{Due, due_for};
+use super::words::{Command, command_of};
 use grs_io::{ReadFailure, Sink, Source, read_all, write_all};
 use std::alloc::Global;
 
@@ -14,15 +15,19 @@ use std::alloc::Global;
 const MOST: usize = 1_048_576;
 
 /// Reads a text, up to one byte more than a deck may have, and builds what it is answered by.
-fn read_due<S: Source>(alloc: Global, source: &mut S) -> Result<Due, ReadFailure>
-    ensures due { IfOk result (λ due. ReadsDue (S.left source.old) (S.left source.new) due.out due.status) }
+fn read_due<S: Source>(
+    alloc: Global,
+    command: Command,
+    source: &mut S,
+) -> Result<Due, ReadFailure>
+    ensures due { IfOk result (λ due. ReadsDue command (S.left source.old) (S.left source.new) due.out due.status) }
     ensures kept { OnOk result (S.faults source.new ≡ S.faults source.old) }
     ensures failed { result ≡ Err ReadFailure.Failed
         → HasRisen (S.faults source.old) (S.faults source.new) }
     ensures memory { result ≡ Err ReadFailure.NoMemory → S.faults source.new ≡ S.faults source.old }
 {
     let text = read_all(alloc, source, MOST)?;
-    let due = due_for(alloc, text.as_slice())?;
+    let due = due_for(alloc, command, text.as_slice())?;
     Ok(due)
 }
 
@@ -38,6 +43,27 @@ fn write_due<K: Sink>(sink: &mut K, due: &Due) -> Status
     }
 }
 
+/// Does what a command asks for. The text is built whole before the first write, and the first read or write
+/// that fails ends the command.
+#[tactic(none)]
+fn answer<S: Source, K: Sink>(
+    alloc: Global,
+    command: Command,
+    source: &mut S,
+    sink: &mut K,
+) -> Status
+    ensures { Answers command
+        (streams (S.left source.old) (K.written sink.old) (S.faults source.old) (K.faults sink.old))
+        (streams (S.left source.new) (K.written sink.new) (S.faults source.new) (K.faults sink.new))
+        result }
+{
+    match read_due(alloc, command, source) {
+        Ok(due) => write_due(sink, &due),
+        Err(ReadFailure::Failed) => Status::ReadFault,
+        Err(ReadFailure::NoMemory) => Status::NoMemory,
+    }
+}
+
 /// Reads a deck from a source, runs its schedule and writes the report of the run to a sink. The source is
 /// read to its end, or until it gave one byte more than a deck may have. The report is built whole before
 /// the first write, and the first read or write that fails ends the command.
@@ -45,32 +71,32 @@ fn write_due<K: Sink>(sink: &mut K, due: &Due) -> Status
 /// `Done` and `Waits` say how the run ended, `Deck` that the line of the text's first fault was written in
 /// place of a report, `ReadFault` and `WriteFault` that a read or write failed, and `NoMemory` that nothing
 /// was written for want of memory.
-#[tactic(none)]
 pub fn replay_command<S: Source, K: Sink>(alloc: Global, source: &mut S, sink: &mut K) -> Status
-    ensures { Replays
+    ensures { Answers Command.Replay
         (streams (S.left source.old) (K.written sink.old) (S.faults source.old) (K.faults sink.old))
         (streams (S.left source.new) (K.written sink.new) (S.faults source.new) (K.faults sink.new))
         result }
 {
-    match read_due(alloc, source) {
-        Ok(due) => write_due(sink, &due),
-        Err(ReadFailure::Failed) => Status::ReadFault,
-        Err(ReadFailure::NoMemory) => Status::NoMemory,
-    }
+    answer(alloc, Command::Replay, source, sink)
 }
 
-/// Whether the words are `replay` alone.
-fn is_replay(words: &[String]) -> bool
-    ensures { IsTrue result ↔ IsReplay (map string_bytes words.now) }
+/// Reads a deck from a source and writes the entries of its name lists to a sink, one printed RNLDEF a line:
+/// those of the inclusion list, then of the exclusion list, then of the conversion list. It reads and writes
+/// as `replay_command` does.
+///
+/// `Done` says that all of it was written, and the other statuses what they say there; `Waits` never comes.
+pub fn lists_command<S: Source, K: Sink>(alloc: Global, source: &mut S, sink: &mut K) -> Status
+    ensures { Answers Command.Lists
+        (streams (S.left source.old) (K.written sink.old) (S.faults source.old) (K.faults sink.old))
+        (streams (S.left source.new) (K.written sink.new) (S.faults source.new) (K.faults sink.new))
+        result }
+    ensures never_waits { result ≢ Status.Waits }
 {
-    match words {
-        [word] => word.as_bytes() == b"replay".as_slice(),
-        _ => false,
-    }
+    answer(alloc, Command::Lists, source, sink)
 }
 
-/// Does what the words after the program's name ask for. The words are `replay`; no others are known, and
-/// `Words` is the answer to these: then nothing is read and nothing written.
+/// Does what the words after the program's name ask for. The words are `replay` or `lists`; no others are
+/// known, and `Words` is the answer to these: then nothing is read and nothing written.
 #[tactic(none)]
 pub fn grs<S: Source, K: Sink>(
     alloc: Global,
@@ -78,20 +104,19 @@ pub fn grs<S: Source, K: Sink>(
     source: &mut S,
     sink: &mut K,
 ) -> Status
-    ensures replay { IsReplay (map string_bytes words.now) → Replays
+    ensures command { IfSome (command_of (map string_bytes words.now)) (λ command. Answers command
         (streams (S.left source.old) (K.written sink.old) (S.faults source.old) (K.faults sink.old))
         (streams (S.left source.new) (K.written sink.new) (S.faults source.new) (K.faults sink.new))
-        result }
+        result) }
     // Other words are answered Words alone, and nothing happens.
-    ensures words { ¬ IsReplay (map string_bytes words.now) → result ≡ Status.Words }
-    ensures unread { ¬ IsReplay (map string_bytes words.now)
-        → (S.left source.new ≡ S.left source.old) × (S.faults source.new ≡ S.faults source.old) }
-    ensures unwritten { ¬ IsReplay (map string_bytes words.now)
-        → (K.written sink.new ≡ K.written sink.old) × (K.faults sink.new ≡ K.faults sink.old) }
+    ensures words { IfNone (command_of (map string_bytes words.now)) (result ≡ Status.Words) }
+    ensures unread { IfNone (command_of (map string_bytes words.now))
+        ((S.left source.new ≡ S.left source.old) × (S.faults source.new ≡ S.faults source.old)) }
+    ensures unwritten { IfNone (command_of (map string_bytes words.now))
+        ((K.written sink.new ≡ K.written sink.old) × (K.faults sink.new ≡ K.faults sink.old)) }
 {
-    if is_replay(words) {
-        replay_command(alloc, source, sink)
-    } else {
-        Status::Words
+    match command_of(words) {
+        Some(command) => answer(alloc, command, source, sink),
+        None => Status::Words,
     }
 }

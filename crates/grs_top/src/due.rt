@@ -1,13 +1,16 @@
-//! What a text is answered by: the report of the run that it spells, or the line of its first fault. The
-//! answer is built whole before any of it is written.
+//! What a text is answered by: what the command writes for the deck that it spells, or the line of its first
+//! fault. The answer is built whole before any of it is written.
 ghost use Rattle.std.specs.Prelude.{◌≡◌, IfOk, if◌then◌else◌};
 ghost use Rattle.grs_world.specs.Agree.{Sound};
 ghost use Rattle.grs_top.specs.Seen.{whole_report, ending};
-ghost use Rattle.grs_top.specs.Due.{fault_line, IsDue};
+ghost use Rattle.grs_top.specs.Lists.{lists_text};
+ghost use Rattle.grs_top.specs.Due.{fault_line, whole_text, status_of, IsSoundBy, IsDue};
 
 use super::Status;
 use super::fault_line::fault_line;
+use super::lists::lists_text;
 use super::seen::seen_of;
+use super::words::Command;
 use grs_base::{DeckFault, List, NoMemory, ReadError};
 use grs_deck::read_deck;
 use grs_report::{all_ended, report};
@@ -54,13 +57,37 @@ fn refused(alloc: Global, fault: DeckFault) -> Result<Due, NoMemory>
     })
 }
 
+/// The name lists of a deck.
+fn listed(alloc: Global, deck: &Deck) -> Result<Due, NoMemory>
+    ensures out { IfOk result (λ due. due.out ≡ lists_text deck.now) }
+    ensures status { IfOk result (λ due. due.status ≡ Status.Done) }
+{
+    let out = lists_text(alloc, deck)?;
+    Ok(Due {
+        out,
+        status: Status::Done,
+    })
+}
+
+/// What a command writes for a deck.
+fn answered(alloc: Global, command: Command, deck: &Deck) -> Result<Due, NoMemory>
+    ensures out { IfOk result (λ due. due.out ≡ whole_text command deck.now) }
+    ensures status { IfOk result (λ due. due.status ≡ status_of command deck.now) }
+    ensures sound { IsSoundBy command deck.now }
+{
+    match command {
+        Command::Replay => reported(alloc, deck),
+        Command::Lists => listed(alloc, deck),
+    }
+}
+
 /// What a text is answered by.
 #[tactic(none)]
-pub(crate) fn due_for(alloc: Global, text: &[u8]) -> Result<Due, NoMemory>
-    ensures { IfOk result (λ due. IsDue text.now due.out due.status) }
+pub(crate) fn due_for(alloc: Global, command: Command, text: &[u8]) -> Result<Due, NoMemory>
+    ensures { IfOk result (λ due. IsDue command text.now due.out due.status) }
 {
     match read_deck(alloc, text) {
-        Ok(deck) => reported(alloc, &deck),
+        Ok(deck) => answered(alloc, command, &deck),
         Err(ReadError::Fault(fault)) => refused(alloc, fault),
         Err(ReadError::NoMemory) => Err(NoMemory),
     }

@@ -4,7 +4,7 @@ ghost use Rattle.grs_top.specs.Whole.{WholeUnlessMemory};
 
 use grs_deck::one_deck;
 
-/// A source whose bytes spell a deck is answered by the whole report of its run, unless a read or write
+/// A source whose bytes spell a deck is answered by the whole text of the command, unless a read or write
 /// fails or memory is wanted.
 pub fn whole_unless_memory()
     ensures { WholeUnlessMemory }

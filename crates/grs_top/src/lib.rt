@@ -7,11 +7,14 @@ mod due;
 mod ends;
 mod fault_line;
 pub mod laws;
+mod lists;
 mod seen;
 mod status;
 #[cfg(test)]
 mod tests;
+mod words;
 
-pub use command::{grs, replay_command};
+pub use command::{grs, lists_command, replay_command};
 pub use seen::seen_of;
 pub use status::Status;
+pub use words::Command;

@@ -7,19 +7,20 @@ use Rattle.std.proofs.lemmas.Bool.Decides.{nat_tests}
 use Rattle.grs_base.specs.Same.{same_res, same_task}
 use Rattle.grs_base.specs.State.{State}
 use Rattle.grs_base.specs.declared.resource.Res.{Res}
+use Rattle.grs_base.specs.declared.resource.Row.{Row}
 use Rattle.grs_base.specs.declared.resource.TaskId.{TaskId}
 use Rattle.grs_base.specs.declared.decision.Code.{Code}
 use Rattle.grs_base.specs.declared.decision.Code.TheVariants.{C00, C04, C08, C14, C18, Wait, End}
-use Rattle.grs_base.specs.declared.line.Line.{Line}
+use Rattle.grs_legal.specs.declared.meaning.Meaning.{Meaning}
 use Rattle.grs_base.proofs.SameLaws.{same_res-itself}
 use Rattle.grs_wire.specs.declared.history.HistEntry.{HistEntry}
 use Rattle.grs_wire.specs.declared.request.Req.{Req}
 use Rattle.grs_wire.specs.declared.told.Verb.{Verb}
 use Rattle.grs_wire.specs.declared.told.Verb.TheVariants as verbs
 use Rattle.grs_wire.specs.declared.told.ToldLine.{ToldLine}
-use Rattle.grs_wire.specs.declared.told.ToldLine.TheVariants.{Coded, Post, Ended}
-use Rattle.grs_wire.specs.History.{asker, code_of}
-use Rattle.grs_legal.specs.Asks.{Ask, asks_of, ask_of}
+use Rattle.grs_wire.specs.declared.told.ToldLine.TheVariants.{Coded, Shown, Post, Ended, Desk}
+use Rattle.grs_wire.specs.History.{code_of}
+use Rattle.grs_legal.specs.Asks.{Ask, asks_of, asks_in}
 use Rattle.grs_legal.specs.Legal.{lets_pass, passed_behind, end_among, end_or}
 use Rattle.task_state.specs.declared.state.Rec.{Rec}
 use Rattle.task_state.specs.declared.state.Phase.{Phase}
@@ -73,6 +74,8 @@ posts-after T t k n verb c h =
     post_later (Coded u j part v code) e = refl
     post_later (Post u j) e = grind (arith, nat_tests, e)
     post_later (Ended u code) e = refl
+    post_later (Shown u j verb code rows) e = refl
+    post_later (Desk j said) e = refl
 
 -- codes told so far are of lines up to the one that was answered
 codes-after : (T : List ToldLine) (t : TaskId) (k : ℕ) (verb : Verb) (c : Code) → list_all (is_code_before t k) T ≡ true → list_all (is_code_before t (code_bound (phase_after c) k)) (told_after T t k verb c) ≡ true
@@ -108,17 +111,21 @@ unfolding Grows
 grows-control r c None o' g h = absurd (cc)
 grows-control r c (Some e) o' g h = ap (is_control_of r c) (g e refl) ∙ h
 
-module _ (ls : List Line) (E : List HistEntry) (h : HistEntry) (t : TaskId) where
-  grows-line : (k : ℕ) → Grows (entry_of_line t ls E k) (entry_of_line t ls (E ++ h ∷ []) k)
+module _ (ls : List Meaning) (E : List HistEntry) (h : HistEntry) (t : TaskId) where
+  grows-line : (k : ℕ) → Grows (entry_of_line ls E k) (entry_of_line ls (E ++ h ∷ []) k)
   unfolding Grows
-  grows-line k e f = asked_at-grows t (slice_get ls (k - 1)) E (h ∷ []) (length (asks_of t (take (k - 1) ls))) e f
+  grows-line k e f = asked_at-grows (slice_get ls (k - 1)) E (h ∷ []) (length (asks_of (take (k - 1) ls))) e f
 
   grows-tells : (r : Res) (l : ToldLine) → tells_control t ls E r l ≡ true → tells_control t ls (E ++ h ∷ []) r l ≡ true
-  grows-tells r (Coded u k part verbs.Enq code) e = and_kept (same_task t u) _ _ (grows-control r code (entry_of_line t ls E k) (entry_of_line t ls (E ++ h ∷ []) k) (grows-line k)) e
+  grows-tells r (Coded u k part verbs.Enq code) e = and_kept (same_task t u) _ _ (grows-control r code (entry_of_line ls E k) (entry_of_line ls (E ++ h ∷ []) k) (grows-line k)) e
   grows-tells r (Coded u k part verbs.Deq code) e = e
   grows-tells r (Coded u k part verbs.Wait code) e = e
-  grows-tells r (Post u k) e = and_kept (same_task t u) _ _ (grows-control r C00 (entry_of_line t ls E k) (entry_of_line t ls (E ++ h ∷ []) k) (grows-line k)) e
+  grows-tells r (Coded u k part verbs.Gqscan code) e = e
+  grows-tells r (Coded u k part verbs.Display code) e = e
+  grows-tells r (Shown u k verb code rows) e = e
+  grows-tells r (Post u k) e = and_kept (same_task t u) _ _ (grows-control r C00 (entry_of_line ls E k) (entry_of_line ls (E ++ h ∷ []) k) (grows-line k)) e
   grows-tells r (Ended u code) e = e
+  grows-tells r (Desk k said) e = e
 
   any-kept : {X : Type 0} (p q : X → Bool) → ((x : X) → p x ≡ true → q x ≡ true) → (xs : List X) → list_any p xs ≡ true → list_any q xs ≡ true
   any-kept p q k [] e = e
@@ -130,7 +137,7 @@ module _ (ls : List Line) (E : List HistEntry) (h : HistEntry) (t : TaskId) wher
   recs-asked T knows knows' n k verb c ph [] same e = tt
   recs-asked T knows knows' n k verb c ph (x ∷ xs) same e = (
     record {
-      entry = grows-on x.res (entry_of_line t ls E x.line) _ (grows-line x.line) e.0.entry;
+      entry = grows-on x.res (entry_of_line ls E x.line) _ (grows-line x.line) e.0.entry;
       low = e.0.low;
       high = omega (arith, e.0.high);
       known = e.0.known ∙ sym (same x.res (grind (arith, same_res-itself x.res)));
@@ -143,54 +150,53 @@ module _ (ls : List Line) (E : List HistEntry) (h : HistEntry) (t : TaskId) wher
       still : ((is_held phases.Ready ≡ true) × (x.line ≡ n)) ⊎ IsDue ls E T t x.line → ((is_held ph ≡ true) × (x.line ≡ suc n)) ⊎ IsDue ls (E ++ h ∷ []) (told_after T t k verb c) t x.line
       still (inl a) = absurd (cc (a.0))
       still (inr d) = inr (record {
-        ecb = grows-ecb (entry_of_line t ls E x.line) _ (grows-line x.line) d.ecb;
+        ecb = grows-ecb (entry_of_line ls E x.line) _ (grows-line x.line) d.ecb;
         coded = any-after (is_code_of t x.line) T t k verb c d.coded;
         unposted = unposted-after T t t k x.line verb c d.unposted;
       })
 
 -- a task's next line asks: what holds before, and which line it is
-pub record Asks (ls : List Line) (p : Past) (T : List ToldLine) (knows : Res → Bool) (t : TaskId) (n code : ℕ) (xs : List Rec) (o : Option Req) (l : Line) (a : Ask) : Type 0 where
-  pub before : IsTask ls p T knows t (record { line = n; phase = phases.Ready; code = code; records = xs; outstanding = o })
+pub record Asks (ls : List Meaning) (p : Past) (T : List ToldLine) (knows : Res → Bool) (t : TaskId) (n code : ℕ) (xs : List Rec) (o : Option Req) (ws : List Row) (l : Meaning) (a : Ask) : Type 0 where
+  pub before : IsTask ls p T knows t (record { line = n; phase = phases.Ready; code = code; records = xs; outstanding = o; rows = ws })
   pub at : slice_get ls n ≡ Some l
-  pub asks : ask_of t l ≡ Some a
+  pub asks : asks_in l ≡ a ∷ []
 
-module _ (ls : List Line) (p : Past) (T : List ToldLine) (knows : Res → Bool) (t : TaskId) (n code : ℕ) (xs : List Rec) (o : Option Req) (l : Line) (a : Ask) (k : Asks ls p T knows t n code xs o l a) (s' : State) (h : HistEntry) where
-  pub of_new_line : entry_of_line t ls (p.asked ++ h ∷ []) (suc n) ≡ Some h
+module _ (ls : List Meaning) (p : Past) (T : List ToldLine) (knows : Res → Bool) (t : TaskId) (n code : ℕ) (xs : List Rec) (o : Option Req) (ws : List Row) (l : Meaning) (a : Ask) (k : Asks ls p T knows t n code xs o ws l a) (s' : State) (h : HistEntry) where
+  pub of_new_line : entry_of_line ls (p.asked ++ h ∷ []) (suc n) ≡ Some h
   of_new_line =
       let line : slice_get ls (suc n - 1) ≡ Some l = ap (slice_get ls) (omega (arith)) ∙ k.at in
-      let place : length (asks_of t (take (suc n - 1) ls)) ≡ length p.asked = ap (λ m. length (asks_of t (take m ls))) (omega (arith)) ∙ sym (k.before.count refl) in
+      let place : length (asks_of (take (suc n - 1) ls)) ≡ length p.asked = ap (λ m. length (asks_of (take m ls))) (omega (arith)) ∙ sym (k.before.count refl) in
       rw (line, k.asks, place) (slice_get-end p.asked h [])
 
-  count_new : length (p.asked ++ h ∷ []) ≡ length (asks_of t (take (suc n) ls))
-  count_new = length-append p.asked (h ∷ []) ∙ ap (λ m. m + 1) (k.before.count refl) ∙ sym (length-append (asks_of t (take n ls)) (a ∷ [])) ∙ sym (ap length (asks-more t ls n l a k.at k.asks)) ∙ ap (λ m. length (asks_of t (take m ls))) (add-one n)
+  count_new : length (p.asked ++ h ∷ []) ≡ length (asks_of (take (suc n) ls))
+  count_new = length-append p.asked (h ∷ []) ∙ ap (λ m. m + 1) (k.before.count refl) ∙ sym (length-append (asks_of (take n ls)) (a ∷ [])) ∙ sym (ap length (asks-more ls n l a k.at k.asks)) ∙ ap (λ m. length (asks_of (take m ls))) (add-one n)
 
   passed_new : Passed ls (record { lists = s'; asked = p.asked ++ h ∷ []; last = Some h }) t (suc n)
   passed_new =
-      let none : passed_behind t (length (p.asked ++ h ∷ [])) (take (suc n) ls) ≡ [] =
-      ap (λ z. passed_behind t (length (p.asked ++ h ∷ [])) z) (ap (λ m. take m ls) (sym (add-one n)) ∙ take-more ls n l k.at)
-      ∙ passed-none t (take n ls) l a k.asks (length (p.asked ++ h ∷ [])) (length-append p.asked (h ∷ []) ∙ add-one (length p.asked) ∙ ap suc (k.before.count refl)) in
+      let none : passed_behind (length (p.asked ++ h ∷ [])) (take (suc n) ls) ≡ [] =
+      ap (λ z. passed_behind (length (p.asked ++ h ∷ [])) z) (ap (λ m. take m ls) (sym (add-one n)) ∙ take-more ls n l k.at)
+      ∙ passed-none (take n ls) l a k.asks (length (p.asked ++ h ∷ [])) (length-append p.asked (h ∷ []) ∙ add-one (length p.asked) ∙ ap suc (k.before.count refl)) in
       ap (list_all (lets_pass s' t)) none
 
   ended_new : (c : Code) → code_of h ≡ c → end_among (p.asked ++ h ∷ []) ≡ end_or c None
   ended_new c e = end_among-push p.asked h k.before.phase.going.no_code ∙ ap (λ z. end_or z None) e
 
   -- the phase by the code
-  phase_new : (verb : Verb) (c : Code) → code_of h ≡ c → asker h ≡ t → IsInPhase ls (record { lists = s'; asked = p.asked ++ h ∷ []; last = Some h }) (told_after T t (suc n) verb c) t (suc n) (phase_after c)
-  phase_new verb Wait e mine = record {
+  phase_new : (verb : Verb) (c : Code) → code_of h ≡ c → IsInPhase ls (record { lists = s'; asked = p.asked ++ h ∷ []; last = Some h }) (told_after T t (suc n) verb c) t (suc n) (phase_after c)
+  phase_new verb Wait e = record {
     going = record { no_code = ended_new Wait e; no_end = k.before.phase.going.no_end };
     passed = passed_new;
     last = h;
     is_last = refl;
     of_line = of_new_line;
     waits = e;
-    mine = mine;
   }
-  phase_new verb C00 e mine = record { going = record { no_code = ended_new C00 e; no_end = no_end-after T t t (suc n) verb C00 k.before.phase.going.no_end }; free = λ w. absurd (cc); passed = passed_new }
-  phase_new verb C04 e mine = record { going = record { no_code = ended_new C04 e; no_end = no_end-after T t t (suc n) verb C04 k.before.phase.going.no_end }; free = λ w. absurd (cc); passed = passed_new }
-  phase_new verb C08 e mine = record { going = record { no_code = ended_new C08 e; no_end = no_end-after T t t (suc n) verb C08 k.before.phase.going.no_end }; free = λ w. absurd (cc); passed = passed_new }
-  phase_new verb C14 e mine = record { going = record { no_code = ended_new C14 e; no_end = no_end-after T t t (suc n) verb C14 k.before.phase.going.no_end }; free = λ w. absurd (cc); passed = passed_new }
-  phase_new verb C18 e mine = record { going = record { no_code = ended_new C18 e; no_end = no_end-after T t t (suc n) verb C18 k.before.phase.going.no_end }; free = λ w. absurd (cc); passed = passed_new }
-  phase_new verb (End c) e mine = record { no_end = no_end-after T t t (suc n) verb (End c) k.before.phase.going.no_end; code = ap (λ z. unwrap_or z 0) (sym (ended_new (End c) e)); free = λ w. absurd (cc); all_lines = λ none. absurd (let w : Some c ≡ None = sym (ended_new (End c) e) ∙ none in cc) }
+  phase_new verb C00 e = record { going = record { no_code = ended_new C00 e; no_end = no_end-after T t t (suc n) verb C00 k.before.phase.going.no_end }; free = λ w. absurd (cc); passed = passed_new }
+  phase_new verb C04 e = record { going = record { no_code = ended_new C04 e; no_end = no_end-after T t t (suc n) verb C04 k.before.phase.going.no_end }; free = λ w. absurd (cc); passed = passed_new }
+  phase_new verb C08 e = record { going = record { no_code = ended_new C08 e; no_end = no_end-after T t t (suc n) verb C08 k.before.phase.going.no_end }; free = λ w. absurd (cc); passed = passed_new }
+  phase_new verb C14 e = record { going = record { no_code = ended_new C14 e; no_end = no_end-after T t t (suc n) verb C14 k.before.phase.going.no_end }; free = λ w. absurd (cc); passed = passed_new }
+  phase_new verb C18 e = record { going = record { no_code = ended_new C18 e; no_end = no_end-after T t t (suc n) verb C18 k.before.phase.going.no_end }; free = λ w. absurd (cc); passed = passed_new }
+  phase_new verb (End c) e = record { no_end = no_end-after T t t (suc n) verb (End c) k.before.phase.going.no_end; code = ap (λ z. unwrap_or z 0) (sym (ended_new (End c) e)); free = λ w. absurd (cc); all_lines = λ none. absurd (let w : Some c ≡ None = sym (ended_new (End c) e) ∙ none in cc) }
 
   unsent_after : (c : Code) → is_unsent (phase_after c) ≡ false
   unsent_after Wait = refl
@@ -211,10 +217,10 @@ module _ (ls : List Line) (p : Past) (T : List ToldLine) (knows : Res → Bool) 
   not_ended_after (End c) = refl
 
   -- the task afterwards, given its records
-  pub task-asked : (verb : Verb) (c : Code) (knows' : Res → Bool) (ys : List Rec) → code_of h ≡ c → asker h ≡ t → map key ys ≡ own s' t → is_distinct ys ≡ true →
+  pub task-asked : (verb : Verb) (c : Code) (knows' : Res → Bool) (ys : List Rec) → code_of h ≡ c → map key ys ≡ own s' t → is_distinct ys ≡ true →
       Each (IsRec ls (p.asked ++ h ∷ []) (told_after T t (suc n) verb c) knows' t (suc n) (phase_after c)) ys →
-      IsTask ls (record { lists = s'; asked = p.asked ++ h ∷ []; last = Some h }) (told_after T t (suc n) verb c) knows' t (record { line = suc n; phase = phase_after c; code = code_in (phase_after c) code; records = ys; outstanding = o })
-  task-asked verb c knows' ys e mine keys distinct recs = record {
+      IsTask ls (record { lists = s'; asked = p.asked ++ h ∷ []; last = Some h }) (told_after T t (suc n) verb c) knows' t (record { line = suc n; phase = phase_after c; code = code_in (phase_after c) code; records = ys; outstanding = o; rows = ws })
+  task-asked verb c knows' ys e keys distinct recs = record {
     keys = keys;
     distinct = distinct;
     within = slice_get-within ls n l k.at;
@@ -222,6 +228,6 @@ module _ (ls : List Line) (p : Past) (T : List ToldLine) (knows : Res → Bool) 
     records = recs;
     codes = codes-after T t (suc n) verb c k.before.codes;
     posts = posts-after T t (suc n) (suc n) verb c k.before.posts;
-    phase = phase_new verb c e mine;
+    phase = phase_new verb c e;
     emptied = λ u. absurd (grind (arith, u, not_ended_after c));
   }

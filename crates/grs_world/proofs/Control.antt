@@ -7,10 +7,10 @@ use Rattle.grs_base.specs.declared.resource.Res.{Res}
 use Rattle.grs_base.specs.declared.resource.Ret.TheVariants.{RetNone, RetUse, RetHave, RetTest, RetChng, RetEcb}
 use Rattle.grs_base.specs.declared.resource.TaskId.{TaskId}
 use Rattle.grs_base.specs.declared.decision.Code.TheVariants.{C00, C04, C08, C14, C18, Wait, End}
-use Rattle.grs_base.specs.declared.line.Line.{Line}
+use Rattle.grs_legal.specs.declared.meaning.Meaning.{Meaning}
 use Rattle.grs_base.proofs.SameLaws.{same_res-exact, same_res-itself, same_task-itself}
 use Rattle.grs_wire.specs.declared.history.HistEntry.{HistEntry}
-use Rattle.grs_wire.specs.declared.history.HistEntry.TheVariants.{Enq, Deq, Release}
+use Rattle.grs_wire.specs.declared.history.HistEntry.TheVariants.{Enq, Deq, Release, Look, Remove}
 use Rattle.grs_wire.specs.declared.told.ToldLine.{ToldLine}
 use Rattle.grs_wire.specs.declared.told.ToldLine.TheVariants.{Post}
 use Rattle.task_state.specs.declared.state.Rec.{Rec}
@@ -45,6 +45,8 @@ one_entry None q r a b = absurd a
 one_entry (Some (Enq u z c ret code)) q r a b = sym a.0 ∙ b.0
 one_entry (Some (Deq u z have code)) q r a b = absurd a
 one_entry (Some (Release u z)) q r a b = absurd a
+one_entry (Some (Look u place filter rows)) q r a b = absurd a
+one_entry (Some (Remove by target)) q r a b = absurd a
 
 -- telling control doesn't change the keys
 pub keys-told : (r : Res) (xs : List Rec) → map key (on_record r (λ y. record y { told = true }) xs) ≡ map key xs
@@ -88,12 +90,14 @@ queued_control r (Some (Enq u q c RetChng code)) h = grind (arith, h.0, same_res
 queued_control r (Some (Enq u q c RetEcb code)) h = grind (arith, h.0, same_res-itself r)
 queued_control r (Some (Deq u q have code)) h = absurd h
 queued_control r (Some (Release u q)) h = absurd h
+queued_control r (Some (Look u place filter rows)) h = absurd h
+queued_control r (Some (Remove by target)) h = absurd h
 
-module _ (ls : List Line) (E : List HistEntry) (T : List ToldLine) (knows : Res → Bool) (t : TaskId) (r : Res) (k : ℕ) (on : IsEntryOn r (entry_of_line t ls E k)) where
+module _ (ls : List Meaning) (E : List HistEntry) (T : List ToldLine) (knows : Res → Bool) (t : TaskId) (r : Res) (k : ℕ) (on : IsEntryOn r (entry_of_line ls E k)) where
   -- no other record is of that line
   other_line : (line : ℕ) (ph : Phase) (y : Rec) → IsRec ls E T knows t line ph y → same_res r y.res ≡ false → y.line ≡ k → ⊥
   other_line line ph y h apart e =
-      let same : y.res ≡ r = one_entry (entry_of_line t ls E k) y.res r (subst (λ n. IsEntryOn y.res (entry_of_line t ls E n)) e h.entry) on in
+      let same : y.res ≡ r = one_entry (entry_of_line ls E k) y.res r (subst (λ n. IsEntryOn y.res (entry_of_line ls E n)) e h.entry) on in
       grind (arith, apart, same, same_res-itself r)
 
   -- records after control is told by the code of line k, by which the task was held
@@ -131,7 +135,7 @@ module _ (ls : List Line) (E : List HistEntry) (T : List ToldLine) (knows : Res 
   recs-posted line ph (y ∷ ys) h = (go (same_res r y.res) refl, recs-posted line ph ys h.1)
     where
       posts : tells_control t ls E r (Post t k) ≡ true
-      posts = grind (arith, same_task-itself t, queued_control r (entry_of_line t ls E k) on)
+      posts = grind (arith, same_task-itself t, queued_control r (entry_of_line ls E k) on)
 
       other : same_res r y.res ≡ false → is_post_of t y.line (Post t k) ≡ false
       other apart = go (k == y.line) refl

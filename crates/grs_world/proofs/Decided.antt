@@ -12,6 +12,7 @@ use Rattle.grs_base.specs.declared.resource.Ctl.{Ctl}
 use Rattle.grs_base.specs.declared.resource.Ctl.TheVariants as ctls
 use Rattle.grs_base.specs.declared.resource.Ret.{Ret}
 use Rattle.grs_base.specs.declared.resource.Elem.{Elem}
+use Rattle.grs_base.specs.declared.resource.Row.{Row}
 use Rattle.grs_base.specs.declared.resource.TaskId.{TaskId}
 use Rattle.grs_base.specs.declared.decision.Code.{Code}
 use Rattle.grs_base.specs.declared.decision.Code.TheVariants.{C00, C04, Wait}
@@ -20,7 +21,7 @@ use Rattle.grs_base.specs.declared.decision.Effect.{Effect}
 use Rattle.grs_base.specs.declared.decision.Effect.TheVariants.{Nothing, Append, MakeExclusive}
 use Rattle.grs_base.specs.declared.decision.Standing.{Standing}
 use Rattle.grs_base.specs.declared.decision.Standing.TheVariants.{Exclusive, OnlyShared, AmongShared, Waits, Absent}
-use Rattle.grs_base.specs.declared.line.Line.{Line}
+use Rattle.grs_legal.specs.declared.meaning.Meaning.{Meaning}
 use Rattle.grs_base.proofs.SameLaws.{same_task-itself}
 use Rattle.grs_base.proofs.ListLaws.{has_task-place, is_owner-standing}
 use Rattle.grs_base.proofs.StateLaws.{list_of-effect, list_of-effect_other, list_at-without_other, res_equality}
@@ -29,7 +30,7 @@ use Rattle.grs_wire.specs.declared.history.HistEntry.TheVariants.{Enq, Deq}
 use Rattle.grs_wire.specs.declared.request.Req.{Req}
 use Rattle.grs_wire.specs.declared.told.Verb.TheVariants as verbs
 use Rattle.grs_wire.specs.declared.told.ToldLine.{ToldLine}
-use Rattle.grs_wire.specs.declared.told.ToldLine.TheVariants.{Coded, Post, Ended}
+use Rattle.grs_wire.specs.declared.told.ToldLine.TheVariants.{Coded, Shown, Post, Ended, Desk}
 use Rattle.grs_wire.proofs.WantLaws.{by_res}
 use Rattle.grs_legal.specs.Asks.{AsksEnq, AsksDeq}
 use Rattle.task_state.specs.declared.state.Rec.{Rec}
@@ -55,24 +56,26 @@ unposted-new t k [] h = refl
 unposted-new t k (Coded u j part verb code ∷ T) h = unposted-new t k T h
 unposted-new t k (Post u j ∷ T) h = grind (arith, nat_tests, h, unposted-new t k T, cases_Bool (same_task t u))
 unposted-new t k (Ended u code ∷ T) h = unposted-new t k T h
+unposted-new t k (Shown u j verb code rows ∷ T) h = unposted-new t k T h
+unposted-new t k (Desk j said ∷ T) h = unposted-new t k T h
 
 -- the records of a task after an ENQ was answered
-abbrev pub enq_records : Res → Ctl → Ret → Code → ℕ → List Rec → List Rec
-enq_records r c ret code line xs =
-    cond (is_queued ret code) (xs ++ record { res = r; ctl = c; rank = 0; told = is_granted code; unit = None; line = line } ∷ [])
+abbrev pub enq_records : Res → Ctl → Option ℕ → Ret → Code → ℕ → List Rec → List Rec
+enq_records r c unit ret code line xs =
+    cond (is_queued ret code) (xs ++ record { res = r; ctl = c; rank = 0; told = is_granted code; unit = unit; line = line } ∷ [])
     (cond (is_changed ret code) (on_record r (λ z. record z { ctl = ctls.E }) xs) xs)
 
 -- what a task knows of its control by the lists
 abbrev pub by_lists : State → TaskId → Res → Bool
 by_lists s t q = owns (list_of s q) t
 
-module _ (ls : List Line) (p : Past) (T : List ToldLine) (t : TaskId) (n code0 : ℕ) (xs : List Rec) (o : Option Req) (l : Line) (r : Res) (c : Ctl) (ret : Ret)
-    (k : Asks ls p T (by_lists p.lists t) t n code0 xs o l (AsksEnq r c ret)) where
+module _ (ls : List Meaning) (p : Past) (T : List ToldLine) (t : TaskId) (n code0 : ℕ) (xs : List Rec) (o : Option Req) (ws : List Row) (l : Meaning) (r : Res) (c : Ctl) (unit : Option ℕ) (ret : Ret)
+    (k : Asks ls p T (by_lists p.lists t) t n code0 xs o ws l (AsksEnq r c ret)) where
   -- the task after the code and the effect of its ENQ, and control only to an owner
   abbrev pub AfterEnq : Code → Effect → Type 0
   AfterEnq code e =
       IsTask ls (record { lists = after_effect p.lists r t c e; asked = p.asked ++ Enq t r c ret code ∷ []; last = Some (Enq t r c ret code) }) (told_after T t (suc n) verbs.Enq code) (by_lists (after_effect p.lists r t c e) t) t
-      (record { line = suc n; phase = phase_after code; code = code_in (phase_after code) code0; records = enq_records r c ret code (suc n) xs; outstanding = o })
+      (record { line = suc n; phase = phase_after code; code = code_in (phase_after code) code0; records = enq_records r c unit ret code (suc n) xs; outstanding = o; rows = ws })
       × (gets_control ret code ≡ true → owns (list_of (after_effect p.lists r t c e) r) t ≡ true)
 
   -- an element that went last
@@ -100,35 +103,35 @@ module _ (ls : List Line) (p : Past) (T : List ToldLine) (t : TaskId) (n code0 :
       (gets_control ret code ≡ true → is_granted code ≡ true) →
       AfterEnq code Append
   pushed code queued absent can control due gets =
-      let y : Rec = record { res = r; ctl = c; rank = 0; told = is_granted code; unit = None; line = suc n } in
+      let y : Rec = record { res = r; ctl = c; rank = 0; told = is_granted code; unit = unit; line = suc n } in
       let h : HistEntry = Enq t r c ret code in
       let s' : State = after_effect p.lists r t c Append in
       let own_new : owns (list_of s' r) t ≡ is_granted code = owns_pushed absent (is_granted code) can in
       let rec : IsRec ls (p.asked ++ h ∷ []) (told_after T t (suc n) verbs.Enq code) (by_lists s' t) t (suc n) (phase_after code) y = record {
-        entry = subst (IsEntryOn r) (sym (of_new_line ls p T (by_lists p.lists t) t n code0 xs o l (AsksEnq r c ret) k s' h)) (refl, queued);
+        entry = subst (IsEntryOn r) (sym (of_new_line ls p T (by_lists p.lists t) t n code0 xs o ws l (AsksEnq r c ret) k s' h)) (refl, queued);
         low = omega arith;
         high = omega arith;
         known = sym own_new;
         control = control;
         due = due;
       } in
-      let task = task-asked ls p T (by_lists p.lists t) t n code0 xs o l (AsksEnq r c ret) k s' h verbs.Enq code (by_lists s' t) (xs ++ y ∷ []) refl refl (keys_pushed y refl) (distinct-push xs y k.before.distinct (absent_record absent))
+      let task = task-asked ls p T (by_lists p.lists t) t n code0 xs o ws l (AsksEnq r c ret) k s' h verbs.Enq code (by_lists s' t) (xs ++ y ∷ []) refl (keys_pushed y refl) (distinct-push xs y k.before.distinct (absent_record absent))
       (each-push (IsRec ls (p.asked ++ h ∷ []) (told_after T t (suc n) verbs.Enq code) (by_lists s' t) t (suc n) (phase_after code)) xs y (recs-asked ls p.asked h t T (by_lists p.lists t) (by_lists s' t) n (suc n) verbs.Enq code (phase_after code) xs (other-push absent) k.before.records) rec) in (
         subst (λ b. IsTask ls (record { lists = s'; asked = p.asked ++ h ∷ []; last = Some h }) (told_after T t (suc n) verbs.Enq code) (by_lists s' t) t
-            (record { line = suc n; phase = phase_after code; code = code_in (phase_after code) code0; records = cond b (xs ++ y ∷ []) (cond (is_changed ret code) (on_record r (λ z. record z { ctl = ctls.E }) xs) xs); outstanding = o })) (sym queued) task,
+            (record { line = suc n; phase = phase_after code; code = code_in (phase_after code) code0; records = cond b (xs ++ y ∷ []) (cond (is_changed ret code) (on_record r (λ z. record z { ctl = ctls.E }) xs) xs); outstanding = o; rows = ws })) (sym queued) task,
         λ g. own_new ∙ gets g,
       )
 
   -- whatever happened, its records are on the same resources, and it owns what it owned
   kept : (code : Code) (e : Effect) (ys : List Rec) → map key ys ≡ own (after_effect p.lists r t c e) t → is_distinct ys ≡ true →
       Each (IsRec ls (p.asked ++ Enq t r c ret code ∷ []) (told_after T t (suc n) verbs.Enq code) (by_lists (after_effect p.lists r t c e) t) t (suc n) (phase_after code)) ys →
-      ys ≡ enq_records r c ret code (suc n) xs → (gets_control ret code ≡ true → owns (list_of (after_effect p.lists r t c e) r) t ≡ true) → AfterEnq code e
+      ys ≡ enq_records r c unit ret code (suc n) xs → (gets_control ret code ≡ true → owns (list_of (after_effect p.lists r t c e) r) t ≡ true) → AfterEnq code e
   kept code e ys keys distinct recs is gets =
       let h : HistEntry = Enq t r c ret code in
       let s' : State = after_effect p.lists r t c e in (
         subst (λ zs. IsTask ls (record { lists = s'; asked = p.asked ++ h ∷ []; last = Some h }) (told_after T t (suc n) verbs.Enq code) (by_lists s' t) t
-            (record { line = suc n; phase = phase_after code; code = code_in (phase_after code) code0; records = zs; outstanding = o })) is
-            (task-asked ls p T (by_lists p.lists t) t n code0 xs o l (AsksEnq r c ret) k s' h verbs.Enq code (by_lists s' t) ys refl refl keys distinct recs),
+            (record { line = suc n; phase = phase_after code; code = code_in (phase_after code) code0; records = zs; outstanding = o; rows = ws })) is
+            (task-asked ls p T (by_lists p.lists t) t n code0 xs o ws l (AsksEnq r c ret) k s' h verbs.Enq code (by_lists s' t) ys refl keys distinct recs),
         gets,
       )
 
@@ -154,7 +157,7 @@ module _ (ls : List Line) (p : Past) (T : List ToldLine) (t : TaskId) (n code0 :
       (λ f. absurd (cc)) (λ g. refl)))
     where
       tells : is_queued ret C00 ≡ true → tells_control t ls (p.asked ++ Enq t r c ret C00 ∷ []) r (Coded t (suc n) 0 verbs.Enq C00) ≡ true
-      tells q = grind (arith, same_task-itself t, ap (is_control_of r C00) (of_new_line ls p T (by_lists p.lists t) t n code0 xs o l (AsksEnq r c ret) k (after_effect p.lists r t c Append) (Enq t r c ret C00)) ∙ queued_control r (Some (Enq t r c ret C00)) (refl, q))
+      tells q = grind (arith, same_task-itself t, ap (is_control_of r C00) (of_new_line ls p T (by_lists p.lists t) t n code0 xs o ws l (AsksEnq r c ret) k (after_effect p.lists r t c Append) (Enq t r c ret C00)) ∙ queued_control r (Some (Enq t r c ret C00)) (refl, q))
   by_case d apart (waits code effect absent can queued) = subst (λ z. AfterEnq z d.effect) (sym code) (subst (λ z. AfterEnq Wait z) (sym effect)
       (pushed Wait queued absent can (λ g. absurd (cc)) (λ f. inl (refl, refl)) (λ g. absurd (no_wait ret g))))
     where
@@ -163,7 +166,7 @@ module _ (ls : List Line) (p : Past) (T : List ToldLine) (t : TaskId) (n code0 :
   by_case d apart (ecb code effect absent can is_ecb) = subst (λ z. AfterEnq z d.effect) (sym code) (subst (λ z. AfterEnq C04 z) (sym effect)
       (pushed C04 (ap (λ z. is_queued z C04) is_ecb) absent can (λ g. absurd (cc))
       (λ f. inr (record {
-        ecb = subst IsEcb (sym (of_new_line ls p T (by_lists p.lists t) t n code0 xs o l (AsksEnq r c ret) k (after_effect p.lists r t c Append) (Enq t r c ret C04))) (is_ecb, refl);
+        ecb = subst IsEcb (sym (of_new_line ls p T (by_lists p.lists t) t n code0 xs o ws l (AsksEnq r c ret) k (after_effect p.lists r t c Append) (Enq t r c ret C04))) (is_ecb, refl);
         coded = any-last (is_code_of t (suc n)) T _ (grind (arith, same_task-itself t, eq-eqb n n refl));
         unposted = none-more (is_post_of t (suc n)) T _ (unposted-new t (suc n) T k.before.posts) refl;
       }))
@@ -176,14 +179,14 @@ module _ (ls : List Line) (p : Past) (T : List ToldLine) (t : TaskId) (n code0 :
       (keys-exclusive r xs ∙ ap (map (exclusive_on r)) k.before.keys ∙ sym (own-exclusive p.lists r t))
       (distinct-exclusive r xs ∙ k.before.distinct)
       (each-exclusive _ (exclusive_rec C00 MakeExclusive) r xs (recs-asked ls p.asked (Enq t r c ret C00) t T (by_lists p.lists t) (by_lists (after_effect p.lists r t c MakeExclusive) t) n (suc n) verbs.Enq C00 phases.Ready xs (other-exclusive only) k.before.records))
-      (ap (λ z. enq_records r c z C00 (suc n) xs) (sym chng))
+      (ap (λ z. enq_records r c unit z C00 (suc n) xs) (sym chng))
       (λ g. still_owns only)))
   by_case d apart (keeps code effect exclusive chng) = subst (λ z. AfterEnq z d.effect) (sym code) (subst (λ z. AfterEnq C00 z) (sym effect)
       (kept C00 Nothing (on_record r (λ z. record z { ctl = ctls.E }) xs)
       (keys-exclusive r xs ∙ ap (map (exclusive_on r)) k.before.keys ∙ own-exclusive_already p.lists t r (all_exclusive (list_of p.lists r) t apart exclusive))
       (distinct-exclusive r xs ∙ k.before.distinct)
       (each-exclusive _ (exclusive_rec C00 Nothing) r xs (recs-asked ls p.asked (Enq t r c ret C00) t T (by_lists p.lists t) (by_lists p.lists t) n (suc n) verbs.Enq C00 phases.Ready xs (λ q e. refl) k.before.records))
-      (ap (λ z. enq_records r c z C00 (suc n) xs) (sym chng))
+      (ap (λ z. enq_records r c unit z C00 (suc n) xs) (sym chng))
       (λ g. owner_by Exclusive exclusive refl)))
   by_case d apart (refused effect unqueued unchanged as_told no_control) = subst (λ z. AfterEnq d.code z) (sym effect)
       (kept d.code Nothing xs k.before.keys k.before.distinct
@@ -216,21 +219,21 @@ other-without s t r xs d q has = by_res q r _
 pub keys_taken : (s : State) (t : TaskId) (r : Res) (xs : List Rec) → map key xs ≡ own s t → is_distinct xs ≡ true → map key (without_first xs r) ≡ own (without same_res s r t) t
 keys_taken s t r xs keys d = keys-without r xs d ∙ ap (filter (λ k. not (same_res r k.0))) keys ∙ sym (own-without s r t)
 
-module _ (ls : List Line) (p : Past) (T : List ToldLine) (t : TaskId) (n code0 : ℕ) (xs : List Rec) (o : Option Req) (l : Line) (r : Res) (have : Bool)
-    (k : Asks ls p T (by_lists p.lists t) t n code0 xs o l (AsksDeq r have)) where
+module _ (ls : List Meaning) (p : Past) (T : List ToldLine) (t : TaskId) (n code0 : ℕ) (xs : List Rec) (o : Option Req) (ws : List Row) (l : Meaning) (r : Res) (have : Bool)
+    (k : Asks ls p T (by_lists p.lists t) t n code0 xs o ws l (AsksDeq r have)) where
   -- the task after its DEQ: the code, and whether its element was taken out
   abbrev pub AfterDeq : Code → Bool → Type 0
   AfterDeq code taken =
       IsTask ls (record { lists = cond taken (without same_res p.lists r t) p.lists; asked = p.asked ++ Deq t r have code ∷ []; last = Some (Deq t r have code) }) (told_after T t (suc n) verbs.Deq code)
       (by_lists (cond taken (without same_res p.lists r t) p.lists) t) t
-      (record { line = suc n; phase = phase_after code; code = code_in (phase_after code) code0; records = cond taken (without_first xs r) xs; outstanding = o })
+      (record { line = suc n; phase = phase_after code; code = code_in (phase_after code) code0; records = cond taken (without_first xs r) xs; outstanding = o; rows = ws })
 
   after_deq : (code : Code) (taken : Bool) → AfterDeq code taken
-  after_deq code true = task-asked ls p T (by_lists p.lists t) t n code0 xs o l (AsksDeq r have) k (without same_res p.lists r t) (Deq t r have code) verbs.Deq code (by_lists (without same_res p.lists r t) t) (without_first xs r) refl refl
+  after_deq code true = task-asked ls p T (by_lists p.lists t) t n code0 xs o ws l (AsksDeq r have) k (without same_res p.lists r t) (Deq t r have code) verbs.Deq code (by_lists (without same_res p.lists r t) t) (without_first xs r) refl
       (keys_taken p.lists t r xs k.before.keys k.before.distinct) (distinct-without r xs k.before.distinct)
       (recs-asked ls p.asked (Deq t r have code) t T (by_lists p.lists t) (by_lists (without same_res p.lists r t) t) n (suc n) verbs.Deq code (phase_after code) (without_first xs r) (other-without p.lists t r xs k.before.distinct)
       (each-without (IsRec ls p.asked T (by_lists p.lists t) t n phases.Ready) r xs k.before.records))
-  after_deq code false = task-asked ls p T (by_lists p.lists t) t n code0 xs o l (AsksDeq r have) k p.lists (Deq t r have code) verbs.Deq code (by_lists p.lists t) xs refl refl
+  after_deq code false = task-asked ls p T (by_lists p.lists t) t n code0 xs o ws l (AsksDeq r have) k p.lists (Deq t r have code) verbs.Deq code (by_lists p.lists t) xs refl
       k.before.keys k.before.distinct
       (recs-asked ls p.asked (Deq t r have code) t T (by_lists p.lists t) (by_lists p.lists t) n (suc n) verbs.Deq code (phase_after code) xs (λ q e. refl) k.before.records)
 
@@ -239,10 +242,10 @@ module _ (ls : List Line) (p : Past) (T : List ToldLine) (t : TaskId) (n code0 :
       let st = standing_of (list_of p.lists r) t in
       IsTask ls (record { lists = cond (is_owner st) (without same_res p.lists r t) p.lists; asked = p.asked ++ Deq t r have (deq_code st have) ∷ []; last = Some (Deq t r have (deq_code st have)) }) (told_after T t (suc n) verbs.Deq (deq_code st have))
       (by_lists (cond (is_owner st) (without same_res p.lists r t) p.lists) t) t
-      (record { line = suc n; phase = phase_after (deq_code st have); code = code_in (phase_after (deq_code st have)) code0; records = cond (is_granted (deq_code st have)) (without_first xs r) xs; outstanding = o })
+      (record { line = suc n; phase = phase_after (deq_code st have); code = code_in (phase_after (deq_code st have)) code0; records = cond (is_granted (deq_code st have)) (without_first xs r) xs; outstanding = o; rows = ws })
   task-deq =
       let st : Standing = standing_of (list_of p.lists r) t in
       subst (λ b. IsTask ls (record { lists = cond (is_owner st) (without same_res p.lists r t) p.lists; asked = p.asked ++ Deq t r have (deq_code st have) ∷ []; last = Some (Deq t r have (deq_code st have)) }) (told_after T t (suc n) verbs.Deq (deq_code st have))
       (by_lists (cond (is_owner st) (without same_res p.lists r t) p.lists) t) t
-      (record { line = suc n; phase = phase_after (deq_code st have); code = code_in (phase_after (deq_code st have)) code0; records = cond b (without_first xs r) xs; outstanding = o }))
+      (record { line = suc n; phase = phase_after (deq_code st have); code = code_in (phase_after (deq_code st have)) code0; records = cond b (without_first xs r) xs; outstanding = o; rows = ws }))
       (sym (deq_granted st have)) (after_deq (deq_code st have) (is_owner st))

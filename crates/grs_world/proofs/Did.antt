@@ -1,5 +1,5 @@
 -- What the words of an event do to its task, to the others and to what was told.
-use Rattle.std.proofs.Common.{◌≡◌, ◌+◌, suc, Bool, true, false, cond, List, [], ◌∷◌, ◌++◌, Option, None, refl, ap, ◌∙◌, subst, add-one}
+use Rattle.std.proofs.Common.{◌≡◌, ◌+◌, ℕ, suc, Bool, true, false, cond, List, [], ◌∷◌, ◌++◌, Option, refl, ap, ◌∙◌, subst, add-one}
 use Rattle.grs_base.specs.declared.resource.Res.{Res}
 use Rattle.grs_base.specs.declared.resource.Ctl.{Ctl}
 use Rattle.grs_base.specs.declared.resource.Ctl.TheVariants as ctls
@@ -82,17 +82,17 @@ module _ (v w : TasksView) (t : TaskId) (x : TaskState) (T : List ToldLine) (her
   did-code verb C18 = subst (λ n. Did v (telling w (Coded t (state_of w t).line 0 verb C18)) t x (T ++ Coded t n 0 verb C18 ∷ [])) (ap (λ (y : TaskState). y.line) d.state) (did-telling v w t x T _ d)
   did-code verb (End m) = subst (λ n. Did v (telling w (Coded t (state_of w t).line 0 verb (End m))) t x (T ++ Coded t n 0 verb (End m) ∷ [])) (ap (λ (y : TaskState). y.line) d.state) (did-telling v w t x T _ d)
 
-  did-new : (r : Res) (c : Ctl) (code : Code) → Did v (with_record w t (new_record w t r c code)) t (record x { records = x.records ++ record { res = r; ctl = c; rank = 0; told = is_granted code; unit = None; line = x.line } ∷ [] }) T
-  did-new r c code = subst (λ n. Did v (with_record w t (new_record w t r c code)) t (record x { records = x.records ++ record { res = r; ctl = c; rank = 0; told = is_granted code; unit = None; line = n } ∷ [] }) T) (ap (λ (y : TaskState). y.line) d.state) (did-record (new_record w t r c code))
+  did-new : (r : Res) (c : Ctl) (unit : Option ℕ) (code : Code) → Did v (with_record w t (new_record w t r c unit code)) t (record x { records = x.records ++ record { res = r; ctl = c; rank = 0; told = is_granted code; unit = unit; line = x.line } ∷ [] }) T
+  did-new r c unit code = subst (λ n. Did v (with_record w t (new_record w t r c unit code)) t (record x { records = x.records ++ record { res = r; ctl = c; rank = 0; told = is_granted code; unit = unit; line = n } ∷ [] }) T) (ap (λ (y : TaskState). y.line) d.state) (did-record (new_record w t r c unit code))
 
   -- the records after an ENQ
-  pub did-enq : (r : Res) (c : Ctl) (ret : Ret) (code : Code) → Did v (record_enq w t r c ret code) t (record x { records = enq_records r c ret code x.line x.records }) T
+  pub did-enq : (r : Res) (c : Ctl) (unit : Option ℕ) (ret : Ret) (code : Code) → Did v (record_enq w t r c unit ret code) t (record x { records = enq_records r c unit ret code x.line x.records }) T
   unfolding record_enq
-  did-enq r c ret code = go (is_queued ret code) (is_changed ret code)
+  did-enq r c unit ret code = go (is_queued ret code) (is_changed ret code)
     where
-      go : (a b : Bool) → Did v (cond a (with_record w t (new_record w t r c code)) (cond b (with_exclusive w t r) w)) t
-          (record x { records = cond a (x.records ++ record { res = r; ctl = c; rank = 0; told = is_granted code; unit = None; line = x.line } ∷ []) (cond b (on_record r (λ z. record z { ctl = ctls.E }) x.records) x.records) }) T
-      go true b = did-new r c code
+      go : (a b : Bool) → Did v (cond a (with_record w t (new_record w t r c unit code)) (cond b (with_exclusive w t r) w)) t
+          (record x { records = cond a (x.records ++ record { res = r; ctl = c; rank = 0; told = is_granted code; unit = unit; line = x.line } ∷ []) (cond b (on_record r (λ z. record z { ctl = ctls.E }) x.records) x.records) }) T
+      go true b = did-new r c unit code
       go false true = did-exclusive r
       go false false = d
 
@@ -101,21 +101,21 @@ module _ (v w : TasksView) (t : TaskId) (x : TaskState) (T : List ToldLine) (her
   did-taken r false = d
 
 -- a task after the answer to its own request
-pub did-answered_enq : (v w : TasksView) (t : TaskId) (x : TaskState) (T : List ToldLine) → is_task v t ≡ true → Did v w t x T → (r : Res) (c : Ctl) (ret : Ret) (full : Bool) (code : Code) →
-    Did v (answered w t (Enq r c ret full) code) t (record { line = x.line; phase = phase_after code; code = code_in (phase_after code) x.code; records = enq_records r c ret code x.line x.records; outstanding = x.outstanding }) (told_after T t x.line verbs.Enq code)
+pub did-answered_enq : (v w : TasksView) (t : TaskId) (x : TaskState) (T : List ToldLine) → is_task v t ≡ true → Did v w t x T → (r : Res) (c : Ctl) (unit : Option ℕ) (ret : Ret) (full : Bool) (code : Code) →
+    Did v (answered w t (Enq r c ret full) unit code) t (record { line = x.line; phase = phase_after code; code = code_in (phase_after code) x.code; records = enq_records r c unit ret code x.line x.records; outstanding = x.outstanding; rows = x.rows }) (told_after T t x.line verbs.Enq code)
 unfolding answered
-did-answered_enq v w t x T here d r c ret full code =
-    did-code v (with_phase (record_enq w t r c ret code) t (phase_after code)) t (record { line = x.line; phase = phase_after code; code = code_in (phase_after code) x.code; records = enq_records r c ret code x.line x.records; outstanding = x.outstanding }) T here
-    (did-phase v (record_enq w t r c ret code) t (record x { records = enq_records r c ret code x.line x.records }) T here (did-enq v w t x T here d r c ret code) (phase_after code)) verbs.Enq code
+did-answered_enq v w t x T here d r c unit ret full code =
+    did-code v (with_phase (record_enq w t r c unit ret code) t (phase_after code)) t (record { line = x.line; phase = phase_after code; code = code_in (phase_after code) x.code; records = enq_records r c unit ret code x.line x.records; outstanding = x.outstanding; rows = x.rows }) T here
+    (did-phase v (record_enq w t r c unit ret code) t (record x { records = enq_records r c unit ret code x.line x.records }) T here (did-enq v w t x T here d r c unit ret code) (phase_after code)) verbs.Enq code
 
-pub did-answered_deq : (v w : TasksView) (t : TaskId) (x : TaskState) (T : List ToldLine) → is_task v t ≡ true → Did v w t x T → (r : Res) (have : Bool) (code : Code) →
-    Did v (answered w t (Deq r have) code) t (record { line = x.line; phase = phase_after code; code = code_in (phase_after code) x.code; records = cond (is_granted code) (without_first x.records r) x.records; outstanding = x.outstanding }) (told_after T t x.line verbs.Deq code)
+pub did-answered_deq : (v w : TasksView) (t : TaskId) (x : TaskState) (T : List ToldLine) → is_task v t ≡ true → Did v w t x T → (r : Res) (have : Bool) (unit : Option ℕ) (code : Code) →
+    Did v (answered w t (Deq r have) unit code) t (record { line = x.line; phase = phase_after code; code = code_in (phase_after code) x.code; records = cond (is_granted code) (without_first x.records r) x.records; outstanding = x.outstanding; rows = x.rows }) (told_after T t x.line verbs.Deq code)
 unfolding answered
-did-answered_deq v w t x T here d r have code =
-    did-code v (with_phase (cond (is_granted code) (without_record w t r) w) t (phase_after code)) t (record { line = x.line; phase = phase_after code; code = code_in (phase_after code) x.code; records = cond (is_granted code) (without_first x.records r) x.records; outstanding = x.outstanding }) T here
+did-answered_deq v w t x T here d r have unit code =
+    did-code v (with_phase (cond (is_granted code) (without_record w t r) w) t (phase_after code)) t (record { line = x.line; phase = phase_after code; code = code_in (phase_after code) x.code; records = cond (is_granted code) (without_first x.records r) x.records; outstanding = x.outstanding; rows = x.rows }) T here
     (did-phase v (cond (is_granted code) (without_record w t r) w) t (record x { records = cond (is_granted code) (without_first x.records r) x.records }) T here (did-taken v w t x T here d r (is_granted code)) (phase_after code)) verbs.Deq code
 
-pub did-answered_release : (v w : TasksView) (t : TaskId) (x : TaskState) (T : List ToldLine) → is_task v t ≡ true → Did v w t x T → (r : Res) (code : Code) →
-    Did v (answered w t (Release r) code) t (record x { records = without_first x.records r }) T
+pub did-answered_release : (v w : TasksView) (t : TaskId) (x : TaskState) (T : List ToldLine) → is_task v t ≡ true → Did v w t x T → (r : Res) (unit : Option ℕ) (code : Code) →
+    Did v (answered w t (Release r) unit code) t (record x { records = without_first x.records r }) T
 unfolding answered
-did-answered_release v w t x T here d r code = did-without v w t x T here d r
+did-answered_release v w t x T here d r unit code = did-without v w t x T here d r

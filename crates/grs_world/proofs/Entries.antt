@@ -1,14 +1,13 @@
 -- The entries of a task, and of its lines, in a history that grows.
 use Rattle.std.proofs.Common.{◌≡◌, ℕ, zero, suc, Bool, true, false, cond, ◌&&◌, List, [], ◌∷◌, ◌++◌, length, Option, Some, None, refl, arith, append-nil}
-use Rattle.std.specs.Prelude.{filter, slice_get, is_some}
-use Rattle.grs_base.specs.Same.{same_task}
+use Rattle.std.specs.Prelude.{filter, slice_get}
 use Rattle.grs_base.specs.declared.resource.TaskId.{TaskId}
 use Rattle.grs_base.specs.declared.decision.Code.{Code}
 use Rattle.grs_base.specs.declared.decision.Code.TheVariants as codes
-use Rattle.grs_base.specs.declared.line.Line.{Line}
+use Rattle.grs_legal.specs.declared.meaning.Meaning.{Meaning}
 use Rattle.grs_wire.specs.declared.history.HistEntry.{HistEntry}
-use Rattle.grs_wire.specs.History.{asker, code_of}
-use Rattle.grs_legal.specs.Asks.{ask_of}
+use Rattle.grs_wire.specs.History.{is_by, code_of}
+use Rattle.grs_legal.specs.Asks.{is_silent}
 use Rattle.grs_legal.specs.Legal.{entries_of, is_of_line, line_entries, end_or, end_among, last_entry}
 use Rattle.grs_world.specs.Agree.{asked_at}
 
@@ -24,25 +23,25 @@ pub filter-push_left : {X : Type 0} (p : X → Bool) (xs : List X) (x : X) → p
 filter-push_left p xs x h = grind (arith, h, append-nil, filter-append p xs (x ∷ []))
 
 -- another task's entry adds nothing
-pub line_entries-other : (t : TaskId) (hist : List HistEntry) (h : HistEntry) → same_task t (asker h) ≡ false → line_entries t (hist ++ h ∷ []) ≡ line_entries t hist
-line_entries-other t hist h apart = filter-push_left (λ g. same_task t (asker g) && is_of_line g) hist h (grind (arith, apart))
+pub line_entries-other : (t : TaskId) (hist : List HistEntry) (h : HistEntry) → is_by t h ≡ false → line_entries t (hist ++ h ∷ []) ≡ line_entries t hist
+line_entries-other t hist h apart = filter-push_left (λ g. is_by t g && is_of_line g) hist h (grind (arith, apart))
 
-pub entries_of-other : (t : TaskId) (hist : List HistEntry) (h : HistEntry) → same_task t (asker h) ≡ false → entries_of t (hist ++ h ∷ []) ≡ entries_of t hist
-entries_of-other t hist h apart = filter-push_left (λ g. same_task t (asker g)) hist h apart
+pub entries_of-other : (t : TaskId) (hist : List HistEntry) (h : HistEntry) → is_by t h ≡ false → entries_of t (hist ++ h ∷ []) ≡ entries_of t hist
+entries_of-other t hist h apart = filter-push_left (is_by t) hist h apart
 
 -- an own entry goes last
-pub line_entries-own : (t : TaskId) (hist : List HistEntry) (h : HistEntry) → same_task t (asker h) ≡ true → is_of_line h ≡ true → line_entries t (hist ++ h ∷ []) ≡ line_entries t hist ++ h ∷ []
-line_entries-own t hist h mine asked = filter-push_kept (λ g. same_task t (asker g) && is_of_line g) hist h (grind (arith, mine, asked))
+pub line_entries-own : (t : TaskId) (hist : List HistEntry) (h : HistEntry) → is_by t h ≡ true → is_of_line h ≡ true → line_entries t (hist ++ h ∷ []) ≡ line_entries t hist ++ h ∷ []
+line_entries-own t hist h mine asked = filter-push_kept (λ g. is_by t g && is_of_line g) hist h (grind (arith, mine, asked))
 
 pub line_entries-release : (t : TaskId) (hist : List HistEntry) (h : HistEntry) → is_of_line h ≡ false → line_entries t (hist ++ h ∷ []) ≡ line_entries t hist
-line_entries-release t hist h asked = filter-push_left (λ g. same_task t (asker g) && is_of_line g) hist h (cases (same_task t (asker h)))
+line_entries-release t hist h asked = filter-push_left (λ g. is_by t g && is_of_line g) hist h (cases (is_by t h))
   where
     cases : (b : Bool) → (b && is_of_line h) ≡ false
     cases true = asked
     cases false = refl
 
-pub entries_of-own : (t : TaskId) (hist : List HistEntry) (h : HistEntry) → same_task t (asker h) ≡ true → entries_of t (hist ++ h ∷ []) ≡ entries_of t hist ++ h ∷ []
-entries_of-own t hist h mine = filter-push_kept (λ g. same_task t (asker g)) hist h mine
+pub entries_of-own : (t : TaskId) (hist : List HistEntry) (h : HistEntry) → is_by t h ≡ true → entries_of t (hist ++ h ∷ []) ≡ entries_of t hist ++ h ∷ []
+entries_of-own t hist h mine = filter-push_kept (is_by t) hist h mine
 
 pub last_entry-push : (xs : List HistEntry) (h : HistEntry) → last_entry (xs ++ h ∷ []) ≡ Some h
 last_entry-push [] h = refl
@@ -73,10 +72,10 @@ slice_get-end [] y ys = refl
 slice_get-end (x ∷ xs) y ys = slice_get-end xs y ys
 
 -- an entry of a line keeps its place when the history grows
-pub asked_at-grows : (t : TaskId) (l : Option Line) (xs ys : List HistEntry) (i : ℕ) (e : HistEntry) → asked_at t l (slice_get xs i) ≡ Some e → asked_at t l (slice_get (xs ++ ys) i) ≡ Some e
-asked_at-grows t None xs ys i e h = cc
-asked_at-grows t (Some l) xs ys i e h = cases (is_some (ask_of t l)) h
+pub asked_at-grows : (l : Option Meaning) (xs ys : List HistEntry) (i : ℕ) (e : HistEntry) → asked_at l (slice_get xs i) ≡ Some e → asked_at l (slice_get (xs ++ ys) i) ≡ Some e
+asked_at-grows None xs ys i e h = cc
+asked_at-grows (Some l) xs ys i e h = cases (is_silent l) h
   where
-    cases : (b : Bool) → cond b (slice_get xs i) None ≡ Some e → cond b (slice_get (xs ++ ys) i) None ≡ Some e
-    cases true k = slice_get-append xs ys i e k
-    cases false k = cc
+    cases : (b : Bool) → cond b None (slice_get xs i) ≡ Some e → cond b None (slice_get (xs ++ ys) i) ≡ Some e
+    cases true k = cc
+    cases false k = slice_get-append xs ys i e k

@@ -11,7 +11,7 @@ use Rattle.grs_base.specs.declared.resource.Elem.{Elem}
 use Rattle.grs_base.specs.declared.resource.TaskId.{TaskId}
 use Rattle.grs_base.specs.declared.decision.Code.{Code}
 use Rattle.grs_base.specs.declared.decision.Code.TheVariants.{C00, C04, C08, C14, C18, Wait, End}
-use Rattle.grs_base.specs.declared.line.Line.{Line}
+use Rattle.grs_legal.specs.declared.meaning.Meaning.{Meaning}
 use Rattle.grs_base.proofs.SameLaws.{same_res-exact, same_res-itself, same_task-exact, same_task-itself}
 use Rattle.grs_base.proofs.ListLaws.{same_task-sym}
 use Rattle.grs_wire.specs.declared.deck.Deck.{Deck}
@@ -19,18 +19,18 @@ use Rattle.grs_wire.specs.declared.history.HistEntry.{HistEntry}
 use Rattle.grs_wire.specs.declared.request.Want.{Want}
 use Rattle.grs_wire.specs.declared.told.Verb.{Verb}
 use Rattle.grs_wire.specs.declared.told.ToldLine.{ToldLine}
-use Rattle.grs_wire.specs.History.{asker, replay, step}
-use Rattle.grs_wire.specs.Wants.{after_want, res_wanted, became_owners}
-use Rattle.grs_wire.proofs.WantLaws.{owns-want, list_of-want_other, by_res}
+use Rattle.grs_wire.specs.History.{is_by, replay, step}
+use Rattle.grs_wire.specs.Wants.{after_want, became_owners}
+use Rattle.grs_wire.proofs.WantLaws.{owns-want, speaks_of, list_of-want_other, by_res}
 use Rattle.grs_wire.proofs.HistoryLaws.{replay_from-append}
 use Rattle.grs_legal.specs.Asks.{lines_of}
-use Rattle.grs_legal.specs.Legal.{line_entries, entries_of, last_entry}
+use Rattle.grs_legal.specs.Legal.{line_entries}
 use Rattle.task_state.specs.declared.state.TaskState.{TaskState}
 use Rattle.task_state.specs.View.{TasksView, is_task, state_of}
 use Rattle.grs_world.specs.Node.{Node}
 use Rattle.grs_world.proofs.Owners.{is_among, is_among-became, owns-front}
 use Rattle.grs_world.proofs.Entries.{line_entries-other, entries_of-other}
-use Rattle.grs_world.proofs.Invariant.{IsMine, Past, IsTask}
+use Rattle.grs_world.proofs.Invariant.{Past, IsTask}
 use Rattle.grs_world.proofs.Others.{KeepsTask, keeps-want, task-kept, task-told, recs-knows}
 use Rattle.grs_world.proofs.Granted.{past}
 use Rattle.grs_world.proofs.Views.{IsOurs, Holds}
@@ -60,19 +60,6 @@ pub record IsGood (deck : Deck) (P : List HistEntry) (n : Node) : Type 0 where
 pub replay-push : (limit : ℕ) (P : List HistEntry) (h : HistEntry) → replay limit (P ++ h ∷ []) ≡ step limit (replay limit P) h
 replay-push limit P h = replay_from-append limit [] P (h ∷ [])
 
--- a task's last entry is its own
-last-of : (t : TaskId) (xs : List HistEntry) (h : HistEntry) → list_all (λ g. same_task t (asker g)) xs ≡ true → last_entry xs ≡ Some h → asker h ≡ t
-last-of t [] h all e = cc
-last-of t (x ∷ []) h all e = let same : x ≡ h = cc in subst (λ z. asker z ≡ t) same (sym (same_task-exact t (asker x) (grind (arith, all))))
-last-of t (x ∷ y ∷ ys) h all e = last-of t (y ∷ ys) h (and_parts _ _ all).1 e
-
-filter-all : {X : Type 0} (p : X → Bool) (xs : List X) → list_all p (filter p xs) ≡ true
-filter-all p [] = refl
-filter-all p (x ∷ xs) = grind (arith, filter-all p xs, cases_Bool (p x))
-
-pub last-mine : (limit : ℕ) (P : List HistEntry) (t : TaskId) → IsMine (past limit P t) t
-last-mine limit P t h e = last-of t (entries_of t P) h (filter-all (λ g. same_task t (asker g)) P) e
-
 -- an owner is of the deck
 pub has_task-home : (p : TaskId → Bool) (s : State) (r : Res) (t : TaskId) → list_all (λ h. p h.1.task) s ≡ true → has_task (list_of s r) t ≡ true → p t ≡ true
 has_task-home p [] r t all h = cc
@@ -94,7 +81,7 @@ some_of (Some x) h = (x, refl)
 pub home-ours : (deck : Deck) (v : TasksView) (t : TaskId) → is_home deck t ≡ true → is_task v t ≡ true → IsHome deck v t
 home-ours deck v t h here = let s = some_of (lines_of deck t) (and_parts _ _ h).1 in record { lines = s.0; ours = record { lines = s.1; home = eqb-true _ _ (and_parts _ _ h).0; here = here } }
 
-pub ours-home : (deck : Deck) (v : TasksView) (t : TaskId) (ls : List Line) → IsOurs deck v t ls → is_home deck t ≡ true
+pub ours-home : (deck : Deck) (v : TasksView) (t : TaskId) (ls : List Meaning) → IsOurs deck v t ls → is_home deck t ≡ true
 ours-home deck v t ls o = let a : (t.system.0 == 0) ≡ true = eq-eqb _ _ o.home in rw (a, o.lines) refl
 
 -- no task became owner twice
@@ -140,7 +127,7 @@ holds-knows deck P knows knows' v same h = record {
   };
 }
 
-pub task-knows : (ls : List Line) (p : Past) (T : List ToldLine) (knows knows' : Res → Bool) (t : TaskId) (x : TaskState) → ((q : Res) → knows' q ≡ knows q) → IsTask ls p T knows t x → IsTask ls p T knows' t x
+pub task-knows : (ls : List Meaning) (p : Past) (T : List ToldLine) (knows knows' : Res → Bool) (t : TaskId) (x : TaskState) → ((q : Res) → knows' q ≡ knows q) → IsTask ls p T knows t x → IsTask ls p T knows' t x
 task-knows ls p T knows knows' t x same k = record {
   keys = k.keys;
   distinct = k.distinct;
@@ -154,11 +141,11 @@ task-knows ls p T knows knows' t x same k = record {
 }
 
 -- another task's past after an entry
-pub past-other : (limit : ℕ) (P : List HistEntry) (h : HistEntry) (u : TaskId) → same_task u (asker h) ≡ false → past limit (P ++ h ∷ []) u ≡ record (past limit P u) { lists = replay limit (P ++ h ∷ []) }
+pub past-other : (limit : ℕ) (P : List HistEntry) (h : HistEntry) (u : TaskId) → is_by u h ≡ false → past limit (P ++ h ∷ []) u ≡ record (past limit P u) { lists = replay limit (P ++ h ∷ []) }
 past-other limit P h u apart = rw (line_entries-other u P h apart, entries_of-other u P h apart) refl
 
 -- a code told to one task leaves the others
-pub task-told_after : (ls : List Line) (p : Past) (T : List ToldLine) (knows : Res → Bool) (u : TaskId) (x : TaskState) (t : TaskId) (k : ℕ) (verb : Verb) (c : Code) → same_task u t ≡ false → IsTask ls p T knows u x → IsTask ls p (told_after T t k verb c) knows u x
+pub task-told_after : (ls : List Meaning) (p : Past) (T : List ToldLine) (knows : Res → Bool) (u : TaskId) (x : TaskState) (t : TaskId) (k : ℕ) (verb : Verb) (c : Code) → same_task u t ≡ false → IsTask ls p T knows u x → IsTask ls p (told_after T t k verb c) knows u x
 task-told_after ls p T knows u x t k verb Wait apart h = h
 task-told_after ls p T knows u x t k verb C00 apart h = task-told ls p T knows u x _ apart h
 task-told_after ls p T knows u x t k verb C04 apart h = task-told ls p T knows u x _ apart h
@@ -168,15 +155,15 @@ task-told_after ls p T knows u x t k verb C18 apart h = task-told ls p T knows u
 task-told_after ls p T knows u x t k verb (End n) apart h = task-told ls p T knows u x _ apart h
 
 -- A request of task t decided: what is known before the tasks that became owners are told.
-module _ (deck : Deck) (P : List HistEntry) (t : TaskId) (w : Want) (h : HistEntry)
-    (mine : asker h ≡ t) (after : replay deck.limit (P ++ h ∷ []) ≡ after_want (replay deck.limit P) t w) where
+module _ (deck : Deck) (P : List HistEntry) (t : TaskId) (w : Want) (r : Res) (speaks : (q : Res) → speaks_of w q ≡ same_res q r) (h : HistEntry)
+    (mine : (u : TaskId) → is_by u h ≡ same_task u t) (after : replay deck.limit (P ++ h ∷ []) ≡ after_want (replay deck.limit P) t w) where
   -- who became owner
   abbrev pub became : List TaskId
-  became = became_owners (list_of (replay deck.limit P) (res_wanted w)) (list_of (after_want (replay deck.limit P) t w) (res_wanted w)) t
+  became = became_owners (list_of (replay deck.limit P) r) (list_of (after_want (replay deck.limit P) t w) r) t
 
   -- control that was told before these are
   abbrev pub before_telling : Res → TaskId → Bool
-  before_telling q u = owns (list_of (after_want (replay deck.limit P) t w) q) u && not (same_res (res_wanted w) q && is_among u (became_owners (list_of (replay deck.limit P) (res_wanted w)) (list_of (after_want (replay deck.limit P) t w) (res_wanted w)) t))
+  before_telling q u = owns (list_of (after_want (replay deck.limit P) t w) q) u && not (same_res r q && is_among u (became_owners (list_of (replay deck.limit P) r) (list_of (after_want (replay deck.limit P) t w) r) t))
 
   bools : (a b c : Bool) → (a ≡ true → b ≡ true) → c ≡ false → (b && not ((not a && not c) && b)) ≡ a
   bools true true c f g = refl
@@ -187,27 +174,27 @@ module _ (deck : Deck) (P : List HistEntry) (t : TaskId) (w : Want) (h : HistEnt
 
   -- the others knew what they owned
   before-others : (q : Res) (u : TaskId) → same_task u t ≡ false → before_telling q u ≡ owned deck P q u
-  before-others q u apart = by_res q (res_wanted w) _
+  before-others q u apart = by_res q r _
       (λ same. subst (λ z. before_telling z u ≡ owned deck P z u) (sym same) at)
-      (λ other. rw (ap (λ es. owns es u) (list_of-want_other (replay deck.limit P) t w q other), unlike q other) (and_true (owns (list_of (replay deck.limit P) q) u)))
+      (λ other. rw (ap (λ es. owns es u) (list_of-want_other (replay deck.limit P) t w q (speaks q ∙ other)), unlike q other) (and_true (owns (list_of (replay deck.limit P) q) u)))
     where
       and_true : (b : Bool) → (b && true) ≡ b
       and_true true = refl
       and_true false = refl
 
-      unlike : (z : Res) → same_res z (res_wanted w) ≡ false → same_res (res_wanted w) z ≡ false
-      unlike z e = go (same_res (res_wanted w) z) refl
+      unlike : (z : Res) → same_res z r ≡ false → same_res r z ≡ false
+      unlike z e = go (same_res r z) refl
         where
-          go : (b : Bool) → same_res (res_wanted w) z ≡ b → b ≡ false
-          go true f = let g : true ≡ false = sym (same_res-itself z) ∙ ap (λ y. same_res z y) (sym (same_res-exact (res_wanted w) z f)) ∙ e in absurd (cc)
+          go : (b : Bool) → same_res r z ≡ b → b ≡ false
+          go true f = let g : true ≡ false = sym (same_res-itself z) ∙ ap (λ y. same_res z y) (sym (same_res-exact r z f)) ∙ e in absurd (cc)
           go false f = refl
 
-      at : before_telling (res_wanted w) u ≡ owned deck P (res_wanted w) u
-      at = rw (same_res-itself (res_wanted w), is_among-became (list_of (replay deck.limit P) (res_wanted w)) (list_of (after_want (replay deck.limit P) t w) (res_wanted w)) t u)
-          (bools (owns (list_of (replay deck.limit P) (res_wanted w)) u) _ (same_task t u) (owns-want (replay deck.limit P) t w (res_wanted w) u apart) (same_task-sym t u ∙ apart))
+      at : before_telling r u ≡ owned deck P r u
+      at = rw (same_res-itself r, is_among-became (list_of (replay deck.limit P) r) (list_of (after_want (replay deck.limit P) t w) r) t u)
+          (bools (owns (list_of (replay deck.limit P) r) u) _ (same_task t u) (owns-want (replay deck.limit P) t w r u apart) (same_task-sym t u ∙ apart))
 
   pub before-own : (q : Res) → before_telling q t ≡ by_lists (after_want (replay deck.limit P) t w) t q
-  before-own q = rw (is_among-became (list_of (replay deck.limit P) (res_wanted w)) (list_of (after_want (replay deck.limit P) t w) (res_wanted w)) t t, same_task-itself t) (pieces _ _ _ _)
+  before-own q = rw (is_among-became (list_of (replay deck.limit P) r) (list_of (after_want (replay deck.limit P) t w) r) t t, same_task-itself t) (pieces _ _ _ _)
     where
       pieces : (a b c d : Bool) → (a && not (b && ((c && false) && d))) ≡ a
       pieces true true true d = refl
@@ -216,20 +203,20 @@ module _ (deck : Deck) (P : List HistEntry) (t : TaskId) (w : Want) (h : HistEnt
       pieces false b c d = refl
 
   -- once they are told, everybody knows what it owns
-  pub told-all : (q : Res) (u : TaskId) → learns_all before_telling (res_wanted w) became q u ≡ owned deck (P ++ h ∷ []) q u
-  told-all q u = learns_all-is before_telling (res_wanted w) became q u ∙ by_res q (res_wanted w) ((before_telling q u || (same_res (res_wanted w) q && is_among u became)) ≡ owned deck (P ++ h ∷ []) q u)
-      (λ same. subst (λ z. (before_telling z u || (same_res (res_wanted w) z && is_among u became)) ≡ owned deck (P ++ h ∷ []) z u) (sym same) at)
+  pub told-all : (q : Res) (u : TaskId) → learns_all before_telling r became q u ≡ owned deck (P ++ h ∷ []) q u
+  told-all q u = learns_all-is before_telling r became q u ∙ by_res q r ((before_telling q u || (same_res r q && is_among u became)) ≡ owned deck (P ++ h ∷ []) q u)
+      (λ same. subst (λ z. (before_telling z u || (same_res r z && is_among u became)) ≡ owned deck (P ++ h ∷ []) z u) (sym same) at)
       (λ other. rw (unlike q other) (ends (owns (list_of (after_want (replay deck.limit P) t w) q) u)) ∙ ap (λ s. owns (list_of s q) u) (sym after))
     where
       ends : (b : Bool) → ((b && true) || false) ≡ b
       ends true = refl
       ends false = refl
 
-      unlike : (z : Res) → same_res z (res_wanted w) ≡ false → same_res (res_wanted w) z ≡ false
-      unlike z e = go (same_res (res_wanted w) z) refl
+      unlike : (z : Res) → same_res z r ≡ false → same_res r z ≡ false
+      unlike z e = go (same_res r z) refl
         where
-          go : (b : Bool) → same_res (res_wanted w) z ≡ b → b ≡ false
-          go true f = let g : true ≡ false = sym (same_res-itself z) ∙ ap (λ y. same_res z y) (sym (same_res-exact (res_wanted w) z f)) ∙ e in absurd (cc)
+          go : (b : Bool) → same_res r z ≡ b → b ≡ false
+          go true f = let g : true ≡ false = sym (same_res-itself z) ∙ ap (λ y. same_res z y) (sym (same_res-exact r z f)) ∙ e in absurd (cc)
           go false f = refl
 
       pieces : (a b : Bool) → (b ≡ true → a ≡ true) → ((a && not b) || b) ≡ a
@@ -238,20 +225,20 @@ module _ (deck : Deck) (P : List HistEntry) (t : TaskId) (w : Want) (h : HistEnt
       pieces false true f = let e : false ≡ true = f refl in absurd (cc)
       pieces false false f = refl
 
-      owner : is_among u became ≡ true → owns (list_of (after_want (replay deck.limit P) t w) (res_wanted w)) u ≡ true
-      owner e = (and_parts (not (owns (list_of (replay deck.limit P) (res_wanted w)) u) && not (same_task t u)) (owns (list_of (after_want (replay deck.limit P) t w) (res_wanted w)) u) (sym (is_among-became (list_of (replay deck.limit P) (res_wanted w)) (list_of (after_want (replay deck.limit P) t w) (res_wanted w)) t u) ∙ e)).1
+      owner : is_among u became ≡ true → owns (list_of (after_want (replay deck.limit P) t w) r) u ≡ true
+      owner e = (and_parts (not (owns (list_of (replay deck.limit P) r) u) && not (same_task t u)) (owns (list_of (after_want (replay deck.limit P) t w) r) u) (sym (is_among-became (list_of (replay deck.limit P) r) (list_of (after_want (replay deck.limit P) t w) r) t u) ∙ e)).1
 
-      at : (before_telling (res_wanted w) u || (same_res (res_wanted w) (res_wanted w) && is_among u became)) ≡ owned deck (P ++ h ∷ []) (res_wanted w) u
-      at = rw (same_res-itself (res_wanted w)) (pieces (owns (list_of (after_want (replay deck.limit P) t w) (res_wanted w)) u) (is_among u became) owner) ∙ ap (λ s. owns (list_of s (res_wanted w)) u) (sym after)
+      at : (before_telling r u || (same_res r r && is_among u became)) ≡ owned deck (P ++ h ∷ []) r u
+      at = rw (same_res-itself r) (pieces (owns (list_of (after_want (replay deck.limit P) t w) r) u) (is_among u became) owner) ∙ ap (λ s. owns (list_of s r) u) (sym after)
 
   -- another task after the entry, before those that became owners are told
-  pub other-decided : (ls : List Line) (T T' : List ToldLine) (u : TaskId) (x : TaskState) → same_task u t ≡ false →
+  pub other-decided : (ls : List Meaning) (T T' : List ToldLine) (u : TaskId) (x : TaskState) → same_task u t ≡ false →
       IsTask ls (past deck.limit P u) T (λ q. owned deck P q u) u x →
       ((q : Past) (knows : Res → Bool) → IsTask ls q T knows u x → IsTask ls q T' knows u x) →
       IsTask ls (past deck.limit (P ++ h ∷ []) u) T' (λ q. before_telling q u) u x
   other-decided ls T T' u x apart k told =
-      let apart_h : same_task u (asker h) ≡ false = subst (λ z. same_task u z ≡ false) (sym mine) apart in
+      let apart_h : is_by u h ≡ false = mine u ∙ apart in
       let keeps : KeepsTask (replay deck.limit P) (replay deck.limit (P ++ h ∷ [])) u = subst (λ s. KeepsTask (replay deck.limit P) s u) (sym after) (keeps-want (replay deck.limit P) t w u apart) in
       told (past deck.limit (P ++ h ∷ []) u) (λ q. before_telling q u)
       (subst (λ p. IsTask ls p T (λ q. before_telling q u) u x) (sym (past-other deck.limit P h u apart_h))
-      (task-kept ls (past deck.limit P u) T (λ q. owned deck P q u) (λ q. before_telling q u) (replay deck.limit (P ++ h ∷ [])) u x keeps (last-mine deck.limit P u) (λ q e. before-others q u apart) k))
+      (task-kept ls (past deck.limit P u) T (λ q. owned deck P q u) (λ q. before_telling q u) (replay deck.limit (P ++ h ∷ [])) u x keeps (λ q e. before-others q u apart) k))

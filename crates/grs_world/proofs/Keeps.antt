@@ -1,10 +1,11 @@
 -- Which tasks there are stays through each step.
 use Rattle.std.proofs.Common.{◌≡◌, ◌+◌, ◌<◌, get_or, ℕ, Bool, true, false, cond, List, drop, Option, Some, None, length, refl, ap, sym, ◌∙◌}
 use Rattle.std.proofs.lemmas.List.{at_drop_more}
+use Rattle.grs_legal.specs.declared.meaning.Meaning.{Meaning}
 use Rattle.grs_base.specs.declared.line.Line.{Line}
 use Rattle.grs_wire.specs.declared.deck.Deck.{Deck}
 use Rattle.grs_wire.specs.declared.deck.Event.{Event}
-use Rattle.grs_legal.specs.Asks.{scripts_of, lines_in, lines_of}
+use Rattle.grs_legal.specs.Asks.{scripts_of, lines_in, meanings, lines_of}
 use Rattle.task_state.proofs.ViewLaws.{is_task-system}
 use Rattle.grs_world.specs.World.{World, happens, run_from}
 use Rattle.grs_base.specs.declared.resource.Ctl.{Ctl}
@@ -23,14 +24,14 @@ pub either : {X : Type 0} {Y : Type 0} (f : X → Y) (b : Bool) (x y : X) (z : Y
 either f true x y z p q = p
 either f false x y z p q = q
 
-pub system-enq : (v : TasksView) (t : TaskId) (r : Res) (c : Ctl) (ret : Ret) (code : Code) → (record_enq v t r c ret code).system ≡ v.system
+pub system-enq : (v : TasksView) (t : TaskId) (r : Res) (c : Ctl) (unit : Option ℕ) (ret : Ret) (code : Code) → (record_enq v t r c unit ret code).system ≡ v.system
 unfolding record_enq
-system-enq v t r c ret code =
+system-enq v t r c unit ret code =
     either (λ (w : TasksView). w.system) (is_queued ret code) _ _ _ (system-record v t _) (either (λ (w : TasksView). w.system) (is_changed ret code) _ _ _ (system-exclusive v t r) refl)
 
-pub count-enq : (v : TasksView) (t : TaskId) (r : Res) (c : Ctl) (ret : Ret) (code : Code) → length (record_enq v t r c ret code).tasks ≡ length v.tasks
+pub count-enq : (v : TasksView) (t : TaskId) (r : Res) (c : Ctl) (unit : Option ℕ) (ret : Ret) (code : Code) → length (record_enq v t r c unit ret code).tasks ≡ length v.tasks
 unfolding record_enq
-count-enq v t r c ret code =
+count-enq v t r c unit ret code =
     either (λ (w : TasksView). length w.tasks) (is_queued ret code) _ _ _ (count-record v t _) (either (λ (w : TasksView). length w.tasks) (is_changed ret code) _ _ _ (count-exclusive v t r) refl)
 
 pub ruleset keeps = (stays, system-enq, count-enq)
@@ -40,17 +41,17 @@ unfolding tell_record tell_line
 tell_record_line v t r x = refl
 
 -- a task that isn't of this system does nothing
-pub task_step-absent : (limit : ℕ) (n : Node) (t : TaskId) (o : Option (List Line)) → is_task n.tasks t ≡ false → task_step limit n t o ≡ only n
+pub task_step-absent : (limit : ℕ) (n : Node) (t : TaskId) (o : Option (List Meaning)) → is_task n.tasks t ≡ false → task_step limit n t o ≡ only n
 unfolding task_step
 task_step-absent limit n t None h = refl
 task_step-absent limit n t (Some ls) h = rw h refl
 
 -- the lines of a task of the first system stand among its scripts
-pub task_step-first : (deck : Deck) (n : Node) (t : TaskId) → n.tasks.system ≡ 0 → task_step deck.limit n t (lines_in (scripts_of deck 0) t) ≡ task_step deck.limit n t (lines_of deck t)
+pub task_step-first : (deck : Deck) (n : Node) (t : TaskId) → n.tasks.system ≡ 0 → task_step deck.limit n t (meanings deck.lists t (lines_in (scripts_of deck 0) t)) ≡ task_step deck.limit n t (lines_of deck t)
 task_step-first deck n t h = go (is_task n.tasks t) refl
   where
-    go : (b : Bool) → is_task n.tasks t ≡ b → task_step deck.limit n t (lines_in (scripts_of deck 0) t) ≡ task_step deck.limit n t (lines_of deck t)
-    go true here = let home : 0 ≡ t.system.0 = sym h ∙ is_task-system n.tasks t here in ap (λ k. task_step deck.limit n t (lines_in (scripts_of deck k) t)) home
+    go : (b : Bool) → is_task n.tasks t ≡ b → task_step deck.limit n t (meanings deck.lists t (lines_in (scripts_of deck 0) t)) ≡ task_step deck.limit n t (lines_of deck t)
+    go true here = let home : 0 ≡ t.system.0 = sym h ∙ is_task-system n.tasks t here in ap (λ k. task_step deck.limit n t (meanings deck.lists t (lines_in (scripts_of deck k) t))) home
     go false away = task_step-absent deck.limit n t _ away ∙ sym (task_step-absent deck.limit n t _ away)
 
 pub ruleset of_first = (task_step-first)

@@ -19,4 +19,6 @@ pub mod Events
 pub mod Turns
 pub mod Sound
 pub mod Samples
+pub mod ScriptCounts
 pub mod Keeps
+pub mod UnitCounts

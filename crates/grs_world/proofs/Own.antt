@@ -16,7 +16,7 @@ use Rattle.grs_base.proofs.SameLaws.{same_task-exact, same_task-itself}
 use Rattle.grs_base.proofs.Picks.{pick-append, pick-filter, pick-filter_by, pick-map, pick-map_by}
 use Rattle.grs_wire.specs.Wants.{after_want}
 use Rattle.grs_wire.specs.declared.request.Want.{Want}
-use Rattle.grs_wire.specs.declared.request.Want.TheVariants.{Enq, Deq, Release}
+use Rattle.grs_wire.specs.declared.request.Want.TheVariants.{Enq, Deq, Release, Look}
 use Rattle.grs_wire.proofs.WantLaws.{cond_both}
 
 -- the resources on which a task has elements, each with its control, in the order in which they were queued
@@ -56,6 +56,7 @@ pub own-want_other : (s : State) (u : TaskId) (w : Want) (t : TaskId) → same_t
 own-want_other s u (Enq r c ret full) t apart = own-effect_other s r t u c _ apart
 own-want_other s u (Deq r have) t apart = cond_both (is_owner (standing_of (list_of s r) u)) (without same_res s r u) s (λ x. own x t ≡ own s t) (own-without_other s r t u apart) refl
 own-want_other s u (Release r) t apart = own-without_other s r t u apart
+own-want_other s u (Look first count filter) t apart = refl
 
 -- a task's own request changes them
 pub own-push : (s : State) (r : Res) (t : TaskId) (c : Ctl) → own (s ++ (r, record { task = t; ctl = c }) ∷ []) t ≡ own s t ++ (r, c) ∷ []

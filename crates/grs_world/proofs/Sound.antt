@@ -5,7 +5,7 @@ use Rattle.std.proofs.lemmas.Bool.{and_parts, eqb-true, eq-eqb, lt-ltb}
 use Rattle.grs_base.specs.State.{State}
 use Rattle.grs_base.specs.declared.resource.SysId.{SysId}
 use Rattle.grs_base.specs.declared.resource.TaskId.{TaskId}
-use Rattle.grs_base.specs.declared.line.Line.{Line}
+use Rattle.grs_legal.specs.declared.meaning.Meaning.{Meaning}
 use Rattle.grs_wire.specs.declared.deck.Deck.{Deck}
 use Rattle.grs_wire.specs.declared.deck.Event.{Event}
 use Rattle.grs_wire.specs.declared.deck.Choice.{Choice}
@@ -16,15 +16,15 @@ use Rattle.grs_wire.specs.declared.request.Fixed.{Fixed}
 use Rattle.grs_wire.specs.declared.request.Fixed.TheVariants.{Asked}
 use Rattle.grs_wire.specs.declared.told.Told.{Told}
 use Rattle.grs_wire.specs.declared.told.ToldLine.{ToldLine}
-use Rattle.grs_wire.specs.Wants.{answer_to, after_want}
-use Rattle.grs_wire.specs.History.{asker, replay, entry_for, answered_from, answered}
+use Rattle.grs_wire.specs.Wants.{after_want}
+use Rattle.grs_wire.specs.History.{replay, entries_for, fixed_entries, after_fixed, answered_from, answered}
 use Rattle.grs_legal.specs.Asks.{lines_of, scripts_of}
-use Rattle.grs_legal.specs.Legal.{Legal, LegalFrom, IsLegalOf}
+use Rattle.grs_legal.specs.Legal.{Legal, LegalFrom, MayStand}
 use Rattle.task_state.specs.View.{is_task, state_of, new_task, new_tasks}
 use Rattle.task_state.proofs.ViewLaws.{is_task-system}
 use Rattle.grs_world.specs.Node.{Node, Step, task_step}
 use Rattle.grs_world.specs.World.{World, first_node, first_world, choose, event_step, fixed_by, told_by, world_after, happens, run_from, run, hist, told}
-use Rattle.grs_world.specs.Agree.{Agrees, told_task, AllAgree, Sound}
+use Rattle.grs_world.specs.Agree.{Agrees, AllAgree, Sound}
 use Rattle.grs_world.proofs.Invariant.{IsTask}
 use Rattle.grs_world.proofs.Lines.{slice_get-within, take-whole}
 use Rattle.grs_world.proofs.Keys.{map-append}
@@ -36,7 +36,7 @@ use Rattle.grs_world.proofs.Events.{Outcome, quiet, fixes}
 use Rattle.grs_world.proofs.Turns.{phase_outcome}
 
 -- an event of a task
-task_outcome : (deck : Deck) (P : List HistEntry) (n : Node) → IsGood deck P n → (t : TaskId) (o : Option (List Line)) → lines_of deck t ≡ o → Outcome deck P n (task_step deck.limit n t o)
+task_outcome : (deck : Deck) (P : List HistEntry) (n : Node) → IsGood deck P n → (t : TaskId) (o : Option (List Meaning)) → lines_of deck t ≡ o → Outcome deck P n (task_step deck.limit n t o)
 unfolding task_step
 task_outcome deck P n good t None e = quiet refl good none
 task_outcome deck P n good t (Some ls) e = by_test (Outcome deck P n) (is_task n.tasks t) _ _
@@ -58,39 +58,41 @@ choice_outcome deck P n good Rest = quiet refl good none
 event_outcome : (deck : Deck) (P : List HistEntry) (n : Node) → IsGood deck P n → (e : Event) → Outcome deck P n (event_step deck n e)
 event_outcome deck P n good e = by_test (Outcome deck P n) (e.system.0 == 0) _ _ (λ h. choice_outcome deck P n good e.choice) (λ h. quiet refl good none)
 
--- the lists after what was fixed
-after_fixed : State → List (SysId × Fixed) → State
-after_fixed s [] = s
-after_fixed s ((n, Asked q) ∷ fs) = after_fixed (after_want s q.task q.want) fs
+-- the lists after all that was fixed
+after_all : State → List (SysId × Fixed) → State
+after_all s [] = s
+after_all s (x ∷ xs) = after_all (after_fixed s x.1) xs
 
-answered-append : (s : State) (fs gs : List (SysId × Fixed)) → answered_from s (fs ++ gs) ≡ answered_from s fs ++ answered_from (after_fixed s fs) gs
-unfolding after_fixed
+answered-append : (s : State) (fs gs : List (SysId × Fixed)) → answered_from s (fs ++ gs) ≡ answered_from s fs ++ answered_from (after_all s fs) gs
+unfolding after_all
 answered-append s [] gs = refl
-answered-append s ((n, Asked q) ∷ fs) gs = ap (λ hs. entry_for q.task q.want (answer_to s q.task q.want) ∷ hs) (answered-append (after_want s q.task q.want) fs gs)
+answered-append s (x ∷ fs) gs =
+    ap (λ hs. fixed_entries s x.0 x.1 ++ hs) (answered-append (after_fixed s x.1) fs gs)
+    ∙ sym (append_assoc (fixed_entries s x.0 x.1) (answered_from (after_fixed s x.1) fs) (answered_from (after_all (after_fixed s x.1) fs) gs))
 
-after_fixed-append : (s : State) (fs gs : List (SysId × Fixed)) → after_fixed s (fs ++ gs) ≡ after_fixed (after_fixed s fs) gs
-unfolding after_fixed
-after_fixed-append s [] gs = refl
-after_fixed-append s ((n, Asked q) ∷ fs) gs = after_fixed-append (after_want s q.task q.want) fs gs
+after_all-append : (s : State) (fs gs : List (SysId × Fixed)) → after_all s (fs ++ gs) ≡ after_all (after_all s fs) gs
+unfolding after_all
+after_all-append s [] gs = refl
+after_all-append s (x ∷ fs) gs = after_all-append (after_fixed s x.1) fs gs
 
-after_fixed-one : (s : State) (n : SysId) (t : TaskId) (w : Want) → after_fixed s ((n, Asked (record { task = t; want = w })) ∷ []) ≡ after_want s t w
-unfolding after_fixed
-after_fixed-one s n t w = refl
+after_all-one : (s : State) (n : SysId) (t : TaskId) (w : Want) → after_all s ((n, Asked (record { task = t; want = w })) ∷ []) ≡ after_want s t w
+unfolding after_all
+after_all-one s n t w = refl
 
 -- one entry more at the end of a legal history
-legal-push : (deck : Deck) (P hs : List HistEntry) (h : HistEntry) → LegalFrom deck P hs → IsLegalOf deck.limit (lines_of deck (asker h)) (P ++ hs) h → LegalFrom deck P (hs ++ h ∷ [])
-legal-push deck P [] h all one = (subst (λ Q. IsLegalOf deck.limit (lines_of deck (asker h)) Q h) (append-nil P) one, tt)
-legal-push deck P (g ∷ hs) h all one = (all.0, legal-push deck (P ++ g ∷ []) hs h all.1 (subst (λ Q. IsLegalOf deck.limit (lines_of deck (asker h)) Q h) (sym (append_assoc P (g ∷ []) hs)) one))
+legal-push : (deck : Deck) (P hs : List HistEntry) (h : HistEntry) → LegalFrom deck P hs → MayStand deck (P ++ hs) h → LegalFrom deck P (hs ++ h ∷ [])
+legal-push deck P [] h all one = (subst (λ Q. MayStand deck Q h) (append-nil P) one, tt)
+legal-push deck P (g ∷ hs) h all one = (all.0, legal-push deck (P ++ g ∷ []) hs h all.1 (subst (λ Q. MayStand deck Q h) (sym (append_assoc P (g ∷ []) hs)) one))
 
 -- lines that agree one after another
 LinesAgree : Deck → List HistEntry → List ToldLine → List ToldLine → Type 0
 LinesAgree deck P before [] = Unit {0}
-LinesAgree deck P before (l ∷ ls) = Agrees deck.limit (lines_of deck (told_task l)) P before l × LinesAgree deck P (before ++ l ∷ []) ls
+LinesAgree deck P before (l ∷ ls) = Agrees deck P before l × LinesAgree deck P (before ++ l ∷ []) ls
 
-lines-push : (deck : Deck) (P : List HistEntry) (before ls : List ToldLine) (l : ToldLine) → LinesAgree deck P before ls → Agrees deck.limit (lines_of deck (told_task l)) P (before ++ ls) l → LinesAgree deck P before (ls ++ l ∷ [])
+lines-push : (deck : Deck) (P : List HistEntry) (before ls : List ToldLine) (l : ToldLine) → LinesAgree deck P before ls → Agrees deck P (before ++ ls) l → LinesAgree deck P before (ls ++ l ∷ [])
 unfolding LinesAgree
-lines-push deck P before [] l all one = (subst (λ T. Agrees deck.limit (lines_of deck (told_task l)) P T l) (append-nil before) one, tt)
-lines-push deck P before (m ∷ ls) l all one = (all.0, lines-push deck P (before ++ m ∷ []) ls l all.1 (subst (λ T. Agrees deck.limit (lines_of deck (told_task l)) P T l) (sym (append_assoc before (m ∷ []) ls)) one))
+lines-push deck P before [] l all one = (subst (λ T. Agrees deck P T l) (append-nil before) one, tt)
+lines-push deck P before (m ∷ ls) l all one = (all.0, lines-push deck P (before ++ m ∷ []) ls l all.1 (subst (λ T. Agrees deck P T l) (sym (append_assoc before (m ∷ []) ls)) one))
 
 record ToldNew (deck : Deck) (P : List HistEntry) (T0 T : List ToldLine) : Type 0 where
   lines : List ToldLine
@@ -102,7 +104,7 @@ unfolding LinesAgree
 agreed-lines deck P T0 T none = record { lines = []; is = sym (append-nil T0); agree = tt }
 agreed-lines deck P T0 T (more U l before one) =
     let m = agreed-lines deck P T0 U before in
-    record { lines = m.lines ++ l ∷ []; is = ap (λ z. z ++ l ∷ []) m.is ∙ append_assoc T0 m.lines (l ∷ []); agree = lines-push deck P T0 m.lines l m.agree (subst (λ z. Agrees deck.limit (lines_of deck (told_task l)) P z l) m.is one) }
+    record { lines = m.lines ++ l ∷ []; is = ap (λ z. z ++ l ∷ []) m.is ∙ append_assoc T0 m.lines (l ∷ []); agree = lines-push deck P T0 m.lines l m.agree (subst (λ z. Agrees deck P z l) m.is one) }
 
 drop-front : {X : Type 0} (xs ys : List X) → drop (length xs) (xs ++ ys) ≡ ys
 drop-front [] ys = refl
@@ -141,14 +143,14 @@ by-told n s (l ∷ ls) = (omega arith, by-told n s ls)
 agree-longer : (deck : Deck) (es : List Event) (e : Event) (before : List ToldLine) (xs : List Told) → AllBy (length es) xs → AllAgree deck es before xs → AllAgree deck (es ++ e ∷ []) before xs
 unfolding AllBy
 agree-longer deck es e before [] n a = tt
-agree-longer deck es e before (x ∷ xs) n a = (subst (λ z. Agrees deck.limit (lines_of deck (told_task x.line)) (hist deck z) before x.line) (sym (take-front x.event es (e ∷ []) n.0)) a.0, agree-longer deck es e (before ++ x.line ∷ []) xs n.1 a.1)
+agree-longer deck es e before (x ∷ xs) n a = (subst (λ z. Agrees deck (hist deck z) before x.line) (sym (take-front x.event es (e ∷ []) n.0)) a.0, agree-longer deck es e (before ++ x.line ∷ []) xs n.1 a.1)
 
 -- lines told in the last event
 agree-new : (deck : Deck) (es : List Event) (n : ℕ) (s : SysId) (before ls : List ToldLine) → n ≡ length es → LinesAgree deck (hist deck es) before ls → AllAgree deck es before (told_by n s ls)
 unfolding LinesAgree
 agree-new deck es n s before [] e a = tt
 agree-new deck es n s before (l ∷ ls) e a =
-    (subst (λ z. Agrees deck.limit (lines_of deck (told_task l)) (hist deck z) before l) (sym (ap (λ m. take m es) e ∙ take-whole es)) a.0, agree-new deck es n s (before ++ l ∷ []) ls e a.1)
+    (subst (λ z. Agrees deck (hist deck z) before l) (sym (ap (λ m. take m es) e ∙ take-whole es)) a.0, agree-new deck es n s (before ++ l ∷ []) ls e a.1)
 
 map-told_by : (n : ℕ) (s : SysId) (ls : List ToldLine) → map (λ x. x.line) (told_by n s ls) ≡ ls
 map-told_by n s [] = refl
@@ -157,7 +159,7 @@ map-told_by n s (l ∷ ls) = ap (λ zs. l ∷ zs) (map-told_by n s ls)
 -- What holds of the world after these events.
 record GoodRun (deck : Deck) (es : List Event) : Type 0 where
   good : IsGood deck (hist deck es) (run deck es).node
-  lists : after_fixed [] (run deck es).fixed ≡ replay deck.limit (hist deck es)
+  lists : after_all [] (run deck es).fixed ≡ replay deck.limit (hist deck es)
   counted : (run deck es).events ≡ length es
   by_now : AllBy (length es) (told deck es)
   same_lines : map (λ x. x.line) (told deck es) ≡ (run deck es).node.tasks.told
@@ -194,7 +196,7 @@ unfolding first_node
 first_here deck t h =
     let zero_system : t.system.0 ≡ 0 = eqb-true _ _ (and_parts _ _ h).0 in
     let ls = some_of (lines_of deck t) (and_parts _ _ h).1 in
-    let s = script_at t.job (slice_get (scripts_of deck t.system.0) t.task) ls.0 ls.1 in
+    let s = script_at deck.lists t (slice_get (scripts_of deck t.system.0) t.task) ls.0 ls.1 in
     let at : slice_get (scripts_of deck 0) t.task ≡ Some s.0 = ap (λ n. slice_get (scripts_of deck n) t.task) (sym zero_system) ∙ s.1 in
     let within : nat_lt t.task (length (new_tasks (length (scripts_of deck 0)))) ≡ true = ap (nat_lt t.task) (length-new_tasks (length (scripts_of deck 0))) ∙ lt-ltb _ _ (slice_get-within (scripts_of deck 0) t.task s.0 at) in
     let system : (0 == t.system.0) ≡ true = eq-eqb _ _ (sym zero_system) in
@@ -204,7 +206,7 @@ first_home : (deck : Deck) (t : TaskId) → is_task (first_node deck).tasks t �
 unfolding first_node
 first_home deck t h = sym (is_task-system (record { system = 0; tasks = new_tasks (length (scripts_of deck 0)); told = [] }) t h)
 
-new_good : (limit : ℕ) (ls : List Line) (deck : Deck) (t : TaskId) → IsTask ls (past limit [] t) [] (λ r. owned deck [] r t) t new_task
+new_good : (limit : ℕ) (ls : List Meaning) (deck : Deck) (t : TaskId) → IsTask ls (past limit [] t) [] (λ r. owned deck [] r t) t new_task
 new_good limit ls deck t = record {
   keys = refl;
   distinct = refl;
@@ -230,7 +232,7 @@ first_good deck = record {
 }
 
 first_run : (deck : Deck) → GoodRun deck []
-unfolding first_world AllBy after_fixed
+unfolding first_world AllBy after_all
 first_run deck = record {
   good = first_good deck;
   lists = refl;
@@ -250,7 +252,7 @@ module _ (deck : Deck) (es : List Event) (e : Event) (g : GoodRun deck es) where
   -- the world after an event that led the history from P0 to P1
   push_run : (P1 : List HistEntry) → answered (world_after (run deck es) e.system (event_step deck (run deck es).node e)).fixed ≡ P1 →
       IsGood deck P1 (event_step deck (run deck es).node e).node →
-      after_fixed [] (world_after (run deck es) e.system (event_step deck (run deck es).node e)).fixed ≡ replay deck.limit P1 →
+      after_all [] (world_after (run deck es) e.system (event_step deck (run deck es).node e)).fixed ≡ replay deck.limit P1 →
       Legal deck P1 → Agreed deck P1 (run deck es).node.tasks.told (event_step deck (run deck es).node e).node.tasks.told → GoodRun deck (es ++ e ∷ [])
   push_run P1 hist_is good lists legal agreed =
       let st : Step = event_step deck (run deck es).node e in
@@ -263,7 +265,7 @@ module _ (deck : Deck) (es : List Event) (e : Event) (g : GoodRun deck es) where
       let new_by : AllBy (length (es ++ e ∷ [])) (told_by ((run deck es).events + 1) e.system new.lines) = subst (λ m. AllBy m (told_by ((run deck es).events + 1) e.system new.lines)) number (by-told ((run deck es).events + 1) e.system new.lines) in
       record {
         good = subst (λ P. IsGood deck P (run deck (es ++ e ∷ [])).node) (sym hist_now) (subst (λ (w : World). IsGood deck P1 w.node) (sym next_is) good);
-        lists = ap (λ (w : World). after_fixed [] w.fixed) next_is ∙ lists ∙ ap (replay deck.limit) (sym hist_now);
+        lists = ap (λ (w : World). after_all [] w.fixed) next_is ∙ lists ∙ ap (replay deck.limit) (sym hist_now);
         counted = ap (λ (w : World). w.events) next_is ∙ number;
         by_now = subst (λ xs. AllBy (length (es ++ e ∷ [])) xs) (sym told_is) (by-append (length (es ++ e ∷ [])) (told deck es) (told_by ((run deck es).events + 1) e.system new.lines) later new_by);
         same_lines = ap (map (λ x. x.line)) told_is ∙ map-append (λ x. x.line) (told deck es) (told_by ((run deck es).events + 1) e.system new.lines)
@@ -281,15 +283,15 @@ module _ (deck : Deck) (es : List Event) (e : Event) (g : GoodRun deck es) where
   push : Outcome deck (hist deck es) (run deck es).node (event_step deck (run deck es).node e) → GoodRun deck (es ++ e ∷ [])
   push (quiet none_fixed good agreed) =
       let fixed_is : (run deck es).fixed ++ fixed_by e.system (event_step deck (run deck es).node e).fixed ≡ (run deck es).fixed = ap (λ qs. (run deck es).fixed ++ fixed_by e.system qs) none_fixed ∙ append-nil (run deck es).fixed in
-      push_run (hist deck es) (ap answered fixed_is) good (ap (after_fixed []) fixed_is ∙ g.lists) g.legal agreed
-  push (fixes t w one after legal good agreed) =
-      let entry : HistEntry = entry_for t w (answer_to (replay deck.limit (hist deck es)) t w) in
-      let fixed_is : (run deck es).fixed ++ fixed_by e.system (event_step deck (run deck es).node e).fixed ≡ (run deck es).fixed ++ (e.system, Asked (record { task = t; want = w })) ∷ [] = ap (λ qs. (run deck es).fixed ++ fixed_by e.system qs) one in
-      let hist_is : answered ((run deck es).fixed ++ fixed_by e.system (event_step deck (run deck es).node e).fixed) ≡ hist deck es ++ entry ∷ [] =
-      ap answered fixed_is ∙ answered-append [] (run deck es).fixed ((e.system, Asked (record { task = t; want = w })) ∷ []) ∙ ap (λ s. hist deck es ++ entry_for t w (answer_to s t w) ∷ []) g.lists in
-      let lists_are : after_fixed [] ((run deck es).fixed ++ fixed_by e.system (event_step deck (run deck es).node e).fixed) ≡ replay deck.limit (hist deck es ++ entry ∷ []) =
-      ap (after_fixed []) fixed_is ∙ after_fixed-append [] (run deck es).fixed ((e.system, Asked (record { task = t; want = w })) ∷ []) ∙ after_fixed-one (after_fixed [] (run deck es).fixed) e.system t w ∙ ap (λ s. after_want s t w) g.lists ∙ sym after in
-      push_run (hist deck es ++ entry ∷ []) hist_is good lists_are (legal-push deck [] (hist deck es) entry g.legal legal) agreed
+      push_run (hist deck es) (ap answered fixed_is) good (ap (after_all []) fixed_is ∙ g.lists) g.legal agreed
+  push (fixes t w h entries one after legal good agreed) =
+      let asked : List (SysId × Fixed) = (e.system, Asked (record { task = t; want = w })) ∷ [] in
+      let fixed_is : (run deck es).fixed ++ fixed_by e.system (event_step deck (run deck es).node e).fixed ≡ (run deck es).fixed ++ asked = ap (λ qs. (run deck es).fixed ++ fixed_by e.system qs) one in
+      let hist_is : answered ((run deck es).fixed ++ fixed_by e.system (event_step deck (run deck es).node e).fixed) ≡ hist deck es ++ h ∷ [] =
+      ap answered fixed_is ∙ answered-append [] (run deck es).fixed asked ∙ ap (λ s. hist deck es ++ (entries_for s t w ++ [])) g.lists ∙ ap (λ hs. hist deck es ++ (hs ++ [])) entries in
+      let lists_are : after_all [] ((run deck es).fixed ++ fixed_by e.system (event_step deck (run deck es).node e).fixed) ≡ replay deck.limit (hist deck es ++ h ∷ []) =
+      ap (after_all []) fixed_is ∙ after_all-append [] (run deck es).fixed asked ∙ after_all-one (after_all [] (run deck es).fixed) e.system t w ∙ ap (λ s. after_want s t w) g.lists ∙ sym after in
+      push_run (hist deck es ++ h ∷ []) hist_is good lists_are (legal-push deck [] (hist deck es) h g.legal legal) agreed
 
 good_run : (deck : Deck) (done es : List Event) → GoodRun deck done → GoodRun deck (done ++ es)
 good_run deck done [] g = subst (GoodRun deck) (sym (append-nil done)) g

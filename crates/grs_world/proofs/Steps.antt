@@ -8,20 +8,21 @@ use Rattle.grs_base.specs.Lists.{owns, has_task}
 use Rattle.grs_base.specs.State.{State, list_of, without, queued_by}
 use Rattle.grs_base.specs.declared.resource.Res.{Res}
 use Rattle.grs_base.specs.declared.resource.Ctl.{Ctl}
+use Rattle.grs_base.specs.declared.resource.Row.{Row}
 use Rattle.grs_base.specs.declared.resource.TaskId.{TaskId}
 use Rattle.grs_base.specs.declared.decision.Code.{Code}
 use Rattle.grs_base.specs.declared.decision.Code.TheVariants.{C00, Wait}
-use Rattle.grs_base.specs.declared.line.Line.{Line}
-use Rattle.grs_base.specs.declared.line.Line.TheVariants as lines
+use Rattle.grs_legal.specs.declared.meaning.Meaning.{Meaning}
+use Rattle.grs_legal.specs.declared.meaning.Meaning.TheVariants as lines
 use Rattle.grs_base.proofs.StateLaws.{list_at-without_other, res_equality}
 use Rattle.grs_wire.specs.declared.history.HistEntry.{HistEntry}
 use Rattle.grs_wire.specs.declared.request.Req.{Req}
 use Rattle.grs_wire.specs.declared.told.Verb.TheVariants as verbs
 use Rattle.grs_wire.specs.declared.told.ToldLine.{ToldLine}
-use Rattle.grs_wire.specs.declared.told.ToldLine.TheVariants.{Coded, Post, Ended}
+use Rattle.grs_wire.specs.declared.told.ToldLine.TheVariants.{Coded, Shown, Post, Ended, Desk}
 use Rattle.grs_wire.specs.History.{code_of, replay}
 use Rattle.grs_wire.proofs.WantLaws.{by_res}
-use Rattle.grs_legal.specs.Asks.{asks_of, ask_of, resolved}
+use Rattle.grs_legal.specs.Asks.{asks_of, asks_in}
 use Rattle.grs_legal.specs.Legal.{lets_pass, end_code, passed_behind, line_entries, next_ask, or_else, release_next}
 use Rattle.task_state.specs.declared.state.Rec.{Rec}
 use Rattle.task_state.specs.declared.state.Phase.{Phase}
@@ -50,16 +51,17 @@ wait-released s t r q h = by_res q r _
     (λ same. or_right (owns (list_of (without same_res s r t) q) t) _ (ap not (ap (λ z. has_task (list_of (without same_res s r t) z) t) same ∙ gone s t r)))
     (λ apart. subst (λ es. (owns es t || not (has_task es t)) ≡ true) (sym (list_at-without_other same_res res_equality s q r t apart)) h)
 
-lets_pass-released : (s : State) (t : TaskId) (r : Res) (l : Line) → lets_pass s t l ≡ true → lets_pass (without same_res s r t) t l ≡ true
-lets_pass-released s t r (lines.Enq items ret rnl) h = refl
-lets_pass-released s t r (lines.Deq a b scope have unit rnl) h = refl
-lets_pass-released s t r (lines.Wait a b scope rnl) h = wait-released s t r (resolved t scope a b) h
+lets_pass-released : (s : State) (t : TaskId) (r : Res) (l : Meaning) → lets_pass s t l ≡ true → lets_pass (without same_res s r t) t l ≡ true
+lets_pass-released s t r (lines.Enq q c ret unit) h = refl
+lets_pass-released s t r (lines.Deq q have) h = refl
+lets_pass-released s t r (lines.Wait q) h = wait-released s t r q h
+lets_pass-released s t r lines.Nothing h = refl
 
 -- an ending task that released a resource
-pub task-released : (ls : List Line) (p : Past) (T : List ToldLine) (t : TaskId) (n c code : ℕ) (xs : List Rec) (o : Option Req) (r : Res) (h : HistEntry) → code_of h ≡ C00 →
-    IsTask ls p T (by_lists p.lists t) t (record { line = n; phase = phases.Ending c; code = code; records = xs; outstanding = o }) →
-    IsTask ls (record { lists = without same_res p.lists r t; asked = p.asked; last = Some h }) T (by_lists (without same_res p.lists r t) t) t (record { line = n; phase = phases.Ending c; code = code; records = without_first xs r; outstanding = o })
-task-released ls p T t n c code xs o r h is_00 k = record {
+pub task-released : (ls : List Meaning) (p : Past) (T : List ToldLine) (t : TaskId) (n c code : ℕ) (xs : List Rec) (o : Option Req) (ws : List Row) (r : Res) (h : HistEntry) → code_of h ≡ C00 →
+    IsTask ls p T (by_lists p.lists t) t (record { line = n; phase = phases.Ending c; code = code; records = xs; outstanding = o; rows = ws }) →
+    IsTask ls (record { lists = without same_res p.lists r t; asked = p.asked; last = Some h }) T (by_lists (without same_res p.lists r t) t) t (record { line = n; phase = phases.Ending c; code = code; records = without_first xs r; outstanding = o; rows = ws })
+task-released ls p T t n c code xs o ws r h is_00 k = record {
   keys = keys_taken p.lists t r xs k.keys k.distinct;
   distinct = distinct-without r xs k.distinct;
   within = k.within;
@@ -72,13 +74,13 @@ task-released ls p T t n c code xs o r h is_00 k = record {
     no_end = k.phase.no_end;
     code = k.phase.code;
     free = λ w. absurd (let e : C00 ≡ Wait = sym is_00 ∙ w in cc);
-    all_lines = λ e. ((k.phase.all_lines e).0, all-kept (lets_pass p.lists t) (lets_pass (without same_res p.lists r t) t) (lets_pass-released p.lists t r) (passed_behind t (length p.asked) (take n ls)) (k.phase.all_lines e).1);
+    all_lines = λ e. ((k.phase.all_lines e).0, all-kept (lets_pass p.lists t) (lets_pass (without same_res p.lists r t) t) (lets_pass-released p.lists t r) (passed_behind (length p.asked) (take n ls)) (k.phase.all_lines e).1);
   };
   emptied = λ e. absurd (cc);
 }
 
 -- records of a task that has taken one more line, which asked nothing
-recs-line : (ls : List Line) (E : List HistEntry) (T : List ToldLine) (knows : Res → Bool) (t : TaskId) (n : ℕ) (ph : Phase) (xs : List Rec) → Each (IsRec ls E T knows t n phases.Ready) xs → Each (IsRec ls E T knows t (suc n) ph) xs
+recs-line : (ls : List Meaning) (E : List HistEntry) (T : List ToldLine) (knows : Res → Bool) (t : TaskId) (n : ℕ) (ph : Phase) (xs : List Rec) → Each (IsRec ls E T knows t n phases.Ready) xs → Each (IsRec ls E T knows t (suc n) ph) xs
 recs-line ls E T knows t n ph [] h = tt
 recs-line ls E T knows t n ph (x ∷ xs) h = (
   record {
@@ -104,21 +106,23 @@ posts_later t n (Post u j) e = or_later (not (same_task t u)) (nat_lt j n) (nat_
     or_later true b c f g = refl
     or_later false b c f g = f g
 posts_later t n (Ended u code) e = refl
+posts_later t n (Shown u j verb code rows) e = refl
+posts_later t n (Desk j said) e = refl
 
 all-posts_later : (t : TaskId) (n : ℕ) (T : List ToldLine) → list_all (is_post_before t n) T ≡ true → list_all (is_post_before t (suc n)) T ≡ true
 all-posts_later t n T h = all-kept (is_post_before t n) (is_post_before t (suc n)) (posts_later t n) T h
 
-module _ (ls : List Line) (p : Past) (T : List ToldLine) (knows : Res → Bool) (t : TaskId) (n code : ℕ) (xs : List Rec) (o : Option Req) (l : Line)
-    (k : IsTask ls p T knows t (record { line = n; phase = phases.Ready; code = code; records = xs; outstanding = o }))
-    (at : slice_get ls n ≡ Some l) (asks : ask_of t l ≡ None) where
-  count_same : length p.asked ≡ length (asks_of t (take (suc n) ls))
-  count_same = k.count refl ∙ sym (ap length (asks-same t ls n l at asks)) ∙ ap (λ m. length (asks_of t (take m ls))) (add-one n)
+module _ (ls : List Meaning) (p : Past) (T : List ToldLine) (knows : Res → Bool) (t : TaskId) (n code : ℕ) (xs : List Rec) (o : Option Req) (ws : List Row) (l : Meaning)
+    (k : IsTask ls p T knows t (record { line = n; phase = phases.Ready; code = code; records = xs; outstanding = o; rows = ws }))
+    (at : slice_get ls n ≡ Some l) (asks : asks_in l ≡ []) where
+  count_same : length p.asked ≡ length (asks_of (take (suc n) ls))
+  count_same = k.count refl ∙ sym (ap length (asks-same ls n l at asks)) ∙ ap (λ m. length (asks_of (take m ls))) (add-one n)
 
   passed_line : lets_pass p.lists t l ≡ true → Passed ls p t (suc n)
   passed_line lets = subst (λ m. Passed ls p t m) (add-one n) (passed-line ls p t n l at asks (k.count refl) lets k.phase.passed)
 
   -- a line that asks nothing and lets the task pass, untold
-  pub task-skipped : lets_pass p.lists t l ≡ true → IsTask ls p T knows t (record { line = suc n; phase = phases.Ready; code = code; records = xs; outstanding = o })
+  pub task-skipped : lets_pass p.lists t l ≡ true → IsTask ls p T knows t (record { line = suc n; phase = phases.Ready; code = code; records = xs; outstanding = o; rows = ws })
   task-skipped lets = record {
     keys = k.keys;
     distinct = k.distinct;
@@ -132,7 +136,7 @@ module _ (ls : List Line) (p : Past) (T : List ToldLine) (knows : Res → Bool) 
   }
 
   -- a WAIT line that lets the task pass, told by its code
-  pub task-waited : (c : Code) → lets_pass p.lists t l ≡ true → IsTask ls p (T ++ Coded t (suc n) 0 verbs.Wait c ∷ []) knows t (record { line = suc n; phase = phases.Ready; code = code; records = xs; outstanding = o })
+  pub task-waited : (c : Code) → lets_pass p.lists t l ≡ true → IsTask ls p (T ++ Coded t (suc n) 0 verbs.Wait c ∷ []) knows t (record { line = suc n; phase = phases.Ready; code = code; records = xs; outstanding = o; rows = ws })
   task-waited c lets = record {
     keys = k.keys;
     distinct = k.distinct;
@@ -146,7 +150,7 @@ module _ (ls : List Line) (p : Past) (T : List ToldLine) (knows : Res → Bool) 
   }
 
   -- a WAIT line that holds the task
-  pub task-held : (r : Res) → IsWaitFor t r (Some l) → IsTask ls p T knows t (record { line = suc n; phase = phases.HeldLine r; code = code; records = xs; outstanding = o })
+  pub task-held : (r : Res) → IsWaitFor r (Some l) → IsTask ls p T knows t (record { line = suc n; phase = phases.HeldLine r; code = code; records = xs; outstanding = o; rows = ws })
   task-held r waits = record {
     keys = k.keys;
     distinct = k.distinct;
@@ -159,17 +163,17 @@ module _ (ls : List Line) (p : Past) (T : List ToldLine) (knows : Res → Bool) 
       going = k.phase.going;
       free = k.phase.free;
       begun = omega arith;
-      at = subst (IsWaitFor t r) (sym (ap (slice_get ls) (omega (arith)) ∙ at)) waits;
+      at = subst (IsWaitFor r) (sym (ap (slice_get ls) (omega (arith)) ∙ at)) waits;
       passed = subst (λ m. Passed ls p t m) (omega (arith)) k.phase.passed;
     };
     emptied = λ e. absurd (cc);
   }
 
 -- a task whose request can't be sent yet
-pub task-to_send : (ls : List Line) (p : Past) (T : List ToldLine) (knows : Res → Bool) (t : TaskId) (n code : ℕ) (xs : List Rec) (o o' : Option Req) (l : Line) →
-    IsTask ls p T knows t (record { line = n; phase = phases.Ready; code = code; records = xs; outstanding = o }) → slice_get ls n ≡ Some l →
-    IsTask ls p T knows t (record { line = suc n; phase = phases.ToSend; code = code; records = xs; outstanding = o' })
-task-to_send ls p T knows t n code xs o o' l k at = record {
+pub task-to_send : (ls : List Meaning) (p : Past) (T : List ToldLine) (knows : Res → Bool) (t : TaskId) (n code : ℕ) (xs : List Rec) (o o' : Option Req) (ws : List Row) (l : Meaning) →
+    IsTask ls p T knows t (record { line = n; phase = phases.Ready; code = code; records = xs; outstanding = o; rows = ws }) → slice_get ls n ≡ Some l →
+    IsTask ls p T knows t (record { line = suc n; phase = phases.ToSend; code = code; records = xs; outstanding = o'; rows = ws })
+task-to_send ls p T knows t n code xs o o' ws l k at = record {
   keys = k.keys;
   distinct = k.distinct;
   within = slice_get-within ls n l at;
@@ -181,7 +185,7 @@ task-to_send ls p T knows t n code xs o o' l k at = record {
   emptied = λ e. absurd (cc);
 }
 
-recs-ending : (ls : List Line) (E : List HistEntry) (T : List ToldLine) (knows : Res → Bool) (t : TaskId) (n c : ℕ) (xs : List Rec) → Each (IsRec ls E T knows t n phases.Ready) xs → Each (IsRec ls E T knows t n (phases.Ending c)) xs
+recs-ending : (ls : List Meaning) (E : List HistEntry) (T : List ToldLine) (knows : Res → Bool) (t : TaskId) (n c : ℕ) (xs : List Rec) → Each (IsRec ls E T knows t n phases.Ready) xs → Each (IsRec ls E T knows t n (phases.Ending c)) xs
 recs-ending ls E T knows t n c [] h = tt
 recs-ending ls E T knows t n c (x ∷ xs) h = (
   record {
@@ -200,10 +204,10 @@ recs-ending ls E T knows t n c (x ∷ xs) h = (
     still (inr d) = inr d
 
 -- a task without lines left begins to end
-pub task-ending : (ls : List Line) (p : Past) (T : List ToldLine) (knows : Res → Bool) (t : TaskId) (n code : ℕ) (xs : List Rec) (o : Option Req) →
-    IsTask ls p T knows t (record { line = n; phase = phases.Ready; code = code; records = xs; outstanding = o }) → slice_get ls n ≡ None →
-    IsTask ls p T knows t (record { line = n; phase = phases.Ending 0; code = 0; records = xs; outstanding = o })
-task-ending ls p T knows t n code xs o k past_end = record {
+pub task-ending : (ls : List Meaning) (p : Past) (T : List ToldLine) (knows : Res → Bool) (t : TaskId) (n code : ℕ) (xs : List Rec) (o : Option Req) (ws : List Row) →
+    IsTask ls p T knows t (record { line = n; phase = phases.Ready; code = code; records = xs; outstanding = o; rows = ws }) → slice_get ls n ≡ None →
+    IsTask ls p T knows t (record { line = n; phase = phases.Ending 0; code = 0; records = xs; outstanding = o; rows = ws })
+task-ending ls p T knows t n code xs o ws k past_end = record {
   keys = k.keys;
   distinct = k.distinct;
   within = k.within;
@@ -221,10 +225,10 @@ task-ending ls p T knows t n code xs o k past_end = record {
 }
 
 -- what an ending task asks next: the release of the first resource on record
-pub next-release : (limit : ℕ) (ls : List Line) (P : List HistEntry) (T : List ToldLine) (knows : Res → Bool) (t : TaskId) (n c code : ℕ) (xs : List Rec) (o : Option Req) →
-    IsTask ls (past limit P t) T knows t (record { line = n; phase = phases.Ending c; code = code; records = xs; outstanding = o }) →
+pub next-release : (limit : ℕ) (ls : List Meaning) (P : List HistEntry) (T : List ToldLine) (knows : Res → Bool) (t : TaskId) (n c code : ℕ) (xs : List Rec) (o : Option Req) (ws : List Row) →
+    IsTask ls (past limit P t) T knows t (record { line = n; phase = phases.Ending c; code = code; records = xs; outstanding = o; rows = ws }) →
     next_ask limit t ls P ≡ release_next (slice_get (map (λ y. y.res) xs) 0)
-next-release limit ls P T knows t n c code xs o k =
+next-release limit ls P T knows t n c code xs o ws k =
     ap (λ z. or_else z (release_next (slice_get (queued_by (replay limit P) t) 0))) (no_line (end_code t P) refl) ∙ ap (λ z. release_next (slice_get z 0)) queued
   where
     queued : queued_by (replay limit P) t ≡ map (λ y. y.res) xs
@@ -234,15 +238,15 @@ next-release limit ls P T knows t n c code xs o k =
         fused [] = refl
         fused (y ∷ ys) = ap (λ zs. y.res ∷ zs) (fused ys)
 
-    no_line : (e : Option ℕ) → end_code t P ≡ e → cond (is_some e) None (slice_get (asks_of t ls) (length (line_entries t P))) ≡ None
+    no_line : (e : Option ℕ) → end_code t P ≡ e → cond (is_some e) None (slice_get (asks_of ls) (length (line_entries t P))) ≡ None
     no_line (Some m) e = refl
-    no_line None e = slice_get-none (asks_of t ls) (length (line_entries t P)) (omega (arith, k.count refl, ap (λ m. length (asks_of t (take m ls))) (k.phase.all_lines e).0, ap (λ zs. length (asks_of t zs)) (take-whole ls)))
+    no_line None e = slice_get-none (asks_of ls) (length (line_entries t P)) (omega (arith, k.count refl, ap (λ m. length (asks_of (take m ls))) (k.phase.all_lines e).0, ap (λ zs. length (asks_of zs)) (take-whole ls)))
 
 -- a task with nothing on record has ended
-pub task-ended : (limit : ℕ) (ls : List Line) (P : List HistEntry) (T : List ToldLine) (knows : Res → Bool) (t : TaskId) (n c code : ℕ) (o : Option Req) →
-    IsTask ls (past limit P t) T knows t (record { line = n; phase = phases.Ending c; code = code; records = []; outstanding = o }) →
-    IsTask ls (past limit P t) (T ++ Ended t c ∷ []) knows t (record { line = n; phase = phases.Ended; code = code; records = []; outstanding = o }) × LineAgrees limit ls P T (Ended t c)
-task-ended limit ls P T knows t n c code o k = (
+pub task-ended : (limit : ℕ) (ls : List Meaning) (P : List HistEntry) (T : List ToldLine) (knows : Res → Bool) (t : TaskId) (n c code : ℕ) (o : Option Req) (ws : List Row) →
+    IsTask ls (past limit P t) T knows t (record { line = n; phase = phases.Ending c; code = code; records = []; outstanding = o; rows = ws }) →
+    IsTask ls (past limit P t) (T ++ Ended t c ∷ []) knows t (record { line = n; phase = phases.Ended; code = code; records = []; outstanding = o; rows = ws }) × LineAgrees limit ls P T (Ended t c)
+task-ended limit ls P T knows t n c code o ws k = (
   record {
     keys = k.keys;
     distinct = k.distinct;
@@ -254,5 +258,5 @@ task-ended limit ls P T knows t n c code o k = (
     phase = tt;
     emptied = λ e. refl;
   },
-  (queued_by-own (replay limit P) t ∙ ap (map (λ z. z.0)) (sym k.keys), next-release limit ls P T knows t n c code [] o k, k.phase.code, k.phase.no_end),
+  (queued_by-own (replay limit P) t ∙ ap (map (λ z. z.0)) (sym k.keys), next-release limit ls P T knows t n c code [] o ws k, k.phase.code, k.phase.no_end),
 )

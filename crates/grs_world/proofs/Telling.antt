@@ -9,7 +9,7 @@ use Rattle.grs_base.specs.State.{list_of}
 use Rattle.grs_base.specs.declared.resource.Res.{Res}
 use Rattle.grs_base.specs.declared.resource.TaskId.{TaskId}
 use Rattle.grs_base.specs.declared.decision.Code.TheVariants.{C00}
-use Rattle.grs_base.specs.declared.line.Line.{Line}
+use Rattle.grs_legal.specs.declared.meaning.Meaning.{Meaning}
 use Rattle.grs_base.proofs.SameLaws.{same_res-exact, same_task-exact, same_task-itself}
 use Rattle.grs_wire.specs.declared.deck.Deck.{Deck}
 use Rattle.grs_wire.specs.declared.history.HistEntry.{HistEntry}
@@ -27,9 +27,9 @@ use Rattle.task_state.specs.declared.state.TaskState.{TaskState}
 use Rattle.task_state.specs.View.{TasksView, is_task, state_of, with_phase, with_told, telling, record_of, on_record, code_in}
 use Rattle.task_state.proofs.ViewLaws.{state_of-same, told-state, state_of-telling, told-telling}
 use Rattle.grs_world.specs.Node.{is_held, is_held_for, tell_control, tell_untold, tell_record, passes_wait, tell_all}
-use Rattle.grs_world.specs.Agree.{LineAgrees, told_task, tells_control, entry_of_line}
+use Rattle.grs_world.specs.Agree.{LineAgrees, Agrees, AgreesOf, tells_control, entry_of_line}
 use Rattle.grs_world.proofs.Invariant.{IsRec, IsDue, IsEntryOn, IsTask, has_res, has_ended}
-use Rattle.grs_world.proofs.Others.{task-told, recs-knows, any-last}
+use Rattle.grs_world.proofs.Others.{is_told_to, task-told, recs-knows, any-last}
 use Rattle.grs_world.proofs.Owners.{is_among}
 use Rattle.grs_world.proofs.Control.{found, not_found, also, queued_control}
 use Rattle.grs_base.proofs.ListLaws.{same_task-sym}
@@ -70,7 +70,7 @@ pub record Learned (deck : Deck) (P : List HistEntry) (T0 : List ToldLine) (know
   pub holds : Holds deck P (learns knows r t) w
   pub agreed : Agreed deck P T0 w.told
 
-module _ (deck : Deck) (P : List HistEntry) (T0 : List ToldLine) (knows : Res → TaskId → Bool) (r : Res) (t : TaskId) (ls : List Line) where
+module _ (deck : Deck) (P : List HistEntry) (T0 : List ToldLine) (knows : Res → TaskId → Bool) (r : Res) (t : TaskId) (ls : List Meaning) where
   -- records on other resources know what they knew
   learned-none : (v : TasksView) → Holds deck P knows v → IsOurs deck v t ls → Agreed deck P T0 v.told → has_res r (state_of v t).records ≡ false → Learned deck P T0 knows v v r t
   learned-none v h ours agreed absent = record {
@@ -85,7 +85,7 @@ module _ (deck : Deck) (P : List HistEntry) (T0 : List ToldLine) (knows : Res �
       also-absent q [] a e = cc
       also-absent q (x ∷ xs) a e = grind (arith, a, e, same_res-exact r q, cases_Bool (same_res r q), cases_Bool (knows q t))
 
-      knowing : (ms : List Line) (u : TaskId) (x : TaskState) → ((q : Res) → has_res q x.records ≡ true → learns knows r t q u ≡ knows q u) → IsTask ms (past deck.limit P u) v.told (λ q. knows q u) u x → IsTask ms (past deck.limit P u) v.told (λ q. learns knows r t q u) u x
+      knowing : (ms : List Meaning) (u : TaskId) (x : TaskState) → ((q : Res) → has_res q x.records ≡ true → learns knows r t q u ≡ knows q u) → IsTask ms (past deck.limit P u) v.told (λ q. knows q u) u x → IsTask ms (past deck.limit P u) v.told (λ q. learns knows r t q u) u x
       knowing ms u x same k = record {
         keys = k.keys;
         distinct = k.distinct;
@@ -99,9 +99,9 @@ module _ (deck : Deck) (P : List HistEntry) (T0 : List ToldLine) (knows : Res �
       }
 
   -- another task after the event told this one something
-  other-told : (v : TasksView) (l : ToldLine) (u : TaskId) (ms : List Line) → told_task l ≡ t → same_task u t ≡ false → IsTask ms (past deck.limit P u) v.told (λ q. knows q u) u (state_of v u) → IsTask ms (past deck.limit P u) (v.told ++ l ∷ []) (λ q. learns knows r t q u) u (state_of v u)
+  other-told : (v : TasksView) (l : ToldLine) (u : TaskId) (ms : List Meaning) → is_told_to u l ≡ same_task u t → same_task u t ≡ false → IsTask ms (past deck.limit P u) v.told (λ q. knows q u) u (state_of v u) → IsTask ms (past deck.limit P u) (v.told ++ l ∷ []) (λ q. learns knows r t q u) u (state_of v u)
   other-told v l u ms e apart k =
-      let k2 = task-told ms (past deck.limit P u) v.told (λ q. knows q u) u (state_of v u) l (subst (λ z. same_task u z ≡ false) (sym e) apart) k in
+      let k2 = task-told ms (past deck.limit P u) v.told (λ q. knows q u) u (state_of v u) l (e ∙ apart) k in
       record {
         keys = k2.keys;
         distinct = k2.distinct;
@@ -129,17 +129,17 @@ module _ (deck : Deck) (P : List HistEntry) (T0 : List ToldLine) (knows : Res �
   }
 
   -- one line told, after which the task stands as x
-  learned-by : (v w : TasksView) (l : ToldLine) (x : TaskState) → Holds deck P knows v → IsOurs deck v t ls → Agreed deck P T0 v.told → told_task l ≡ t →
+  learned-by : (v w : TasksView) (l : ToldLine) (x : TaskState) → Holds deck P knows v → IsOurs deck v t ls → Agreed deck P T0 v.told → ((u : TaskId) → is_told_to u l ≡ same_task u t) → (AgreesOf deck.limit (lines_of deck t) P v.told l → Agrees deck P v.told l) →
       IsChanged v w t → w.told ≡ v.told ++ l ∷ [] → state_of w t ≡ x →
       IsTask ls (past deck.limit P t) (v.told ++ l ∷ []) (also (λ q. knows q t) r) t x × LineAgrees deck.limit ls P v.told l →
       Learned deck P T0 knows v w r t
-  learned-by v w l x h ours agreed e changed told is both = record {
+  learned-by v w l x h ours agreed e fits changed told is both = record {
     changed = changed;
     holds = holds-changed deck P P knows (learns knows r t) v w t ls h changed ours
-        (λ u ms o apart k. subst (λ T. IsTask ms (past deck.limit P u) T (λ q. learns knows r t q u) u (state_of v u)) (sym told) (other-told v l u ms e apart k))
+        (λ u ms o apart k. subst (λ T. IsTask ms (past deck.limit P u) T (λ q. learns knows r t q u) u (state_of v u)) (sym told) (other-told v l u ms (e u) apart k))
         (subst (λ T. IsTask ls (past deck.limit P t) T (λ q. learns knows r t q t) t (state_of w t)) (sym told)
         (subst (λ z. IsTask ls (past deck.limit P t) (v.told ++ l ∷ []) (λ q. learns knows r t q t) t z) (sym is) (own-learned (v.told ++ l ∷ []) x both.0)));
-    agreed = subst (λ T. Agreed deck P T0 T) (sym told) (more v.told l agreed (agrees-ours deck ls P v.told l (ap (λ z. lines_of deck z) e ∙ ours.lines) both.1));
+    agreed = subst (λ T. Agreed deck P T0 T) (sym told) (more v.told l agreed (fits (agrees-ours deck t ls P v.told l ours.lines both.1)));
   }
 
   held_is : (ph : Phase) → is_held ph ≡ true → ph ≡ phases.HeldAnswer
@@ -157,27 +157,27 @@ module _ (deck : Deck) (P : List HistEntry) (T0 : List ToldLine) (knows : Res �
   learned-coded v y h ours agreed own rec same held at =
       let x : TaskState = state_of v t in
       let is_held_answer : x.phase ≡ phases.HeldAnswer = held_is x.phase held in
-      let k = subst (λ ph. IsTask ls (past deck.limit P t) v.told (λ q. knows q t) t (record { line = x.line; phase = ph; code = x.code; records = x.records; outstanding = x.outstanding })) is_held_answer (h.each t ls ours) in
+      let k = subst (λ ph. IsTask ls (past deck.limit P t) v.told (λ q. knows q t) t (record { line = x.line; phase = ph; code = x.code; records = x.records; outstanding = x.outstanding; rows = x.rows })) is_held_answer (h.each t ls ours) in
       let k_rec = subst (λ ph. IsRec ls (line_entries t P) v.told (λ q. knows q t) t x.line ph y) is_held_answer rec in
-      learned-by v _ (Coded t y.line 0 verbs.Enq C00) _ h ours agreed refl
+      learned-by v _ (Coded t y.line 0 verbs.Enq C00) _ h ours agreed (λ u. refl) (λ a. a)
       (changed-then v (with_told v t r) _ t (changed-told v t r) (changed-then (with_told v t r) (with_phase (with_told v t r) t phases.Ready) _ t (changed-phase (with_told v t r) t phases.Ready) (changed-telling _ t _)))
       (told-telling _ _ ∙ ap (λ T. T ++ Coded t y.line 0 verbs.Enq C00 ∷ []) (told-phase (with_told v t r) t phases.Ready ∙ told-told v t r))
       (state_of-telling _ t _ ∙ state-phase (with_told v t r) t phases.Ready ((changed-told v t r).here t ∙ ours.here) ∙ ap (λ (z : TaskState). record z { phase = phases.Ready; code = code_in phases.Ready z.code }) (state-told v t r ours.here))
-      (task-coded deck.limit ls P v.told (λ q. knows q t) t r y x.line x.code x.records x.outstanding k k_rec same at own)
+      (task-coded deck.limit ls P v.told (λ q. knows q t) t r y x.line x.code x.records x.outstanding x.rows k k_rec same at own)
 
   -- by posting its ECB
   learned-posted : (v : TasksView) (y : Rec) → Holds deck P knows v → IsOurs deck v t ls → Agreed deck P T0 v.told → owns (list_of (replay deck.limit P) r) t ≡ true →
       IsRec ls (line_entries t P) v.told (λ q. knows q t) t (state_of v t).line (state_of v t).phase y → same_res r y.res ≡ true → has_ended (state_of v t).phase ≡ false → IsDue ls (line_entries t P) v.told t y.line →
       Learned deck P T0 knows v (telling (with_told v t r) (Post t y.line)) r t
   learned-posted v y h ours agreed own rec same going due =
-      learned-by v _ (Post t y.line) _ h ours agreed refl
+      learned-by v _ (Post t y.line) _ h ours agreed (λ u. refl) (λ a. a)
       (changed-then v (with_told v t r) _ t (changed-told v t r) (changed-telling _ t _))
       (told-telling _ _ ∙ ap (λ T. T ++ Post t y.line ∷ []) (told-told v t r))
       (state_of-telling _ t _ ∙ state-told v t r ours.here)
       (task-posted deck.limit ls P v.told (λ q. knows q t) t r y (state_of v t) (h.each t ls ours) rec due going same own)
 
 -- tasks after one of them passed a WAIT line
-module _ (deck : Deck) (P : List HistEntry) (T0 : List ToldLine) (knows : Res → TaskId → Bool) (r : Res) (t : TaskId) (ls : List Line) where
+module _ (deck : Deck) (P : List HistEntry) (T0 : List ToldLine) (knows : Res → TaskId → Bool) (r : Res) (t : TaskId) (ls : List Meaning) where
   pub record Passes (v w : TasksView) : Type 0 where
     pub changed : IsChanged v w t
     pub holds : Holds deck P knows w
@@ -198,8 +198,8 @@ module _ (deck : Deck) (P : List HistEntry) (T0 : List ToldLine) (knows : Res �
   passes-held v h ours agreed own control held =
       let x : TaskState = state_of v t in
       let l : ToldLine = Coded t x.line 0 verbs.Wait C00 in
-      let k = subst (λ ph. IsTask ls (past deck.limit P t) v.told (λ q. knows q t) t (record { line = x.line; phase = ph; code = x.code; records = x.records; outstanding = x.outstanding })) (held_for_is x.phase held) (h.each t ls ours) in
-      let both = task-passed deck.limit ls P v.told (λ q. knows q t) t r x.line x.code x.records x.outstanding k own control in
+      let k = subst (λ ph. IsTask ls (past deck.limit P t) v.told (λ q. knows q t) t (record { line = x.line; phase = ph; code = x.code; records = x.records; outstanding = x.outstanding; rows = x.rows })) (held_for_is x.phase held) (h.each t ls ours) in
+      let both = task-passed deck.limit ls P v.told (λ q. knows q t) t r x.line x.code x.records x.outstanding x.rows k own control in
       let changed = changed-then v (with_phase v t phases.Ready) (telling (with_phase v t phases.Ready) l) t (changed-phase v t phases.Ready) (changed-telling _ t l) in
       let told : (telling (with_phase v t phases.Ready) l).told ≡ v.told ++ l ∷ [] = told-telling _ l ∙ ap (λ T. T ++ l ∷ []) (told-phase v t phases.Ready) in
       record {
@@ -208,7 +208,7 @@ module _ (deck : Deck) (P : List HistEntry) (T0 : List ToldLine) (knows : Res �
             (λ u ms o apart m. subst (λ T. IsTask ms (past deck.limit P u) T (λ q. knows q u) u (state_of v u)) (sym told) (task-told ms (past deck.limit P u) v.told (λ q. knows q u) u (state_of v u) l apart m))
             (subst (λ T. IsTask ls (past deck.limit P t) T (λ q. knows q t) t (state_of (telling (with_phase v t phases.Ready) l) t)) (sym told)
             (subst (λ z. IsTask ls (past deck.limit P t) (v.told ++ l ∷ []) (λ q. knows q t) t z) (sym (state_of-telling _ t l ∙ state-phase v t phases.Ready ours.here)) both.0));
-        agreed = subst (λ T. Agreed deck P T0 T) (sym told) (more v.told l agreed (agrees-ours deck ls P v.told l ours.lines both.1));
+        agreed = subst (λ T. Agreed deck P T0 T) (sym told) (more v.told l agreed (agrees-ours deck t ls P v.told l ours.lines both.1));
       }
 
   passes : (v : TasksView) → Holds deck P knows v → IsOurs deck v t ls → Agreed deck P T0 v.told → owns (list_of (replay deck.limit P) r) t ≡ true →
@@ -218,11 +218,11 @@ module _ (deck : Deck) (P : List HistEntry) (T0 : List ToldLine) (knows : Res �
       (λ held. passes-held v h ours agreed own control held)
       (λ free. record { changed = changed-none v t; holds = h; agreed = agreed })
 
-module _ (deck : Deck) (P : List HistEntry) (T0 : List ToldLine) (knows : Res → TaskId → Bool) (r : Res) (t : TaskId) (ls : List Line) where
-  posts_control : (E : List HistEntry) (T : List ToldLine) (y : Rec) → IsEntryOn y.res (entry_of_line t ls E y.line) → same_res r y.res ≡ true → list_any (tells_control t ls E r) (T ++ Post t y.line ∷ []) ≡ true
+module _ (deck : Deck) (P : List HistEntry) (T0 : List ToldLine) (knows : Res → TaskId → Bool) (r : Res) (t : TaskId) (ls : List Meaning) where
+  posts_control : (E : List HistEntry) (T : List ToldLine) (y : Rec) → IsEntryOn y.res (entry_of_line ls E y.line) → same_res r y.res ≡ true → list_any (tells_control t ls E r) (T ++ Post t y.line ∷ []) ≡ true
   posts_control E T y on same =
-      let on_r : IsEntryOn r (entry_of_line t ls E y.line) = subst (λ q. IsEntryOn q (entry_of_line t ls E y.line)) (sym (same_res-exact r y.res same)) on in
-      any-last (tells_control t ls E r) T (Post t y.line) (grind (arith, same_task-itself t, queued_control r (entry_of_line t ls E y.line) on_r))
+      let on_r : IsEntryOn r (entry_of_line ls E y.line) = subst (λ q. IsEntryOn q (entry_of_line ls E y.line)) (sym (same_res-exact r y.res same)) on in
+      any-last (tells_control t ls E r) T (Post t y.line) (grind (arith, same_task-itself t, queued_control r (entry_of_line ls E y.line) on_r))
 
   -- an untold record is told
   learned-record : (v : TasksView) (y : Rec) → Holds deck P knows v → IsOurs deck v t ls → Agreed deck P T0 v.told → owns (list_of (replay deck.limit P) r) t ≡ true →
@@ -299,7 +299,7 @@ pub record LearnedAll (deck : Deck) (P : List HistEntry) (T0 : List ToldLine) (k
 
 -- a task of the deck and of this system
 pub record IsHome (deck : Deck) (v : TasksView) (t : TaskId) : Type 0 where
-  pub lines : List Line
+  pub lines : List Meaning
   pub ours : IsOurs deck v t lines
 
 -- control is told, one by one, to tasks that own, weren't told, and are all different

@@ -10,32 +10,32 @@ use Rattle.grs_base.specs.declared.resource.Ret.TheVariants.{RetNone, RetUse, Re
 use Rattle.grs_base.specs.declared.resource.TaskId.{TaskId}
 use Rattle.grs_base.specs.declared.decision.Code.{Code}
 use Rattle.grs_base.specs.declared.decision.Code.TheVariants.{C00, C04, C08, C14, C18, Wait, End}
-use Rattle.grs_base.specs.declared.line.Line.{Line}
-use Rattle.grs_base.specs.declared.line.Line.TheVariants as lines
+use Rattle.grs_legal.specs.declared.meaning.Meaning.{Meaning}
+use Rattle.grs_legal.specs.declared.meaning.Meaning.TheVariants as lines
 use Rattle.grs_wire.specs.declared.deck.Deck.{Deck}
 use Rattle.grs_wire.specs.declared.deck.Event.{Event}
 use Rattle.grs_wire.specs.declared.history.HistEntry.{HistEntry}
-use Rattle.grs_wire.specs.declared.history.HistEntry.TheVariants.{Enq, Deq, Release}
+use Rattle.grs_wire.specs.declared.history.HistEntry.TheVariants.{Enq, Deq, Release, Look, Remove}
 use Rattle.grs_wire.specs.declared.told.Verb.{Verb}
 use Rattle.grs_wire.specs.declared.told.Verb.TheVariants as verbs
 use Rattle.grs_wire.specs.declared.told.Told.{Told}
 use Rattle.grs_wire.specs.declared.told.ToldLine.{ToldLine}
-use Rattle.grs_wire.specs.declared.told.ToldLine.TheVariants.{Coded, Post, Ended}
+use Rattle.grs_wire.specs.declared.told.ToldLine.TheVariants.{Coded, Shown, Post, Ended, Desk}
 use Rattle.grs_wire.specs.History.{replay}
-use Rattle.grs_legal.specs.Asks.{ask_of, asks_of, resolved, lines_of}
+use Rattle.grs_legal.specs.Asks.{asks_of, is_silent, lines_of}
 use Rattle.grs_legal.specs.Legal.{Legal, line_entries, end_code, next_ask}
 use Rattle.grs_world.specs.World.{hist, told}
 
 -- the entry at a place among these, where the line is there and asks something
-abbrev pub asked_at : TaskId → Option Line → Option HistEntry → Option HistEntry
-asked_at t None entry = None
-asked_at t (Some l) entry = cond (is_some (ask_of t l)) entry None
+abbrev pub asked_at : Option Meaning → Option HistEntry → Option HistEntry
+asked_at None entry = None
+asked_at (Some l) entry = cond (is_silent l) None entry
 
 -- the entry of a task's line, lines numbered from 1, among the entries that the task's lines asked for: the
 -- one at the place that the line has among the asking lines
-abbrev pub entry_of_line : TaskId → List Line → List HistEntry → ℕ → Option HistEntry
-entry_of_line t ls entries k =
-    asked_at t (slice_get ls (k - 1)) (slice_get entries (length (asks_of t (take (k - 1) ls))))
+abbrev pub entry_of_line : List Meaning → List HistEntry → ℕ → Option HistEntry
+entry_of_line ls entries k =
+    asked_at (slice_get ls (k - 1)) (slice_get entries (length (asks_of (take (k - 1) ls))))
 
 -- a reply as it is told: one that waited is told 00, when control is told
 abbrev pub told_as : Code → Code
@@ -63,6 +63,8 @@ TellsEnq s t code None = ⊥
 TellsEnq s t code (Some (Enq u r c ret reply)) = (told_as reply ≡ code) × (gets_control ret code ≡ true → owns (list_of s r) t ≡ true)
 TellsEnq s t code (Some (Deq u r have reply)) = ⊥
 TellsEnq s t code (Some (Release u r)) = ⊥
+TellsEnq s t code (Some (Look u place filter rows)) = ⊥
+TellsEnq s t code (Some (Remove by target)) = ⊥
 
 -- a line tells a task the code of a DEQ
 abbrev pub TellsDeq : Code → Option HistEntry → Type 0
@@ -70,6 +72,8 @@ TellsDeq code None = ⊥
 TellsDeq code (Some (Enq u r c ret reply)) = ⊥
 TellsDeq code (Some (Deq u r have reply)) = reply ≡ code
 TellsDeq code (Some (Release u r)) = ⊥
+TellsDeq code (Some (Look u place filter rows)) = ⊥
+TellsDeq code (Some (Remove by target)) = ⊥
 
 -- whether an ENQ entry is of this resource, and its task gets control when it is told this code
 abbrev pub is_control_of : Res → Code → Option HistEntry → Bool
@@ -77,17 +81,23 @@ is_control_of r code None = false
 is_control_of r code (Some (Enq u q c ret reply)) = same_res r q && gets_control ret code
 is_control_of r code (Some (Deq u q have reply)) = false
 is_control_of r code (Some (Release u q)) = false
+is_control_of r code (Some (Look u place filter rows)) = false
+is_control_of r code (Some (Remove by target)) = false
 
 -- whether a line tells a task control of a resource
-abbrev pub tells_control : TaskId → List Line → List HistEntry → Res → ToldLine → Bool
-tells_control t ls entries r (Coded u k part verbs.Enq code) = same_task t u && is_control_of r code (entry_of_line t ls entries k)
+abbrev pub tells_control : TaskId → List Meaning → List HistEntry → Res → ToldLine → Bool
+tells_control t ls entries r (Coded u k part verbs.Enq code) = same_task t u && is_control_of r code (entry_of_line ls entries k)
 tells_control t ls entries r (Coded u k part verbs.Deq code) = false
 tells_control t ls entries r (Coded u k part verbs.Wait code) = false
-tells_control t ls entries r (Post u k) = same_task t u && is_control_of r C00 (entry_of_line t ls entries k)
+tells_control t ls entries r (Coded u k part verbs.Gqscan code) = false
+tells_control t ls entries r (Coded u k part verbs.Display code) = false
+tells_control t ls entries r (Shown u k verb code rows) = false
+tells_control t ls entries r (Post u k) = same_task t u && is_control_of r C00 (entry_of_line ls entries k)
 tells_control t ls entries r (Ended u code) = false
+tells_control t ls entries r (Desk k said) = false
 
 -- a WAIT is told 00 by an owner that was told control before, and 08 by a task without an element
-abbrev pub TellsWaitOf : TaskId → List Line → List HistEntry → List ToldLine → State → Res → Code → Type 0
+abbrev pub TellsWaitOf : TaskId → List Meaning → List HistEntry → List ToldLine → State → Res → Code → Type 0
 TellsWaitOf t ls entries before s r C00 = (owns (list_of s r) t ≡ true) × (list_any (tells_control t ls entries r) before ≡ true)
 TellsWaitOf t ls entries before s r C08 = has_task (list_of s r) t ≡ false
 TellsWaitOf t ls entries before s r C04 = ⊥
@@ -96,11 +106,12 @@ TellsWaitOf t ls entries before s r C18 = ⊥
 TellsWaitOf t ls entries before s r Wait = ⊥
 TellsWaitOf t ls entries before s r (End n) = ⊥
 
-abbrev pub TellsWait : TaskId → List Line → List HistEntry → List ToldLine → State → Code → Option Line → Type 0
+abbrev pub TellsWait : TaskId → List Meaning → List HistEntry → List ToldLine → State → Code → Option Meaning → Type 0
 TellsWait t ls entries before s code None = ⊥
-TellsWait t ls entries before s code (Some (lines.Enq items ret rnl)) = ⊥
-TellsWait t ls entries before s code (Some (lines.Deq q r scope have unit rnl)) = ⊥
-TellsWait t ls entries before s code (Some (lines.Wait q r scope rnl)) = TellsWaitOf t ls entries before s (resolved t scope q r) code
+TellsWait t ls entries before s code (Some (lines.Enq r ctl ret unit)) = ⊥
+TellsWait t ls entries before s code (Some (lines.Deq r have)) = ⊥
+TellsWait t ls entries before s code (Some (lines.Wait r)) = TellsWaitOf t ls entries before s r code
+TellsWait t ls entries before s code (Some lines.Nothing) = ⊥
 
 -- an ECB is posted to an owner whose ENQ had one and was answered 04
 abbrev pub Posts : State → TaskId → Option HistEntry → Type 0
@@ -108,67 +119,83 @@ Posts s t None = ⊥
 Posts s t (Some (Enq u r c ret reply)) = (ret ≡ RetEcb) × (reply ≡ C04) × (owns (list_of s r) t ≡ true)
 Posts s t (Some (Deq u r have reply)) = ⊥
 Posts s t (Some (Release u r)) = ⊥
+Posts s t (Some (Look u place filter rows)) = ⊥
+Posts s t (Some (Remove by target)) = ⊥
 
 -- whether a line is no code of the task, or one of an earlier line
 abbrev pub is_code_before : TaskId → ℕ → ToldLine → Bool
 is_code_before t k (Coded u j part verb code) = not (same_task t u) || nat_lt j k
 is_code_before t k (Post u j) = true
 is_code_before t k (Ended u code) = true
+is_code_before t k (Shown u j verb code rows) = not (same_task t u) || nat_lt j k
+is_code_before t k (Desk j said) = true
 
 -- whether a line tells the code of a task's line
 abbrev pub is_code_of : TaskId → ℕ → ToldLine → Bool
 is_code_of t k (Coded u j part verb code) = same_task t u && (j == k)
 is_code_of t k (Post u j) = false
 is_code_of t k (Ended u code) = false
+is_code_of t k (Shown u j verb code rows) = same_task t u && (j == k)
+is_code_of t k (Desk j said) = false
 
 -- whether a line posts the ECB of a task's line
 abbrev pub is_post_of : TaskId → ℕ → ToldLine → Bool
 is_post_of t k (Coded u j part verb code) = false
 is_post_of t k (Post u j) = same_task t u && (j == k)
 is_post_of t k (Ended u code) = false
+is_post_of t k (Shown u j verb code rows) = false
+is_post_of t k (Desk j said) = false
 
 -- whether a line tells that a task has ended
 abbrev pub is_end_of : TaskId → ToldLine → Bool
 is_end_of t (Coded u j part verb code) = false
 is_end_of t (Post u j) = false
 is_end_of t (Ended u code) = same_task t u
+is_end_of t (Shown u j verb code rows) = false
+is_end_of t (Desk j said) = false
 
 -- a code line agrees by its verb
-abbrev pub CodeAgrees : ℕ → TaskId → List Line → List HistEntry → List ToldLine → ℕ → Code → Verb → Type 0
-CodeAgrees limit t ls history before k code verbs.Enq = TellsEnq (replay limit history) t code (entry_of_line t ls (line_entries t history) k)
-CodeAgrees limit t ls history before k code verbs.Deq = TellsDeq code (entry_of_line t ls (line_entries t history) k)
+abbrev pub CodeAgrees : ℕ → TaskId → List Meaning → List HistEntry → List ToldLine → ℕ → Code → Verb → Type 0
+CodeAgrees limit t ls history before k code verbs.Enq = TellsEnq (replay limit history) t code (entry_of_line ls (line_entries t history) k)
+CodeAgrees limit t ls history before k code verbs.Deq = TellsDeq code (entry_of_line ls (line_entries t history) k)
+CodeAgrees limit t ls history before k code verbs.Gqscan = ⊥
+CodeAgrees limit t ls history before k code verbs.Display = ⊥
 CodeAgrees limit t ls history before k code verbs.Wait = TellsWait t ls (line_entries t history) before (replay limit history) code (slice_get ls (k - 1))
 
 -- A line that tells a task of these lines something agrees with the history up to its event, behind the
 -- lines told before. Code lines come in the order of their lines, an ECB is posted once, behind its code,
 -- and the end comes last, where nothing is left and nothing more is asked.
-abbrev pub LineAgrees : ℕ → List Line → List HistEntry → List ToldLine → ToldLine → Type 0
+abbrev pub LineAgrees : ℕ → List Meaning → List HistEntry → List ToldLine → ToldLine → Type 0
 LineAgrees limit ls history before (Coded t k part verb code) =
     (0 < k) × CodeAgrees limit t ls history before k code verb
     × (list_all (is_code_before t k) before ≡ true) × (list_any (is_end_of t) before ≡ false)
 LineAgrees limit ls history before (Post t k) =
-    (0 < k) × Posts (replay limit history) t (entry_of_line t ls (line_entries t history) k)
+    (0 < k) × Posts (replay limit history) t (entry_of_line ls (line_entries t history) k)
     × (list_any (is_code_of t k) before ≡ true) × (list_any (is_post_of t k) before ≡ false) × (list_any (is_end_of t) before ≡ false)
+LineAgrees limit ls history before (Shown t k verb code rows) = ⊥
+LineAgrees limit ls history before (Desk k said) = ⊥
 LineAgrees limit ls history before (Ended t code) =
     (queued_by (replay limit history) t ≡ []) × (next_ask limit t ls history ≡ None)
     × (code ≡ unwrap_or (end_code t history) 0) × (list_any (is_end_of t) before ≡ false)
 
--- the task to which a line is told
-abbrev pub told_task : ToldLine → TaskId
-told_task (Coded t k part verb code) = t
-told_task (Post t k) = t
-told_task (Ended t code) = t
-
 -- a line told to a task of the deck agrees; a task that the deck lacks is told nothing
-abbrev pub Agrees : ℕ → Option (List Line) → List HistEntry → List ToldLine → ToldLine → Type 0
-Agrees limit None history before line = ⊥
-Agrees limit (Some ls) history before line = LineAgrees limit ls history before line
+abbrev pub AgreesOf : ℕ → Option (List Meaning) → List HistEntry → List ToldLine → ToldLine → Type 0
+AgreesOf limit None history before line = ⊥
+AgreesOf limit (Some ls) history before line = LineAgrees limit ls history before line
+
+-- a line that is told agrees, by the task to which it is told; no display is shown and no desk is told yet
+abbrev pub Agrees : Deck → List HistEntry → List ToldLine → ToldLine → Type 0
+Agrees deck history before (Coded t k part verb code) = AgreesOf deck.limit (lines_of deck t) history before (Coded t k part verb code)
+Agrees deck history before (Shown t k verb code rows) = ⊥
+Agrees deck history before (Post t k) = AgreesOf deck.limit (lines_of deck t) history before (Post t k)
+Agrees deck history before (Ended t code) = AgreesOf deck.limit (lines_of deck t) history before (Ended t code)
+Agrees deck history before (Desk k said) = ⊥
 
 -- each of these lines agrees with the history up to its event, behind those told before
 abbrev pub AllAgree : Deck → List Event → List ToldLine → List Told → Type 0
 AllAgree deck es before [] = Unit {0}
 AllAgree deck es before (x ∷ xs) =
-    Agrees deck.limit (lines_of deck (told_task x.line)) (hist deck (take x.event es)) before x.line
+    Agrees deck (hist deck (take x.event es)) before x.line
     × AllAgree deck es (before ++ x.line ∷ []) xs
 
 -- What a run tells agrees with its history.

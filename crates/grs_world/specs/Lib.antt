@@ -2,3 +2,4 @@ pub mod Node
 pub mod World
 pub mod Agree
 pub mod Running
+pub mod Units

@@ -1,16 +1,15 @@
 //! One system: its tasks and the lists of its local resources. Each step is one event of one task.
-ghost use Rattle.std.specs.Prelude.{◌≡◌, [], true, length, slice_get, option_copied, IfOk, OnOk};
+ghost use Rattle.std.specs.Prelude.{◌≡◌, [], true, map, slice_get, option_copied, sum, IfOk, OnOk};
 ghost use Rattle.grs_wire.specs.Wants.{res_wanted};
 ghost use Rattle.task_state.specs.View.{new_tasks, is_task, state_of, record_of};
-ghost use Rattle.grs_legal.specs.Asks.{resolved};
-ghost use Rattle.grs_base.specs.State.{is_systems};
+ghost use Rattle.grs_legal.specs.Asks.{meaning_of};
 ghost use Rattle.grs_world.specs.Node as steps;
 ghost use Rattle.grs_world.specs.Running.{stepped};
 
-use super::replies::{answered, tell_all, tell_code};
-use grs_base::{Code, Item, Line, List, NoMemory, Res, Ret, SysId, TaskId};
-use grs_legal::resolve;
-use grs_wire::{Answer, Req, ToldLine, Verb, Want};
+use super::replies::{replied, tell_code, tell_new};
+use grs_base::{Code, Line, List, Lists, NoMemory, Res, SysId, TaskId};
+use grs_legal::{Meaning, meaning_of};
+use grs_wire::{Req, ToldLine, Verb, Want};
 use local_queue::Local;
 use std::alloc::Global;
 use std::marker::Model;
@@ -31,20 +30,21 @@ impl Model for Node {
     ghost view = { λ a. record { tasks = a.tasks; held = a.held } };
 }
 
-/// The resource that is spoken of.
-fn res_of(want: &Want) -> &Res
-    ensures { result.now ≡ res_wanted want.now }
+/// The resource that is spoken of, if one is.
+fn res_of(want: &Want) -> Option<&Res>
+    ensures { option_copied result ≡ res_wanted want.now }
 {
     match want {
-        Want::Enq { res, .. } | Want::Deq { res, .. } | Want::Release { res } => res,
+        Want::Enq { res, .. } | Want::Deq { res, .. } | Want::Release { res } => Some(res),
+        Want::Look { .. } => None,
     }
 }
 
-/// Whether a resource is shared by the whole complex.
-fn is_shared_by_all(res: &Res) -> bool
-    ensures { result ≡ is_systems res.now }
+/// Whether a request is for the whole complex. Looks that aren't local are.
+fn is_for_all(res: Option<&Res>) -> bool
+    ensures { result ≡ steps.is_for_all (option_copied res.entry) }
 {
-    matches!(res, Res::Systems { .. })
+    matches!(res, None | Some(Res::Systems { .. }))
 }
 
 /// A WAIT line: 00 where control was told, 08 where there is no request on record, else the task is held.
@@ -64,14 +64,31 @@ fn wait(tasks: &mut Tasks, task: TaskId, res: Res) -> Result<(), NoMemory>
     }
 }
 
+/// What the line at a place means, from 0, where there is one.
+#[tactic(auto, using(crate::proofs::Lines::of_lines))]
+fn meaning_at(
+    alloc: Global,
+    lists: &Lists,
+    task: TaskId,
+    lines: &List<Line>,
+    place: u32,
+) -> Result<Option<Meaning>, NoMemory>
+    ensures { IfOk result (λ m. m ≡ slice_get (map (meaning_of lists.now task) lines.now) place) }
+{
+    match lines.as_slice().get(place as usize) {
+        None => Ok(None),
+        Some(line) => Ok(Some(meaning_of(alloc, lists, task, line)?)),
+    }
+}
+
 impl Node {
-    /// A system with this many tasks at the start, and nothing queued.
-    pub(crate) fn new(alloc: Global, system: SysId, count: usize) -> Result<Node, NoMemory>
-        ensures { IfOk result (λ n. n ≡ record { tasks = record { system = system.0; tasks = new_tasks count; told = [] }; held = [] }) }
+    /// A system at the start, and nothing queued. `jobs` has the number of tasks of each of its jobs.
+    pub(crate) fn new(alloc: Global, system: SysId, jobs: &[u32]) -> Result<Node, NoMemory>
+        ensures { IfOk result (λ n. n ≡ record { tasks = record { system = system.0; tasks = new_tasks (sum jobs.now); told = [] }; held = [] }) }
     {
         Ok(Node {
-            tasks: Tasks::new(alloc, system, count)?,
-            held: Local::new(alloc),
+            tasks: Tasks::new(alloc, system, jobs)?,
+            held: Local::new(alloc, system),
         })
     }
 
@@ -85,16 +102,28 @@ impl Node {
     /// A request that the local lists decide: the asker's answer first, then control for the tasks that
     /// became owners.
     #[tactic(auto, using(crate::proofs::Keeps::keeps), unfolding(crate::specs::Node::decide))]
-    fn decide(&mut self, alloc: Global, task: TaskId, want: Want) -> Result<Option<Req>, NoMemory>
+    fn decide(
+        &mut self,
+        alloc: Global,
+        task: TaskId,
+        want: Want,
+        unit: Option<u16>,
+    ) -> Result<Option<Req>, NoMemory>
         requires { is_task self.old.tasks task ≡ true }
-        ensures step { IfOk result (λ fixed. stepped self.new fixed ≡ steps.decide self.old task want) }
+        ensures step { IfOk result (λ fixed. stepped self.new fixed ≡ steps.decide self.old task want unit) }
         ensures system { self.new.tasks.system ≡ self.old.tasks.system }
     {
         let req = Req { task, want };
         let outcome = self.held.request(&req)?;
-        let Answer::Coded(code) = outcome.answer;
-        answered(alloc, &mut self.tasks, task, &req.want, code)?;
-        tell_all(
+        replied(
+            alloc,
+            &mut self.tasks,
+            task,
+            &req.want,
+            unit,
+            &outcome.answer,
+        )?;
+        tell_new(
             &mut self.tasks,
             res_of(&req.want),
             outcome.owners.as_slice(),
@@ -104,17 +133,23 @@ impl Node {
 
     /// A request: decided at once, or, for a resource of the whole complex, kept until it can be sent.
     #[tactic(auto, using(crate::proofs::Keeps::keeps), unfolding(crate::specs::Node::ask))]
-    fn ask(&mut self, alloc: Global, task: TaskId, want: Want) -> Result<Option<Req>, NoMemory>
+    fn ask(
+        &mut self,
+        alloc: Global,
+        task: TaskId,
+        want: Want,
+        unit: Option<u16>,
+    ) -> Result<Option<Req>, NoMemory>
         requires { is_task self.old.tasks task ≡ true }
-        ensures step { IfOk result (λ fixed. stepped self.new fixed ≡ steps.ask self.old task want) }
+        ensures step { IfOk result (λ fixed. stepped self.new fixed ≡ steps.ask self.old task want unit) }
         ensures system { self.new.tasks.system ≡ self.old.tasks.system }
     {
-        if is_shared_by_all(res_of(&want)) {
+        if is_for_all(res_of(&want)) {
             self.tasks.set_phase(task, Phase::ToSend);
             self.tasks.set_outstanding(task, Some(Req { task, want }));
             Ok(None)
         } else {
-            self.decide(alloc, task, want)
+            self.decide(alloc, task, want, unit)
         }
     }
 
@@ -126,62 +161,41 @@ impl Node {
         limit as usize <= self.tasks.state(task).records.len()
     }
 
-    /// What an ENQ line asks.
-    fn enq(
-        &self,
-        alloc: Global,
-        task: TaskId,
-        item: &Item,
-        ret: Ret,
-        limit: u32,
-    ) -> Result<Want, NoMemory>
-        requires { is_task self.now.tasks task ≡ true }
-        ensures { IfOk result (λ want. want ≡ Want.Enq (resolved task item.now.scope item.now.q item.now.r) item.now.ctl ret (steps.has_most limit self.now.tasks task)) }
-    {
-        Ok(Want::Enq {
-            res: resolve(alloc, task, item.scope, &item.q, &item.r)?,
-            ctl: item.ctl,
-            ret,
-            full: self.has_most(task, limit),
-        })
-    }
-
-    /// A line that was taken.
+    /// A line that was taken, by what it means.
     #[tactic(auto, using(crate::proofs::Keeps::keeps), unfolding(crate::specs::Node::take_line))]
     fn take_line(
         &mut self,
         alloc: Global,
         task: TaskId,
-        line: &Line,
+        line: Meaning,
         limit: u32,
     ) -> Result<Option<Req>, NoMemory>
         requires { is_task self.old.tasks task ≡ true }
-        ensures step { IfOk result (λ fixed. stepped self.new fixed ≡ steps.take_line limit self.old task line.now) }
+        ensures step { IfOk result (λ fixed. stepped self.new fixed ≡ steps.take_line limit self.old task line) }
         ensures system { self.new.tasks.system ≡ self.old.tasks.system }
     {
         match line {
-            Line::Enq { items, ret, .. } => match items.as_slice().split_first() {
-                None => Ok(None),
-                Some((item, _)) => {
-                    let want = self.enq(alloc, task, item, *ret, limit)?;
-                    self.ask(alloc, task, want)
-                }
-            },
-            Line::Deq {
-                q,
-                r,
-                scope,
-                have,
-                ..
+            Meaning::Enq {
+                res,
+                ctl,
+                ret,
+                unit,
             } => {
-                let res = resolve(alloc, task, *scope, q, r)?;
-                self.ask(alloc, task, Want::Deq { res, have: *have })
+                let full = self.has_most(task, limit);
+                let want = Want::Enq {
+                    res,
+                    ctl,
+                    ret,
+                    full,
+                };
+                self.ask(alloc, task, want, unit)
             }
-            Line::Wait { q, r, scope, .. } => {
-                let res = resolve(alloc, task, *scope, q, r)?;
+            Meaning::Deq { res, have } => self.ask(alloc, task, Want::Deq { res, have }, None),
+            Meaning::Wait { res } => {
                 wait(&mut self.tasks, task, res)?;
                 Ok(None)
             }
+            Meaning::Nothing => Ok(None),
         }
     }
 
@@ -200,7 +214,7 @@ impl Node {
             }
             Some((rec, _)) => {
                 let res = rec.res.copy(alloc)?;
-                self.decide(alloc, task, Want::Release { res })
+                self.decide(alloc, task, Want::Release { res }, None)
             }
         }
     }
@@ -211,11 +225,11 @@ impl Node {
         &mut self,
         alloc: Global,
         task: TaskId,
-        line: Option<&Line>,
+        line: Option<Meaning>,
         limit: u32,
     ) -> Result<Option<Req>, NoMemory>
         requires { is_task self.old.tasks task ≡ true }
-        ensures step { IfOk result (λ fixed. stepped self.new fixed ≡ steps.ready_step limit self.old task (option_copied line.entry)) }
+        ensures step { IfOk result (λ fixed. stepped self.new fixed ≡ steps.ready_step limit self.old task line) }
         ensures system { self.new.tasks.system ≡ self.old.tasks.system }
     {
         let Some(line) = line else {
@@ -234,18 +248,19 @@ impl Node {
     pub(crate) fn phase_step(
         &mut self,
         alloc: Global,
+        lists: &Lists,
         task: TaskId,
         lines: &List<Line>,
         limit: u32,
     ) -> Result<Option<Req>, NoMemory>
         requires { is_task self.old.tasks task ≡ true }
-        ensures step { IfOk result (λ fixed. stepped self.new fixed ≡ steps.phase_step limit self.old task lines.now (state_of self.old.tasks task).phase) }
+        ensures step { IfOk result (λ fixed. stepped self.new fixed ≡ steps.phase_step limit self.old task (map (meaning_of lists.now task) lines.now) (state_of self.old.tasks task).phase) }
         ensures system { self.new.tasks.system ≡ self.old.tasks.system }
     {
         let state = self.tasks.state(task);
         match &state.phase {
             Phase::Ready => {
-                let line = lines.as_slice().get(state.line as usize);
+                let line = meaning_at(alloc, lists, task, lines, state.line)?;
                 self.ready_step(alloc, task, line, limit)
             }
             Phase::Ending(code) => {

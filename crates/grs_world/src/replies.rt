@@ -1,13 +1,13 @@
 //! What the tasks of a system are told: the answers to their own requests, and control that another's
 //! request gave them. Only the tasks change here, never the lists.
-ghost use Rattle.std.specs.Prelude.{◌≡◌, true, cond, OnOk};
+ghost use Rattle.std.specs.Prelude.{◌≡◌, true, cond, option_copied, OnOk};
 ghost use Rattle.task_state.specs.View.{is_task, without_record};
 ghost use Rattle.grs_world.specs.Node as steps;
 ghost use Rattle.grs_world.specs.Running.{tell_line};
 
 use super::codes::{is_changed, is_granted, is_held, is_held_for, is_queued, phase_after};
 use grs_base::{Code, Ctl, NoMemory, Res, Ret, TaskId};
-use grs_wire::{ToldLine, Verb, Want};
+use grs_wire::{Answer, ToldLine, Verb, Want};
 use std::alloc::Global;
 use task_state::{Phase, Rec, Tasks};
 
@@ -38,7 +38,7 @@ pub(crate) fn tell_code(
     }
 }
 
-/// Keeps the records of a task whose ENQ was answered.
+/// Keeps the records of a task whose ENQ was answered; `unit` is the unit that it reserves.
 #[tactic(auto, using(crate::proofs::Keeps::keeps), unfolding(crate::specs::Node::record_enq))]
 fn record_enq(
     alloc: Global,
@@ -46,11 +46,12 @@ fn record_enq(
     task: TaskId,
     res: &Res,
     ctl: Ctl,
+    unit: Option<u16>,
     ret: Ret,
     code: Code,
 ) -> Result<(), NoMemory>
     requires { is_task tasks.old task ≡ true }
-    ensures step { OnOk result (tasks.new ≡ steps.record_enq tasks.old task res.now ctl ret code) }
+    ensures step { OnOk result (tasks.new ≡ steps.record_enq tasks.old task res.now ctl unit ret code) }
     ensures system { tasks.new.system ≡ tasks.old.system }
 {
     if is_queued(ret, code) {
@@ -59,7 +60,7 @@ fn record_enq(
             ctl,
             rank: 0,
             told: is_granted(code),
-            unit: None,
+            unit,
             line: tasks.state(task).line,
         };
         tasks.add_record(task, rec)
@@ -83,22 +84,23 @@ fn record_deq(tasks: &mut Tasks, task: TaskId, res: &Res, code: Code)
     }
 }
 
-/// Answers a task's own request.
+/// Answers a task's own request; a record that it makes has this unit.
 #[tactic(auto, using(crate::proofs::Keeps::keeps), unfolding(crate::specs::Node::answered))]
-pub(crate) fn answered(
+fn answered(
     alloc: Global,
     tasks: &mut Tasks,
     task: TaskId,
     want: &Want,
+    unit: Option<u16>,
     code: Code,
 ) -> Result<(), NoMemory>
     requires { is_task tasks.old task ≡ true }
-    ensures step { OnOk result (tasks.new ≡ steps.answered tasks.old task want.now code) }
+    ensures step { OnOk result (tasks.new ≡ steps.answered tasks.old task want.now unit code) }
     ensures system { tasks.new.system ≡ tasks.old.system }
 {
     match want {
         Want::Enq { res, ctl, ret, .. } => {
-            record_enq(alloc, tasks, task, res, *ctl, *ret, code)?;
+            record_enq(alloc, tasks, task, res, *ctl, unit, *ret, code)?;
             tasks.set_phase(task, phase_after(code));
             tell_code(tasks, task, Verb::Enq, code)
         }
@@ -111,6 +113,27 @@ pub(crate) fn answered(
             let _ = tasks.take_record(task, res);
             Ok(())
         }
+        Want::Look { .. } => Ok(()),
+    }
+}
+
+/// The same by the whole answer. No task asks for looks yet.
+#[tactic(auto, using(crate::proofs::Keeps::keeps), unfolding(crate::specs::Node::replied))]
+pub(crate) fn replied(
+    alloc: Global,
+    tasks: &mut Tasks,
+    task: TaskId,
+    want: &Want,
+    unit: Option<u16>,
+    answer: &Answer,
+) -> Result<(), NoMemory>
+    requires { is_task tasks.old task ≡ true }
+    ensures step { OnOk result (tasks.new ≡ steps.replied tasks.old task want.now unit answer.now) }
+    ensures system { tasks.new.system ≡ tasks.old.system }
+{
+    match answer {
+        Answer::Coded(code) => answered(alloc, tasks, task, want, unit, *code),
+        Answer::Rows(_) => Ok(()),
     }
 }
 
@@ -182,7 +205,7 @@ fn tell_control(tasks: &mut Tasks, res: &Res, task: TaskId) -> Result<(), NoMemo
 
 /// Tells these tasks control in order.
 #[tactic(auto, using(crate::proofs::Keeps::keeps), unfolding(crate::specs::Node::tell_all))]
-pub(crate) fn tell_all(tasks: &mut Tasks, res: &Res, owners: &[TaskId]) -> Result<(), NoMemory>
+fn tell_all(tasks: &mut Tasks, res: &Res, owners: &[TaskId]) -> Result<(), NoMemory>
     ensures step { OnOk result (tasks.new ≡ steps.tell_all tasks.old res.now owners.now) }
     ensures system { tasks.new.system ≡ tasks.old.system }
 {
@@ -192,4 +215,20 @@ pub(crate) fn tell_all(tasks: &mut Tasks, res: &Res, owners: &[TaskId]) -> Resul
         rest = tail;
     }
     Ok(())
+}
+
+/// Tells control to the tasks that became owners of this resource, if it is one.
+#[tactic(auto, using(crate::proofs::Keeps::keeps), unfolding(crate::specs::Node::tell_new))]
+pub(crate) fn tell_new(
+    tasks: &mut Tasks,
+    res: Option<&Res>,
+    owners: &[TaskId],
+) -> Result<(), NoMemory>
+    ensures step { OnOk result (tasks.new ≡ steps.tell_new tasks.old (option_copied res.entry) owners.now) }
+    ensures system { tasks.new.system ≡ tasks.old.system }
+{
+    match res {
+        None => Ok(()),
+        Some(res) => tell_all(tasks, res, owners),
+    }
 }

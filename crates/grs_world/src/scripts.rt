@@ -1,5 +1,5 @@
 //! Which task has which lines. The lines stay in the deck.
-ghost use Rattle.std.specs.Prelude.{◌≡◌, ◌++◌, option_copied, IfOk};
+ghost use Rattle.std.specs.Prelude.{◌≡◌, ◌++◌, map, length, sum, option_copied, IfOk};
 ghost use Rattle.grs_legal.specs.Asks.{lines_in, scripts_in, scripts_from, scripts_at, scripts_of};
 
 use grs_base::{Line, List, NoMemory, TaskId};
@@ -60,6 +60,41 @@ pub(crate) fn scripts_of_first(alloc: Global, deck: &Deck) -> Result<Vec<Script<
     match deck.systems.as_slice().first() {
         None => Ok(Vec::new(alloc)),
         Some(system) => scripts_of_jobs(alloc, system.jobs.as_slice()),
+    }
+}
+
+/// The number of tasks of a job. There is no memory for more than 4,294,967,295.
+fn size_of(job: &JobDef) -> Result<u32, NoMemory>
+    ensures { IfOk result (λ size. size ≡ length job.now.tasks) }
+{
+    let tasks = job.tasks.len();
+    if tasks > u32::MAX as usize {
+        return Err(NoMemory);
+    }
+    Ok(tasks as u32)
+}
+
+/// The numbers of tasks of these jobs.
+fn sizes_of_jobs(alloc: Global, jobs: &[JobDef]) -> Result<Vec<u32>, NoMemory>
+    ensures { IfOk result (λ sizes. sizes.items ≡ map (λ j. length j.tasks) jobs.now) }
+{
+    let mut sizes = Vec::new(alloc);
+    for job in jobs {
+        if sizes.push(size_of(job)?).is_err() {
+            return Err(NoMemory);
+        }
+    }
+    Ok(sizes)
+}
+
+/// The numbers of tasks of the jobs of the first system.
+#[tactic(auto, using(crate::proofs::ScriptCounts::counts))]
+pub(crate) fn sizes_of_first(alloc: Global, deck: &Deck) -> Result<Vec<u32>, NoMemory>
+    ensures { IfOk result (λ sizes. sum sizes.items ≡ length (scripts_of deck.now 0)) }
+{
+    match deck.systems.as_slice().first() {
+        None => Ok(Vec::new(alloc)),
+        Some(system) => sizes_of_jobs(alloc, system.jobs.as_slice()),
     }
 }
 

@@ -1,6 +1,6 @@
 //! Two tasks that want one resource.
 use super::replay;
-use grs_base::{Ctl, Item, Line, List, Qname, Ret, Rname, Scope, SysId, TaskId};
+use grs_base::{Ctl, Item, Line, List, Lists, Qname, Ret, Rname, Scope, SysId, TaskId};
 use grs_wire::{Choice, Deck, Event, JobDef, SystemDef, TaskDef, TaskEnd};
 use std::alloc::Global;
 use std::test::Fail;
@@ -58,6 +58,7 @@ fn systems(alloc: Global) -> Result<List<SystemDef>, Fail> {
     let mut systems = List::new(alloc);
     systems.push(SystemDef {
         name: List::new(alloc),
+        desk: List::new(alloc),
         jobs: jobs(alloc)?,
     })?;
     Ok(systems)
@@ -104,6 +105,7 @@ fn gives_control_and_ends(rt: HostRuntime) -> Result<(), Fail> {
         star: false,
         entries: 1,
         limit: 16,
+        lists: Lists::new(alloc),
         systems: systems(alloc)?,
         events: List::new(alloc),
     };

@@ -1,19 +1,20 @@
 //! The world of a run: the system with the lines of its tasks, what its events fixed and what it told.
 //! There is one system, and events of others do nothing.
-ghost use Rattle.std.specs.Prelude.{◌≡◌, ◌++◌, drop, option_copied, IfOk, OnOk};
+ghost use Rattle.std.specs.Prelude.{◌≡◌, ◌++◌, drop, map, option_copied, IfOk, OnOk};
 ghost use Rattle.std.specs.Option.{option_to_list};
-ghost use Rattle.grs_legal.specs.Asks.{scripts_of, lines_of};
+ghost use Rattle.grs_legal.specs.Asks.{scripts_of, meanings};
 ghost use Rattle.grs_world.specs.Node as steps;
 ghost use Rattle.grs_world.specs.World as runs;
+ghost use Rattle.grs_world.specs.Units.{counted, reserved_of, units_at};
 ghost use Rattle.grs_world.specs.Running.{stepped, starting, after, ran, end_in, end_of};
 
 use super::node::Node;
-use super::scripts::{Script, lines_among, scripts_of_first};
-use grs_base::{Line, List, NoMemory, SysId, TaskId};
+use super::scripts::{Script, lines_among, scripts_of_first, sizes_of_first};
+use grs_base::{Line, List, Lists, NoMemory, SysId, TaskId};
 use grs_wire::{Choice, Deck, Event, Fixed, Req, TaskEnd, Told, ToldLine};
 use std::alloc::Global;
 use std::marker::Model;
-use task_state::Phase;
+use task_state::{Phase, Tasks};
 
 /// The most events of a run.
 const MOST_EVENTS: u64 = 1 << 57;
@@ -33,6 +34,7 @@ pub struct World<'d> {
 impl<'d> Model for World<'d> {
     ghost use Rattle.std.specs.Prelude.{◌≡◌};
     ghost use Rattle.grs_legal.specs.Asks.{scripts_of};
+    ghost use Rattle.grs_world.specs.Units.{counted, reserved_of, units_at};
     ghost use Rattle.grs_world.specs.Running.{Running};
 
     ghost Value = { Running };
@@ -46,19 +48,20 @@ impl<'d> Model for World<'d> {
 #[tactic(auto, unfolding(crate::specs::Node::task_step))]
 fn task_step(
     alloc: Global,
+    lists: &Lists,
     node: &mut Node,
     task: TaskId,
     lines: Option<&List<Line>>,
     limit: u32,
 ) -> Result<Option<Req>, NoMemory>
-    ensures step { IfOk result (λ fixed. stepped node.new fixed ≡ steps.task_step limit node.old task (option_copied lines.entry)) }
+    ensures step { IfOk result (λ fixed. stepped node.new fixed ≡ steps.task_step limit node.old task (meanings lists.now task (option_copied lines.entry))) }
     ensures system { node.new.tasks.system ≡ node.old.tasks.system }
 {
     let Some(lines) = lines else {
         return Ok(None);
     };
     if node.tasks().has(task) {
-        node.phase_step(alloc, task, lines, limit)
+        node.phase_step(alloc, lists, task, lines, limit)
     } else {
         Ok(None)
     }
@@ -80,7 +83,8 @@ fn choose(
 {
     match choice {
         Choice::Task(task) => {
-            task_step(alloc, node, task, lines_among(scripts, task), deck.limit)
+            let lines = lines_among(scripts, task);
+            task_step(alloc, &deck.lists, node, task, lines, deck.limit)
         }
         Choice::Turn
         | Choice::Send(_)
@@ -141,6 +145,7 @@ fn lines_from(lines: &[ToldLine], place: usize) -> &[ToldLine]
 
 /// Adds what a system told in an event.
 fn add_told(
+    alloc: Global,
     told: &mut List<Told>,
     event: u64,
     system: SysId,
@@ -152,10 +157,46 @@ fn add_told(
         told.push(Told {
             event,
             system,
-            line: *line,
+            line: line.copy(alloc)?,
         })?;
     }
     Ok(())
+}
+
+/// The units that tasks reserve, each with its count.
+#[tactic(auto, using(crate::proofs::UnitCounts::counted_units))]
+fn counted_units(tasks: &Tasks) -> Result<List<(u16, u32)>, NoMemory>
+    ensures { IfOk result (λ counts. counts ≡ counted (reserved_of tasks.now.tasks)) }
+{
+    let counts = tasks.units()?;
+    Ok(counts)
+}
+
+/// The counts of units of a system.
+fn with_system(
+    alloc: Global,
+    system: SysId,
+    counts: &[(u16, u32)],
+) -> Result<List<(SysId, u16, u32)>, NoMemory>
+    ensures { IfOk result (λ units. units ≡ map (λ c. (system, c.0, c.1)) counts.now) }
+{
+    let mut units = List::new(alloc);
+    for (unit, count) in counts {
+        units.push((system, *unit, *count))?;
+    }
+    Ok(units)
+}
+
+/// The units that the tasks of a system reserve, each with its count.
+fn units_of(
+    alloc: Global,
+    system: SysId,
+    tasks: &Tasks,
+) -> Result<List<(SysId, u16, u32)>, NoMemory>
+    ensures { IfOk result (λ units. units ≡ units_at system tasks.now.tasks) }
+{
+    let counts = counted_units(tasks)?;
+    with_system(alloc, system, counts.as_slice())
 }
 
 /// The end of a task in this phase.
@@ -171,12 +212,13 @@ fn end_by(phase: &Phase) -> TaskEnd
 
 impl<'d> World<'d> {
     /// A deck before its first event: nothing is queued and no task has begun.
-    #[tactic(auto, unfolding(crate::specs::World::first_world, crate::specs::World::first_node))]
+    #[tactic(auto, using(crate::proofs::ScriptCounts::counts), unfolding(crate::specs::World::first_world, crate::specs::World::first_node))]
     pub fn new(alloc: Global, deck: &'d Deck) -> Result<World<'d>, NoMemory>
         ensures { IfOk result (λ w. w ≡ starting deck.now) }
     {
         let scripts = scripts_of_first(alloc, deck)?;
-        let node = Node::new(alloc, SysId(0), scripts.len())?;
+        let jobs = sizes_of_first(alloc, deck)?;
+        let node = Node::new(alloc, SysId(0), jobs.as_slice())?;
         Ok(World {
             deck,
             scripts,
@@ -207,7 +249,7 @@ impl<'d> World<'d> {
         self.events += 1;
         add_fixed(&mut self.fixed, event.system, req)?;
         let lines = lines_from(self.node.tasks().told().as_slice(), before);
-        add_told(&mut self.told, self.events, event.system, lines)
+        add_told(self.alloc, &mut self.told, self.events, event.system, lines)
     }
 
     /// What the events fixed, each request with its system, in order.
@@ -222,6 +264,13 @@ impl<'d> World<'d> {
         ensures { result.now ≡ self.now.world.told }
     {
         &self.told
+    }
+
+    /// The units that the tasks reserve in hardware, each with its count, by system and unit.
+    pub fn units(&self) -> Result<List<(SysId, u16, u32)>, NoMemory>
+        ensures { IfOk result (λ units. units ≡ units_at (record { 0 = 0 }) self.now.world.node.tasks.tasks) }
+    {
+        units_of(self.alloc, SysId(0), self.node.tasks())
     }
 
     /// How a task stands. One that isn't there is open.

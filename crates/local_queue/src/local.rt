@@ -1,10 +1,12 @@
 //! The lists of one system.
 ghost use Rattle.std.specs.Prelude.{◌≡◌, [], IfOk, OnOk, OnErr};
-ghost use Rattle.grs_base.specs.State.{list_of};
-ghost use Rattle.grs_wire.specs.Wants.{answer_to, after_want, res_wanted, became_owners};
+ghost use Rattle.grs_base.specs.Looks.{look as looked};
+ghost use Rattle.grs_base.specs.declared.look.Place.TheVariants.{Local as LocalPlace};
+ghost use Rattle.grs_wire.specs.Wants.{answer_to, after_want, new_owners};
 
 use super::owners::{owners_behind, owners_behind_owner};
-use grs_base::{Code, List, NoMemory, TaskId};
+use super::slices::look_slices;
+use grs_base::{Code, Filter, List, NoMemory, Place, Row, SysId, TaskId};
 use grs_wire::{Answer, Req, Want};
 use queue_table::Table;
 use serial_queue::PlainQueues;
@@ -20,27 +22,30 @@ pub struct Outcome {
     pub owners: List<TaskId>,
 }
 
-/// The lists of one system, seen as all their elements with their resources in order of arrival.
+/// The lists of one system, seen as its number and all their elements with their resources in order of
+/// arrival.
 #[derive(Drop)]
 pub struct Local {
+    system: SysId,
     table: Table<PlainQueues>,
     alloc: Global,
 }
 
 impl Model for Local {
-    ghost use Rattle.grs_base.specs.State.{State};
+    ghost use Rattle.local_queue.specs.LocalView.{LocalView};
 
-    ghost Value = { State };
+    ghost Value = { LocalView };
 
-    ghost view = { λ a. a.table.held };
+    ghost view = { λ a. record { system = a.system; held = a.table.held } };
 }
 
 impl Local {
-    /// No lists yet.
-    pub fn new(alloc: Global) -> Self
-        ensures { result ≡ [] }
+    /// No lists yet, of this system.
+    pub fn new(alloc: Global, system: SysId) -> Self
+        ensures { result ≡ record { system = system; held = [] } }
     {
         Local {
+            system,
             table: Table::new(alloc, PlainQueues::new(alloc)),
             alloc,
         }
@@ -48,30 +53,39 @@ impl Local {
 
     /// Answers a request at once. Without memory nothing changes.
     pub fn request(&mut self, req: &Req) -> Result<Outcome, NoMemory>
-        ensures answer { IfOk result (λ outcome. outcome.answer ≡ Answer.Coded (answer_to self.old req.now.task req.now.want)) }
+        ensures answer { IfOk result (λ outcome. outcome.answer ≡ answer_to self.old.held req.now.task req.now.want) }
         ensures rank { IfOk result (λ outcome. outcome.rank ≡ 0) }
-        ensures owners { IfOk result (λ outcome. outcome.owners ≡ became_owners (list_of self.old (res_wanted req.now.want)) (list_of self.new (res_wanted req.now.want)) req.now.task) }
-        ensures after { OnOk result (self.new ≡ after_want self.old req.now.task req.now.want) }
+        ensures owners { IfOk result (λ outcome. outcome.owners ≡ new_owners self.old.held req.now.task req.now.want) }
+        ensures system { self.new.system ≡ self.old.system }
+        ensures after { OnOk result (self.new.held ≡ after_want self.old.held req.now.task req.now.want) }
         ensures unchanged { OnErr result (self.new ≡ self.old) }
     {
-        let (code, owners) = carry_out(self.alloc, &mut self.table, req)?;
+        let (answer, owners) = carry_out(self.alloc, &mut self.table, req)?;
         Ok(Outcome {
-            answer: Answer::Coded(code),
+            answer,
             rank: 0,
             owners,
         })
     }
+
+    /// The lists of the system's own resources that pass a filter, in the order in which resources are shown.
+    pub fn look(&self, filter: &Filter) -> Result<List<Row>, NoMemory>
+        ensures { IfOk result (λ rows. rows ≡ looked self.now.held (LocalPlace self.now.system) filter.now) }
+    {
+        self.table
+            .look(self.alloc, Place::Local(self.system), filter)
+    }
 }
 
-/// Answers a request: the code, and who got control by it.
+/// Answers a request, and tells who got control by it.
 #[tactic(auto, using(crate::proofs::OwnerLemmas::outcomes))]
 fn carry_out(
     alloc: Global,
     table: &mut Table<PlainQueues>,
     req: &Req,
-) -> Result<(Code, List<TaskId>), NoMemory>
-    ensures code { IfOk result (λ out. out.0 ≡ answer_to table.old.held req.now.task req.now.want) }
-    ensures owners { IfOk result (λ out. out.1 ≡ became_owners (list_of table.old.held (res_wanted req.now.want)) (list_of table.new.held (res_wanted req.now.want)) req.now.task) }
+) -> Result<(Answer, List<TaskId>), NoMemory>
+    ensures answer { IfOk result (λ out. out.0 ≡ answer_to table.old.held req.now.task req.now.want) }
+    ensures owners { IfOk result (λ out. out.1 ≡ new_owners table.old.held req.now.task req.now.want) }
     ensures after { OnOk result (table.new.held ≡ after_want table.old.held req.now.task req.now.want) }
     ensures unchanged { OnErr result (table.new.held ≡ table.old.held) }
 {
@@ -83,22 +97,29 @@ fn carry_out(
             full,
         } => {
             let res = res.copy(alloc)?;
-            table.reserve()?;
-            Ok((
-                table.enq(res, req.task, *ctl, *ret, *full),
-                List::new(alloc),
-            ))
+            table.reserve(&res)?;
+            let code = table.enq(res, req.task, *ctl, *ret, *full);
+            Ok((Answer::Coded(code), List::new(alloc)))
         }
         Want::Deq { res, have } => {
             let list = table.list(alloc, res)?;
             let owners = owners_behind_owner(alloc, list.as_slice(), req.task)?;
-            Ok((table.deq(res, req.task, *have), owners))
+            let code = table.deq(res, req.task, *have);
+            Ok((Answer::Coded(code), owners))
         }
         Want::Release { res } => {
             let list = table.list(alloc, res)?;
             let owners = owners_behind(alloc, list.as_slice(), req.task)?;
             table.release(res, req.task);
-            Ok((Code::C00, owners))
+            Ok((Answer::Coded(Code::C00), owners))
+        }
+        Want::Look {
+            first,
+            count,
+            filter,
+        } => {
+            let rows = look_slices(alloc, table, *first, *count, filter)?;
+            Ok((Answer::Rows(rows), List::new(alloc)))
         }
     }
 }

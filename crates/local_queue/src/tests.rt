@@ -1,6 +1,6 @@
 //! A short life of one list.
 use super::Local;
-use grs_base::{Code, Ctl, Qname, Res, Ret, Rname, SysId, TaskId};
+use grs_base::{Code, Ctl, Filter, Qname, Res, Ret, Rname, SysId, TaskId};
 use grs_wire::{Answer, Req, Want};
 use std::alloc::Global;
 use std::process::Abort;
@@ -44,6 +44,13 @@ fn release(alloc: Global) -> Result<Want, Fail> {
     Ok(Want::Release { res: res(alloc)? })
 }
 
+fn is_code(answer: &Answer, wanted: Code) -> bool {
+    match answer {
+        Answer::Coded(code) => *code == wanted,
+        Answer::Rows(_) => false,
+    }
+}
+
 fn expect(
     rt: &impl Abort,
     local: &mut Local,
@@ -57,22 +64,37 @@ fn expect(
         want,
     };
     let outcome = local.request(&req)?;
-    assert_eq!(rt; outcome.answer, Answer::Coded(code), "task {number}");
+    assert!(rt; is_code(&outcome.answer, code), "task {number}");
     assert_eq!(rt; outcome.rank, 0);
     assert_eq!(rt; outcome.owners.as_slice(), owners, "task {number}");
     Ok(())
 }
 
+fn shows_no_slice(local: &mut Local) -> Result<bool, Fail> {
+    let req = Req {
+        task: task(3),
+        want: Want::Look {
+            first: 0,
+            count: 64,
+            filter: Filter::All,
+        },
+    };
+    let outcome = local.request(&req)?;
+    Ok(matches!(&outcome.answer, Answer::Rows(rows) if rows.len() == 0))
+}
+
 #[test]
 fn gives_control_in_order(rt: HostRuntime) -> Result<(), Fail> {
     let alloc = rt.alloc();
-    let mut local = Local::new(alloc);
+    let mut local = Local::new(alloc, SysId(0));
     let none: [TaskId; 0] = [];
     expect(&rt, &mut local, 0, enq(alloc, Ctl::S)?, Code::C00, &none)?;
     expect(&rt, &mut local, 1, enq(alloc, Ctl::E)?, Code::Wait, &none)?;
     expect(&rt, &mut local, 2, enq(alloc, Ctl::S)?, Code::Wait, &none)?;
     expect(&rt, &mut local, 3, enq(alloc, Ctl::S)?, Code::Wait, &none)?;
     expect(&rt, &mut local, 3, deq(alloc)?, Code::C04, &none)?;
+    assert_eq!(rt; local.look(&Filter::Contended)?.len(), 1);
+    assert!(rt; shows_no_slice(&mut local)?);
     expect(
         &rt,
         &mut local,

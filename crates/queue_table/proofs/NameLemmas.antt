@@ -256,18 +256,6 @@ IsTable-exclusive es hs new live more r q t table n is same = (
   ap (named es) is ∙ named-exclusive es hs r q t table.paired n,
 )
 
--- where an empty queue is let go
-pub IsTable-drop : (es less : Numbers) (hs new : Held ℕ) (live more : ℕ → Bool) (r : Res) (q : ℕ) → IsTable es hs live → number_of es r ≡ Some q → list_at nat_eq hs q ≡ [] → less ≡ remove_entry (same_res r) es → new ≡ hs → ((n : ℕ) → more n ≡ (not (eqb n q) && live n)) → IsTable less new more × (named less new ≡ named es hs)
-IsTable-drop es less hs new live more r q table n empty is_es is same =
-    let kept = named-remove es r q n hs empty table.named_all in (
-      record {
-        paired = ap is_paired is_es ∙ is_paired-remove es r table.paired;
-        live_numbers = ap (all_numbers more) is_es ∙ all_numbers-remove live more q (λ k p a. grind (arith, same k, p, a)) es r table.paired n table.live_numbers;
-        named_all = ap (λ (l : Numbers). all_named l new) is_es ∙ ap (all_named (remove_entry (same_res r) es)) is ∙ kept.1;
-      },
-      ap (λ (l : Numbers). named l new) is_es ∙ ap (named (remove_entry (same_res r) es)) is ∙ kept.0,
-    )
-
 -- the element at a task's place is the task's
 pub slice_get-place_of : (es : List Elem) (t : TaskId) → place_of es t < length es → (e : Elem) × ((slice_get es (place_of es t) ≡ Some e) × (e.task ≡ t))
 slice_get-place_of [] t h = absurd (omega arith)

@@ -1,23 +1,28 @@
 -- Lists in the order in which they are shown.
-use Rattle.std.proofs.Common.{◌≡◌, ◌≢◌, ◌≤◌, ◌+◌, ℕ, zero, suc, Bool, true, false, cond, T, List, [], ◌∷◌, length, drop, Option, Some, None, refl, ap, sym, ◌∙◌, arith, nat_eq}
-use Rattle.std.specs.Prelude.{slice_get}
+use Rattle.std.proofs.Common.{◌≡◌, ◌≢◌, ◌≤◌, ◌+◌, ℕ, zero, suc, Bool, true, false, cond, T, List, [], ◌∷◌, ◌++◌, ◌&&◌, map, length, drop, Option, Some, None, refl, ap, sym, ◌∙◌, arith, nat_eq, append_assoc}
+use Rattle.std.specs.Prelude.{slice_get, filter}
 use Rattle.std.specs.declared.cmp.Ordering.{Ordering}
 use Rattle.std.specs.Ordering.{on, eq_by_cmp}
 use Rattle.std.specs.Cmp.{IsTotalOrder}
 use Rattle.std.specs.FinMap.{put, find, is_sorted, IsAntisymmetric}
-use Rattle.std.specs.FinMap.Entries.{is_sorted-put, find-put, same_entries}
+use Rattle.std.specs.FinMap.Entries.{is_sorted-put, find-put, same_entries, where_key, is_sorted-where_key, find-where_key}
 use Rattle.std.specs.BTreeMap.{insert_entry}
 use Rattle.grs_base.specs.Same.{same_res}
 use Rattle.grs_base.specs.State.{Held, State, list_at, list_at_some, list_of}
 use Rattle.grs_base.specs.ResOrder.{res_order}
-use Rattle.grs_base.specs.Rows.{lists_from, lists_of}
+use Rattle.grs_base.specs.Rows.{lists_from, lists_of, row_of}
+use Rattle.grs_base.specs.Looks.{matches, is_contended}
+use Rattle.grs_base.specs.declared.look.Place.{Place}
+use Rattle.grs_base.specs.declared.look.Filter.{Filter}
+use Rattle.grs_base.specs.declared.look.Filter.TheVariants.{All, Contended, Named}
+use Rattle.grs_base.specs.declared.resource.Row.{Row}
 use Rattle.grs_base.specs.declared.resource.Res.{Res}
 use Rattle.grs_base.specs.declared.resource.Elem.{Elem}
 use Rattle.grs_base.proofs.SameLaws.{same_res-exact}
 use Rattle.grs_base.proofs.OrderLaws.{res_total, res_order-IsAntisymmetric, same_res-tie}
 use Rattle.queue_table.specs.declared.placed.Placed.{Placed}
 use Rattle.queue_table.specs.Names.{Numbers, number_of, named, is_paired}
-use Rattle.queue_table.specs.Shown.{plain, with_list, with_lists}
+use Rattle.queue_table.specs.Shown.{plain, with_list, with_lists, is_of, may_show, passes, shows}
 use Rattle.queue_table.proofs.NameLemmas.{list_of-some}
 
 -- an element before those behind it
@@ -73,9 +78,9 @@ module _ (R : Res → Res → Ordering) (total : IsTotalOrder R) (exact : IsAnti
   with r [] m = m
   with r (x ∷ xs) m = put R r (x ∷ xs) m
 
-  abbrev with_all : Numbers → Held ℕ → Lists → Lists
-  with_all [] hs m = m
-  with_all (e ∷ es) hs m = with_all es hs (with e.0 (list_at nat_eq hs e.1) m)
+  abbrev with_all : (Res → Bool) → Numbers → Held ℕ → Lists → Lists
+  with_all t [] hs m = m
+  with_all t (e ∷ es) hs m = with_all t es hs (cond (t e.0) (with e.0 (list_at nat_eq hs e.1) m) m)
 
   from-sorted : (s hs : State) → T (is_sorted R (from s hs))
   from-sorted s [] = tt
@@ -85,9 +90,13 @@ module _ (R : Res → Res → Ordering) (total : IsTotalOrder R) (exact : IsAnti
   with-sorted r [] m h = h
   with-sorted r (x ∷ xs) m h = is_sorted-put R total r (x ∷ xs) m h
 
-  with_all-sorted : (es : Numbers) (hs : Held ℕ) (m : Lists) → T (is_sorted R m) → T (is_sorted R (with_all es hs m))
-  with_all-sorted [] hs m h = h
-  with_all-sorted (e ∷ es) hs m h = with_all-sorted es hs _ (with-sorted e.0 (list_at nat_eq hs e.1) m h)
+  with_some-sorted : (b : Bool) (r : Res) (xs : List Elem) (m : Lists) → T (is_sorted R m) → T (is_sorted R (cond b (with r xs m) m))
+  with_some-sorted true r xs m h = with-sorted r xs m h
+  with_some-sorted false r xs m h = h
+
+  with_all-sorted : (t : Res → Bool) (es : Numbers) (hs : Held ℕ) (m : Lists) → T (is_sorted R m) → T (is_sorted R (with_all t es hs m))
+  with_all-sorted t [] hs m h = h
+  with_all-sorted t (e ∷ es) hs m h = with_all-sorted t es hs _ (with_some-sorted (t e.0) e.0 (list_at nat_eq hs e.1) m h)
 
   find-with : (q r : Res) (xs : List Elem) (m : Lists) → find R q (with r xs m) ≡ cond (same_res q r) (found xs (find R q m)) (find R q m)
   find-with q r [] m = either (same_res q r) (find R q m)
@@ -104,44 +113,66 @@ module _ (R : Res → Res → Ordering) (total : IsTotalOrder R) (exact : IsAnti
       step true e rest = ap (λ (r : Res). Some (list_of s r)) (sym (same_res-exact q h.0 e))
       step false e rest = rest
 
-  find-with_all : (es : Numbers) (hs : Held ℕ) (m : Lists) (q : Res) → is_paired es ≡ true → find R q (with_all es hs m) ≡ found (list_at_some hs (number_of es q)) (find R q m)
-  find-with_all [] hs m q p = refl
-  find-with_all (e ∷ es) hs m q p =
-      find-with_all es hs (with e.0 (list_at nat_eq hs e.1) m) q (grind (arith, p))
-      ∙ ap (found (list_at_some hs (number_of es q))) (find-with q e.0 (list_at nat_eq hs e.1) m)
+  -- one list more, where its resource passes
+  find-with_some : (b : Bool) (q r : Res) (xs : List Elem) (m : Lists) → find R q (cond b (with r xs m) m) ≡ cond (b && same_res q r) (found xs (find R q m)) (find R q m)
+  find-with_some true q r xs m = find-with q r xs m
+  find-with_some false q r xs m = refl
+
+  find-with_all : (t : Res → Bool) (es : Numbers) (hs : Held ℕ) (m : Lists) (q : Res) → is_paired es ≡ true → find R q (with_all t es hs m) ≡ cond (t q) (found (list_at_some hs (number_of es q)) (find R q m)) (find R q m)
+  find-with_all t [] hs m q p = either (t q) (find R q m)
+  find-with_all t (e ∷ es) hs m q p =
+      find-with_all t es hs (cond (t e.0) (with e.0 (list_at nat_eq hs e.1) m) m) q (grind (arith, p))
+      ∙ ap (λ (o : Option (List Elem)). cond (t q) (found (list_at_some hs (number_of es q)) o) o) (find-with_some (t e.0) q e.0 (list_at nat_eq hs e.1) m)
       ∙ step (same_res q e.0) refl
     where
-      step : (b : Bool) → same_res q e.0 ≡ b → found (list_at_some hs (number_of es q)) (cond b (found (list_at nat_eq hs e.1) (find R q m)) (find R q m)) ≡ found (list_at_some hs (cond b (Some e.1) (number_of es q))) (find R q m)
-      step true s =
-          let none : number_of es q ≡ None = none_behind e es q p (same_res-exact q e.0 s) in
-          ap (λ (o : Option ℕ). found (list_at_some hs o) (found (list_at nat_eq hs e.1) (find R q m))) none
-      step false s = refl
+      passed : (b : Bool) → t e.0 ≡ b → t q ≡ b → number_of es q ≡ None →
+          cond (t q) (found (list_at_some hs (number_of es q)) (cond (t e.0 && true) (found (list_at nat_eq hs e.1) (find R q m)) (find R q m))) (cond (t e.0 && true) (found (list_at nat_eq hs e.1) (find R q m)) (find R q m))
+          ≡ cond (t q) (found (list_at nat_eq hs e.1) (find R q m)) (find R q m)
+      passed true a b none = rw (a, b, none) refl
+      passed false a b none = rw (a, b) refl
 
-  all-from : (es : Numbers) (hs : Held ℕ) → is_paired es ≡ true → with_all es hs [] ≡ from (named es hs) (named es hs)
-  all-from es hs p = same_entries R total exact (with_all es hs []) (from (named es hs) (named es hs)) (with_all-sorted es hs [] tt) (from-sorted (named es hs) (named es hs))
-      (λ q. find-with_all es hs [] q p ∙ ap (λ (l : List Elem). found l None) (list_of-some es hs q (number_of es q) p refl)
-      ∙ found-shown (list_of (named es hs) q) ∙ sym (find-from (named es hs) (named es hs) q))
+      other : (b : Bool) → (b && false) ≡ false
+      other true = refl
+      other false = refl
+
+      step : (b : Bool) → same_res q e.0 ≡ b →
+          cond (t q) (found (list_at_some hs (number_of es q)) (cond (t e.0 && b) (found (list_at nat_eq hs e.1) (find R q m)) (find R q m))) (cond (t e.0 && b) (found (list_at nat_eq hs e.1) (find R q m)) (find R q m))
+          ≡ cond (t q) (found (list_at_some hs (cond b (Some e.1) (number_of es q))) (find R q m)) (find R q m)
+      step true s =
+          let same : q ≡ e.0 = same_res-exact q e.0 s in
+          passed (t e.0) refl (ap t same) (none_behind e es q p same)
+      step false s = rw (other (t e.0)) refl
+
+  all-from : (t : Res → Bool) (es : Numbers) (hs : Held ℕ) → is_paired es ≡ true → with_all t es hs [] ≡ where_key R t (from (named es hs) (named es hs))
+  all-from t es hs p = same_entries R total exact (with_all t es hs []) (where_key R t (from (named es hs) (named es hs))) (with_all-sorted t es hs [] tt) (is_sorted-where_key R t _ (from-sorted (named es hs) (named es hs)))
+      (λ q. find-with_all t es hs [] q p ∙ ap (λ (l : List Elem). cond (t q) (found l None) None) (list_of-some es hs q (number_of es q) p refl)
+      ∙ ap (λ (o : Option (List Elem)). cond (t q) o None) (found-shown (list_of (named es hs) q) ∙ sym (find-from (named es hs) (named es hs) q))
+      ∙ sym (find-where_key R t q (λ x tied. ap t (sym (exact q x tied))) (from (named es hs) (named es hs))))
 
 with_list-with : (r : Res) (xs : List Elem) (m : Lists) → with_list r xs m ≡ with res_order res_total res_order-IsAntisymmetric same_res-tie r xs m
 with_list-with r [] m = refl
 with_list-with r (x ∷ xs) m = refl
 
-with_lists-all : (es : Numbers) (hs : Held ℕ) (m : Lists) → with_lists es hs m ≡ with_all res_order res_total res_order-IsAntisymmetric same_res-tie es hs m
-with_lists-all [] hs m = refl
-with_lists-all (e ∷ es) hs m = with_lists-all es hs _ ∙ ap (with_all res_order res_total res_order-IsAntisymmetric same_res-tie es hs) (with_list-with e.0 (list_at nat_eq hs e.1) m)
+with_some-with : (b : Bool) (r : Res) (xs : List Elem) (m : Lists) → cond b (with_list r xs m) m ≡ cond b (with res_order res_total res_order-IsAntisymmetric same_res-tie r xs m) m
+with_some-with true r xs m = with_list-with r xs m
+with_some-with false r xs m = refl
+
+with_lists-all : (t : Res → Bool) (es : Numbers) (hs : Held ℕ) (m : Lists) → with_lists t es hs m ≡ with_all res_order res_total res_order-IsAntisymmetric same_res-tie t es hs m
+with_lists-all t [] hs m = refl
+with_lists-all t (e ∷ es) hs m = with_lists-all t es hs _ ∙ ap (with_all res_order res_total res_order-IsAntisymmetric same_res-tie t es hs) (with_some-with (t e.0) e.0 (list_at nat_eq hs e.1) m)
 
 lists_from-from : (s hs : State) → lists_from s hs ≡ from res_order res_total res_order-IsAntisymmetric same_res-tie s hs
 lists_from-from s [] = refl
 lists_from-from s (h ∷ hs) = ap (put res_order h.0 (list_of s h.0)) (lists_from-from s hs)
 
--- the lists of all numbers are those of the resources that they name
-pub with_lists-named : (es : Numbers) (hs : Held ℕ) → is_paired es ≡ true → with_lists es hs [] ≡ lists_of (named es hs)
-with_lists-named es hs p = with_lists-all es hs [] ∙ all-from res_order res_total res_order-IsAntisymmetric same_res-tie es hs p ∙ sym (lists_from-from (named es hs) (named es hs))
+-- the lists of all numbers that pass are those of the resources that they name
+pub with_lists-named : (t : Res → Bool) (es : Numbers) (hs : Held ℕ) → is_paired es ≡ true → with_lists t es hs [] ≡ filter (λ e. t e.0) (lists_of (named es hs))
+with_lists-named t es hs p = with_lists-all t es hs [] ∙ all-from res_order res_total res_order-IsAntisymmetric same_res-tie t es hs p ∙ ap (filter (λ (e : Res × List Elem). t e.0)) (sym (lists_from-from (named es hs) (named es hs)))
 
 -- the list of one number more
-pub with_lists-more : (es : Numbers) (i : ℕ) (e : Res × ℕ) (hs : Held ℕ) (m more all : Lists) → slice_get es i ≡ Some e → with_lists (drop i es) hs m ≡ all → more ≡ with_list e.0 (list_at nat_eq hs e.1) m → with_lists (drop (i + 1) es) hs more ≡ all
-with_lists-more es i e hs m more all at so_far is =
-    ap (with_lists (drop (i + 1) es) hs) is ∙ ap (λ (l : Numbers). with_lists l hs m) (sym (drop_at_get es i e at)) ∙ so_far
+pub with_lists-more : (t : Res → Bool) (es : Numbers) (i : ℕ) (e : Res × ℕ) (hs : Held ℕ) (m more all : Lists) → slice_get es i ≡ Some e → with_lists t (drop i es) hs m ≡ all → more ≡ cond (t e.0) (with_list e.0 (list_at nat_eq hs e.1) m) m → with_lists t (drop (i + 1) es) hs more ≡ all
+with_lists-more t es i e hs m more all at so_far is =
+    ap (with_lists t (drop (i + 1) es) hs) is ∙ ap (λ (l : Numbers). with_lists t l hs m) (sym (drop_at_get es i e at)) ∙ so_far
 
 -- what is put in of a list that isn't empty
 pub with_list-some : (r x : Res) (xs ys : List Elem) (old new : List (Placed × List Elem)) → x ≡ r → ys ≡ xs → length ys ≢ 0 → new ≡ insert_entry (on (λ p. p.res) res_order) old (record { res = x }) ys → plain new ≡ with_list r xs (plain old)
@@ -161,5 +192,41 @@ drop_past (x ∷ xs) zero h = absurd (omega arith)
 drop_past (x ∷ xs) (suc i) h = drop_past xs i (omega arith)
 
 -- when all numbers are passed
-pub with_lists-end : (es : Numbers) (i : ℕ) (hs : Held ℕ) (m all : Lists) → length es ≤ i → with_lists (drop i es) hs m ≡ all → m ≡ all
-with_lists-end es i hs m all past h = ap (λ (l : Numbers). with_lists l hs m) (sym (drop_past es i past)) ∙ h
+pub with_lists-end : (t : Res → Bool) (es : Numbers) (i : ℕ) (hs : Held ℕ) (m all : Lists) → length es ≤ i → with_lists t (drop i es) hs m ≡ all → m ≡ all
+with_lists-end t es i hs m all past h = ap (λ (l : Numbers). with_lists t l hs m) (sym (drop_past es i past)) ∙ h
+
+-- rows that pass of lists that may be shown
+matches_true : (f : Filter) (r : Res) (w : Bool) → matches f r w ≡ true → matches f r true ≡ true
+matches_true All r w h = refl
+matches_true Contended r w h = refl
+matches_true (Named q s) r w h = h
+
+shows_may : (o : Option Place) (f : Filter) (r : Res) (w : Bool) → may_show o f r ≡ false → (is_of o r && matches f r w) ≡ false
+shows_may o f r w h = grind (arith, h, matches_true f r w)
+
+may_of : (o : Option Place) (f : Filter) (r : Res) → may_show o f r ≡ true → is_of o r ≡ true
+may_of o f r h = grind (arith, h)
+
+pub rows-shown : (o : Option Place) (f : Filter) (ls : Lists) → filter (passes f) (map row_of (filter (λ e. may_show o f e.0) ls)) ≡ filter (shows o f) (map row_of ls)
+rows-shown o f [] = refl
+rows-shown o f (e ∷ ls) = step (may_show o f e.0) refl (rows-shown o f ls)
+  where
+    step : (b : Bool) → may_show o f e.0 ≡ b → filter (passes f) (map row_of (filter (λ x. may_show o f x.0) ls)) ≡ filter (shows o f) (map row_of ls) →
+        filter (passes f) (map row_of (cond b (e ∷ filter (λ x. may_show o f x.0) ls) (filter (λ x. may_show o f x.0) ls))) ≡ cond (is_of o e.0 && passes f (row_of e)) (row_of e ∷ filter (shows o f) (map row_of ls)) (filter (shows o f) (map row_of ls))
+    step true m rest = rw (may_of o f e.0 m) (ap (λ (l : List Row). cond (passes f (row_of e)) (row_of e ∷ l) l) rest)
+    step false m rest = rw (shows_may o f e.0 (is_contended (row_of e)) m) rest
+
+-- all rows pass where no place and no filter is given
+pub rows-all : (rows : List Row) → filter (shows None All) rows ≡ rows
+rows-all [] = refl
+rows-all (x ∷ rows) = ap (λ (l : List Row). x ∷ l) (rows-all rows)
+
+-- one row more, if it passes
+pub rows-more : (f : Filter) (so_far more rest all : List Row) (x : Row) → so_far ++ filter (passes f) (x ∷ rest) ≡ all → more ≡ so_far ++ filter (passes f) (x ∷ []) → more ++ filter (passes f) rest ≡ all
+rows-more f so_far more rest all x h is = rw is (append_assoc so_far (filter (passes f) (x ∷ [])) (filter (passes f) rest) ∙ ap (λ (l : List Row). so_far ++ l) (one (passes f x)) ∙ h)
+  where
+    one : (b : Bool) → cond b (x ∷ []) [] ++ filter (passes f) rest ≡ cond b (x ∷ filter (passes f) rest) (filter (passes f) rest)
+    one true = refl
+    one false = refl
+
+pub ruleset all_shown = (rows-all)

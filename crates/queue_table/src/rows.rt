@@ -1,14 +1,17 @@
-//! The lists of a table as they are shown: with their resources, in order, and with their numbers of owners.
-ghost use Rattle.std.specs.Prelude.{◌≡◌, ◌∷◌, [], true, length, map, nat_eq, IfOk, OnOk};
+//! The lists of a table as they are shown: with their resources, in order, and with their numbers of owners;
+//! all of them, or those of a place that pass a filter.
+ghost use Rattle.std.specs.Prelude.{◌≡◌, ◌++◌, ◌∷◌, [], true, cond, filter, length, map, nat_eq, IfOk, OnOk};
 ghost use Rattle.grs_base.specs.Lists.{is_apart};
 ghost use Rattle.grs_base.specs.State.{list_at, list_of};
 ghost use Rattle.grs_base.specs.Rows.{lists_of, row_of, rows_of};
 ghost use Rattle.queue_table.specs.Names.{named, IsTable};
-ghost use Rattle.queue_table.specs.Shown.{plain, with_list};
+ghost use Rattle.grs_base.specs.Looks.{look};
+ghost use Rattle.queue_table.specs.Shown.{plain, with_list, may_show, passes, shows};
 
 use super::parts::number;
 use super::placed::Placed;
-use grs_base::{Elem, List, NoMemory, Queues, Res, Row};
+use gqscan::{is_at, matches_filter};
+use grs_base::{Elem, Filter, List, NoMemory, Place, Queues, Res, Row};
 use indexmap::IndexMap;
 use ret_codes::owners_among;
 use std::alloc::Global;
@@ -53,19 +56,53 @@ fn add_list<Q: Queues>(
     }
 }
 
-/// The lists that aren't empty, in order.
+/// Whether the list of a resource may be shown, as far as the resource tells.
+fn may_be_shown(place: Option<Place>, chosen: &Filter, res: &Res) -> bool
+    ensures { result ≡ may_show place chosen.now res.now }
+{
+    match place {
+        Some(place) => is_at(place, res) && matches_filter(chosen, res, true),
+        None => matches_filter(chosen, res, true),
+    }
+}
+
+/// Puts the list of a resource among others, if it is to be shown.
+fn add_list_shown<Q: Queues>(
+    alloc: Global,
+    queues: &Q,
+    shown: bool,
+    res: &Res,
+    queue: u32,
+    lists: &mut BTreeMap<Placed, List<Elem>>,
+) -> Result<(), NoMemory>
+    requires { Q.is_live queues.now queue ≡ true }
+    ensures { OnOk result (plain lists.new.entries ≡ cond shown (with_list res.now (list_at nat_eq (Q.held queues.now) queue) (plain lists.old.entries)) (plain lists.old.entries)) }
+{
+    if shown {
+        add_list(alloc, queues, res, queue, lists)
+    } else {
+        Ok(())
+    }
+}
+
+/// The lists that aren't empty and may be shown, in order.
 fn lists_in<Q: Queues>(
     alloc: Global,
     numbers: &IndexMap<Res, u32>,
     queues: &Q,
+    place: Option<Place>,
+    chosen: &Filter,
 ) -> Result<BTreeMap<Placed, List<Elem>>, NoMemory>
     requires table { IsTable numbers.now.entries (Q.held queues.now) (Q.is_live queues.now) }
-    ensures { IfOk result (λ lists. plain lists.entries ≡ lists_of (named numbers.now.entries (Q.held queues.now))) }
+    ensures { IfOk result (λ lists. plain lists.entries ≡ filter (λ e. may_show place chosen.now e.0) (lists_of (named numbers.now.entries (Q.held queues.now)))) }
 {
     let mut lists = BTreeMap::new(alloc);
     for i in 0..numbers.len() {
         match numbers.get_index(i) {
-            Some((res, queue)) => add_list(alloc, queues, res, *queue, &mut lists)?,
+            Some((res, queue)) => {
+                let shown = may_be_shown(place, chosen, res);
+                add_list_shown(alloc, queues, shown, res, *queue, &mut lists)?
+            }
             None => unreachable!(),
         }
     }
@@ -82,18 +119,50 @@ fn row(res: Res, elems: List<Elem>) -> Result<Row, NoMemory>
     }
 }
 
-/// The rows of lists that stand in order.
-fn rows_from(alloc: Global, mut lists: BTreeMap<Placed, List<Elem>>) -> Result<List<Row>, NoMemory>
-    ensures { IfOk result (λ rows. rows ≡ map row_of (plain lists.entries)) }
+/// Puts a row behind others, if it passes.
+fn add_row(rows: &mut List<Row>, row: Row, chosen: &Filter) -> Result<(), NoMemory>
+    ensures { OnOk result (rows.new ≡ rows.old ++ filter (passes chosen.now) (row ∷ [])) }
+{
+    let waits = (row.owners as usize) < row.elems.len();
+    if matches_filter(chosen, &row.res, waits) {
+        rows.push(row)
+    } else {
+        Ok(())
+    }
+}
+
+/// The rows that pass, of lists that stand in order.
+fn rows_from(
+    alloc: Global,
+    mut lists: BTreeMap<Placed, List<Elem>>,
+    chosen: &Filter,
+) -> Result<List<Row>, NoMemory>
+    ensures { IfOk result (λ rows. rows ≡ filter (passes chosen.now) (map row_of (plain lists.entries))) }
 {
     let mut rows = List::new(alloc);
     'lists: while let Some((placed, elems)) = lists.pop_first() {
-        rows.push(row(placed.res, elems)?)?;
+        add_row(&mut rows, row(placed.res, elems)?, chosen)?;
     }
     Ok(rows)
 }
 
+/// What is shown of the lists of a place, or of all.
+fn shown_in<Q: Queues>(
+    alloc: Global,
+    numbers: &IndexMap<Res, u32>,
+    queues: &Q,
+    place: Option<Place>,
+    chosen: &Filter,
+) -> Result<List<Row>, NoMemory>
+    requires table { IsTable numbers.now.entries (Q.held queues.now) (Q.is_live queues.now) }
+    ensures { IfOk result (λ rows. rows ≡ filter (shows place chosen.now) (rows_of (named numbers.now.entries (Q.held queues.now)))) }
+{
+    let lists = lists_in(alloc, numbers, queues, place, chosen)?;
+    rows_from(alloc, lists, chosen)
+}
+
 /// What is shown of all lists.
+#[tactic(auto, using(crate::proofs::RowLemmas::all_shown))]
 pub(crate) fn rows_in<Q: Queues>(
     alloc: Global,
     numbers: &IndexMap<Res, u32>,
@@ -102,5 +171,19 @@ pub(crate) fn rows_in<Q: Queues>(
     requires table { IsTable numbers.now.entries (Q.held queues.now) (Q.is_live queues.now) }
     ensures { IfOk result (λ rows. rows ≡ rows_of (named numbers.now.entries (Q.held queues.now))) }
 {
-    rows_from(alloc, lists_in(alloc, numbers, queues)?)
+    shown_in(alloc, numbers, queues, None, &Filter::All)
+}
+
+/// What a look at a place shows.
+pub(crate) fn look_in<Q: Queues>(
+    alloc: Global,
+    numbers: &IndexMap<Res, u32>,
+    queues: &Q,
+    place: Place,
+    chosen: &Filter,
+) -> Result<List<Row>, NoMemory>
+    requires table { IsTable numbers.now.entries (Q.held queues.now) (Q.is_live queues.now) }
+    ensures { IfOk result (λ rows. rows ≡ look (named numbers.now.entries (Q.held queues.now)) place chosen.now) }
+{
+    shown_in(alloc, numbers, queues, Some(place), chosen)
 }

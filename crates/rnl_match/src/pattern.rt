@@ -42,7 +42,7 @@ fn some_rest(marks: &mut PlaceMarks, text: &[u8])
     ensures { (passes : List ℕ → Bool) → Marks marks.old text.now passes → Marks marks.new text.now (some_rest passes) }
 {
     for i in (0..text.len()).rev() {
-        marks[i] = either(marks[i], marks[i + 1]);
+        marks[i] = marks[i + 1];
     }
 }
 

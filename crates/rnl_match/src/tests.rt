@@ -1,1 +1,44 @@
-//! The names that entries match.
+//! The first entry of a list that matches, on worked lists.
+use super::*;
+use grs_base::{Form, Qname, RnlEntry, RnlList, Rname, Which};
+use std::alloc::Global;
+use std::test::Fail;
+
+fn entry(alloc: Global, form: Form, q: &[u8], r: Option<&[u8]>) -> Result<RnlEntry, Fail> {
+    let q = Qname::new(alloc, q)?;
+    let r = match r {
+        None => None,
+        Some(r) => Some(Rname::new(alloc, r)?),
+    };
+    Ok(RnlEntry {
+        which: Which::Excl,
+        form,
+        q,
+        r,
+    })
+}
+
+#[test]
+fn finds_the_first(rt: HostRuntime) -> Result<(), Fail> {
+    let alloc = rt.alloc();
+    let mut list = RnlList::new(alloc, Which::Excl);
+    list.push(entry(alloc, Form::Specific, b"SYSDSN", Some(b"SYS1"))?)?;
+    list.push(entry(alloc, Form::Generic, b"SYSDSN", Some(b"SYS"))?)?;
+    list.push(entry(alloc, Form::Pattern, b"APPL*", Some(b"A*B?"))?)?;
+    list.push(entry(alloc, Form::Pattern, b"*", Some(b"*?*?*?*?*Z"))?)?;
+    for (q, r, place) in [
+        (b"SYSDSN".as_slice(), b"SYS1".as_slice(), Some(0)),
+        (b"SYSDSN".as_slice(), b"SYS1.LOG".as_slice(), Some(1)),
+        (b"SYSDSN".as_slice(), b"USER".as_slice(), None),
+        (b"APPL".as_slice(), b"ABB".as_slice(), Some(2)),
+        (b"APPLX".as_slice(), b"AXBBC".as_slice(), Some(2)),
+        (b"APPL".as_slice(), b"AB".as_slice(), None),
+        (b"ANY".as_slice(), b"wxyzZ".as_slice(), Some(3)),
+        (b"ANY".as_slice(), b"xyzZ".as_slice(), None),
+    ] {
+        let q = Qname::new(alloc, q)?;
+        let r = Rname::new(alloc, r)?;
+        assert_eq!(rt; find(&list, &q, &r), place);
+    }
+    Ok(())
+}

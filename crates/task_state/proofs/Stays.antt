@@ -1,13 +1,14 @@
 -- Which tasks there are stays through each change.
-use Rattle.std.proofs.Common.{◌≡◌, ℕ, length, Option, refl, length-set}
+use Rattle.std.proofs.Common.{◌≡◌, ℕ, List, length, Option, refl, length-set}
 use Rattle.grs_base.specs.declared.resource.TaskId.{TaskId}
 use Rattle.grs_base.specs.declared.resource.Res.{Res}
+use Rattle.grs_base.specs.declared.resource.Row.{Row}
 use Rattle.grs_wire.specs.declared.request.Req.{Req}
 use Rattle.grs_wire.specs.declared.told.ToldLine.{ToldLine}
 use Rattle.task_state.specs.declared.state.Rec.{Rec}
 use Rattle.task_state.specs.declared.state.Phase.{Phase}
 use Rattle.task_state.specs.declared.state.TaskState.{TaskState}
-use Rattle.task_state.specs.View.{TasksView, with_state, with_line, with_phase, with_outstanding, with_record, without_record, with_told, with_exclusive, with_rank, telling}
+use Rattle.task_state.specs.View.{TasksView, with_state, with_line, with_phase, with_outstanding, with_record, without_record, with_told, with_exclusive, with_rank, with_rows, without_rows, telling}
 
 pub system-state : (v : TasksView) (t : TaskId) (f : TaskState → TaskState) → (with_state v t f).system ≡ v.system
 unfolding with_state
@@ -81,6 +82,22 @@ pub count-rank : (v : TasksView) (t : TaskId) (r : Res) (n : ℕ) → length (wi
 unfolding with_rank
 count-rank v t r n = count-state v t _
 
+pub system-rows : (v : TasksView) (t : TaskId) (rs : List Row) → (with_rows v t rs).system ≡ v.system
+unfolding with_rows
+system-rows v t rs = system-state v t _
+
+pub count-rows : (v : TasksView) (t : TaskId) (rs : List Row) → length (with_rows v t rs).tasks ≡ length v.tasks
+unfolding with_rows
+count-rows v t rs = count-state v t _
+
+pub system-no_rows : (v : TasksView) (t : TaskId) → (without_rows v t).system ≡ v.system
+unfolding without_rows
+system-no_rows v t = system-state v t _
+
+pub count-no_rows : (v : TasksView) (t : TaskId) → length (without_rows v t).tasks ≡ length v.tasks
+unfolding without_rows
+count-no_rows v t = count-state v t _
+
 pub system-telling : (v : TasksView) (l : ToldLine) → (telling v l).system ≡ v.system
 unfolding telling
 system-telling v l = refl
@@ -89,4 +106,4 @@ pub count-telling : (v : TasksView) (l : ToldLine) → length (telling v l).task
 unfolding telling
 count-telling v l = refl
 
-pub ruleset stays = (system-line, count-line, system-phase, count-phase, system-outstanding, count-outstanding, system-record, count-record, system-without, count-without, system-told, count-told, system-exclusive, count-exclusive, system-rank, count-rank, system-telling, count-telling)
+pub ruleset stays = (system-line, count-line, system-phase, count-phase, system-outstanding, count-outstanding, system-record, count-record, system-without, count-without, system-told, count-told, system-exclusive, count-exclusive, system-rank, count-rank, system-rows, count-rows, system-no_rows, count-no_rows, system-telling, count-telling)

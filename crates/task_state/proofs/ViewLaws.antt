@@ -10,9 +10,11 @@ use Rattle.grs_wire.specs.declared.told.ToldLine.{ToldLine}
 use Rattle.task_state.specs.declared.state.Rec.{Rec}
 use Rattle.task_state.specs.declared.state.TaskState.{TaskState}
 use Rattle.std.specs.Prelude.{remove, zero, suc, ◌≤◌}
-use Rattle.std.proofs.Common.{add-one}
+use Rattle.std.proofs.Common.{add-one, set, zero-add, suc-add, sum, take, sym, append_assoc}
+use Rattle.std.proofs.lemmas.Grind.{common_steps}
+use Rattle.std.proofs.lemmas.List.{length-map}
 use Rattle.std.proofs.lemmas.Bool.Decides.{nat_tests}
-use Rattle.task_state.specs.View.{TasksView, new_tasks, record_place, without_first, is_task, new_task, state_of, with_state, telling}
+use Rattle.task_state.specs.View.{TasksView, new_tasks, record_place, without_first, all_few, on_record, is_task, new_task, state_of, with_state, telling}
 
 -- what stands at a place that is there doesn't depend on what stands for a missing one
 pub get_or-read : {A : Type 0} (xs : List A) (i : ℕ) (x d : A) → i < length xs → x ≡ get_or xs i x → x ≡ get_or xs i d
@@ -71,4 +73,41 @@ new_tasks-push (suc n) = ap (λ xs. new_task ∷ xs) (new_tasks-push n)
 pub new_tasks-more : (n : ℕ) → new_tasks n ++ new_task ∷ [] ≡ new_tasks (n + 1)
 new_tasks-more n = rw add-one (new_tasks-push n)
 
+-- the tasks of several jobs
+pub new_tasks-add : (a b : ℕ) → new_tasks (a + b) ≡ new_tasks a ++ new_tasks b
+new_tasks-add zero b = ap new_tasks (zero-add b)
+new_tasks-add (suc a) b = ap new_tasks (suc-add a b) ∙ ap (λ xs. new_task ∷ xs) (new_tasks-add a b)
+
+-- one more task behind others, and those of one more job
+pub more_tasks : (xs ys zs : List TaskState) (n : ℕ) → ys ≡ xs ++ new_tasks n → zs ≡ ys ++ new_task ∷ [] → zs ≡ xs ++ new_tasks (n + 1)
+more_tasks xs ys zs n so_far is = is ∙ ap (λ (l : List TaskState). l ++ new_task ∷ []) so_far ∙ append_assoc xs (new_tasks n) (new_task ∷ []) ∙ ap (λ (l : List TaskState). xs ++ l) (new_tasks-more n)
+
+pub more_jobs : (xs ys : List TaskState) (js : List ℕ) (i : ℕ) → i < length js → xs ≡ new_tasks (sum (take i js)) → ys ≡ xs ++ new_tasks (get_or js i 0) → ys ≡ new_tasks (sum (take (i + 1) js))
+more_jobs xs ys js i h so_far is =
+    is ∙ ap (λ (l : List TaskState). l ++ new_tasks (get_or js i 0)) so_far ∙ sym (new_tasks-add (sum (take i js)) (get_or js i 0)) ∙ ap new_tasks (grind (arith, common_steps, h))
+
+-- records stay few
+pub all_few-get : (ts : List TaskState) (i : ℕ) (d : TaskState) → i < length ts → all_few ts ≡ true → length (get_or ts i d).records ≤ 0xffff_ffff
+all_few-get [] i d h a = absurd (omega arith)
+all_few-get (x ∷ ts) zero d h a = grind (arith, nat_tests, a)
+all_few-get (x ∷ ts) (suc i) d h a = grind (arith, nat_tests, a, h, all_few-get ts i d)
+
+pub all_few-set : (ts : List TaskState) (i : ℕ) (x : TaskState) → all_few ts ≡ true → length x.records ≤ 0xffff_ffff → all_few (set ts i x) ≡ true
+all_few-set [] i x a h = grind arith
+all_few-set (y ∷ ts) zero x a h = grind (arith, nat_tests, a, h)
+all_few-set (y ∷ ts) (suc i) x a h = grind (arith, nat_tests, a, h, all_few-set ts i x)
+
+pub all_few-new : (n : ℕ) → all_few (new_tasks n) ≡ true
+all_few-new zero = refl
+all_few-new (suc n) = grind (arith, nat_tests, all_few-new n)
+
+pub length-without_first : (xs : List Rec) (r : Res) → length (without_first xs r) ≤ length xs
+length-without_first [] r = omega arith
+length-without_first (x ∷ xs) r = grind (arith, length-without_first xs r)
+
+pub length-on_record : (r : Res) (f : Rec → Rec) (xs : List Rec) → length (on_record r f xs) ≡ length xs
+length-on_record r f xs = length-map xs _
+
 pub ruleset places = (get_or-read, is_task-place, remove-record, without_first-absent, new_tasks-more)
+
+pub ruleset kept = (get_or-read, is_task-place, all_few-get, all_few-set, all_few-new, length-without_first, length-on_record)

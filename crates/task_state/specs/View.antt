@@ -1,8 +1,9 @@
 -- What callers see of the tasks of a system, and the words for what changes.
-use Rattle.std.specs.Prelude.{ℕ, suc, zero, Bool, true, ◌&&◌, ◌==◌, nat_lt, List, [], ◌∷◌, ◌++◌, length, map, cond, Option, None, slice_get, ◌+◌, get_or, set}
+use Rattle.std.specs.Prelude.{ℕ, suc, zero, Bool, true, ◌&&◌, ◌==◌, nat_lt, nat_le, List, [], ◌∷◌, ◌++◌, length, map, cond, Option, None, slice_get, ◌+◌, get_or, set}
 use Rattle.grs_base.specs.Same.{same_res}
 use Rattle.grs_base.specs.declared.resource.Ctl.TheVariants.{E}
 use Rattle.grs_base.specs.declared.resource.Res.{Res}
+use Rattle.grs_base.specs.declared.resource.Row.{Row}
 use Rattle.grs_base.specs.declared.resource.TaskId.{TaskId}
 use Rattle.grs_wire.specs.declared.request.Req.{Req}
 use Rattle.grs_wire.specs.declared.told.ToldLine.{ToldLine}
@@ -19,7 +20,7 @@ pub record TasksView : Type 0 where
 
 -- a task at the start
 abbrev pub new_task : TaskState
-new_task = record { line = 0; phase = Ready; code = 0; records = []; outstanding = None }
+new_task = record { line = 0; phase = Ready; code = 0; records = []; outstanding = None; rows = [] }
 
 -- this many tasks at the start
 abbrev pub new_tasks : ℕ → List TaskState
@@ -37,6 +38,11 @@ state_of v t = get_or v.tasks t.task new_task
 -- one task changed
 unfoldable pub with_state : TasksView → TaskId → (TaskState → TaskState) → TasksView
 with_state v t f = record v { tasks = set v.tasks t.task (f (state_of v t)) }
+
+-- whether no task has more than 4,294,967,295 requests on record
+abbrev pub all_few : List TaskState → Bool
+all_few [] = true
+all_few (x ∷ xs) = nat_le (length x.records) 0xffff_ffff && all_few xs
 
 -- the place of the first record of a resource, or the number of records
 abbrev pub record_place : List Rec → Res → ℕ
@@ -97,6 +103,14 @@ with_exclusive v t r = with_state v t (λ x. record x { records = on_record r (�
 -- a task whose request for a resource has this rank
 unfoldable pub with_rank : TasksView → TaskId → Res → ℕ → TasksView
 with_rank v t r n = with_state v t (λ x. record x { records = on_record r (λ y. record y { rank = n }) x.records })
+
+-- a task with these rows behind those of its display so far
+unfoldable pub with_rows : TasksView → TaskId → List Row → TasksView
+with_rows v t rs = with_state v t (λ x. record x { rows = x.rows ++ rs })
+
+-- a task of whose display no rows are left
+unfoldable pub without_rows : TasksView → TaskId → TasksView
+without_rows v t = with_state v t (λ x. record x { rows = [] })
 
 -- one more line told
 unfoldable pub telling : TasksView → ToldLine → TasksView

@@ -1,11 +1,11 @@
 //! The records of one task. Records of a resource are found by their place, and changed where they stand.
-ghost use Rattle.std.specs.Prelude.{◌≡◌, ◌≤◌, true, length};
+ghost use Rattle.std.specs.Prelude.{◌≡◌, ◌≤◌, ◌++◌, ◌∷◌, [], true, length, OnOk, OnErr};
 ghost use Rattle.std.specs.Option.{option_copied};
 ghost use Rattle.grs_base.specs.declared.resource.Ctl.TheVariants.{E};
 ghost use Rattle.task_state.specs.View.{record_of, record_place, on_record, without_first};
 
 use super::state::Rec;
-use grs_base::{Ctl, List, Res, is_same_res};
+use grs_base::{Ctl, List, NoMemory, Res, is_same_res};
 
 /// The place of the first record of a resource, or the number of records.
 pub(crate) fn place_among(records: &[Rec], res: &Res) -> usize
@@ -29,6 +29,22 @@ pub(crate) fn find<'a>(records: &'a [Rec], res: &Res) -> Option<&'a Rec>
     ensures { option_copied result ≡ record_of records.now res.now }
 {
     records.get(place_among(records, res))
+}
+
+/// Puts a record behind the others, of which there may be 4,294,967,295.
+pub(crate) fn push_last(records: &mut List<Rec>, rec: Rec) -> Result<(), NoMemory>
+    requires { length records.old ≤ u32.MAX }
+    ensures ok { OnOk result (records.new ≡ records.old ++ rec ∷ []) }
+    ensures err { OnErr result (records.new ≡ records.old) }
+    ensures few { length records.new ≤ u32.MAX }
+{
+    if records.len() >= u32::MAX as usize {
+        return Err(NoMemory);
+    }
+    match records.push(rec) {
+        Ok(()) => Ok(()),
+        Err(NoMemory) => Err(NoMemory),
+    }
 }
 
 /// Takes the first record of a resource out.

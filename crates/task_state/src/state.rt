@@ -1,5 +1,5 @@
 //! How one task stands.
-use grs_base::{Ctl, List, Res};
+use grs_base::{Ctl, List, Res, Row};
 use grs_wire::Req;
 
 /// A request of a task that stands in the list of a resource. `told` tells whether the task was told
@@ -34,7 +34,8 @@ pub enum Phase {
 }
 
 /// A task: the number of lines that it has taken, its phase, its end code (0 at first), its requests on
-/// record in the order in which they were queued, and the request that isn't answered yet.
+/// record in the order in which they were queued, the request that isn't answered yet, and the rows of its
+/// display so far.
 #[derive(Drop)]
 pub struct TaskState {
     pub line: u32,
@@ -42,4 +43,5 @@ pub struct TaskState {
     pub code: u16,
     pub records: List<Rec>,
     pub outstanding: Option<Req>,
+    pub rows: List<Row>,
 }

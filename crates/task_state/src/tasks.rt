@@ -1,14 +1,14 @@
 //! The tasks of a system. Each call changes one task, or tells one line.
-ghost use Rattle.std.specs.Prelude.{◌≡◌, ◌<◌, ◌≤◌, ◌+◌, ◌++◌, ◌∷◌, [], ℕ, true, length, map, IsTrue, ◌↔◌, IfOk, OnOk, OnErr};
+ghost use Rattle.std.specs.Prelude.{◌≡◌, ◌<◌, ◌≤◌, ◌+◌, ◌++◌, ◌∷◌, [], ℕ, true, length, map, sum, IsTrue, ◌↔◌, IfOk, OnOk, OnErr};
 ghost use Rattle.std.specs.Option.{option_copied};
 ghost use Rattle.task_state.specs.Units.{is_count, count_at, reserves_of};
 ghost use Rattle.task_state.specs.View as view;
-ghost use Rattle.task_state.specs.View.{TasksView, new_tasks, is_task, code_in, state_of, record_of, with_line, with_phase, with_outstanding, with_record, without_record, with_told, with_exclusive, with_rank, telling};
+ghost use Rattle.task_state.specs.View.{TasksView, new_tasks, is_task, code_in, state_of, record_of, with_line, with_phase, with_outstanding, with_record, without_record, with_told, with_exclusive, with_rank, with_rows, without_rows, telling};
 
-use super::records::{find, make_exclusive, mark_told, set_rank, take_first};
+use super::records::{find, make_exclusive, mark_told, push_last, set_rank, take_first};
 use super::state::{Phase, Rec, TaskState};
 use super::units::count_units;
-use grs_base::{List, NoMemory, Res, SysId, TaskId};
+use grs_base::{List, NoMemory, Res, Row, SysId, TaskId};
 use grs_wire::{Req, ToldLine};
 use std::alloc::Global;
 use std::marker::Model;
@@ -28,6 +28,11 @@ impl Model for Tasks {
     ghost Value = { TasksView };
 
     ghost view = { λ a. record { system = a.system.0; tasks = a.tasks.items; told = a.told } };
+
+    ghost use Rattle.std.specs.Prelude.{◌≡◌, true};
+    ghost use Rattle.task_state.specs.View.{all_few};
+
+    ghost invariant = { λ a. all_few a.tasks.items ≡ true };
 }
 
 /// A task at the start.
@@ -40,19 +45,37 @@ fn new_task(alloc: Global) -> TaskState
         code: 0,
         records: List::new(alloc),
         outstanding: None,
+        rows: List::new(alloc),
     }
 }
 
-/// This many tasks at the start.
-#[tactic(auto, using(crate::proofs::ViewLaws::places))]
-fn make_tasks(alloc: Global, count: usize) -> Result<Vec<TaskState>, NoMemory>
-    ensures { IfOk result (λ tasks. tasks.items ≡ new_tasks count) }
+/// Puts a task at the start behind others.
+fn push_task(alloc: Global, tasks: &mut Vec<TaskState>) -> Result<(), NoMemory>
+    ensures { OnOk result (tasks.new.items ≡ tasks.old.items ++ view.new_task ∷ []) }
+{
+    match tasks.push(new_task(alloc)) {
+        Ok(()) => Ok(()),
+        Err(_) => Err(NoMemory),
+    }
+}
+
+/// Puts this many tasks at the start behind others.
+fn add_tasks(alloc: Global, tasks: &mut Vec<TaskState>, count: u32) -> Result<(), NoMemory>
+    ensures { OnOk result (tasks.new.items ≡ tasks.old.items ++ new_tasks count) }
+{
+    for _ in 0..count {
+        push_task(alloc, tasks)?;
+    }
+    Ok(())
+}
+
+/// The tasks of these jobs at the start.
+fn make_tasks(alloc: Global, jobs: &[u32]) -> Result<Vec<TaskState>, NoMemory>
+    ensures { IfOk result (λ tasks. tasks.items ≡ new_tasks (sum jobs.now)) }
 {
     let mut tasks = Vec::new(alloc);
-    for _ in 0..count {
-        if tasks.push(new_task(alloc)).is_err() {
-            return Err(NoMemory);
-        }
+    for count in jobs {
+        add_tasks(alloc, &mut tasks, *count)?;
     }
     Ok(tasks)
 }
@@ -67,13 +90,28 @@ fn end_code(phase: &Phase, old: u16) -> u16
     }
 }
 
-#[tactic(auto, using(crate::proofs::ViewLaws::places), unfolding(crate::specs::View::state_of, crate::specs::View::with_state, crate::specs::View::with_line, crate::specs::View::with_phase, crate::specs::View::with_outstanding, crate::specs::View::with_record, crate::specs::View::without_record, crate::specs::View::with_told, crate::specs::View::with_exclusive, crate::specs::View::with_rank, crate::specs::View::telling))]
+/// Puts rows behind others. Without memory there are as many as before.
+fn join_rows(alloc: Global, rows: &mut List<Row>, more: List<Row>) -> Result<(), NoMemory>
+    ensures ok { OnOk result (rows.new ≡ rows.old ++ more) }
+    ensures err { OnErr result (rows.new ≡ rows.old) }
+{
+    let mut items = std::mem::replace(rows, List::new(alloc)).into_vec();
+    let mut more = more.into_vec();
+    let joined = items.append(&mut more);
+    *rows = List::from_vec(items);
+    match joined {
+        Ok(()) => Ok(()),
+        Err(_) => Err(NoMemory),
+    }
+}
+
+#[tactic(auto, using(crate::proofs::ViewLaws::kept), unfolding(crate::specs::View::state_of, crate::specs::View::with_state, crate::specs::View::with_line, crate::specs::View::with_phase, crate::specs::View::with_outstanding, crate::specs::View::with_record, crate::specs::View::without_record, crate::specs::View::with_told, crate::specs::View::with_exclusive, crate::specs::View::with_rank, crate::specs::View::with_rows, crate::specs::View::without_rows, crate::specs::View::telling))]
 impl Tasks {
-    /// This many tasks at the start, as the tasks of a system.
-    pub fn new(alloc: Global, system: SysId, count: usize) -> Result<Tasks, NoMemory>
-        ensures { IfOk result (λ v. v ≡ record { system = system.0; tasks = new_tasks count; told = [] }) }
+    /// The tasks of a system at the start. `jobs` has the number of tasks of each of its jobs, in order.
+    pub fn new(alloc: Global, system: SysId, jobs: &[u32]) -> Result<Tasks, NoMemory>
+        ensures { IfOk result (λ v. v ≡ record { system = system.0; tasks = new_tasks (sum jobs.now); told = [] }) }
     {
-        let tasks = make_tasks(alloc, count)?;
+        let tasks = make_tasks(alloc, jobs)?;
         Ok(Tasks {
             system,
             tasks,
@@ -138,11 +176,11 @@ impl Tasks {
     }
 
     /// How many requests the task has on record.
-    pub fn count(&self, task: TaskId) -> usize
+    pub fn count(&self, task: TaskId) -> u32
         requires { is_task self.now task ≡ true }
         ensures { result ≡ length (state_of self.now task).records }
     {
-        self.records(task).len()
+        self.tasks[task.task as usize].records.len() as u32
     }
 
     /// The request that isn't answered yet, if there is one.
@@ -151,6 +189,14 @@ impl Tasks {
         ensures { option_copied result ≡ (state_of self.now task).outstanding }
     {
         self.state(task).outstanding.as_ref()
+    }
+
+    /// The rows of the task's display so far.
+    pub fn rows(&self, task: TaskId) -> &List<Row>
+        requires { is_task self.now task ≡ true }
+        ensures { result.now ≡ (state_of self.now task).rows }
+    {
+        &self.state(task).rows
     }
 
     /// The first record that the task has of a resource.
@@ -206,14 +252,14 @@ impl Tasks {
         state.outstanding = req;
     }
 
-    /// Puts a record behind the others of its task.
+    /// Puts a record behind the others of its task. There is no memory for more than 4,294,967,295.
     pub fn add_record(&mut self, task: TaskId, rec: Rec) -> Result<(), NoMemory>
         requires { is_task self.old task ≡ true }
         ensures ok { OnOk result (self.new ≡ with_record self.old task rec) }
         ensures err { OnErr result (self.new ≡ self.old) }
     {
         let state = &mut self.tasks[task.task as usize];
-        state.records.push(rec)
+        push_last(&mut state.records, rec)
     }
 
     /// Takes the first record of a resource out, where there is one.
@@ -257,6 +303,26 @@ impl Tasks {
         let state = &mut self.tasks[task.task as usize];
         let records = std::mem::replace(&mut state.records, List::new(self.alloc));
         state.records = set_rank(records, res, rank);
+    }
+
+    /// Puts rows behind those of the task's display so far.
+    pub fn add_rows(&mut self, task: TaskId, rows: List<Row>) -> Result<(), NoMemory>
+        requires { is_task self.old task ≡ true }
+        ensures ok { OnOk result (self.new ≡ with_rows self.old task rows) }
+        ensures err { OnErr result (self.new ≡ self.old) }
+    {
+        let state = &mut self.tasks[task.task as usize];
+        join_rows(self.alloc, &mut state.rows, rows)
+    }
+
+    /// Hands the rows of the task's display out, and leaves none.
+    pub fn take_rows(&mut self, task: TaskId) -> List<Row>
+        requires { is_task self.old task ≡ true }
+        ensures taken { result ≡ (state_of self.old task).rows }
+        ensures left { self.new ≡ without_rows self.old task }
+    {
+        let state = &mut self.tasks[task.task as usize];
+        std::mem::replace(&mut state.rows, List::new(self.alloc))
     }
 
     /// Tells one more line.

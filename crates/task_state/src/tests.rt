@@ -36,9 +36,9 @@ fn add(alloc: Global, tasks: &mut Tasks, name: &[u8]) -> Result<(), Fail> {
     Ok(())
 }
 
-fn count(tasks: &Tasks) -> usize {
+fn count(tasks: &Tasks) -> u32 {
     if tasks.has(TASK) {
-        tasks.state(TASK).records.len()
+        tasks.count(TASK)
     } else {
         0
     }
@@ -58,7 +58,7 @@ fn is_told(tasks: &mut Tasks) -> Result<bool, Fail> {
 #[test]
 fn keeps_records(rt: HostRuntime) -> Result<(), Fail> {
     let alloc = rt.alloc();
-    let mut tasks = Tasks::new(alloc, SysId(0), 2)?;
+    let mut tasks = Tasks::new(alloc, SysId(0), &[1, 1])?;
     add(alloc, &mut tasks, b"A")?;
     add(alloc, &mut tasks, b"B")?;
     assert_eq!(rt; count(&tasks), 2);

@@ -1,11 +1,11 @@
-use Rattle.grs_top.proofs.DueLemmas.{reported_due, refused_due}
+use Rattle.grs_top.proofs.DueLemmas.{answered_due, refused_due}
 use Rattle.grs_top.proofs.due.due_for.Goals as goal
 
 pub returns-in-Ok : goal.returns-in-Ok
 returns-in-Ok c =
-    reported_due c.args.text.now c.in-Ok.deck c.reported.result c.in-Ok.ensures.exact.0 c.reported.ensures.sound c.reported.ensures.out c.reported.ensures.status
+    answered_due c.args.command c.args.text.now c.in-Ok.deck c.answered.result c.in-Ok.ensures.exact.0 c.answered.ensures.sound c.answered.ensures.out c.answered.ensures.status
 
 pub returns-in-Err-Fault : goal.returns-in-Err-Fault
 returns-in-Err-Fault c =
     let first = rw c.in-Err-Fault.field-0-is at c.in-Err-Fault.ensures.exact in
-    refused_due c.args.text.now c.in-Err-Fault.fault c.refused.result first c.refused.ensures.out c.refused.ensures.status
+    refused_due c.args.command c.args.text.now c.in-Err-Fault.fault c.refused.result first c.refused.ensures.out c.refused.ensures.status

@@ -1,8 +1,8 @@
 use Rattle.std.proofs.Common.{◌≡◌, [], drop}
-use Rattle.queue_table.specs.Shown.{plain, with_lists}
+use Rattle.queue_table.specs.Shown.{plain, with_lists, may_show}
 use Rattle.queue_table.proofs.rows.lists_in.Given as goal
 
 abbrev pub invariant-loop-i : goal.invariant-loop-i
 invariant-loop-i g l =
     let held = g.Q.Queues.held l.queues in
-    with_lists (drop l.i l.numbers.entries) held (plain l.lists.entries) ≡ with_lists l.numbers.entries held []
+    with_lists (may_show l.place l.chosen) (drop l.i l.numbers.entries) held (plain l.lists.entries) ≡ with_lists (may_show l.place l.chosen) l.numbers.entries held []

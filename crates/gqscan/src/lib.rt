@@ -1,0 +1,83 @@
+//! What GQSCAN and DISPLAY show: which resources pass a filter, and the code of a display. It knows no lists.
+//! (z/OS MVS Programming: Authorized Assembler Services Reference, "GQSCAN".)
+#![tactic(auto)]
+
+ghost use Rattle.std.specs.Prelude.{◌≡◌};
+ghost use Rattle.std.specs.Str.{bytes_eq};
+ghost use Rattle.grs_base.specs.Looks.{is_at as is_at_place, is_named, matches};
+ghost use Rattle.grs_base.specs.ResOrder.{qname_of, rname_of};
+ghost use Rattle.gqscan.specs.Shown.{code_for};
+
+use grs_base::{Code, Filter, Place, Qname, Res, Rname, slice_of};
+
+#[cfg(test)]
+mod tests;
+
+/// The qname of a resource.
+fn qname(res: &Res) -> &Qname
+    ensures { result.now ≡ qname_of res.now }
+{
+    match res {
+        Res::Step { q, .. } | Res::System { q, .. } | Res::Systems { q, .. } => q,
+    }
+}
+
+/// The rname of a resource.
+fn rname(res: &Res) -> &Rname
+    ensures { result.now ≡ rname_of res.now }
+{
+    match res {
+        Res::Step { r, .. } | Res::System { r, .. } | Res::Systems { r, .. } => r,
+    }
+}
+
+/// Whether a qname is the one that is asked for, if one is.
+fn is_qname_named(wanted: &Option<Qname>, name: &Qname) -> bool
+    ensures { result ≡ is_named wanted.now name.now }
+{
+    match wanted {
+        None => true,
+        Some(wanted) => wanted == name,
+    }
+}
+
+/// Whether an rname is the one that is asked for, if one is.
+fn is_rname_named(wanted: &Option<Rname>, name: &Rname) -> bool
+    ensures { result ≡ is_named wanted.now name.now }
+{
+    match wanted {
+        None => true,
+        Some(wanted) => wanted == name,
+    }
+}
+
+/// Whether a resource passes a filter. `waits` tells whether somebody waits on it.
+pub fn matches_filter(filter: &Filter, res: &Res, waits: bool) -> bool
+    ensures { result ≡ matches filter.now res.now waits }
+{
+    match filter {
+        Filter::All => true,
+        Filter::Contended => waits,
+        Filter::Named { q, r } => is_qname_named(q, qname(res)) && is_rname_named(r, rname(res)),
+    }
+}
+
+/// Whether a resource is of a place: a Systems resource of its slice, any other of its system.
+pub fn is_at(place: Place, res: &Res) -> bool
+    ensures { result ≡ is_at_place place res.now }
+{
+    match (place, res) {
+        (Place::Slice(slice), Res::Systems { q, r }) => slice_of(q, r) == slice,
+        (Place::Local(home), Res::System { system, .. } | Res::Step { system, .. }) => {
+            *system == home
+        }
+        _ => false,
+    }
+}
+
+/// The code of a display that found so many resources: 00 where it found any, else 04.
+pub fn code_of(rows: u32) -> Code
+    ensures { result ≡ code_for rows }
+{
+    if rows == 0 { Code::C04 } else { Code::C00 }
+}

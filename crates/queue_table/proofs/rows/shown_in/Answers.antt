@@ -1,0 +1,16 @@
+use Rattle.std.proofs.Common.{◌≡◌, ◌∙◌, List, ap, subst, filter, map}
+use Rattle.std.specs.Prelude.{IfOk}
+use Rattle.grs_base.specs.Rows.{row_of, lists_of}
+use Rattle.grs_base.specs.declared.resource.Res.{Res}
+use Rattle.grs_base.specs.declared.resource.Elem.{Elem}
+use Rattle.grs_base.specs.declared.resource.Row.{Row}
+use Rattle.queue_table.specs.Names.{named}
+use Rattle.queue_table.specs.Shown.{passes}
+use Rattle.queue_table.proofs.RowLemmas.{rows-shown}
+use Rattle.queue_table.proofs.rows.shown_in.Goals as goal
+
+pub returns : goal.returns
+returns g c =
+    subst (λ (l : List Row). IfOk c.rows_from.result (λ rows. rows ≡ l))
+    (ap (λ (ls : List (Res × List Elem)). filter (passes c.args.chosen.now) (map row_of ls)) c.in_ok-lists.ensures ∙ rows-shown c.args.place c.args.chosen.now (lists_of (named c.args.numbers.now.entries (g.Q.Queues.held c.args.queues.now))))
+    c.rows_from.ensures
