@@ -7,15 +7,14 @@ mod event;
 mod form;
 mod grouping;
 mod laws;
-
 mod unbuilt;
 mod words;
 
 pub use complex::Setup;
 pub use event::Act;
 pub use form::{FormError, Stmt, statement};
-pub use laws::one_statement;
 pub use grouping::statements;
+pub use laws::one_statement;
 pub use unbuilt::is_unbuilt;
 
 #[cfg(test)]

@@ -5,3 +5,5 @@ pub mod Display
 pub mod Said
 pub mod Spelled
 pub mod Lines
+pub mod Printed
+pub mod Reading

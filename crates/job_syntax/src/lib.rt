@@ -6,6 +6,8 @@ mod ask;
 mod display;
 mod line;
 mod options;
+mod print;
+mod read;
 mod said;
 mod unit;
 
@@ -13,4 +15,9 @@ pub use ask::{Ask, EnqAsk};
 pub use display::{ScanAsk, Shown, Wanted};
 pub use line::{is_bad, line_of};
 pub use options::Opts;
+pub use print::print_line;
+pub use read::read_line;
 pub use said::{Said, Verb, said_at, verb_of};
+
+#[cfg(test)]
+mod tests;

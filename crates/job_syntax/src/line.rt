@@ -6,7 +6,9 @@ ghost use Rattle.job_syntax.specs.Lines.{are_bad, is_bad_q, is_bad_r, is_bad_sho
 use crate::ask::{Ask, EnqAsk};
 use crate::display::{Shown, Wanted};
 use crate::said::Said;
-use grs_base::{Filter, Item, Line, List, NameFault, NoMemory, Qname, Ret, Rname, is_qname, is_rname};
+use grs_base::{
+    Filter, Item, Line, List, NameFault, NoMemory, Qname, Ret, Rname, is_qname, is_rname,
+};
 use std::alloc::Global;
 
 fn are_bad(q: &[u8], r: &[u8]) -> bool

@@ -6,7 +6,7 @@ ghost use Rattle.rnl_syntax.specs.Operands.{no_operands, which_of, form_of, with
 
 use deck_scan::{Miss, Token, any_word_at, close_at, end_at, name_at, open_at};
 use grs_base::{
-    Form, List, NameFault, NoMemory, Qname, RnlEntry, Rname, Which, is_qname, is_rname,
+    Form, List, NameFault, NoMemory, Qname, Rname, RnlEntry, Which, is_qname, is_rname,
 };
 use std::alloc::Global;
 
