@@ -1,5 +1,5 @@
--- ENQ, DEQ and WAIT.
-use Rattle.std.specs.Prelude.{ℕ, Bool, true, false, ◌&&◌, List, codes, Option, Some, None, is_none, if◌then◌else◌}
+-- ENQ, RESERVE, DEQ and WAIT.
+use Rattle.std.specs.Prelude.{ℕ, Bool, true, false, ◌&&◌, List, codes, Option, Some, None, is_none, is_some, if◌then◌else◌}
 use Rattle.std.specs.Str.{bytes_eq}
 use Rattle.grs_base.specs.declared.line.Scope.{Scope}
 use Rattle.grs_base.specs.declared.line.Scope.TheVariants as scopes
@@ -8,11 +8,11 @@ use Rattle.grs_base.specs.declared.resource.Ctl.TheVariants.{E, S}
 use Rattle.grs_base.specs.declared.resource.Ret.{Ret}
 use Rattle.grs_base.specs.declared.resource.Ret.TheVariants.{RetNone, RetHave}
 use Rattle.deck_scan.specs.declared.token.Token.{Token}
-use Rattle.deck_form.specs.declared.options.Opts.{Opts}
-use Rattle.deck_form.specs.declared.ask.Ask.{Ask}
-use Rattle.deck_form.specs.declared.ask.EnqAsk.{EnqAsk}
-use Rattle.deck_form.specs.Tokens.{◌>>=◌, open_at, close_at, comma_at, any_word_at, name_at}
-use Rattle.deck_form.specs.Options.{options_at}
+use Rattle.job_syntax.specs.declared.options.Opts.{Opts}
+use Rattle.job_syntax.specs.declared.ask.Ask.{Ask}
+use Rattle.job_syntax.specs.declared.ask.EnqAsk.{EnqAsk}
+use Rattle.deck_scan.specs.Next.{◌>>=◌, open_at, close_at, comma_at, any_word_at, name_at}
+use Rattle.job_syntax.specs.Options.{options_at}
 
 unfoldable pub ctl_at : List Token → Option (Ctl × List Token)
 ctl_at ts = do
@@ -45,9 +45,18 @@ place_at ts = do
   o ← options_at a
   Some (s.0, o)
 
+abbrev pub is_wide : Scope → Bool
+is_wide scopes.Step = false
+is_wide scopes.System = false
+is_wide scopes.Systems = true
+
 -- ENQ has RET or ECB, and RNL.
-abbrev pub enq_may : Opts → Bool
-enq_may o = is_none o.unit
+abbrev pub enq_may : Ask → Bool
+enq_may a = is_none a.opts.unit
+
+-- RESERVE has UCB and the scope SYSTEMS, RET or ECB, and RNL.
+abbrev pub reserve_may : Ask → Bool
+reserve_may a = is_wide a.scope && is_some a.opts.unit
 
 abbrev pub is_deq_ret : Option Ret → Bool
 is_deq_ret None = true
@@ -56,29 +65,45 @@ is_deq_ret (Some RetHave) = true
 is_deq_ret (Some _) = false
 
 -- DEQ has RET=NONE or RET=HAVE, UCB and RNL.
-abbrev pub deq_may : Opts → Bool
-deq_may o = is_deq_ret o.ret
+abbrev pub deq_may : Ask → Bool
+deq_may a = is_deq_ret a.opts.ret
 
 -- WAIT has RNL.
-abbrev pub wait_may : Opts → Bool
-wait_may o = is_none o.ret && is_none o.unit
+abbrev pub wait_may : Ask → Bool
+wait_may a = is_none a.opts.ret && is_none a.opts.unit
 
-unfoldable pub enq_at : List Token → Option EnqAsk
-enq_at ts = do
+-- Names, a control, a scope and options.
+unfoldable pub controlled_at : List Token → Option EnqAsk
+controlled_at ts = do
   n ← names_at ts
   c ← ctl_at n.2
   a ← comma_at c.1
   p ← place_at a
-  if enq_may p.1 then Some (record { ctl = c.0; ask = record { q = n.0; r = n.1; scope = p.0; opts = p.1 } }) else None
+  Some (record { ctl = c.0; ask = record { q = n.0; r = n.1; scope = p.0; opts = p.1 } })
+
+-- Names, a scope and options.
+unfoldable pub uncontrolled_at : List Token → Option Ask
+uncontrolled_at ts = do
+  n ← names_at ts
+  p ← place_at n.2
+  Some (record { q = n.0; r = n.1; scope = p.0; opts = p.1 })
+
+unfoldable pub enq_at : List Token → Option EnqAsk
+enq_at ts = do
+  e ← controlled_at ts
+  if enq_may e.ask then Some e else None
+
+unfoldable pub reserve_at : List Token → Option EnqAsk
+reserve_at ts = do
+  e ← controlled_at ts
+  if reserve_may e.ask then Some e else None
 
 unfoldable pub deq_at : List Token → Option Ask
 deq_at ts = do
-  n ← names_at ts
-  p ← place_at n.2
-  if deq_may p.1 then Some (record { q = n.0; r = n.1; scope = p.0; opts = p.1 }) else None
+  a ← uncontrolled_at ts
+  if deq_may a then Some a else None
 
 unfoldable pub wait_at : List Token → Option Ask
 wait_at ts = do
-  n ← names_at ts
-  p ← place_at n.2
-  if wait_may p.1 then Some (record { q = n.0; r = n.1; scope = p.0; opts = p.1 }) else None
+  a ← uncontrolled_at ts
+  if wait_may a then Some a else None

@@ -1,10 +1,10 @@
 -- The next token. What is read of tokens is a value and the rest, or none where the form is another.
-use Rattle.std.specs.Prelude.{◌≡◌, ℕ, ◌==◌, List, [], ◌∷◌, length, Option, Some, None, Result, Ok, Err, if◌then◌else◌}
+use Rattle.std.specs.Prelude.{◌≡◌, ℕ, zero, suc, ◌==◌, List, [], ◌∷◌, length, Option, Some, None, Result, Ok, Err, if◌then◌else◌}
 use Rattle.std.specs.Str.{bytes_eq}
 use Rattle.deck_scan.specs.declared.token.Token.{Token}
 use Rattle.deck_scan.specs.declared.token.Token.TheVariants.{Word, Name, Open, Close, Comma, Equals}
-use Rattle.deck_form.specs.declared.miss.Miss.{Miss}
-use Rattle.deck_form.specs.declared.miss.Miss.TheVariants as misses
+use Rattle.deck_scan.specs.declared.miss.Miss.{Miss}
+use Rattle.deck_scan.specs.declared.miss.Miss.TheVariants as misses
 
 infixl 10 ◌>>=◌
 abbrev pub ◌>>=◌ : {A B : Type 0} → Option A → (A → Option B) → Option B
@@ -66,16 +66,23 @@ name_at _ = None
 abbrev pub maybe : {O : Type 0} → (O → List Token → Option (O × List Token)) → O → List Token → Option (O × List Token)
 maybe read o ts = if length ts == 0 then Some (o, ts) else read o ts
 
--- At most three, and nothing after them.
-abbrev pub up_to_three : {O : Type 0} → (O → List Token → Option (O × List Token)) → O → List Token → Option O
-up_to_three read o ts = do
-  a ← maybe read o ts
-  b ← maybe read a.0 a.1
-  c ← maybe read b.0 b.1
-  end ← end_at c.1
-  Some c.0
+-- At most this many, and nothing after them.
+abbrev pub up_to : {O : Type 0} → ℕ → (O → List Token → Option (O × List Token)) → O → List Token → Option O
+up_to zero read o ts = end_at ts >>= λ end. Some o
+up_to (suc n) read o ts = maybe read o ts >>= λ a. up_to n read a.0 a.1
 
 -- What stands once takes its value where it has none yet.
 abbrev pub once : {A O : Type 0} → Option A → O → Option O
 once None o = Some o
 once (Some a) o = None
+
+-- A token names a resource by these bytes: plain, or quoted or in hexadecimal.
+abbrev pub Names : Token → List ℕ → Type 0
+Names (Word w) n = w ≡ n
+Names (Name w) n = w ≡ n
+Names _ n = ⊥
+
+-- Things that stand one behind the other, each where it is free; each sets its value.
+abbrev pub Sets : {O X : Type 0} → (X → O → Type 0) → (X → O → O) → O → List X → O → Type 0
+Sets free set o [] p = p ≡ o
+Sets free set o (x ∷ xs) p = free x o × Sets free set (set x o) xs p

@@ -4,9 +4,9 @@ use Rattle.std.specs.Str.{bytes_eq}
 use Rattle.grs_base.specs.declared.resource.Ret.{Ret}
 use Rattle.grs_base.specs.declared.resource.Ret.TheVariants.{RetNone, RetUse, RetHave, RetTest, RetChng, RetEcb}
 use Rattle.deck_scan.specs.declared.token.Token.{Token}
-use Rattle.deck_form.specs.declared.options.Opts.{Opts}
-use Rattle.deck_form.specs.Tokens.{◌>>=◌, comma_at, any_word_at, value_at, up_to_three, once}
-use Rattle.deck_form.specs.Words.{unit_of}
+use Rattle.job_syntax.specs.declared.options.Opts.{Opts}
+use Rattle.deck_scan.specs.Next.{◌>>=◌, comma_at, any_word_at, value_at, up_to, once}
+use Rattle.job_syntax.specs.Unit.{unit_of}
 
 abbrev pub no_opts : Opts
 no_opts = record { ret = None; rnl = None; unit = None }
@@ -51,4 +51,4 @@ option_at o ts = do
   chosen o w.0 w.1
 
 unfoldable pub options_at : List Token → Option Opts
-options_at ts = up_to_three option_at no_opts ts
+options_at ts = up_to 3 option_at no_opts ts

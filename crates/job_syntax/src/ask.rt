@@ -1,12 +1,10 @@
-//! ENQ, DEQ and WAIT: two names, a scope and options.
+//! ENQ, RESERVE, DEQ and WAIT: two names, a scope and options.
 ghost use Rattle.std.specs.Prelude.{◌≡◌};
-ghost use Rattle.deck_form.specs.Tokens.{Reads};
-ghost use Rattle.deck_form.specs.Ask.{scope_at, ctl_at, names_at, enq_may, deq_may, wait_may, enq_at, deq_at, wait_at, place_at};
+ghost use Rattle.deck_scan.specs.Next.{Reads};
+ghost use Rattle.job_syntax.specs.Ask.{scope_at, ctl_at, names_at, enq_may, reserve_may, deq_may, wait_may, controlled_at, uncontrolled_at, enq_at, reserve_at, deq_at, wait_at, place_at};
 
-use crate::miss::Miss;
 use crate::options::{Opts, options_at};
-use crate::tokens::{any_word_at, close_at, comma_at, name_at, open_at};
-use deck_scan::Token;
+use deck_scan::{Miss, Token, any_word_at, close_at, comma_at, name_at, open_at};
 use grs_base::{Ctl, List, Ret, Scope};
 use std::alloc::Global;
 
@@ -19,7 +17,7 @@ pub struct Ask {
     pub opts: Opts,
 }
 
-/// What an ENQ says.
+/// What an ENQ or a RESERVE says.
 #[derive(Drop)]
 pub struct EnqAsk {
     pub ctl: Ctl,
@@ -80,16 +78,29 @@ fn place_at(ts: &[Token]) -> Result<(Scope, Opts), Miss>
     Ok((scope, opts))
 }
 
-fn enq_may(opts: Opts) -> bool
-    ensures { result ≡ enq_may opts }
+/// An ENQ has no UCB.
+fn enq_may(ask: &Ask) -> bool
+    ensures { result ≡ enq_may ask.now }
 {
-    opts.unit.is_none()
+    ask.opts.unit.is_none()
 }
 
-fn deq_may(opts: Opts) -> bool
-    ensures { result ≡ deq_may opts }
+/// A RESERVE has UCB, and the scope SYSTEMS.
+fn reserve_may(ask: &Ask) -> bool
+    ensures { result ≡ reserve_may ask.now }
 {
-    match opts.ret {
+    match ask.scope {
+        Scope::Step => false,
+        Scope::System => false,
+        Scope::Systems => ask.opts.unit.is_some(),
+    }
+}
+
+/// A DEQ has RET=NONE or RET=HAVE alone.
+fn deq_may(ask: &Ask) -> bool
+    ensures { result ≡ deq_may ask.now }
+{
+    match ask.opts.ret {
         None => true,
         Some(Ret::RetNone) => true,
         Some(Ret::RetHave) => true,
@@ -97,25 +108,57 @@ fn deq_may(opts: Opts) -> bool
     }
 }
 
-fn wait_may(opts: Opts) -> bool
-    ensures { result ≡ wait_may opts }
+/// A WAIT has neither RET nor UCB.
+fn wait_may(ask: &Ask) -> bool
+    ensures { result ≡ wait_may ask.now }
 {
-    opts.ret.is_none() && opts.unit.is_none()
+    ask.opts.ret.is_none() && ask.opts.unit.is_none()
+}
+
+/// Names, a control, a scope and options.
+#[tactic(auto, unfolding(crate::specs::Ask::controlled_at))]
+fn controlled_at(alloc: Global, ts: &[Token]) -> Result<EnqAsk, Miss>
+    ensures { Reads (λ x. x) result (controlled_at ts.now) }
+{
+    let (q, r, ts) = names_at(alloc, ts)?;
+    let (ctl, ts) = ctl_at(ts)?;
+    let ts = comma_at(ts)?;
+    let (scope, opts) = place_at(ts)?;
+    Ok(EnqAsk {
+        ctl,
+        ask: Ask { q, r, scope, opts },
+    })
+}
+
+/// Names, a scope and options.
+#[tactic(auto, unfolding(crate::specs::Ask::uncontrolled_at))]
+fn uncontrolled_at(alloc: Global, ts: &[Token]) -> Result<Ask, Miss>
+    ensures { Reads (λ x. x) result (uncontrolled_at ts.now) }
+{
+    let (q, r, ts) = names_at(alloc, ts)?;
+    let (scope, opts) = place_at(ts)?;
+    Ok(Ask { q, r, scope, opts })
 }
 
 #[tactic(auto, unfolding(crate::specs::Ask::enq_at))]
 pub fn enq_at(alloc: Global, ts: &[Token]) -> Result<EnqAsk, Miss>
     ensures { Reads (λ x. x) result (enq_at ts.now) }
 {
-    let (q, r, ts) = names_at(alloc, ts)?;
-    let (ctl, ts) = ctl_at(ts)?;
-    let ts = comma_at(ts)?;
-    let (scope, opts) = place_at(ts)?;
-    if enq_may(opts) {
-        Ok(EnqAsk {
-            ctl,
-            ask: Ask { q, r, scope, opts },
-        })
+    let enq = controlled_at(alloc, ts)?;
+    if enq_may(&enq.ask) {
+        Ok(enq)
+    } else {
+        Err(Miss::Bad)
+    }
+}
+
+#[tactic(auto, unfolding(crate::specs::Ask::reserve_at))]
+pub fn reserve_at(alloc: Global, ts: &[Token]) -> Result<EnqAsk, Miss>
+    ensures { Reads (λ x. x) result (reserve_at ts.now) }
+{
+    let reserve = controlled_at(alloc, ts)?;
+    if reserve_may(&reserve.ask) {
+        Ok(reserve)
     } else {
         Err(Miss::Bad)
     }
@@ -125,10 +168,9 @@ pub fn enq_at(alloc: Global, ts: &[Token]) -> Result<EnqAsk, Miss>
 pub fn deq_at(alloc: Global, ts: &[Token]) -> Result<Ask, Miss>
     ensures { Reads (λ x. x) result (deq_at ts.now) }
 {
-    let (q, r, ts) = names_at(alloc, ts)?;
-    let (scope, opts) = place_at(ts)?;
-    if deq_may(opts) {
-        Ok(Ask { q, r, scope, opts })
+    let ask = uncontrolled_at(alloc, ts)?;
+    if deq_may(&ask) {
+        Ok(ask)
     } else {
         Err(Miss::Bad)
     }
@@ -138,10 +180,9 @@ pub fn deq_at(alloc: Global, ts: &[Token]) -> Result<Ask, Miss>
 pub fn wait_at(alloc: Global, ts: &[Token]) -> Result<Ask, Miss>
     ensures { Reads (λ x. x) result (wait_at ts.now) }
 {
-    let (q, r, ts) = names_at(alloc, ts)?;
-    let (scope, opts) = place_at(ts)?;
-    if wait_may(opts) {
-        Ok(Ask { q, r, scope, opts })
+    let ask = uncontrolled_at(alloc, ts)?;
+    if wait_may(&ask) {
+        Ok(ask)
     } else {
         Err(Miss::Bad)
     }

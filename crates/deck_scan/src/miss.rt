@@ -1,6 +1,6 @@
-//! Why tokens are not read. Every reader of this crate answers so.
+//! Why tokens are not read. Every reader of tokens answers so, in this crate and in those above.
 ghost use Rattle.std.specs.Prelude.{◌≡◌};
-ghost use Rattle.deck_form.specs.declared.miss.Miss.TheVariants as misses;
+ghost use Rattle.deck_scan.specs.declared.miss.Miss.TheVariants as misses;
 
 use grs_base::NoMemory;
 

@@ -1,13 +1,11 @@
 //! The options behind the parentheses of a task line, in any order, each at most once. Which of
 //! them a line may have is not said here.
 ghost use Rattle.std.specs.Prelude.{◌≡◌};
-ghost use Rattle.deck_form.specs.Tokens.{Reads, maybe};
-ghost use Rattle.deck_form.specs.Options.{with_ret, with_rnl, with_unit, ret_of, rnl_of, chosen, option_at, options_at};
+ghost use Rattle.deck_scan.specs.Next.{Reads, maybe};
+ghost use Rattle.job_syntax.specs.Options.{with_ret, with_rnl, with_unit, ret_of, rnl_of, chosen, option_at, options_at};
 
-use crate::miss::Miss;
-use crate::tokens::{any_word_at, comma_at, end_at, value_at};
-use crate::words::unit_of;
-use deck_scan::Token;
+use crate::unit::unit_of;
+use deck_scan::{Miss, Token, any_word_at, comma_at, end_at, value_at};
 use grs_base::Ret;
 
 /// The options that stand in a line: RET or ECB, RNL (true for YES) and UCB.

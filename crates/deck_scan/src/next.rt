@@ -1,10 +1,10 @@
 //! The next token. Each reader takes tokens from the front and hands on the rest.
 ghost use Rattle.std.specs.Prelude.{◌≡◌, length, codes};
 ghost use Rattle.std.specs.Str.{bytes_eq};
-ghost use Rattle.deck_form.specs.Tokens.{Reads, open_at, close_at, comma_at, equals_at, end_at, word_at, any_word_at, value_at, name_at};
+ghost use Rattle.deck_scan.specs.Next.{Reads, open_at, close_at, comma_at, equals_at, end_at, word_at, any_word_at, value_at, name_at};
 
 use crate::miss::Miss;
-use deck_scan::Token;
+use crate::token::Token;
 use grs_base::List;
 use std::alloc::Global;
 
