@@ -1,144 +1,38 @@
 -- What is spelled so is read.
-use Rattle.std.proofs.Common.{◌≡◌, ℕ, suc, ◌+◌, ◌<◌, Bool, true, false, eqb, ltb, List, [], ◌∷◌, ◌++◌, length, take, drop, Option, Some, None, Ok, refl, sym, ap, subst, ◌∙◌, arith, append_assoc, length-append}
+use Rattle.std.proofs.Common.{◌≡◌, inl, inr, ◌⊎◌, ℕ, suc, ◌+◌, ◌<◌, Bool, true, false, eqb, ltb, List, [], ◌∷◌, ◌++◌, length, take, drop, Option, Some, None, Ok, refl, sym, ap, subst, ◌∙◌, arith, lit≤, append_assoc, length-append}
 use Rattle.std.specs.Prelude.{codes, position}
 use Rattle.std.specs.List.{flat_map, position_or_len}
 use Rattle.std.specs.Str.{bytes_eq}
-use Rattle.std.proofs.lemmas.List.Concat.{flat_map-cons}
 use Rattle.std.proofs.lemmas.Bool.{and_parts, ne_eqb, lt-ltb}
 use Rattle.std.proofs.lemmas.List.{take_at, drop_at}
-use Rattle.grs_base.specs.declared.line.Scope.{Scope}
-use Rattle.grs_base.specs.declared.line.Scope.TheVariants as scopes
-use Rattle.grs_base.specs.declared.resource.Ctl.{Ctl}
-use Rattle.grs_base.specs.declared.resource.Ctl.TheVariants.{E, S}
-use Rattle.grs_base.specs.declared.resource.Ret.TheVariants.{RetNone, RetUse, RetHave, RetTest, RetChng, RetEcb}
 use Rattle.deck_scan.specs.declared.token.Token.{Token}
-use Rattle.deck_scan.specs.declared.token.Token.TheVariants.{Word, Name, Open, Close, Comma}
+use Rattle.deck_scan.specs.declared.token.Token.TheVariants.{Word, Open, Close}
 use Rattle.deck_scan.specs.declared.token.TokenLine.{TokenLine}
-use Rattle.deck_form.specs.declared.options.Opts.{Opts}
-use Rattle.deck_form.specs.declared.ask.Ask.{Ask}
-use Rattle.deck_form.specs.declared.ask.EnqAsk.{EnqAsk}
+use Rattle.deck_scan.specs.Next.{Sets}
+use Rattle.deck_scan.proofs.Again.{is_free, all_again}
+use Rattle.deck_scan.proofs.Taking.{same_bytes}
+use Rattle.job_syntax.specs.declared.said.Verb.{Verb}
+use Rattle.job_syntax.specs.declared.said.Verb.TheVariants as lines
+use Rattle.job_syntax.specs.Said.{verb}
+use Rattle.job_syntax.specs.Spelled.{IsWord, verb_for}
+use Rattle.job_syntax.proofs.Again.{said_again}
+use Rattle.rnl_syntax.proofs.Again.{rnldef_again}
 use Rattle.deck_form.specs.declared.complex.Setup.{Setup}
 use Rattle.deck_form.specs.declared.event.Act.{Act}
 use Rattle.deck_form.specs.declared.event.Act.TheVariants as acts
 use Rattle.deck_form.specs.declared.form.Stmt.{Stmt}
 use Rattle.deck_form.specs.declared.form.Stmt.TheVariants as stmts
-use Rattle.deck_form.specs.Tokens.{name_at, maybe}
+use Rattle.deck_form.specs.declared.form.Key.TheVariants as keys
 use Rattle.deck_form.specs.Words.{is_name_byte, all_name, is_name, short_at, parted, dotted_at, number_of}
-use Rattle.deck_form.specs.Options.{no_opts, ret_of, rnl_of, chosen, option_at, options_at}
-use Rattle.deck_form.specs.Ask.{ctl_at, scope_at, names_at, place_at, enq_may, deq_may, wait_may, enq_at, deq_at, wait_at}
 use Rattle.deck_form.specs.Complex.{no_setup, mode_of, entries_of, limit_of, with_operand, operand_at, complex_at}
-use Rattle.deck_form.specs.Event.{verb, pair_at, entry_at, other_at, act_at, event_at}
+use Rattle.deck_form.specs.Event.{verb as event_verb, pair_at, entry_at, other_at, act_at, event_at}
 use Rattle.deck_form.specs.UnbuiltWord.{is_unbuilt_word}
 use Rattle.deck_form.specs.Form.{named_at, key, plain_form, keyed, first_form, event_form, form}
-use Rattle.deck_form.proofs.Taken.{same_bytes}
-use Rattle.deck_form.specs.Spelled.{IsName, Names, ctl_word, scope_word, Sets, Opt, Given, Lists, On, option, IsFree, set, IsAsk, Operand, Mode, Entries, Limit, operand, IsFreeOperand, set_operand, IsComplex, IsFirst, IsAct, IsEvent, Spells}
+use Rattle.deck_form.specs.Spelled.{IsName, Operand, Mode, Entries, Limit, operand, IsFreeOperand, set_operand, IsComplex, IsFirst, IsAct, IsEvent, Spells}
 
 named_again : (n : List ℕ) → IsName n → named_at (Word n ∷ []) ≡ Some n
 unfolding named_at short_at
 named_again n h = rw h refl
-
-name_again : (t : Token) (n : List ℕ) (rest : List Token) → Names t n → name_at (t ∷ rest) ≡ Some (n, rest)
-name_again (Word w) n rest h = rw h refl
-name_again (Name w) n rest h = rw h refl
-name_again _ n rest h = absurd h
-
-names_again : (q r : Token) (qname rname : List ℕ) (rest : List Token) → Names q qname → Names r rname → names_at (Open ∷ q ∷ Comma ∷ r ∷ Comma ∷ rest) ≡ Some (qname, rname, rest)
-unfolding names_at
-names_again q r qname rname rest hq hr = rw (name_again q qname (Comma ∷ r ∷ Comma ∷ rest) hq, name_again r rname (Comma ∷ rest) hr) refl
-
-ctl_again : (c : Ctl) (rest : List Token) → ctl_at (Word (ctl_word c) ∷ rest) ≡ Some (c, rest)
-unfolding ctl_at
-ctl_again E rest = refl
-ctl_again S rest = refl
-
-scope_again : (s : Scope) (rest : List Token) → scope_at (Word (scope_word s) ∷ rest) ≡ Some (s, rest)
-unfolding scope_at
-scope_again scopes.Step rest = refl
-scope_again scopes.System rest = refl
-scope_again scopes.Systems rest = refl
-
--- ---- options
-
-option_again : (x : Opt) (o : Opts) (rest : List Token) → IsFree x o → option_at o (option x ++ rest) ≡ Some (set x o, rest)
-unfolding option_at chosen ret_of rnl_of
-option_again (Given RetNone) o rest h = rw h refl
-option_again (Given RetUse) o rest h = rw h refl
-option_again (Given RetHave) o rest h = rw h refl
-option_again (Given RetTest) o rest h = rw h refl
-option_again (Given RetChng) o rest h = rw h refl
-option_again (Given RetEcb) o rest h = rw h refl
-option_again (Lists true) o rest h = rw h refl
-option_again (Lists false) o rest h = rw h refl
-option_again (On w unit) o rest h = rw (h.1, h.0) refl
-
-long : (x : Opt) (rest : List Token) → eqb (length (option x ++ rest)) 0 ≡ false
-long (Given RetNone) rest = ne_eqb _ 0 (λ e. omega (arith, e))
-long (Given RetUse) rest = ne_eqb _ 0 (λ e. omega (arith, e))
-long (Given RetHave) rest = ne_eqb _ 0 (λ e. omega (arith, e))
-long (Given RetTest) rest = ne_eqb _ 0 (λ e. omega (arith, e))
-long (Given RetChng) rest = ne_eqb _ 0 (λ e. omega (arith, e))
-long (Given RetEcb) rest = ne_eqb _ 0 (λ e. omega (arith, e))
-long (Lists b) rest = ne_eqb _ 0 (λ e. omega (arith, e))
-long (On w unit) rest = ne_eqb _ 0 (λ e. omega (arith, e))
-
-maybe_again : (x : Opt) (o : Opts) (rest : List Token) → IsFree x o → maybe option_at o (option x ++ rest) ≡ Some (set x o, rest)
-maybe_again x o rest h = rw (long x rest) (option_again x o rest h)
-
--- how many kinds of options are free
-is_free : {A : Type 0} → Option A → ℕ
-is_free None = 1
-is_free (Some x) = 0
-
-free_kinds : Opts → ℕ
-free_kinds o = is_free o.ret + is_free o.rnl + is_free o.unit
-
-fewer : (x : Opt) (o : Opts) → IsFree x o → free_kinds o ≡ suc (free_kinds (set x o))
-unfolding free_kinds is_free
-fewer (Given r) o h = rw h (omega arith)
-fewer (Lists b) o h = rw h (omega arith)
-fewer (On w unit) o h = rw h.0 (omega arith)
-
-three_kinds : free_kinds no_opts ≡ 3
-unfolding free_kinds is_free
-three_kinds = refl
-
-options_again : (given : List Opt) (o : Opts) → Sets IsFree set no_opts given o → options_at (flat_map option given) ≡ Some o
-unfolding options_at
-options_again [] o h = rw h refl
-options_again (x ∷ []) o h = rw (flat_map-cons option x [], maybe_again x no_opts [] h.0, h.1) refl
-options_again (x ∷ y ∷ []) o h = rw (flat_map-cons option x (y ∷ []), maybe_again x no_opts (flat_map option (y ∷ [])) h.0, flat_map-cons option y [], maybe_again y (set x no_opts) [] h.1.0, h.1.1) refl
-options_again (x ∷ y ∷ z ∷ []) o h =
-    rw (flat_map-cons option x (y ∷ z ∷ []), maybe_again x no_opts (flat_map option (y ∷ z ∷ [])) h.0, flat_map-cons option y (z ∷ []), maybe_again y (set x no_opts) (flat_map option (z ∷ [])) h.1.0, flat_map-cons option z [], maybe_again z (set y (set x no_opts)) [] h.1.1.0, h.1.1.1) refl
-options_again (x ∷ y ∷ z ∷ v ∷ vs) o h =
-    let a = fewer x no_opts h.0 in
-    let b = fewer y (set x no_opts) h.1.0 in
-    let c = fewer z (set y (set x no_opts)) h.1.1.0 in
-    let d = fewer v (set z (set y (set x no_opts))) h.1.1.1.0 in
-    absurd (omega (arith, three_kinds, a, b, c, d))
-
--- ---- ENQ, DEQ and WAIT
-
-place_again : (s : Scope) (given : List Opt) (o : Opts) → Sets IsFree set no_opts given o → place_at (Word (scope_word s) ∷ Close ∷ flat_map option given) ≡ Some (s, o)
-unfolding place_at
-place_again s given o h = rw (scope_again s (Close ∷ flat_map option given), options_again given o h) refl
-
-enq_again : (ts : List Token) (e : EnqAsk) → IsAsk (Word (ctl_word e.ctl) ∷ Comma ∷ []) enq_may ts e.ask → enq_at ts ≡ Some e
-unfolding enq_at
-enq_again ts e h =
-    let place = Word (scope_word e.ask.scope) ∷ Close ∷ flat_map option h.given in
-    rw (h.spelled, names_again h.q h.r e.ask.q e.ask.r (Word (ctl_word e.ctl) ∷ Comma ∷ place) h.named_q h.named_r, ctl_again e.ctl (Comma ∷ place), place_again e.ask.scope h.given e.ask.opts h.options, h.allowed) refl
-
-deq_again : (ts : List Token) (a : Ask) → IsAsk [] deq_may ts a → deq_at ts ≡ Some a
-unfolding deq_at
-deq_again ts a h =
-    let place = Word (scope_word a.scope) ∷ Close ∷ flat_map option h.given in
-    rw (h.spelled, names_again h.q h.r a.q a.r place h.named_q h.named_r, place_again a.scope h.given a.opts h.options, h.allowed) refl
-
-wait_again : (ts : List Token) (a : Ask) → IsAsk [] wait_may ts a → wait_at ts ≡ Some a
-unfolding wait_at
-wait_again ts a h =
-    let place = Word (scope_word a.scope) ∷ Close ∷ flat_map option h.given in
-    rw (h.spelled, names_again h.q h.r a.q a.r place h.named_q h.named_r, place_again a.scope h.given a.opts h.options, h.allowed) refl
 
 -- ---- COMPLEX
 
@@ -154,35 +48,18 @@ long_operand (Mode b) rest = ne_eqb _ 0 (λ e. omega (arith, e))
 long_operand (Entries w n) rest = ne_eqb _ 0 (λ e. omega (arith, e))
 long_operand (Limit w n) rest = ne_eqb _ 0 (λ e. omega (arith, e))
 
-maybe_operand_again : (x : Operand) (o : Setup) (rest : List Token) → IsFreeOperand x o → maybe operand_at o (operand x ++ rest) ≡ Some (set_operand x o, rest)
-maybe_operand_again x o rest h = rw (long_operand x rest) (operand_again x o rest h)
-
 free_operands : Setup → ℕ
 free_operands o = is_free o.star + is_free o.entries + is_free o.limit
 
 fewer_operands : (x : Operand) (o : Setup) → IsFreeOperand x o → free_operands o ≡ suc (free_operands (set_operand x o))
-unfolding free_operands is_free
+unfolding free_operands
 fewer_operands (Mode b) o h = rw h (omega arith)
 fewer_operands (Entries w n) o h = rw h.0 (omega arith)
 fewer_operands (Limit w n) o h = rw h.0 (omega arith)
 
-three_operands : free_operands no_setup ≡ 3
-unfolding free_operands is_free
-three_operands = refl
-
 operands_again : (given : List Operand) (c : Setup) → Sets IsFreeOperand set_operand no_setup given c → complex_at (flat_map operand given) ≡ Some c
-unfolding complex_at
-operands_again [] o h = rw h refl
-operands_again (x ∷ []) o h = rw (flat_map-cons operand x [], maybe_operand_again x no_setup [] h.0, h.1) refl
-operands_again (x ∷ y ∷ []) o h = rw (flat_map-cons operand x (y ∷ []), maybe_operand_again x no_setup (flat_map operand (y ∷ [])) h.0, flat_map-cons operand y [], maybe_operand_again y (set_operand x no_setup) [] h.1.0, h.1.1) refl
-operands_again (x ∷ y ∷ z ∷ []) o h =
-    rw (flat_map-cons operand x (y ∷ z ∷ []), maybe_operand_again x no_setup (flat_map operand (y ∷ z ∷ [])) h.0, flat_map-cons operand y (z ∷ []), maybe_operand_again y (set_operand x no_setup) (flat_map operand (z ∷ [])) h.1.0, flat_map-cons operand z [], maybe_operand_again z (set_operand y (set_operand x no_setup)) [] h.1.1.0, h.1.1.1) refl
-operands_again (x ∷ y ∷ z ∷ v ∷ vs) o h =
-    let a = fewer_operands x no_setup h.0 in
-    let b = fewer_operands y (set_operand x no_setup) h.1.0 in
-    let c = fewer_operands z (set_operand y (set_operand x no_setup)) h.1.1.0 in
-    let d = fewer_operands v (set_operand z (set_operand y (set_operand x no_setup))) h.1.1.1.0 in
-    absurd (omega (arith, three_operands, a, b, c, d))
+unfolding complex_at free_operands
+operands_again given c h = all_again IsFreeOperand set_operand operand operand_at free_operands long_operand operand_again fewer_operands 3 given no_setup c (lit≤ tt) h
 
 complex_again : (ts : List Token) (c : Setup) → IsComplex ts c → complex_at ts ≡ Some c
 complex_again ts c h = rw h.spelled (operands_again h.given c h.operands)
@@ -213,17 +90,9 @@ built_task : is_unbuilt_word (codes "TASK") ≡ false
 unfolding is_unbuilt_word
 built_task = refl
 
-built_enq : is_unbuilt_word (codes "ENQ") ≡ false
+built_rnldef : is_unbuilt_word (codes "RNLDEF") ≡ false
 unfolding is_unbuilt_word
-built_enq = refl
-
-built_deq : is_unbuilt_word (codes "DEQ") ≡ false
-unfolding is_unbuilt_word
-built_deq = refl
-
-built_wait : is_unbuilt_word (codes "WAIT") ≡ false
-unfolding is_unbuilt_word
-built_wait = refl
+built_rnldef = refl
 
 built_schedule : is_unbuilt_word (codes "SCHEDULE") ≡ false
 unfolding is_unbuilt_word
@@ -232,18 +101,28 @@ built_schedule = refl
 unbuilt_again : (w : List ℕ) (rest : List Token) → is_unbuilt_word w ≡ true → keyed (key w) rest ≡ Ok stmts.Unbuilt
 unfolding key plain_form
 unbuilt_again w rest h =
-    rw (other_word w (codes "COMPLEX") h built_complex, other_word w (codes "SYSTEM") h built_system, other_word w (codes "JOB") h built_job, other_word w (codes "TASK") h built_task, other_word w (codes "ENQ") h built_enq, other_word w (codes "DEQ") h built_deq, other_word w (codes "WAIT") h built_wait, other_word w (codes "SCHEDULE") h built_schedule, h) refl
+    rw (other_word w (codes "COMPLEX") h built_complex, other_word w (codes "RNLDEF") h built_rnldef, other_word w (codes "SYSTEM") h built_system, other_word w (codes "JOB") h built_job, other_word w (codes "TASK") h built_task, other_word w (codes "SCHEDULE") h built_schedule, h) refl
+
+-- the key of a task line whose word is built
+line_again : (v : Verb) (w : List ℕ) → IsWord v w → is_unbuilt_word w ≡ false → key w ≡ keys.Line v
+unfolding key is_unbuilt_word verb
+line_again lines.Enq w h k = rw h refl
+line_again lines.Reserve w h k = rw h refl
+line_again lines.Deq w h k = rw h refl
+line_again lines.Wait w h k = rw h refl
+line_again lines.Gqscan w h k = absurd (let z : true ≡ false = ap is_unbuilt_word (sym h) ∙ k in cc)
+line_again lines.Display w (inl h) k = absurd (let z : true ≡ false = ap is_unbuilt_word (sym h) ∙ k in cc)
+line_again lines.Display w (inr h) k = absurd (let z : true ≡ false = ap is_unbuilt_word (sym h) ∙ k in cc)
 
 first_again : (ts : List Token) (st : Stmt) → IsFirst ts st → first_form false ts ≡ Ok st
 unfolding first_form key plain_form
 first_again ts stmts.Unbuilt h = rw h.1.1 (unbuilt_again h.0 h.1.0 h.1.2)
 first_again ts (stmts.Complex c) h = rw (h.1, complex_again h.0 c h.2) refl
+first_again ts (stmts.Rnldef d) h = rw (h.1, rnldef_again h.0 d h.2) refl
 first_again ts (stmts.System n) h = rw (h.0, named_again n h.1) refl
 first_again ts (stmts.Job n) h = rw (h.0, named_again n h.1) refl
 first_again ts (stmts.Task n) h = rw (h.0, named_again n h.1) refl
-first_again ts (stmts.Enq e) h = rw (h.1, enq_again h.0 e h.2) refl
-first_again ts (stmts.Deq a) h = rw (h.1, deq_again h.0 a h.2) refl
-first_again ts (stmts.Wait a) h = rw (h.1, wait_again h.0 a h.2) refl
+first_again ts (stmts.Line s) h = rw (h.0.parts, line_again (verb_for s) h.0.word h.0.is_word h.1, said_again h.0.behind s h.0.is_behind) refl
 first_again ts stmts.Schedule h = rw h refl
 first_again ts (stmts.Event s a) h = absurd h
 
@@ -288,11 +167,11 @@ other_again n h = rw h refl
 
 -- the word of an event and what stands behind it
 abbrev acted : ℕ → List Token → Option Act
-acted entries (Word w ∷ ts) = act_at entries (verb w) ts
+acted entries (Word w ∷ ts) = act_at entries (event_verb w) ts
 acted entries _ = None
 
 act_again : (entries : ℕ) (ts : List Token) (a : Act) → IsAct entries ts a → acted entries ts ≡ Some a
-unfolding act_at verb
+unfolding act_at event_verb
 act_again entries ts (acts.Task j t) h = rw (h.0, pair_again j t h.1 h.2) refl
 act_again entries ts acts.Turn h = rw h refl
 act_again entries ts (acts.Send j t) h = rw (h.0, pair_again j t h.1 h.2) refl

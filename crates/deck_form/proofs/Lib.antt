@@ -2,3 +2,4 @@ pub mod Numbers
 pub mod Taken
 pub mod Again
 pub mod Unknown
+pub mod Gathered

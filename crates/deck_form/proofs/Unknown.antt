@@ -1,6 +1,6 @@
 -- Why a line is no statement.
 use Rattle.std.proofs.Common.{◌≡◌, inl, inr, ◌⊎◌, ℕ, Bool, true, false, cond, List, [], ◌∷◌, Option, Some, None, Result, Ok, Err, refl, sym, ap, subst, ◌∙◌}
-use Rattle.std.specs.Prelude.{codes, ◌||◌}
+use Rattle.std.specs.Prelude.{codes, ◌||◌, is_some}
 use Rattle.std.specs.Str.{bytes_eq}
 use Rattle.grs_base.specs.declared.fault.Kind.{Kind}
 use Rattle.grs_base.specs.declared.fault.Kind.TheVariants.{TooLong, BadByte, UnknownStatement, BadOperand, NameLength, Repeated, OutOfPlace, TooMany, UnknownName, NoSystem, NotBuilt}
@@ -13,7 +13,10 @@ use Rattle.deck_form.specs.declared.form.Key.TheVariants as keys
 use Rattle.deck_form.specs.declared.form.FormError.{FormError}
 use Rattle.deck_form.specs.declared.form.FormError.TheVariants as errors
 use Rattle.deck_form.specs.UnbuiltWord.{is_unbuilt_word}
-use Rattle.deck_form.specs.Form.{Forms, key, plain_form, or_bad, keyed, first_form, event_form, form}
+use Rattle.job_syntax.specs.declared.said.Verb.{Verb}
+use Rattle.job_syntax.specs.Said.{verb}
+use Rattle.rnl_syntax.specs.Lines.{is_rnldef_word}
+use Rattle.deck_form.specs.Form.{Forms, line_key, key, plain_form, or_bad, keyed, first_form, event_form, form}
 use Rattle.deck_form.specs.Spelled.{Spells, is_statement_word, BeginsOtherwise, NoWord, IsNoStatement, Answers}
 use Rattle.deck_form.proofs.Taken.{form_taken}
 use Rattle.deck_form.proofs.Again.{form_again}
@@ -39,20 +42,26 @@ test_fails : (b : Bool) (k r : Key) → (k ≡ keys.Unknown → ⊥) → cond b 
 test_fails true k r other h = absurd (other h)
 test_fails false k r other h = (refl, h)
 
+no_line : (o : Option Verb) → line_key o ≡ keys.Unknown → is_some o ≡ false
+no_line None h = refl
+no_line (Some v) h = absurd cc
+
+line_none : (o : Option Verb) → is_some o ≡ false → line_key o ≡ keys.Unknown
+line_none None h = refl
+line_none (Some v) h = absurd cc
+
 -- no test of a key passes
 key_unknown : (w : List ℕ) → key w ≡ keys.Unknown → is_statement_word w ≡ false
 unfolding key
 key_unknown w h =
     let a = test_fails (bytes_eq w (codes "COMPLEX")) keys.Complex _ (λ e. cc) h in
-    let b = test_fails (bytes_eq w (codes "SYSTEM")) keys.System _ (λ e. cc) a.1 in
+    let r = test_fails (is_rnldef_word w) keys.Rnldef _ (λ e. cc) a.1 in
+    let b = test_fails (bytes_eq w (codes "SYSTEM")) keys.System _ (λ e. cc) r.1 in
     let c = test_fails (bytes_eq w (codes "JOB")) keys.Job _ (λ e. cc) b.1 in
     let d = test_fails (bytes_eq w (codes "TASK")) keys.Task _ (λ e. cc) c.1 in
-    let f = test_fails (bytes_eq w (codes "ENQ")) keys.Enq _ (λ e. cc) d.1 in
-    let g = test_fails (bytes_eq w (codes "DEQ")) keys.Deq _ (λ e. cc) f.1 in
-    let i = test_fails (bytes_eq w (codes "WAIT")) keys.Wait _ (λ e. cc) g.1 in
-    let j = test_fails (bytes_eq w (codes "SCHEDULE")) keys.Schedule _ (λ e. cc) i.1 in
-    let k = test_fails (is_unbuilt_word w) keys.Unbuilt keys.Unknown (λ e. cc) j.1 in
-    rw (a.0, b.0, c.0, d.0, f.0, g.0, i.0, j.0, k.0) refl
+    let f = test_fails (bytes_eq w (codes "SCHEDULE")) keys.Schedule _ (λ e. cc) d.1 in
+    let g = test_fails (is_unbuilt_word w) keys.Unbuilt _ (λ e. cc) f.1 in
+    rw (a.0, r.0, b.0, c.0, d.0, f.0, g.0, no_line (verb w) g.1) refl
 
 neither : (a b : Bool) → (a || b) ≡ false → (a ≡ false) × (b ≡ false)
 neither true b h = absurd cc
@@ -62,14 +71,13 @@ unknown_key : (w : List ℕ) → is_statement_word w ≡ false → key w ≡ key
 unfolding key
 unknown_key w h =
     let a = neither (bytes_eq w (codes "COMPLEX")) _ h in
-    let b = neither (bytes_eq w (codes "SYSTEM")) _ a.1 in
+    let r = neither (is_rnldef_word w) _ a.1 in
+    let b = neither (bytes_eq w (codes "SYSTEM")) _ r.1 in
     let c = neither (bytes_eq w (codes "JOB")) _ b.1 in
     let d = neither (bytes_eq w (codes "TASK")) _ c.1 in
-    let f = neither (bytes_eq w (codes "ENQ")) _ d.1 in
-    let g = neither (bytes_eq w (codes "DEQ")) _ f.1 in
-    let i = neither (bytes_eq w (codes "WAIT")) _ g.1 in
-    let j = neither (bytes_eq w (codes "SCHEDULE")) (is_unbuilt_word w) i.1 in
-    rw (a.0, b.0, c.0, d.0, f.0, g.0, i.0, j.0, j.1) refl
+    let f = neither (bytes_eq w (codes "SCHEDULE")) _ d.1 in
+    let g = neither (is_unbuilt_word w) (is_some (verb w)) f.1 in
+    rw (a.0, r.0, b.0, c.0, d.0, f.0, g.0) (line_none (verb w) g.1)
 
 bad_not_unknown : (o : Option Stmt) → or_bad o ≡ failed UnknownStatement → ⊥
 bad_not_unknown (Some st) h = cc
@@ -81,9 +89,8 @@ keyed_none keys.Complex ts h = absurd (bad_not_unknown (plain_form keys.Complex 
 keyed_none keys.System ts h = absurd (bad_not_unknown (plain_form keys.System ts) h)
 keyed_none keys.Job ts h = absurd (bad_not_unknown (plain_form keys.Job ts) h)
 keyed_none keys.Task ts h = absurd (bad_not_unknown (plain_form keys.Task ts) h)
-keyed_none keys.Enq ts h = absurd (bad_not_unknown (plain_form keys.Enq ts) h)
-keyed_none keys.Deq ts h = absurd (bad_not_unknown (plain_form keys.Deq ts) h)
-keyed_none keys.Wait ts h = absurd (bad_not_unknown (plain_form keys.Wait ts) h)
+keyed_none (keys.Line v) ts h = absurd (bad_not_unknown (plain_form (keys.Line v) ts) h)
+keyed_none keys.Rnldef ts h = absurd (bad_not_unknown (plain_form keys.Rnldef ts) h)
 keyed_none keys.Schedule ts h = absurd (bad_not_unknown (plain_form keys.Schedule ts) h)
 keyed_none keys.Unbuilt ts h = absurd (bad_not_unknown (plain_form keys.Unbuilt ts) h)
 
@@ -126,9 +133,8 @@ keyed_kind keys.Complex ts k h = inr (or_bad_kind (plain_form keys.Complex ts) k
 keyed_kind keys.System ts k h = inr (or_bad_kind (plain_form keys.System ts) k h)
 keyed_kind keys.Job ts k h = inr (or_bad_kind (plain_form keys.Job ts) k h)
 keyed_kind keys.Task ts k h = inr (or_bad_kind (plain_form keys.Task ts) k h)
-keyed_kind keys.Enq ts k h = inr (or_bad_kind (plain_form keys.Enq ts) k h)
-keyed_kind keys.Deq ts k h = inr (or_bad_kind (plain_form keys.Deq ts) k h)
-keyed_kind keys.Wait ts k h = inr (or_bad_kind (plain_form keys.Wait ts) k h)
+keyed_kind (keys.Line v) ts k h = inr (or_bad_kind (plain_form (keys.Line v) ts) k h)
+keyed_kind keys.Rnldef ts k h = inr (or_bad_kind (plain_form keys.Rnldef ts) k h)
 keyed_kind keys.Schedule ts k h = inr (or_bad_kind (plain_form keys.Schedule ts) k h)
 keyed_kind keys.Unbuilt ts k h = inr (or_bad_kind (plain_form keys.Unbuilt ts) k h)
 

@@ -3,7 +3,7 @@ use Rattle.std.specs.Prelude.{ℕ, Bool, true, false, ◌&&◌, ◌||◌, ◌==�
 use Rattle.std.specs.Str.{bytes_eq}
 use Rattle.deck_scan.specs.declared.token.Token.{Token}
 use Rattle.deck_form.specs.declared.complex.Setup.{Setup}
-use Rattle.deck_form.specs.Tokens.{◌>>=◌, open_at, close_at, any_word_at, up_to_three, once}
+use Rattle.deck_scan.specs.Next.{◌>>=◌, open_at, close_at, any_word_at, up_to, once}
 use Rattle.deck_form.specs.Words.{number_of}
 
 abbrev pub no_setup : Setup
@@ -60,4 +60,4 @@ operand_at o ts = do
   Some (p, b)
 
 unfoldable pub complex_at : List Token → Option Setup
-complex_at ts = up_to_three operand_at no_setup ts
+complex_at ts = up_to 3 operand_at no_setup ts

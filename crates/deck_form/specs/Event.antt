@@ -6,7 +6,7 @@ use Rattle.deck_form.specs.declared.event.Act.{Act}
 use Rattle.deck_form.specs.declared.event.Act.TheVariants as acts
 use Rattle.deck_form.specs.declared.event.Verb.{Verb}
 use Rattle.deck_form.specs.declared.event.Verb.TheVariants as verbs
-use Rattle.deck_form.specs.Tokens.{◌>>=◌, end_at, any_word_at}
+use Rattle.deck_scan.specs.Next.{◌>>=◌, end_at, any_word_at}
 use Rattle.deck_form.specs.Words.{short_at, dotted_at, number_of}
 
 unfoldable pub verb : List ℕ → Verb

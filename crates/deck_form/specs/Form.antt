@@ -12,9 +12,12 @@ use Rattle.deck_form.specs.declared.form.Key.{Key}
 use Rattle.deck_form.specs.declared.form.Key.TheVariants as keys
 use Rattle.deck_form.specs.declared.form.FormError.{FormError}
 use Rattle.deck_form.specs.declared.form.FormError.TheVariants as errors
-use Rattle.deck_form.specs.Tokens.{◌>>=◌, end_at}
+use Rattle.deck_scan.specs.Next.{◌>>=◌, end_at}
+use Rattle.job_syntax.specs.declared.said.Verb.{Verb}
+use Rattle.job_syntax.specs.Said.{verb, said_at}
+use Rattle.rnl_syntax.specs.Lines.{is_rnldef_word}
+use Rattle.rnl_syntax.specs.Operands.{rnldef_at}
 use Rattle.deck_form.specs.Words.{short_at}
-use Rattle.deck_form.specs.Ask.{enq_at, deq_at, wait_at}
 use Rattle.deck_form.specs.Complex.{complex_at}
 use Rattle.deck_form.specs.Event.{event_at}
 use Rattle.deck_form.specs.UnbuiltWord.{is_unbuilt_word}
@@ -35,28 +38,30 @@ named_at ts = do
   end ← end_at n.1
   Some n.0
 
+abbrev pub line_key : Option Verb → Key
+line_key None = keys.Unknown
+line_key (Some v) = keys.Line v
+
+-- A word that is not built is no other word, also where it begins task lines.
 unfoldable pub key : List ℕ → Key
 key w =
     if bytes_eq w (codes "COMPLEX") then keys.Complex
+    else if is_rnldef_word w then keys.Rnldef
     else if bytes_eq w (codes "SYSTEM") then keys.System
     else if bytes_eq w (codes "JOB") then keys.Job
     else if bytes_eq w (codes "TASK") then keys.Task
-    else if bytes_eq w (codes "ENQ") then keys.Enq
-    else if bytes_eq w (codes "DEQ") then keys.Deq
-    else if bytes_eq w (codes "WAIT") then keys.Wait
     else if bytes_eq w (codes "SCHEDULE") then keys.Schedule
     else if is_unbuilt_word w then keys.Unbuilt
-    else keys.Unknown
+    else line_key (verb w)
 
 -- What stands behind the first word.
 unfoldable pub plain_form : Key → List Token → Option Stmt
 plain_form keys.Complex ts = complex_at ts >>= λ c. Some (stmts.Complex c)
+plain_form keys.Rnldef ts = rnldef_at ts >>= λ d. Some (stmts.Rnldef d)
 plain_form keys.System ts = named_at ts >>= λ n. Some (stmts.System n)
 plain_form keys.Job ts = named_at ts >>= λ n. Some (stmts.Job n)
 plain_form keys.Task ts = named_at ts >>= λ n. Some (stmts.Task n)
-plain_form keys.Enq ts = enq_at ts >>= λ a. Some (stmts.Enq a)
-plain_form keys.Deq ts = deq_at ts >>= λ a. Some (stmts.Deq a)
-plain_form keys.Wait ts = wait_at ts >>= λ a. Some (stmts.Wait a)
+plain_form (keys.Line v) ts = said_at v ts >>= λ x. Some (stmts.Line x)
 plain_form keys.Schedule ts = end_at ts >>= λ end. Some stmts.Schedule
 plain_form keys.Unbuilt ts = Some stmts.Unbuilt
 plain_form keys.Unknown ts = None
@@ -68,12 +73,11 @@ or_bad None = Err BadOperand
 abbrev pub keyed : Key → List Token → Result Stmt Kind
 keyed keys.Unknown ts = Err UnknownStatement
 keyed keys.Complex ts = or_bad (plain_form keys.Complex ts)
+keyed keys.Rnldef ts = or_bad (plain_form keys.Rnldef ts)
 keyed keys.System ts = or_bad (plain_form keys.System ts)
 keyed keys.Job ts = or_bad (plain_form keys.Job ts)
 keyed keys.Task ts = or_bad (plain_form keys.Task ts)
-keyed keys.Enq ts = or_bad (plain_form keys.Enq ts)
-keyed keys.Deq ts = or_bad (plain_form keys.Deq ts)
-keyed keys.Wait ts = or_bad (plain_form keys.Wait ts)
+keyed (keys.Line v) ts = or_bad (plain_form (keys.Line v) ts)
 keyed keys.Schedule ts = or_bad (plain_form keys.Schedule ts)
 keyed keys.Unbuilt ts = or_bad (plain_form keys.Unbuilt ts)
 

@@ -1,10 +1,8 @@
-pub mod Tokens
 pub mod Words
-pub mod Options
-pub mod Ask
 pub mod Complex
 pub mod Event
 pub mod UnbuiltWord
 pub mod Form
 pub mod Unbuilt
 pub mod Spelled
+pub mod Statements

@@ -1,20 +1,12 @@
 -- How the tokens of a line spell a statement, by cases on the statement.
-use Rattle.std.specs.Prelude.{◌≡◌, ℕ, Bool, true, false, ◌||◌, ◌<◌, ◌⊎◌, List, [], ◌∷◌, ◌++◌, codes, Some, None, Result, Ok, Err}
+use Rattle.std.specs.Prelude.{◌≡◌, ℕ, Bool, true, false, ◌||◌, ◌<◌, ◌⊎◌, List, [], ◌∷◌, ◌++◌, codes, Some, None, is_some, Result, Ok, Err}
 use Rattle.std.specs.List.{flat_map}
 use Rattle.std.specs.Str.{bytes_eq}
 use Rattle.grs_base.specs.declared.fault.Kind.{Kind}
 use Rattle.grs_base.specs.declared.fault.Kind.TheVariants.{UnknownStatement, BadOperand}
-use Rattle.grs_base.specs.declared.line.Scope.{Scope}
-use Rattle.grs_base.specs.declared.line.Scope.TheVariants as scopes
-use Rattle.grs_base.specs.declared.resource.Ctl.{Ctl}
-use Rattle.grs_base.specs.declared.resource.Ctl.TheVariants.{E, S}
-use Rattle.grs_base.specs.declared.resource.Ret.{Ret}
-use Rattle.grs_base.specs.declared.resource.Ret.TheVariants.{RetNone, RetUse, RetHave, RetTest, RetChng, RetEcb}
 use Rattle.deck_scan.specs.declared.token.Token.{Token}
-use Rattle.deck_scan.specs.declared.token.Token.TheVariants.{Word, Name, Open, Close, Comma, Equals, Unclosed}
+use Rattle.deck_scan.specs.declared.token.Token.TheVariants.{Word, Open, Close, Unclosed}
 use Rattle.deck_scan.specs.declared.token.TokenLine.{TokenLine}
-use Rattle.deck_form.specs.declared.options.Opts.{Opts}
-use Rattle.deck_form.specs.declared.ask.Ask.{Ask}
 use Rattle.deck_form.specs.declared.complex.Setup.{Setup}
 use Rattle.deck_form.specs.declared.event.Act.{Act}
 use Rattle.deck_form.specs.declared.event.Act.TheVariants as acts
@@ -22,9 +14,12 @@ use Rattle.deck_form.specs.declared.form.Stmt.{Stmt}
 use Rattle.deck_form.specs.declared.form.Stmt.TheVariants as stmts
 use Rattle.deck_form.specs.declared.form.FormError.{FormError}
 use Rattle.deck_form.specs.declared.form.FormError.TheVariants as errors
-use Rattle.deck_form.specs.Words.{is_name, number_of, unit_of}
-use Rattle.deck_form.specs.Options.{no_opts}
-use Rattle.deck_form.specs.Ask.{enq_may, deq_may, wait_may}
+use Rattle.deck_scan.specs.Next.{Sets}
+use Rattle.job_syntax.specs.Said.{verb}
+use Rattle.job_syntax.specs.Spelled.{IsSaid}
+use Rattle.rnl_syntax.specs.Lines.{is_rnldef_word}
+use Rattle.rnl_syntax.specs.Spelled.{IsRnldef}
+use Rattle.deck_form.specs.Words.{is_name, number_of}
 use Rattle.deck_form.specs.Complex.{no_setup, is_entries, is_limit}
 use Rattle.deck_form.specs.UnbuiltWord.{is_unbuilt_word}
 
@@ -32,74 +27,9 @@ use Rattle.deck_form.specs.UnbuiltWord.{is_unbuilt_word}
 abbrev pub IsName : List ℕ → Type 0
 IsName n = is_name n ≡ true
 
--- A resource name stands plain, or quoted or in hexadecimal.
-abbrev pub Names : Token → List ℕ → Type 0
-Names (Word w) n = w ≡ n
-Names (Name w) n = w ≡ n
-Names _ n = ⊥
-
-abbrev pub ctl_word : Ctl → List ℕ
-ctl_word E = codes "E"
-ctl_word S = codes "S"
-
-abbrev pub scope_word : Scope → List ℕ
-scope_word scopes.Step = codes "STEP"
-scope_word scopes.System = codes "SYSTEM"
-scope_word scopes.Systems = codes "SYSTEMS"
-
-abbrev pub rnl_word : Bool → List ℕ
-rnl_word true = codes "YES"
-rnl_word false = codes "NO"
-
 abbrev pub mode_word : Bool → List ℕ
 mode_word true = codes "STAR"
 mode_word false = codes "RING"
-
--- Things that stand one behind the other, each where it is free; each sets its value.
-abbrev pub Sets : {O X : Type 0} → (X → O → Type 0) → (X → O → O) → O → List X → O → Type 0
-Sets free set o [] p = p ≡ o
-Sets free set o (x ∷ xs) p = free x o × Sets free set (set x o) xs p
-
--- An option of a task line: RET or ECB; RNL; UCB with its word and the unit that the word writes.
-pub data Opt : Type 0 where
-  Given : Ret → Opt
-  Lists : Bool → Opt
-  On : List ℕ → ℕ → Opt
-
-abbrev pub valued : List ℕ → List ℕ → List Token
-valued word value = Comma ∷ Word word ∷ Equals ∷ Word value ∷ []
-
-abbrev pub option : Opt → List Token
-option (Given RetNone) = valued (codes "RET") (codes "NONE")
-option (Given RetUse) = valued (codes "RET") (codes "USE")
-option (Given RetHave) = valued (codes "RET") (codes "HAVE")
-option (Given RetTest) = valued (codes "RET") (codes "TEST")
-option (Given RetChng) = valued (codes "RET") (codes "CHNG")
-option (Given RetEcb) = Comma ∷ Word (codes "ECB") ∷ []
-option (Lists b) = valued (codes "RNL") (rnl_word b)
-option (On w unit) = valued (codes "UCB") w
-
--- None of its kind stands yet, and its word is right.
-abbrev pub IsFree : Opt → Opts → Type 0
-IsFree (Given r) o = o.ret ≡ None
-IsFree (Lists b) o = o.rnl ≡ None
-IsFree (On w unit) o = (o.unit ≡ None) × (unit_of w ≡ Some unit)
-
-abbrev pub set : Opt → Opts → Opts
-set (Given r) o = record o { ret = Some r }
-set (Lists b) o = record o { rnl = Some b }
-set (On w unit) o = record o { unit = Some unit }
-
--- ( q , r , then what stands before the scope, the scope, ) and the options, which the line may have.
-pub record IsAsk (front : List Token) (may : Opts → Bool) (ts : List Token) (a : Ask) : Type 0 where
-  pub q : Token
-  pub r : Token
-  pub given : List Opt
-  pub spelled : ts ≡ Open ∷ q ∷ Comma ∷ r ∷ Comma ∷ (front ++ Word (scope_word a.scope) ∷ Close ∷ flat_map option given)
-  pub named_q : Names q a.q
-  pub named_r : Names r a.r
-  pub options : Sets IsFree set no_opts given a.opts
-  pub allowed : may a.opts ≡ true
 
 -- An operand of COMPLEX: MODE; ENTRIES and LIMIT with their words and the numbers that these write.
 pub data Operand : Type 0 where
@@ -131,16 +61,15 @@ pub record IsComplex (ts : List Token) (c : Setup) : Type 0 where
   pub spelled : ts ≡ flat_map operand given
   pub operands : Sets IsFreeOperand set_operand no_setup given c
 
--- A statement before SCHEDULE, and SCHEDULE.
+-- A statement before SCHEDULE, and SCHEDULE. A task line has a word that is built.
 abbrev pub IsFirst : List Token → Stmt → Type 0
 IsFirst ts stmts.Unbuilt = (w : List ℕ) × ((rest : List Token) × (ts ≡ Word w ∷ rest) × (is_unbuilt_word w ≡ true))
 IsFirst ts (stmts.Complex c) = (rest : List Token) × (ts ≡ Word (codes "COMPLEX") ∷ rest) × IsComplex rest c
+IsFirst ts (stmts.Rnldef d) = (rest : List Token) × (ts ≡ Word (codes "RNLDEF") ∷ rest) × IsRnldef rest d
 IsFirst ts (stmts.System n) = (ts ≡ Word (codes "SYSTEM") ∷ Word n ∷ []) × IsName n
 IsFirst ts (stmts.Job n) = (ts ≡ Word (codes "JOB") ∷ Word n ∷ []) × IsName n
 IsFirst ts (stmts.Task n) = (ts ≡ Word (codes "TASK") ∷ Word n ∷ []) × IsName n
-IsFirst ts (stmts.Enq e) = (rest : List Token) × (ts ≡ Word (codes "ENQ") ∷ rest) × IsAsk (Word (ctl_word e.ctl) ∷ Comma ∷ []) enq_may rest e.ask
-IsFirst ts (stmts.Deq a) = (rest : List Token) × (ts ≡ Word (codes "DEQ") ∷ rest) × IsAsk [] deq_may rest a
-IsFirst ts (stmts.Wait a) = (rest : List Token) × (ts ≡ Word (codes "WAIT") ∷ rest) × IsAsk [] wait_may rest a
+IsFirst ts (stmts.Line s) = (h : IsSaid ts s) × (is_unbuilt_word h.word ≡ false)
 IsFirst ts stmts.Schedule = ts ≡ Word (codes "SCHEDULE") ∷ []
 IsFirst ts (stmts.Event s a) = ⊥
 
@@ -178,14 +107,13 @@ Spells true entries l st = IsEvent entries l.tokens st
 abbrev pub is_statement_word : List ℕ → Bool
 is_statement_word w =
     bytes_eq w (codes "COMPLEX")
+    || (is_rnldef_word w
     || (bytes_eq w (codes "SYSTEM")
     || (bytes_eq w (codes "JOB")
     || (bytes_eq w (codes "TASK")
-    || (bytes_eq w (codes "ENQ")
-    || (bytes_eq w (codes "DEQ")
-    || (bytes_eq w (codes "WAIT")
     || (bytes_eq w (codes "SCHEDULE")
-    || is_unbuilt_word w)))))))
+    || (is_unbuilt_word w
+    || is_some (verb w)))))))
 
 abbrev pub BeginsOtherwise : List Token → Type 0
 BeginsOtherwise (Word w ∷ ts) = is_statement_word w ≡ false

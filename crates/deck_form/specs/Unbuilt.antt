@@ -1,21 +1,9 @@
 -- The forms that are read and not yet carried out.
-use Rattle.std.specs.Prelude.{ℕ, Bool, true, false, not, ◌||◌, ◌==◌, Option, Some, None, is_some}
-use Rattle.grs_base.specs.declared.line.Scope.{Scope}
-use Rattle.grs_base.specs.declared.line.Scope.TheVariants as scopes
-use Rattle.deck_form.specs.declared.ask.Ask.{Ask}
+use Rattle.std.specs.Prelude.{ℕ, Bool, true, false, not, ◌==◌, Option, Some, None}
 use Rattle.deck_form.specs.declared.event.Act.{Act}
 use Rattle.deck_form.specs.declared.event.Act.TheVariants as acts
 use Rattle.deck_form.specs.declared.form.Stmt.{Stmt}
 use Rattle.deck_form.specs.declared.form.Stmt.TheVariants as stmts
-
-abbrev pub is_wide : Scope → Bool
-is_wide scopes.Step = false
-is_wide scopes.System = false
-is_wide scopes.Systems = true
-
--- The scope SYSTEMS, and the options RNL and UCB.
-abbrev pub is_unbuilt_ask : Ask → Bool
-is_unbuilt_ask a = is_wide a.scope || is_some a.opts.rnl || is_some a.opts.unit
 
 -- Every event but TASK.
 abbrev pub is_unbuilt_act : Act → Bool
@@ -39,11 +27,10 @@ is_star (Some star) = star
 abbrev pub is_unbuilt : ℕ → Stmt → Bool
 is_unbuilt systems stmts.Unbuilt = true
 is_unbuilt systems (stmts.Complex c) = is_star c.star
+is_unbuilt systems (stmts.Rnldef d) = false
 is_unbuilt systems (stmts.System n) = not (systems == 0)
 is_unbuilt systems (stmts.Job n) = false
 is_unbuilt systems (stmts.Task n) = false
-is_unbuilt systems (stmts.Enq e) = is_unbuilt_ask e.ask
-is_unbuilt systems (stmts.Deq a) = is_unbuilt_ask a
-is_unbuilt systems (stmts.Wait a) = is_unbuilt_ask a
+is_unbuilt systems (stmts.Line s) = false
 is_unbuilt systems stmts.Schedule = false
 is_unbuilt systems (stmts.Event s a) = is_unbuilt_act a

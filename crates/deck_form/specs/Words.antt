@@ -1,7 +1,7 @@
--- Names of systems, jobs and tasks, numbers and units.
+-- Names of systems, jobs and tasks, and numbers.
 use Rattle.std.specs.Prelude.{ℕ, Bool, true, false, not, ◌&&◌, ◌||◌, ◌==◌, ◌+◌, ◌-◌, ◌*◌, nat_le, nat_lt, List, [], ◌∷◌, length, take, drop, position, Option, Some, None, if◌then◌else◌}
 use Rattle.deck_scan.specs.declared.token.Token.{Token}
-use Rattle.deck_form.specs.Tokens.{◌>>=◌, any_word_at}
+use Rattle.deck_scan.specs.Next.{◌>>=◌, any_word_at}
 
 abbrev pub is_digit : ℕ → Bool
 is_digit b = nat_le 48 b && nat_le b 57
@@ -43,29 +43,3 @@ digits n (b ∷ bs) = if is_digit b then digits (n * 10 + (b - 48)) bs else None
 -- The number that 1 to 9 decimal digits write.
 unfoldable pub number_of : List ℕ → Option ℕ
 number_of w = if (length w == 0) || nat_lt 9 (length w) then None else digits 0 w
-
-abbrev pub is_between : ℕ → ℕ → ℕ → Bool
-is_between low high b = nat_le low b && nat_le b high
-
--- The value of a hexadecimal digit of either case.
-abbrev pub hex_of : ℕ → Option ℕ
-hex_of b =
-    if is_between 48 57 b then Some (b - 48)
-    else if is_between 65 70 b then Some (b - 65 + 10)
-    else if is_between 97 102 b then Some (b - 97 + 10)
-    else None
-
-abbrev pub hex_at : List ℕ → Option (ℕ × List ℕ)
-hex_at [] = None
-hex_at (b ∷ bs) = do
-  x ← hex_of b
-  Some (x, bs)
-
--- The unit that four hexadecimal digits write.
-unfoldable pub unit_of : List ℕ → Option ℕ
-unit_of w = do
-  a ← hex_at w
-  b ← hex_at a.1
-  c ← hex_at b.1
-  d ← hex_at c.1
-  if length d.1 == 0 then Some (a.0 * 4096 + b.0 * 256 + c.0 * 16 + d.0) else None

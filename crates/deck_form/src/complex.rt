@@ -1,12 +1,10 @@
 //! The operands of COMPLEX, in any order, each at most once.
 ghost use Rattle.std.specs.Prelude.{◌≡◌};
-ghost use Rattle.deck_form.specs.Tokens.{Reads, maybe};
+ghost use Rattle.deck_scan.specs.Next.{Reads, maybe};
 ghost use Rattle.deck_form.specs.Complex.{mode_of, is_entries, entries_of, limit_of, with_star, with_entries, with_limit, with_operand, operand_at, complex_at};
 
-use crate::miss::Miss;
-use crate::tokens::{any_word_at, close_at, end_at, open_at};
 use crate::words::number_of;
-use deck_scan::Token;
+use deck_scan::{Miss, Token, any_word_at, close_at, end_at, open_at};
 
 /// The operands that stand in a COMPLEX: MODE (true for STAR), ENTRIES and LIMIT.
 #[derive(Clone, Copy, Debug, PartialEq, Eq)]

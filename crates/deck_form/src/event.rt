@@ -1,12 +1,10 @@
 //! Event lines: a system, what it does, and on what.
 ghost use Rattle.std.specs.Prelude.{◌≡◌};
-ghost use Rattle.deck_form.specs.Tokens.{Reads};
+ghost use Rattle.deck_scan.specs.Next.{Reads};
 ghost use Rattle.deck_form.specs.Event.{verb, pair_at, alone_at, entry_at, other_at, act_at, event_at};
 
-use crate::miss::Miss;
-use crate::tokens::{any_word_at, end_at};
 use crate::words::{dotted_at, number_of, short_at};
-use deck_scan::Token;
+use deck_scan::{Miss, Token, any_word_at, end_at};
 use grs_base::List;
 use std::alloc::Global;
 

@@ -1,19 +1,18 @@
 //! The statements of a deck.
 ghost use Rattle.std.specs.Prelude.{◌≡◌, Option};
-ghost use Rattle.deck_form.specs.Tokens.{Reads};
-ghost use Rattle.deck_form.specs.Form.{named_at, plain_form, first_form, event_form, form, key, or_bad, Forms};
+ghost use Rattle.deck_scan.specs.Next.{Reads};
+ghost use Rattle.deck_form.specs.Form.{named_at, plain_form, first_form, event_form, form, line_key, key, or_bad, Forms};
 ghost use Rattle.deck_form.specs.Spelled.{Answers};
 ghost use Rattle.deck_form.specs.declared.form.Stmt.{Stmt as StmtValue};
 
-use crate::ask::{Ask, EnqAsk, deq_at, enq_at, wait_at};
 use crate::complex::{Setup, complex_at};
 use crate::event::{Act, event_at};
-use crate::miss::Miss;
-use crate::tokens::end_at;
 use crate::unbuilt::is_unbuilt_word;
 use crate::words::short_at;
-use deck_scan::{Token, TokenLine};
+use deck_scan::{Miss, Token, TokenLine, end_at};
 use grs_base::{Kind, List};
+use job_syntax::{Said, Verb, said_at, verb_of};
+use rnl_syntax::{Rnldef, is_rnldef_word, rnldef_at};
 use std::alloc::Global;
 
 /// A statement, with names of any length.
@@ -22,12 +21,12 @@ pub enum Stmt {
     /// Its word is not built; nothing more of it was read.
     Unbuilt,
     Complex(Setup),
+    Rnldef(Rnldef),
     System(List<u8>),
     Job(List<u8>),
     Task(List<u8>),
-    Enq(EnqAsk),
-    Deq(Ask),
-    Wait(Ask),
+    /// A task line that is built.
+    Line(Said),
     Schedule,
     Event { system: List<u8>, act: Act },
 }
@@ -44,12 +43,11 @@ pub enum FormError {
 #[derive(Clone, Copy)]
 pub enum Key {
     Complex,
+    Rnldef,
     System,
     Job,
     Task,
-    Enq,
-    Deq,
-    Wait,
+    Line(Verb),
     Schedule,
     Unbuilt,
     Unknown,
@@ -76,30 +74,35 @@ fn or_bad(read: Result<Stmt, Miss>) -> Result<Stmt, FormError>
     }
 }
 
+fn line_key(verb: Option<Verb>) -> Key
+    ensures { result ≡ line_key verb }
+{
+    match verb {
+        None => Key::Unknown,
+        Some(verb) => Key::Line(verb),
+    }
+}
+
 #[tactic(auto, unfolding(crate::specs::Form::key))]
 fn key_of(w: &[u8]) -> Key
     ensures { result ≡ key w.now }
 {
     if w == b"COMPLEX".as_slice() {
         Key::Complex
+    } else if is_rnldef_word(w) {
+        Key::Rnldef
     } else if w == b"SYSTEM".as_slice() {
         Key::System
     } else if w == b"JOB".as_slice() {
         Key::Job
     } else if w == b"TASK".as_slice() {
         Key::Task
-    } else if w == b"ENQ".as_slice() {
-        Key::Enq
-    } else if w == b"DEQ".as_slice() {
-        Key::Deq
-    } else if w == b"WAIT".as_slice() {
-        Key::Wait
     } else if w == b"SCHEDULE".as_slice() {
         Key::Schedule
     } else if is_unbuilt_word(w) {
         Key::Unbuilt
     } else {
-        Key::Unknown
+        line_key(verb_of(w))
     }
 }
 
@@ -110,12 +113,11 @@ fn plain_form(alloc: Global, key: Key, ts: &[Token]) -> Result<Stmt, Miss>
 {
     match key {
         Key::Complex => Ok(Stmt::Complex(complex_at(ts)?)),
+        Key::Rnldef => Ok(Stmt::Rnldef(rnldef_at(alloc, ts)?)),
         Key::System => Ok(Stmt::System(named_at(alloc, ts)?)),
         Key::Job => Ok(Stmt::Job(named_at(alloc, ts)?)),
         Key::Task => Ok(Stmt::Task(named_at(alloc, ts)?)),
-        Key::Enq => Ok(Stmt::Enq(enq_at(alloc, ts)?)),
-        Key::Deq => Ok(Stmt::Deq(deq_at(alloc, ts)?)),
-        Key::Wait => Ok(Stmt::Wait(wait_at(alloc, ts)?)),
+        Key::Line(verb) => Ok(Stmt::Line(said_at(alloc, verb, ts)?)),
         Key::Schedule => {
             end_at(ts)?;
             Ok(Stmt::Schedule)

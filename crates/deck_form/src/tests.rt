@@ -1,6 +1,7 @@
 use super::*;
 use deck_scan::lines;
 use grs_base::{Ctl, Kind, Ret, Scope};
+use job_syntax::Said;
 use std::test::Fail;
 
 fn kind_of(
@@ -9,6 +10,7 @@ fn kind_of(
     text: &[u8],
 ) -> Result<Option<Kind>, grs_base::ReadError> {
     let all = lines(rt.alloc(), text)?;
+    let all = statements(rt.alloc(), all)?;
     match all.as_slice() {
         [line, ..] => match statement(rt.alloc(), scheduled, 4, line) {
             Ok(_) => Ok(None),
@@ -30,7 +32,27 @@ fn statements(rt: HostRuntime) -> Result<(), Fail> {
             b"DEQ ('',B,SYSTEMS),UCB=1a01,RET=HAVE".as_slice(),
             None,
         ),
-        (false, b"RNLDEF anything".as_slice(), None),
+        (
+            false,
+            b"RESERVE (A,B,S,SYSTEMS),ECB,UCB=1a0b".as_slice(),
+            None,
+        ),
+        (
+            false,
+            b"RESERVE (A,B,S,SYSTEMS),ECB".as_slice(),
+            Some(Kind::BadOperand),
+        ),
+        (false, b"GQSCAN anything".as_slice(), None),
+        (
+            false,
+            b"RNLDEF RNL(INCL) TYPE(GENERIC)\nQNAME(\nA)".as_slice(),
+            None,
+        ),
+        (
+            false,
+            b"RNLDEF RNL(INCL) TYPE(SPECIFIC) QNAME(A)".as_slice(),
+            Some(Kind::BadOperand),
+        ),
         (false, b"FOO".as_slice(), Some(Kind::UnknownStatement)),
         (
             false,
@@ -56,7 +78,7 @@ fn an_enq(rt: HostRuntime) -> Result<(), Fail> {
     assert!(rt; all.len() == 1);
     let read = statement(rt.alloc(), false, 64, all.get(0));
     match &read {
-        Ok(Stmt::Enq(enq)) => {
+        Ok(Stmt::Line(Said::Enq(enq))) => {
             assert!(rt; enq.ctl == Ctl::S);
             assert!(rt; enq.ask.q.as_slice() == b"A.B".as_slice());
             assert!(rt; enq.ask.r.as_slice() == b"it's".as_slice());

@@ -1,34 +1,20 @@
 //! The forms that are read and not yet carried out. Each line of these two functions is one of them.
 ghost use Rattle.std.specs.Prelude.{◌≡◌};
 ghost use Rattle.deck_form.specs.UnbuiltWord.{is_unbuilt_word};
-ghost use Rattle.deck_form.specs.Unbuilt.{is_star, is_wide, is_unbuilt_act, is_unbuilt_ask, is_unbuilt};
+ghost use Rattle.deck_form.specs.Unbuilt.{is_star, is_unbuilt_act, is_unbuilt};
 
-use crate::ask::Ask;
 use crate::event::Act;
 use crate::form::Stmt;
-use grs_base::Scope;
 
 /// A first word of statements of which nothing more is read.
 #[tactic(auto, unfolding(crate::specs::UnbuiltWord::is_unbuilt_word))]
 pub fn is_unbuilt_word(w: &[u8]) -> bool
     ensures { result ≡ is_unbuilt_word w.now }
 {
-    w == b"RNLDEF".as_slice()
-        || w == b"RESERVE".as_slice()
-        || w == b"AT".as_slice()
+    w == b"AT".as_slice()
         || w == b"GQSCAN".as_slice()
         || w == b"DISPLAY".as_slice()
         || w == b"D".as_slice()
-}
-
-fn is_wide(scope: Scope) -> bool
-    ensures { result ≡ is_wide scope }
-{
-    match scope {
-        Scope::Step => false,
-        Scope::System => false,
-        Scope::Systems => true,
-    }
 }
 
 fn is_star(star: Option<bool>) -> bool
@@ -38,12 +24,6 @@ fn is_star(star: Option<bool>) -> bool
         None => false,
         Some(star) => star,
     }
-}
-
-fn is_unbuilt_ask(ask: &Ask) -> bool
-    ensures { result ≡ is_unbuilt_ask ask.now }
-{
-    is_wide(ask.scope) || ask.opts.rnl.is_some() || ask.opts.unit.is_some()
 }
 
 fn is_unbuilt_act(act: &Act) -> bool
@@ -70,12 +50,11 @@ pub fn is_unbuilt(systems: usize, st: &Stmt) -> bool
     match st {
         Stmt::Unbuilt => true,
         Stmt::Complex(setup) => is_star(setup.star),
+        Stmt::Rnldef(_) => false,
         Stmt::System(_) => systems != 0,
         Stmt::Job(_) => false,
         Stmt::Task(_) => false,
-        Stmt::Enq(enq) => is_unbuilt_ask(&enq.ask),
-        Stmt::Deq(ask) => is_unbuilt_ask(ask),
-        Stmt::Wait(ask) => is_unbuilt_ask(ask),
+        Stmt::Line(_) => false,
         Stmt::Schedule => false,
         Stmt::Event { act, .. } => is_unbuilt_act(act),
     }

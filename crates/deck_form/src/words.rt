@@ -1,11 +1,9 @@
-//! Names of systems, jobs and tasks, numbers and units, as the bytes of a word.
+//! Names of systems, jobs and tasks, and numbers, as the bytes of a word.
 ghost use Rattle.std.specs.Prelude.{◌≡◌, ◌<◌, ◌==◌, length, position, IfOk, IfSome};
-ghost use Rattle.deck_form.specs.Tokens.{Reads};
-ghost use Rattle.deck_form.specs.Words.{is_digit, is_name_byte, is_name, all_name, short_at, dotted_at, parted, digits, number_of, hex_of, hex_at, unit_of};
+ghost use Rattle.deck_scan.specs.Next.{Reads};
+ghost use Rattle.deck_form.specs.Words.{is_digit, is_name_byte, is_name, all_name, short_at, dotted_at, parted, digits, number_of};
 
-use crate::miss::Miss;
-use crate::tokens::any_word_at;
-use deck_scan::Token;
+use deck_scan::{Miss, Token, any_word_at};
 use grs_base::List;
 use std::alloc::Global;
 
@@ -118,47 +116,4 @@ pub fn number_of(w: &[u8]) -> Result<u32, Miss>
         rest = tail;
     }
     Ok(number)
-}
-
-/// The value of a hexadecimal digit of either case.
-fn hex_of(b: u8) -> Result<u8, Miss>
-    ensures value { Reads (λ x. x) result (hex_of b) }
-    ensures small { IfOk result (λ x. x < 16) }
-{
-    match b {
-        b'0'..=b'9' => Ok(b - b'0'),
-        b'A'..=b'F' => Ok(b - b'A' + 10),
-        b'a'..=b'f' => Ok(b - b'a' + 10),
-        _ => Err(Miss::Bad),
-    }
-}
-
-/// A hexadecimal digit, and the bytes behind it.
-fn hex_at(w: &[u8]) -> Result<(u16, &[u8]), Miss>
-    ensures value { Reads (λ x. (x.0, x.1.now)) result (hex_at w.now) }
-    ensures small { IfOk result (λ x. x.0 < 16) }
-{
-    match w.split_first() {
-        None => Err(Miss::Bad),
-        Some((b, rest)) => {
-            let digit = hex_of(*b)?;
-            Ok((u16::from(digit), rest))
-        }
-    }
-}
-
-/// The unit that four hexadecimal digits write.
-#[tactic(auto, unfolding(crate::specs::Words::unit_of))]
-pub fn unit_of(w: &[u8]) -> Result<u16, Miss>
-    ensures { Reads (λ x. x) result (unit_of w.now) }
-{
-    let (a, w) = hex_at(w)?;
-    let (b, w) = hex_at(w)?;
-    let (c, w) = hex_at(w)?;
-    let (d, w) = hex_at(w)?;
-    if w.len() == 0 {
-        Ok(a * 4096 + b * 256 + c * 16 + d)
-    } else {
-        Err(Miss::Bad)
-    }
 }

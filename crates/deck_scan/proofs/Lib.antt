@@ -6,3 +6,5 @@ pub mod Pieced
 pub mod Names
 pub mod Samples
 pub mod BadBytes
+pub mod Taking
+pub mod Again

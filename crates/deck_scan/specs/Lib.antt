@@ -4,3 +4,4 @@ pub mod Pieces
 pub mod Scan
 pub mod Reading
 pub mod Named
+pub mod Next

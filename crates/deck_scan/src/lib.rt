@@ -4,10 +4,16 @@
 
 mod bytes;
 mod laws;
+mod miss;
+mod next;
 mod scan;
 mod token;
 
 pub use laws::{bad_bytes, printed_names, spelled_lines};
+pub use miss::Miss;
+pub use next::{
+    any_word_at, close_at, comma_at, end_at, equals_at, name_at, open_at, value_at, word_at,
+};
 pub use scan::lines;
 pub use token::{Token, TokenLine};
 

@@ -13,10 +13,7 @@ pub enum Filter {
     /// Resources on which somebody waits.
     Contended,
     /// Resources of these names; a name that isn't given may be any. At least one is given.
-    Named {
-        q: Option<Qname>,
-        r: Option<Rname>,
-    },
+    Named { q: Option<Qname>, r: Option<Rname> },
 }
 
 /// What is looked at: a slice of the Systems resources, from 0 to 63, or the Step and System resources of

@@ -108,3 +108,70 @@ fn copies(rt: HostRuntime) -> Result<(), Fail> {
     assert_eq!(rt; bytes.into_vec().as_slice(), b"AB".as_slice());
     Ok(())
 }
+
+#[test]
+fn copies_name_lists_and_filters(rt: HostRuntime) -> Result<(), Fail> {
+    let alloc = rt.alloc();
+    let q = Qname::new(alloc, b"A")?;
+    let r = Rname::new(alloc, b"B")?;
+    let mut lists = Lists::new(alloc);
+    assert!(rt; lists.excl.len() == 0);
+    lists.excl.push(RnlEntry {
+        which: Which::Excl,
+        form: Form::Generic,
+        q: q.copy(alloc)?,
+        r: Some(r.copy(alloc)?),
+    })?;
+    let copied = lists.copy(alloc)?;
+    assert_eq!(rt; copied.excl.len(), 1);
+    assert_eq!(rt; copied.excl.which(), Which::Excl);
+    let entry = copied.excl.entry(0);
+    assert!(rt; entry.q == q && entry.r.is_some() && entry.form == Form::Generic);
+    match (Filter::Named {
+        q: Some(q),
+        r: None,
+    })
+    .copy(alloc)?
+    {
+        Filter::Named {
+            q: Some(q),
+            r: None,
+        } => assert_eq!(rt; q.bytes(), b"A".as_slice()),
+        _ => assert!(rt; false),
+    }
+    match (Line::Reserve {
+        q: Qname::new(alloc, b"A")?,
+        r,
+        ctl: Ctl::S,
+        unit: 0x1a01,
+        ret: Ret::RetEcb,
+        rnl: false,
+    })
+    .copy(alloc)?
+    {
+        Line::Reserve { unit, rnl, .. } => assert!(rt; unit == 0x1a01 && !rnl),
+        _ => assert!(rt; false),
+    }
+    Ok(())
+}
+
+#[test]
+fn deals_out_slices(rt: HostRuntime) -> Result<(), Fail> {
+    let alloc = rt.alloc();
+    for (q, r, slice) in [
+        (b"A".as_slice(), b"B".as_slice(), 52),
+        (b"A  ".as_slice(), b"B".as_slice(), 52),
+        (b"PAYROLL".as_slice(), b"MASTER".as_slice(), 11),
+        (b"SYSDSN".as_slice(), b"SYS1.LOGREC".as_slice(), 2),
+        (b"ABCDEFGH".as_slice(), b"A".as_slice(), 31),
+        (b"\x00".as_slice(), b"\x00".as_slice(), 28),
+    ] {
+        let q = Qname::new(alloc, q)?;
+        let r = Rname::new(alloc, r)?;
+        assert_eq!(rt; slice_of(&q, &r), slice);
+    }
+    for (entries, entry) in [(1, 0), (2, 0), (4, 0), (8, 4), (16, 4), (32, 20), (64, 52)] {
+        assert_eq!(rt; entry_of(52, entries), entry);
+    }
+    Ok(())
+}

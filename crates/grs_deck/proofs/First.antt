@@ -17,6 +17,7 @@ use Rattle.grs_deck.specs.Faults.{FaultyLine, NoSystemSaid, IsFault}
 use Rattle.grs_deck.proofs.FitsLaws.{judged}
 use Rattle.grs_deck.proofs.SpellsLaws.{right_of, says, says_again, judged_again, allowed_of, text_spells, lines_read}
 use Rattle.grs_deck.proofs.Least.{refused, judged_err, judged_so}
+use Rattle.deck_form.specs.Statements.{statements}
 use Rattle.deck_form.proofs.Taken.{form_taken}
 
 -- ---- lines
@@ -69,21 +70,21 @@ pub is_fault : (text : List ℕ) (f : DeckFault) → fault text ≡ Some f → I
 unfolding fault reading lines_or_fault
 is_fault text f h = go (byte_fault text) refl (fault_some _ f h)
   where
-    go : (o : Option DeckFault) → byte_fault text ≡ o → (unless_fault o (lines_of text) >>= λ ls. judge_all no_draft ls >>= ended) ≡ deck_err f → IsFault text f
+    go : (o : Option DeckFault) → byte_fault text ≡ o → (unless_fault o (lines_of text) >>= λ ls. judge_all no_draft (statements ls) >>= ended) ≡ deck_err f → IsFault text f
     go (Some g) is m = inl (is ∙ ap some (deck_err_is g f m))
-    go None is m = by (judge_all no_draft (lines_of text)) refl m
+    go None is m = by (judge_all no_draft (statements (lines_of text))) refl m
       where
         spelled : SpellsLines text (lines_of text)
         spelled = text_spells text (allowed_of text is)
 
-        by : (r : Result Draft DeckFault) → judge_all no_draft (lines_of text) ≡ r → (r >>= ended) ≡ deck_err f → IsFault text f
+        by : (r : Result Draft DeckFault) → judge_all no_draft (statements (lines_of text)) ≡ r → (r >>= ended) ≡ deck_err f → IsFault text f
         by (Err g) e k =
             let same = deck_err_is g f k in
-            inr (record { allowed = is; lines = lines_of text; spelled = spelled; fault = inl (all_err (lines_of text) no_draft f (e ∙ ap refused same)) })
+            inr (record { allowed = is; lines = lines_of text; spelled = spelled; fault = inl (all_err (statements (lines_of text)) no_draft f (e ∙ ap refused same)) })
         by (Ok d) e k = ends (eqb (length d.deck.systems) 0) refl k
           where
             ends : (b : Bool) → eqb (length d.deck.systems) 0 ≡ b → cond b (deck_err (record { line = 0; kind = NoSystem })) (Ok d.deck) ≡ deck_err f → IsFault text f
-            ends true z k = inr (record { allowed = is; lines = lines_of text; spelled = spelled; fault = inr (record { draft = d; says = says (lines_of text) no_draft d e; none = eqb-true (length d.deck.systems) 0 z; is = sym (deck_err_is (record { line = 0; kind = NoSystem }) f k) }) })
+            ends true z k = inr (record { allowed = is; lines = lines_of text; spelled = spelled; fault = inr (record { draft = d; says = says (statements (lines_of text)) no_draft d e; none = eqb-true (length d.deck.systems) 0 z; is = sym (deck_err_is (record { line = 0; kind = NoSystem }) f k) }) })
             ends false z k = absurd cc
 
 fault_by : (f : DeckFault) (n : ℕ) → f.line ≡ n → record { line = n; kind = f.kind } ≡ f
@@ -110,4 +111,4 @@ lines_so ls f (inr y) = none_so ls f y
 pub only_fault : (text : List ℕ) (f : DeckFault) → IsFault text f → fault text ≡ Some f
 unfolding fault reading lines_or_fault
 only_fault text f (inl h) = rw h refl
-only_fault text f (inr h) = let read : (lines_or_fault text >>= λ ls. judge_all no_draft ls >>= ended) ≡ deck_err f = rw (lines_read text h.lines h.allowed h.spelled) (lines_so h.lines f h.fault) in ap fault_of read
+only_fault text f (inr h) = let read : (lines_or_fault text >>= λ ls. judge_all no_draft (statements ls) >>= ended) ≡ deck_err f = rw (lines_read text h.lines h.allowed h.spelled) (lines_so (statements h.lines) f h.fault) in ap fault_of read

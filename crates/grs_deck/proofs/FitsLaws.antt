@@ -2,8 +2,15 @@
 use Rattle.std.proofs.Common.{◌≡◌, ℕ, zero, suc, ◌+◌, ◌≤◌, Bool, true, false, cond, leb, List, [], ◌∷◌, ◌++◌, length, Option, Some, None, Result, Ok, Err, refl, sym, ap, subst, arith, length-append}
 use Rattle.std.specs.Prelude.{All}
 use Rattle.std.proofs.lemmas.Bool.{leb-false}
+use Rattle.std.proofs.lemmas.List.Elements.{All-push}
+use Rattle.rnl_syntax.specs.Operands.{entry_of}
 use Rattle.grs_base.specs.declared.fault.Kind.{Kind}
 use Rattle.grs_base.specs.declared.fault.Kind.TheVariants.{NameLength, Repeated, OutOfPlace, TooMany, UnknownName, NotBuilt}
+use Rattle.grs_base.specs.Rnl.{RnlView}
+use Rattle.grs_base.specs.declared.rnl.Which.{Which}
+use Rattle.grs_base.specs.declared.rnl.Which.TheVariants.{Incl, Excl, Con}
+use Rattle.grs_base.specs.declared.rnl.RnlEntry.{RnlEntry}
+use Rattle.grs_base.specs.declared.rnl.Lists.{Lists}
 use Rattle.grs_base.specs.declared.line.Line.{Line}
 use Rattle.grs_wire.specs.declared.deck.TaskDef.{TaskDef}
 use Rattle.grs_wire.specs.declared.deck.JobDef.{JobDef}
@@ -16,8 +23,9 @@ use Rattle.deck_form.specs.declared.form.Stmt.TheVariants as stmts
 use Rattle.deck_form.specs.Form.{form}
 use Rattle.grs_deck.specs.declared.judge.Draft.{Draft}
 use Rattle.grs_deck.specs.Places.{jobs_now, task_count, IsWithin, Fits, event_of}
-use Rattle.grs_deck.specs.Judge.{is_long, is_repeated, is_misplaced, is_full, is_unknown, is_unbuilt, verdict}
-use Rattle.grs_deck.specs.Grow.{on_last, add_job, add_task, add_line, in_jobs, in_tasks, with_event, grow}
+use Rattle.grs_deck.specs.Judge.{is_long, is_repeated, is_misplaced, is_list_full, is_full, is_crowded, is_unknown, is_unbuilt, verdict}
+use Rattle.grs_deck.specs.Grow.{on_last, add_job, add_task, add_line, in_jobs, in_tasks, add_entry, in_list, with_event, grow}
+use Rattle.grs_deck.specs.Whole.{IsListOf, AreLists}
 use Rattle.grs_deck.specs.Reading.{unless, judge_form, judge}
 use Rattle.grs_deck.proofs.PlacesLaws.{all_head, all_tail}
 
@@ -96,16 +104,16 @@ task_count-line line (j ∷ k ∷ js) = let h = task_count-line line (k ∷ js) 
 below : (n m : ℕ) → leb n m ≡ false → suc m ≤ n
 below n m h = let k = leb-false n m h in omega (arith, k)
 
-fits_system : (ss : List SystemDef) (name : List ℕ) → Fits ss → suc (length ss) ≤ 8 → Fits (ss ++ record { name = name; jobs = [] } ∷ [])
+fits_system : (ss : List SystemDef) (name : List ℕ) → Fits ss → suc (length ss) ≤ 8 → Fits (ss ++ record { name = name; desk = []; jobs = [] } ∷ [])
 fits_system ss name h lt =
-    let s : SystemDef = record { name = name; jobs = [] } in
+    let s : SystemDef = record { name = name; desk = []; jobs = [] } in
     let new : IsWithin s = record { jobs = omega arith; tasks = omega arith } in
     record { few = omega (arith, length-append ss (s ∷ []), lt); each = each_all (ss ++ s ∷ []) (each_push ss s (all_each ss h.each) new) }
 
 fits_job : (ss : List SystemDef) (name : List ℕ) → Fits ss → suc (length (jobs_now ss)) ≤ 64 → Fits (add_job name ss)
 fits_job ss name h lt = record { few = rw (length-on_last _ ss) h.few; each = each_all (add_job name ss) (each_last _ ss (all_each ss h.each) one) }
   where
-    one : (s : SystemDef) → IsWithin s → jobs_now ss ≡ s.jobs → IsWithin (record { name = s.name; jobs = s.jobs ++ record { name = name; tasks = [] } ∷ [] })
+    one : (s : SystemDef) → IsWithin s → jobs_now ss ≡ s.jobs → IsWithin (record s { jobs = s.jobs ++ record { name = name; tasks = [] } ∷ [] })
     one s w e =
         let j : JobDef = record { name = name; tasks = [] } in
         let long : length (jobs_now ss) ≡ length s.jobs = ap length e in
@@ -114,7 +122,7 @@ fits_job ss name h lt = record { few = rw (length-on_last _ ss) h.few; each = ea
 fits_task : (ss : List SystemDef) (name : List ℕ) → Fits ss → suc (task_count (jobs_now ss)) ≤ 64 → Fits (in_jobs (add_task name) ss)
 fits_task ss name h lt = record { few = rw (length-on_last _ ss) h.few; each = each_all (in_jobs (add_task name) ss) (each_last _ ss (all_each ss h.each) one) }
   where
-    one : (s : SystemDef) → IsWithin s → jobs_now ss ≡ s.jobs → IsWithin (record { name = s.name; jobs = add_task name s.jobs })
+    one : (s : SystemDef) → IsWithin s → jobs_now ss ≡ s.jobs → IsWithin (record s { jobs = add_task name s.jobs })
     one s w e =
         let count : task_count (jobs_now ss) ≡ task_count s.jobs = ap task_count e in
         record { jobs = rw (length-on_last _ s.jobs) w.jobs; tasks = omega (arith, task_count-add name s.jobs, count, lt) }
@@ -122,7 +130,7 @@ fits_task ss name h lt = record { few = rw (length-on_last _ ss) h.few; each = e
 fits_line : (ss : List SystemDef) (line : Line) → Fits ss → Fits (in_jobs (in_tasks (add_line line)) ss)
 fits_line ss line h = record { few = rw (length-on_last _ ss) h.few; each = each_all (in_jobs (in_tasks (add_line line)) ss) (each_last _ ss (all_each ss h.each) one) }
   where
-    one : (s : SystemDef) → IsWithin s → jobs_now ss ≡ s.jobs → IsWithin (record { name = s.name; jobs = in_tasks (add_line line) s.jobs })
+    one : (s : SystemDef) → IsWithin s → jobs_now ss ≡ s.jobs → IsWithin (record s { jobs = in_tasks (add_line line) s.jobs })
     one s w e = record { jobs = rw (length-on_last _ s.jobs) w.jobs; tasks = rw (task_count-line line s.jobs) w.tasks }
 
 event_systems : (o : Option Event) (d : Deck) → (with_event o d).systems ≡ d.systems
@@ -135,11 +143,51 @@ fits_grow d (stmts.Complex c) full h = h
 fits_grow d (stmts.System n) full h = fits_system d.deck.systems n h (below 8 (length d.deck.systems) full)
 fits_grow d (stmts.Job n) full h = fits_job d.deck.systems n h (below 64 (length (jobs_now d.deck.systems)) full)
 fits_grow d (stmts.Task n) full h = fits_task d.deck.systems n h (below 64 (task_count (jobs_now d.deck.systems)) full)
-fits_grow d (stmts.Enq e) full h = fits_line d.deck.systems _ h
-fits_grow d (stmts.Deq a) full h = fits_line d.deck.systems _ h
-fits_grow d (stmts.Wait a) full h = fits_line d.deck.systems _ h
+fits_grow d (stmts.Rnldef r) full h = h
+fits_grow d (stmts.Line s) full h = fits_line d.deck.systems _ h
 fits_grow d stmts.Schedule full h = h
 fits_grow d (stmts.Event s a) full h = subst Fits (sym (event_systems (event_of d.deck.systems s a) d.deck)) h
+
+-- ---- name lists
+
+list_more : (which : Which) (e : RnlEntry) (v : RnlView) → e.which ≡ which → leb 4096 (length v.entries) ≡ false → IsListOf which v → IsListOf which (add_entry e v)
+list_more which e v own full h =
+    let room = leb-false 4096 (length v.entries) full in
+    record { which_is = h.which_is; few = omega (arith, length-append v.entries (e ∷ []), room); own = All-push (λ (x : RnlEntry). x.which ≡ which) v.entries e h.own own }
+
+lists_more : (which : Which) (e : RnlEntry) (lists : Lists) → e.which ≡ which → is_list_full lists which ≡ false → AreLists lists → AreLists (in_list which e lists)
+lists_more Incl e lists own full h = record { incl = list_more Incl e lists.incl own full h.incl; excl = h.excl; con = h.con }
+lists_more Excl e lists own full h = record { incl = h.incl; excl = list_more Excl e lists.excl own full h.excl; con = h.con }
+lists_more Con e lists own full h = record { incl = h.incl; excl = h.excl; con = list_more Con e lists.con own full h.con }
+
+event_lists : (o : Option Event) (d : Deck) → (with_event o d).lists ≡ d.lists
+event_lists None d = refl
+event_lists (Some e) d = refl
+
+pub lists_grow : (d : Draft) (st : Stmt) → is_full d st ≡ false → AreLists d.deck.lists → AreLists (grow d st).deck.lists
+lists_grow d stmts.Unbuilt full h = h
+lists_grow d (stmts.Complex c) full h = h
+lists_grow d (stmts.Rnldef r) full h = lists_more r.which (entry_of r) d.deck.lists refl full h
+lists_grow d (stmts.System n) full h = h
+lists_grow d (stmts.Job n) full h = h
+lists_grow d (stmts.Task n) full h = h
+lists_grow d (stmts.Line s) full h = h
+lists_grow d stmts.Schedule full h = h
+lists_grow d (stmts.Event s a) full h = subst AreLists (sym (event_lists (event_of d.deck.systems s a) d.deck)) h
+
+crowded_full : (d : Draft) (st : Stmt) → is_full d st ≡ false → is_crowded d.deck st ≡ false
+crowded_full d stmts.Unbuilt full = refl
+crowded_full d (stmts.Complex c) full = refl
+crowded_full d (stmts.Rnldef r) full = full
+crowded_full d (stmts.System n) full = refl
+crowded_full d (stmts.Job n) full = refl
+crowded_full d (stmts.Task n) full = refl
+crowded_full d (stmts.Line s) full = refl
+crowded_full d stmts.Schedule full = refl
+crowded_full d (stmts.Event s a) full = refl
+
+pub not_crowded : (d : Draft) (st : Stmt) → verdict d st ≡ None → is_crowded d.deck st ≡ false
+not_crowded d st h = crowded_full d st (tests_of d st h).full
 
 -- ---- lines
 
@@ -168,3 +216,10 @@ fits_judge d e l h fits =
     let j = judged d e l h in
     let P : Draft → Type 0 = λ x. Fits x.deck.systems in
     subst P j.grown (fits_grow d j.st (tests_of d j.st j.right).full fits)
+
+-- a line keeps the name lists
+pub lists_judge : (d e : Draft) (l : TokenLine) → judge d l ≡ Ok e → AreLists d.deck.lists → AreLists e.deck.lists
+lists_judge d e l h lists =
+    let j = judged d e l h in
+    let P : Draft → Type 0 = λ x. AreLists x.deck.lists in
+    subst P j.grown (lists_grow d j.st (tests_of d j.st j.right).full lists)

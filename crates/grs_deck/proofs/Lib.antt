@@ -2,8 +2,8 @@ pub mod Last
 pub mod PlacesLaws
 pub mod FitsLaws
 pub mod Loop
-pub mod Samples
 pub mod SpellsLaws
 pub mod Least
 pub mod First
 pub mod WholeLaws
+pub mod Samples

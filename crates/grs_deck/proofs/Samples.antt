@@ -6,6 +6,8 @@ use Rattle.grs_base.specs.declared.fault.Kind.{Kind}
 use Rattle.grs_base.specs.declared.fault.Kind.TheVariants.{BadByte, UnknownStatement, BadOperand, NameLength, Repeated, OutOfPlace, UnknownName, NoSystem, NotBuilt}
 use Rattle.grs_base.specs.declared.resource.Ctl.TheVariants.{S}
 use Rattle.grs_base.specs.declared.resource.Ret.TheVariants.{RetUse}
+use Rattle.grs_base.specs.declared.rnl.Which.TheVariants.{Excl}
+use Rattle.grs_base.specs.declared.rnl.Form.TheVariants.{Pattern}
 use Rattle.grs_base.specs.declared.line.Scope.TheVariants as scopes
 use Rattle.grs_base.specs.declared.line.Line.TheVariants as lines
 use Rattle.grs_wire.specs.declared.deck.Deck.{Deck}
@@ -13,15 +15,19 @@ use Rattle.grs_wire.specs.declared.deck.Choice.TheVariants as choices
 use Rattle.deck_scan.specs.Bytes.{is_word, is_hex, digit, is_allowed, bad_line}
 use Rattle.deck_scan.specs.Scan.{put, put_word, put_open, end_line, break_off, begin_word, begin, step_in, step, scan_from, finish_in, lines_of}
 use Rattle.deck_scan.specs.Reading.{lines_or_fault}
-use Rattle.deck_form.specs.Words.{is_name_byte, all_name, is_name, short_at, dotted_at, digits, number_of, unit_of}
-use Rattle.deck_form.specs.Options.{ret_of, rnl_of, chosen, option_at, options_at}
-use Rattle.deck_form.specs.Ask.{ctl_at, scope_at, names_at, place_at, enq_at, deq_at, wait_at}
+use Rattle.job_syntax.specs.Unit.{unit_of}
+use Rattle.job_syntax.specs.Options.{ret_of, rnl_of, chosen, option_at, options_at}
+use Rattle.job_syntax.specs.Ask.{ctl_at, scope_at, names_at, place_at, controlled_at, uncontrolled_at, enq_at, reserve_at, deq_at, wait_at}
+use Rattle.job_syntax.specs.Said.{verb as line_verb, said_at}
+use Rattle.rnl_syntax.specs.Operands.{which_of, form_of, value_of, operand_at as rnl_operand_at, whole as whole_rnl, rnldef_at}
+use Rattle.deck_form.specs.Statements.{statements_from, statements}
+use Rattle.deck_form.specs.Words.{is_name_byte, all_name, is_name, short_at, dotted_at, digits, number_of}
 use Rattle.deck_form.specs.Complex.{mode_of, entries_of, limit_of, with_operand, operand_at, complex_at}
 use Rattle.deck_form.specs.Event.{verb, pair_at, entry_at, other_at, act_at, event_at}
 use Rattle.deck_form.specs.UnbuiltWord.{is_unbuilt_word}
 use Rattle.deck_form.specs.Form.{named_at, key, plain_form, first_form, event_form, form}
 use Rattle.grs_deck.specs.Places.{system_place, job_place, task_place}
-use Rattle.grs_deck.specs.Reading.{judge, judge_all, reading, fault}
+use Rattle.grs_deck.specs.Reading.{no_lists, judge, judge_all, reading, fault}
 
 abbrev at : ℕ → Kind → Option DeckFault
 at n k = Some (record { line = n; kind = k })
@@ -48,11 +54,11 @@ bytes :
     × FaultOf (text (codes "JOB J1 /* open" ∷ [])) (at 1 OutOfPlace)
     × FaultOf (text (codes "SYSTEM SYA /* a" ∷ codes "b */ FOO" ∷ [])) (at 2 UnknownStatement)
     × FaultOf (text (codes "/* only */" ∷ [])) (at 0 NoSystem)
-unfolding is_word is_hex digit is_allowed bad_line put put_word put_open end_line break_off begin_word begin step_in step scan_from finish_in lines_of lines_or_fault is_name_byte all_name is_name short_at dotted_at digits number_of unit_of ret_of rnl_of chosen option_at options_at ctl_at scope_at names_at place_at enq_at deq_at wait_at mode_of entries_of limit_of with_operand operand_at complex_at verb pair_at entry_at other_at act_at event_at is_unbuilt_word named_at key plain_form first_form event_form form system_place job_place task_place judge judge_all reading fault
+unfolding is_word is_hex digit is_allowed bad_line put put_word put_open end_line break_off begin_word begin step_in step scan_from finish_in lines_of lines_or_fault is_name_byte all_name is_name short_at dotted_at digits number_of unit_of ret_of rnl_of chosen option_at options_at ctl_at scope_at names_at place_at controlled_at uncontrolled_at enq_at reserve_at deq_at wait_at said_at line_verb which_of form_of value_of rnl_operand_at whole_rnl rnldef_at mode_of entries_of limit_of with_operand operand_at complex_at verb pair_at entry_at other_at act_at event_at is_unbuilt_word named_at key plain_form first_form event_form form statements_from statements system_place job_place task_place judge judge_all reading fault
 bytes = (refl, refl, refl, refl, refl, refl, refl, refl)
 
 -- words and forms before SCHEDULE: no word; a joined word; a quoted word; a digit first; a long name; the limit 0; COMPLEX not first; a number of entries that may not be; twice an operand; the operands; SCHEDULE first; a name twice; a line without a task; a task's line behind another JOB
-statements :
+words_and_forms :
     FaultOf (text (codes "SYSTEM SYA" ∷ codes "FOO" ∷ [])) (at 2 UnknownStatement)
     × FaultOf (text (codes "SYSTEM,SYA" ∷ [])) (at 1 UnknownStatement)
     × FaultOf (text (codes "ENQ'A'" ∷ [])) (at 1 UnknownStatement)
@@ -67,8 +73,8 @@ statements :
     × FaultOf (text (codes "SYSTEM SYA" ∷ codes "SYSTEM SYA" ∷ [])) (at 2 Repeated)
     × FaultOf (text (codes "SYSTEM SYA" ∷ codes "JOB J1" ∷ codes "ENQ (A,B,E,SYSTEM)" ∷ [])) (at 3 OutOfPlace)
     × FaultOf (in_task (codes "JOB J2" ∷ codes "ENQ (A,B,E,SYSTEM)" ∷ [])) (at 5 OutOfPlace)
-unfolding is_word is_hex digit is_allowed bad_line put put_word put_open end_line break_off begin_word begin step_in step scan_from finish_in lines_of lines_or_fault is_name_byte all_name is_name short_at dotted_at digits number_of unit_of ret_of rnl_of chosen option_at options_at ctl_at scope_at names_at place_at enq_at deq_at wait_at mode_of entries_of limit_of with_operand operand_at complex_at verb pair_at entry_at other_at act_at event_at is_unbuilt_word named_at key plain_form first_form event_form form system_place job_place task_place judge judge_all reading fault
-statements = (refl, refl, refl, refl, refl, refl, refl, refl, refl, refl, refl, refl, refl, refl)
+unfolding is_word is_hex digit is_allowed bad_line put put_word put_open end_line break_off begin_word begin step_in step scan_from finish_in lines_of lines_or_fault is_name_byte all_name is_name short_at dotted_at digits number_of unit_of ret_of rnl_of chosen option_at options_at ctl_at scope_at names_at place_at controlled_at uncontrolled_at enq_at reserve_at deq_at wait_at said_at line_verb which_of form_of value_of rnl_operand_at whole_rnl rnldef_at mode_of entries_of limit_of with_operand operand_at complex_at verb pair_at entry_at other_at act_at event_at is_unbuilt_word named_at key plain_form first_form event_form form statements_from statements system_place job_place task_place judge judge_all reading fault
+words_and_forms = (refl, refl, refl, refl, refl, refl, refl, refl, refl, refl, refl, refl, refl, refl)
 
 -- task lines: an empty qname; a blank one; nine bytes of which eight are blanks; RET and ECB; RET twice; each option of DEQ; a unit of five digits; RET=USE of DEQ; UCB of ENQ; RET of WAIT; a quote that is not closed; an odd hexadecimal digit; a scope that is none
 task_lines :
@@ -77,7 +83,7 @@ task_lines :
     × FaultOf (in_task (codes "ENQ ('A        ',B,E,SYSTEM)" ∷ [])) (at 4 NameLength)
     × FaultOf (in_task (codes "ENQ (A,B,E,SYSTEM),RET=USE,ECB" ∷ [])) (at 4 BadOperand)
     × FaultOf (in_task (codes "ENQ (A,B,E,SYSTEM),RET=USE,RET=USE" ∷ [])) (at 4 BadOperand)
-    × FaultOf (in_task (codes "DEQ (A,B,SYSTEM),RNL=NO,UCB=1a0F,RET=HAVE" ∷ [])) (at 4 NotBuilt)
+    × FaultOf (in_task (codes "DEQ (A,B,SYSTEM),RNL=NO,UCB=1a0F,RET=HAVE" ∷ [])) None
     × FaultOf (in_task (codes "DEQ (A,B,SYSTEM),UCB=1A012" ∷ [])) (at 4 BadOperand)
     × FaultOf (in_task (codes "DEQ (A,B,SYSTEM),RET=USE" ∷ [])) (at 4 BadOperand)
     × FaultOf (in_task (codes "ENQ (A,B,E,SYSTEM),UCB=1A01" ∷ [])) (at 4 BadOperand)
@@ -85,20 +91,44 @@ task_lines :
     × FaultOf (in_task (codes "ENQ ('A,B,E,SYSTEM)" ∷ [])) (at 4 BadOperand)
     × FaultOf (in_task (codes "ENQ (X'123',B,E,SYSTEM)" ∷ [])) (at 4 BadOperand)
     × FaultOf (in_task (codes "ENQ (A,B,E,GLOBAL)" ∷ [])) (at 4 BadOperand)
-unfolding is_word is_hex digit is_allowed bad_line put put_word put_open end_line break_off begin_word begin step_in step scan_from finish_in lines_of lines_or_fault is_name_byte all_name is_name short_at dotted_at digits number_of unit_of ret_of rnl_of chosen option_at options_at ctl_at scope_at names_at place_at enq_at deq_at wait_at mode_of entries_of limit_of with_operand operand_at complex_at verb pair_at entry_at other_at act_at event_at is_unbuilt_word named_at key plain_form first_form event_form form system_place job_place task_place judge judge_all reading fault
+unfolding is_word is_hex digit is_allowed bad_line put put_word put_open end_line break_off begin_word begin step_in step scan_from finish_in lines_of lines_or_fault is_name_byte all_name is_name short_at dotted_at digits number_of unit_of ret_of rnl_of chosen option_at options_at ctl_at scope_at names_at place_at controlled_at uncontrolled_at enq_at reserve_at deq_at wait_at said_at line_verb which_of form_of value_of rnl_operand_at whole_rnl rnldef_at mode_of entries_of limit_of with_operand operand_at complex_at verb pair_at entry_at other_at act_at event_at is_unbuilt_word named_at key plain_form first_form event_form form statements_from statements system_place job_place task_place judge judge_all reading fault
 task_lines = (refl, refl, refl, refl, refl, refl, refl, refl, refl, refl, refl, refl, refl)
 
--- what is not built: words; MODE(STAR); a second SYSTEM; SYSTEMS; RNL; each event but TASK; and what is wrong comes first
+-- RESERVE: UCB among its options; without UCB; another scope; RNL twice
+reserves :
+    FaultOf (in_task (codes "RESERVE (A,B,S,SYSTEMS),ECB,UCB=1a0b,RNL=NO" ∷ [])) None
+    × FaultOf (in_task (codes "RESERVE (A,B,S,SYSTEMS),ECB" ∷ [])) (at 4 BadOperand)
+    × FaultOf (in_task (codes "RESERVE (A,B,S,SYSTEM),UCB=1A0B" ∷ [])) (at 4 BadOperand)
+    × FaultOf (in_task (codes "RESERVE (A,B,S,SYSTEMS),UCB=1A0B,RNL=NO,RNL=NO" ∷ [])) (at 4 BadOperand)
+unfolding is_word is_hex digit is_allowed bad_line put put_word put_open end_line break_off begin_word begin step_in step scan_from finish_in lines_of lines_or_fault is_name_byte all_name is_name short_at dotted_at digits number_of unit_of ret_of rnl_of chosen option_at options_at ctl_at scope_at names_at place_at controlled_at uncontrolled_at enq_at reserve_at deq_at wait_at said_at line_verb which_of form_of value_of rnl_operand_at whole_rnl rnldef_at mode_of entries_of limit_of with_operand operand_at complex_at verb pair_at entry_at other_at act_at event_at is_unbuilt_word named_at key plain_form first_form event_form form statements_from statements system_place job_place task_place judge judge_all reading fault
+reserves = (refl, refl, refl, refl)
+
+-- RNLDEF: broken off; over lines, with a line end in a comment and between any tokens; an operand twice, on a further line; no RNAME; a name too long; behind a system; before COMPLEX; something behind its last operand; a fault behind it, on the line where it stands; a system called RNLDEF
+name_lists :
+    FaultOf (codes "RNLDEF RNL(INCL) TYPE(GENE") (at 1 BadOperand)
+    × FaultOf (text (codes "RNLDEF RNAME('SYS1.PARMLIB') /* one" ∷ codes "*/ TYPE(" ∷ codes "SPECIFIC) QNAME(SYSDSN" ∷ codes ")RNL(EXCL)" ∷ codes "SYSTEM SYA" ∷ [])) None
+    × FaultOf (text (codes "RNLDEF RNL(INCL) TYPE(GENERIC) QNAME(A)" ∷ codes "QNAME(A)" ∷ [])) (at 1 BadOperand)
+    × FaultOf (text (codes "RNLDEF RNL(INCL) TYPE(SPECIFIC) QNAME(A)" ∷ codes "SYSTEM SYA" ∷ [])) (at 1 BadOperand)
+    × FaultOf (text (codes "RNLDEF RNL(CON) TYPE(PATTERN)" ∷ codes "QNAME(ABCDEFGHI)" ∷ codes "SYSTEM SYA" ∷ [])) (at 1 NameLength)
+    × FaultOf (text (codes "SYSTEM SYA" ∷ codes "RNLDEF RNL(CON) TYPE(PATTERN) QNAME(A)" ∷ [])) (at 2 OutOfPlace)
+    × FaultOf (text (codes "RNLDEF RNL(CON) TYPE(PATTERN) QNAME(A)" ∷ codes "COMPLEX" ∷ [])) (at 2 OutOfPlace)
+    × FaultOf (text (codes "RNLDEF RNL(CON) TYPE(PATTERN) QNAME(A) SYSTEM SYA" ∷ [])) (at 1 BadOperand)
+    × FaultOf (text (codes "RNLDEF RNL(CON) TYPE(PATTERN)" ∷ codes "QNAME(A)" ∷ codes "FOO" ∷ [])) (at 3 UnknownStatement)
+    × FaultOf (text (codes "SYSTEM RNLDEF" ∷ codes "JOB J1" ∷ codes "TASK T1" ∷ codes "SCHEDULE" ∷ codes "RNLDEF TASK J1.T1" ∷ codes "RNLDEF TASK J1.T2" ∷ [])) (at 6 UnknownName)
+unfolding is_word is_hex digit is_allowed bad_line put put_word put_open end_line break_off begin_word begin step_in step scan_from finish_in lines_of lines_or_fault is_name_byte all_name is_name short_at dotted_at digits number_of unit_of ret_of rnl_of chosen option_at options_at ctl_at scope_at names_at place_at controlled_at uncontrolled_at enq_at reserve_at deq_at wait_at said_at line_verb which_of form_of value_of rnl_operand_at whole_rnl rnldef_at mode_of entries_of limit_of with_operand operand_at complex_at verb pair_at entry_at other_at act_at event_at is_unbuilt_word named_at key plain_form first_form event_form form statements_from statements system_place job_place task_place judge judge_all reading fault
+name_lists = (refl, refl, refl, refl, refl, refl, refl, refl, refl, refl)
+
+-- what is not built: words; MODE(STAR); a second SYSTEM; and what is wrong comes first
 unbuilt :
-    FaultOf (codes "RNLDEF RNL(INCL) TYPE(GENE") (at 1 NotBuilt)
-    × FaultOf (text (codes "SYSTEM SYA" ∷ codes "AT 0 VARY GRS(SYA),PURGE" ∷ [])) (at 2 NotBuilt)
+    FaultOf (text (codes "SYSTEM SYA" ∷ codes "AT 0 VARY GRS(SYA),PURGE" ∷ [])) (at 2 NotBuilt)
     × FaultOf (text (codes "D" ∷ [])) (at 1 NotBuilt)
+    × FaultOf (in_task (codes "GQSCAN SCOPE=GLOBAL" ∷ [])) (at 4 NotBuilt)
     × FaultOf (text (codes "COMPLEX MODE(STAR)" ∷ [])) (at 1 NotBuilt)
     × FaultOf (text (codes "SYSTEM S1" ∷ codes "SYSTEM S2" ∷ [])) (at 2 NotBuilt)
-    × FaultOf (in_task (codes "ENQ (A,B,E,SYSTEMS)" ∷ [])) (at 4 NotBuilt)
-    × FaultOf (in_task (codes "ENQ (A,B,E,SYSTEM),RNL=YES" ∷ [])) (at 4 NotBuilt)
+    × FaultOf (in_task (codes "ENQ (A,B,E,SYSTEMS)" ∷ [])) None
+    × FaultOf (in_task (codes "ENQ (A,B,E,SYSTEM),RNL=YES" ∷ [])) None
     × FaultOf (in_task (codes "ENQ ('',B,E,SYSTEMS)" ∷ [])) (at 4 NameLength)
-unfolding is_word is_hex digit is_allowed bad_line put put_word put_open end_line break_off begin_word begin step_in step scan_from finish_in lines_of lines_or_fault is_name_byte all_name is_name short_at dotted_at digits number_of unit_of ret_of rnl_of chosen option_at options_at ctl_at scope_at names_at place_at enq_at deq_at wait_at mode_of entries_of limit_of with_operand operand_at complex_at verb pair_at entry_at other_at act_at event_at is_unbuilt_word named_at key plain_form first_form event_form form system_place job_place task_place judge judge_all reading fault
+unfolding is_word is_hex digit is_allowed bad_line put put_word put_open end_line break_off begin_word begin step_in step scan_from finish_in lines_of lines_or_fault is_name_byte all_name is_name short_at dotted_at digits number_of unit_of ret_of rnl_of chosen option_at options_at ctl_at scope_at names_at place_at controlled_at uncontrolled_at enq_at reserve_at deq_at wait_at said_at line_verb which_of form_of value_of rnl_operand_at whole_rnl rnldef_at mode_of entries_of limit_of with_operand operand_at complex_at verb pair_at entry_at other_at act_at event_at is_unbuilt_word named_at key plain_form first_form event_form form statements_from statements system_place job_place task_place judge judge_all reading fault
 unbuilt = (refl, refl, refl, refl, refl, refl, refl, refl)
 
 -- event lines: SCHEDULE again; no system; no task; no form; an entry out of range; one in range; a system that is itself; a turn
@@ -111,19 +141,21 @@ events :
     × FaultOf (text (codes "COMPLEX ENTRIES(4)" ∷ codes "SYSTEM SYA" ∷ codes "SCHEDULE" ∷ codes "SYA LEAVE 03" ∷ [])) (at 4 NotBuilt)
     × FaultOf (text (codes "SYSTEM SYA" ∷ codes "SCHEDULE" ∷ codes "SYA PURGE SYA" ∷ [])) (at 3 UnknownName)
     × FaultOf (text (codes "SYSTEM SYA" ∷ codes "SCHEDULE" ∷ codes "SYA TURN" ∷ codes "SCHEDULE" ∷ [])) (at 3 NotBuilt)
-unfolding is_word is_hex digit is_allowed bad_line put put_word put_open end_line break_off begin_word begin step_in step scan_from finish_in lines_of lines_or_fault is_name_byte all_name is_name short_at dotted_at digits number_of unit_of ret_of rnl_of chosen option_at options_at ctl_at scope_at names_at place_at enq_at deq_at wait_at mode_of entries_of limit_of with_operand operand_at complex_at verb pair_at entry_at other_at act_at event_at is_unbuilt_word named_at key plain_form first_form event_form form system_place job_place task_place judge judge_all reading fault
+unfolding is_word is_hex digit is_allowed bad_line put put_word put_open end_line break_off begin_word begin step_in step scan_from finish_in lines_of lines_or_fault is_name_byte all_name is_name short_at dotted_at digits number_of unit_of ret_of rnl_of chosen option_at options_at ctl_at scope_at names_at place_at controlled_at uncontrolled_at enq_at reserve_at deq_at wait_at said_at line_verb which_of form_of value_of rnl_operand_at whole_rnl rnldef_at mode_of entries_of limit_of with_operand operand_at complex_at verb pair_at entry_at other_at act_at event_at is_unbuilt_word named_at key plain_form first_form event_form form statements_from statements system_place job_place task_place judge judge_all reading fault
 events = (refl, refl, refl, refl, refl, refl, refl, refl)
 
 abbrev whole : List ℕ
-whole = text (codes "COMPLEX ENTRIES(8)" ∷ codes "SYSTEM SYA" ∷ codes "JOB J1" ∷ codes "TASK T1" ∷ codes "ENQ ('A ','it''s',S,STEP),RET=USE" ∷ codes "JOB J2" ∷ codes "TASK T1" ∷ codes "DEQ (X'4a',B.C,SYSTEM),RET=HAVE" ∷ codes "WAIT (A,B,STEP)" ∷ codes "SCHEDULE" ∷ codes "SYA TASK J2.T1" ∷ [])
+whole = text (codes "COMPLEX ENTRIES(8)" ∷ codes "RNLDEF RNL(EXCL) TYPE(PATTERN) QNAME('AP* ')" ∷ codes " RNAME(X'4100')" ∷ codes "SYSTEM SYA" ∷ codes "JOB J1" ∷ codes "TASK T1" ∷ codes "ENQ ('A ','it''s',S,STEP),RET=USE" ∷ codes "JOB J2" ∷ codes "TASK T1" ∷ codes "DEQ (X'4a',B.C,SYSTEM),RET=HAVE" ∷ codes "WAIT (A,B,STEP)" ∷ codes "SCHEDULE" ∷ codes "SYA TASK J2.T1" ∷ [])
 
 abbrev deck : Deck
 deck = record {
   star = false;
   entries = 8;
   limit = 4096;
+  lists = record no_lists { excl = record { which = Excl; entries = record { which = Excl; form = Pattern; q = codes "AP*"; r = Some (65 ∷ 0 ∷ []) } ∷ [] } };
   systems = record {
     name = codes "SYA";
+    desk = [];
     jobs = record {
       name = codes "J1";
       tasks = record { name = codes "T1"; lines = lines.Enq (record { q = codes "A"; r = codes "it's"; ctl = S; scope = scopes.Step } ∷ []) RetUse true ∷ [] } ∷ [];
@@ -137,5 +169,5 @@ deck = record {
 
 -- a whole deck
 read : reading whole ≡ Ok deck
-unfolding is_word is_hex digit is_allowed bad_line put put_word put_open end_line break_off begin_word begin step_in step scan_from finish_in lines_of lines_or_fault is_name_byte all_name is_name short_at dotted_at digits number_of unit_of ret_of rnl_of chosen option_at options_at ctl_at scope_at names_at place_at enq_at deq_at wait_at mode_of entries_of limit_of with_operand operand_at complex_at verb pair_at entry_at other_at act_at event_at is_unbuilt_word named_at key plain_form first_form event_form form system_place job_place task_place judge judge_all reading fault
+unfolding is_word is_hex digit is_allowed bad_line put put_word put_open end_line break_off begin_word begin step_in step scan_from finish_in lines_of lines_or_fault is_name_byte all_name is_name short_at dotted_at digits number_of unit_of ret_of rnl_of chosen option_at options_at ctl_at scope_at names_at place_at controlled_at uncontrolled_at enq_at reserve_at deq_at wait_at said_at line_verb which_of form_of value_of rnl_operand_at whole_rnl rnldef_at mode_of entries_of limit_of with_operand operand_at complex_at verb pair_at entry_at other_at act_at event_at is_unbuilt_word named_at key plain_form first_form event_form form statements_from statements system_place job_place task_place judge judge_all reading fault
 read = refl

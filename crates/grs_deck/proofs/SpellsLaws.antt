@@ -1,7 +1,7 @@
 -- What is read is spelled, and what is spelled is read.
 use Rattle.std.proofs.Common.{◌≡◌, ℕ, ◌<◌, ◌≤◌, Bool, true, false, cond, not, eqb, ltb, leb, List, [], ◌∷◌, length, Option, Some, None, Result, Ok, Err, refl, sym, ap, subst, ◌∙◌, arith}
 use Rattle.std.specs.Prelude.{◌||◌, is_some, is_none}
-use Rattle.std.proofs.lemmas.Bool.{ltb-false, le-ltb, lt-leb, eqb-false, ne_eqb, leb-true, le-leb, leb-false, and_parts}
+use Rattle.std.proofs.lemmas.Bool.{ltb-false, le-ltb, lt-leb, eqb-false, eqb-true, ne_eqb, leb-true, le-leb, leb-false, and_parts}
 use Rattle.grs_base.specs.declared.fault.DeckFault.{DeckFault}
 use Rattle.grs_base.specs.declared.fault.Kind.TheVariants.{NoSystem, TooLong}
 use Rattle.grs_base.specs.declared.fault.ReadError.{ReadError}
@@ -15,20 +15,26 @@ use Rattle.deck_scan.specs.Pieces.{SpellsLines}
 use Rattle.deck_scan.specs.Gives.{Gives}
 use Rattle.deck_scan.specs.Reading.{lines_or_fault, unless_fault, byte_fault, bad_byte}
 use Rattle.deck_scan.proofs.Pieced.{spelled_is, spelled_found}
-use Rattle.deck_form.specs.declared.ask.Ask.{Ask}
+use Rattle.job_syntax.specs.declared.display.Shown.TheVariants as shown
+use Rattle.job_syntax.specs.declared.said.Said.{Said}
+use Rattle.job_syntax.specs.declared.said.Said.TheVariants as said
+use Rattle.job_syntax.specs.Lines.{are_bad, is_bad_q, is_bad_r, is_bad}
+use Rattle.rnl_syntax.specs.declared.operands.Rnldef.{Rnldef}
+use Rattle.rnl_syntax.specs.Operands.{is_bad_r as is_bad_rnl, is_bad as is_bad_rnldef}
 use Rattle.deck_form.specs.declared.event.Act.{Act}
 use Rattle.deck_form.specs.declared.event.Act.TheVariants as acts
 use Rattle.deck_form.specs.declared.form.Stmt.{Stmt}
 use Rattle.deck_form.specs.declared.form.Stmt.TheVariants as stmts
 use Rattle.deck_form.specs.Spelled.{Spells}
+use Rattle.deck_form.specs.Statements.{statements}
 use Rattle.deck_form.proofs.Taken.{form_taken}
 use Rattle.deck_form.proofs.Again.{form_again}
 use Rattle.grs_deck.specs.declared.judge.Draft.{Draft}
 use Rattle.grs_deck.specs.Places.{jobs_now, tasks_now, task_count, system_place, job_place, task_place, event_of}
-use Rattle.grs_deck.specs.Judge.{is_over, is_bad_ask, is_long_act, is_long, is_repeated, is_misplaced, is_full, is_unknown, is_unbuilt, verdict}
+use Rattle.grs_deck.specs.Judge.{is_over, list_of, is_long_act, is_long, is_repeated, is_misplaced, is_full, is_unknown, is_unbuilt, verdict}
 use Rattle.grs_deck.specs.Grow.{grow}
 use Rattle.grs_deck.specs.Reading.{◌>>=◌, judge, judge_all, no_draft, ended, reading, fault, fault_of}
-use Rattle.grs_deck.specs.Spells.{IsShort, IsShortAct, IsQname, IsRname, MayAsk, MayStand, IsRight, Says, SpellsDeck, Answers, IsOkUnlessMemory}
+use Rattle.grs_deck.specs.Spells.{IsShort, IsShortAct, IsQname, IsRname, IsMaybeQname, IsMaybeRname, AreNames, MaySay, MayDefine, MayStand, IsRight, Says, SpellsDeck, Answers, IsOkUnlessMemory}
 use Rattle.grs_deck.proofs.FitsLaws.{NoFault, tests_of, judged}
 
 -- ---- tests and facts
@@ -120,10 +126,44 @@ act_short acts.Rest h = refl
 
 -- ---- a statement that may stand there
 
-ask_by : (d : Draft) (a : Ask) → is_bad_ask a ≡ false → eqb (length (tasks_now (jobs_now d.deck.systems))) 0 ≡ false → eqb d.room 0 ≡ false → MayAsk d a
-ask_by d a long idle full =
-    let k = neither (not (is_qname a.q)) (not (is_rname a.r)) long in
-    (qname_of a.q (passed (is_qname a.q) k.0), rname_of a.r (passed (is_rname a.r) k.1), there (length (tasks_now (jobs_now d.deck.systems))) idle, there d.room full)
+both_names : (q r : List ℕ) → are_bad q r ≡ false → IsQname q × IsRname r
+both_names q r h =
+    let k = neither (not (is_qname q)) (not (is_rname r)) h in
+    (qname_of q (passed (is_qname q) k.0), rname_of r (passed (is_rname r) k.1))
+
+maybe_qname : (q : Option (List ℕ)) → is_bad_q q ≡ false → IsMaybeQname q
+maybe_qname None h = tt
+maybe_qname (Some q) h = qname_of q (passed (is_qname q) h)
+
+maybe_rname : (r : Option (List ℕ)) → is_bad_r r ≡ false → IsMaybeRname r
+maybe_rname None h = tt
+maybe_rname (Some r) h = rname_of r (passed (is_rname r) h)
+
+names_by : (s : Said) → is_bad s ≡ false → AreNames s
+names_by (said.Enq e) h = both_names e.ask.q e.ask.r h
+names_by (said.Reserve e) h = both_names e.ask.q e.ask.r h
+names_by (said.Deq a) h = both_names a.q a.r h
+names_by (said.Wait a) h = both_names a.q a.r h
+names_by (said.Gqscan s) h = let k = neither (is_bad_q s.names.q) (is_bad_r s.names.r) h in (maybe_qname s.names.q k.0, maybe_rname s.names.r k.1)
+names_by (said.Display shown.Contended) h = tt
+names_by (said.Display (shown.Resource q r)) h = both_names q r h
+
+say_by : (d : Draft) (s : Said) → is_bad s ≡ false → eqb (length (tasks_now (jobs_now d.deck.systems))) 0 ≡ false → eqb d.room 0 ≡ false → MaySay d s
+say_by d s long idle full = (names_by s long, there (length (tasks_now (jobs_now d.deck.systems))) idle, there d.room full)
+
+rnl_rname : (r : Option (List ℕ)) → is_bad_rnl r ≡ false → IsMaybeRname r
+rnl_rname None h = tt
+rnl_rname (Some r) h = rname_of r (passed (is_rname r) h)
+
+none_yet : {A : Type 0} (xs : List A) → length xs ≡ 0 → xs ≡ []
+none_yet [] h = refl
+none_yet (x ∷ xs) h = absurd (omega (arith, h))
+
+define_by : (d : Draft) (r : Rnldef) → is_bad_rnldef r ≡ false → not (eqb (length d.deck.systems) 0) ≡ false → leb 4096 (length (list_of r.which d.deck.lists).entries) ≡ false → MayDefine d r
+define_by d r long misplaced full =
+    let k = neither (not (is_qname r.q)) (is_bad_rnl r.r) long in
+    let none = eqb-true (length d.deck.systems) 0 (passed (eqb (length d.deck.systems) 0) misplaced) in
+    (qname_of r.q (passed (is_qname r.q) k.0), rnl_rname r.r k.1, none_yet d.deck.systems none, fewer 4096 (length (list_of r.which d.deck.lists).entries) full)
 
 may_by : (d : Draft) (st : Stmt) → NoFault (is_long st) (is_repeated d st) (is_misplaced d st) (is_full d st) (is_unknown d st) (is_unbuilt d st) → MayStand d st
 may_by d stmts.Unbuilt h = tt
@@ -131,26 +171,49 @@ may_by d (stmts.Complex c) h = h.misplaced
 may_by d (stmts.System n) h = (short_of n h.long, none_of (system_place d.deck.systems n) h.repeated, fewer 8 (length d.deck.systems) h.full)
 may_by d (stmts.Job n) h = (short_of n h.long, none_of (job_place (jobs_now d.deck.systems) n) h.repeated, there (length d.deck.systems) h.misplaced, fewer 64 (length (jobs_now d.deck.systems)) h.full)
 may_by d (stmts.Task n) h = (short_of n h.long, none_of (task_place (tasks_now (jobs_now d.deck.systems)) n) h.repeated, there (length (jobs_now d.deck.systems)) h.misplaced, fewer 64 (task_count (jobs_now d.deck.systems)) h.full)
-may_by d (stmts.Enq e) h = ask_by d e.ask h.long h.misplaced h.full
-may_by d (stmts.Deq a) h = ask_by d a h.long h.misplaced h.full
-may_by d (stmts.Wait a) h = ask_by d a h.long h.misplaced h.full
+may_by d (stmts.Line s) h = say_by d s h.long h.misplaced h.full
+may_by d (stmts.Rnldef r) h = define_by d r h.long h.misplaced h.full
 may_by d stmts.Schedule h = there (length d.deck.systems) h.misplaced
 may_by d (stmts.Event s a) h = let k = neither (is_over s) (is_long_act a) h.long in (short_of s k.0, short_act a k.1, some_of (event_of d.deck.systems s a) h.unknown)
 
 pub right_of : (d : Draft) (st : Stmt) → verdict d st ≡ None → IsRight d st
 right_of d st h = let t = tests_of d st h in (may_by d st t, t.unbuilt)
 
--- the tests of a task line
-record AskTests (d : Draft) (a : Ask) : Type 0 where
-  long : is_bad_ask a ≡ false
-  idle : eqb (length (tasks_now (jobs_now d.deck.systems))) 0 ≡ false
-  full : eqb d.room 0 ≡ false
+names_fail : (q r : List ℕ) → IsQname q × IsRname r → are_bad q r ≡ false
+names_fail q r h = rw (of_qname q h.0, of_rname r h.1) refl
 
-of_ask : (d : Draft) (a : Ask) → MayAsk d a → AskTests d a
-of_ask d a h = record {
-  long = rw (of_qname a.q h.0, of_rname a.r h.1) refl;
-  idle = there_not (length (tasks_now (jobs_now d.deck.systems))) h.2;
-  full = there_not d.room h.3;
+qname_fail : (q : Option (List ℕ)) → IsMaybeQname q → is_bad_q q ≡ false
+qname_fail None h = refl
+qname_fail (Some q) h = rw (of_qname q h) refl
+
+rname_fail : (r : Option (List ℕ)) → IsMaybeRname r → is_bad_r r ≡ false
+rname_fail None h = refl
+rname_fail (Some r) h = rw (of_rname r h) refl
+
+rnl_fail : (r : Option (List ℕ)) → IsMaybeRname r → is_bad_rnl r ≡ false
+rnl_fail None h = refl
+rnl_fail (Some r) h = rw (of_rname r h) refl
+
+no_bad : (s : Said) → AreNames s → is_bad s ≡ false
+no_bad (said.Enq e) h = names_fail e.ask.q e.ask.r h
+no_bad (said.Reserve e) h = names_fail e.ask.q e.ask.r h
+no_bad (said.Deq a) h = names_fail a.q a.r h
+no_bad (said.Wait a) h = names_fail a.q a.r h
+no_bad (said.Gqscan s) h = both_false (is_bad_q s.names.q) (is_bad_r s.names.r) (qname_fail s.names.q h.0) (rname_fail s.names.r h.1)
+no_bad (said.Display shown.Contended) h = refl
+no_bad (said.Display (shown.Resource q r)) h = names_fail q r h
+
+-- the tests of an entry of a name list
+record DefineTests (d : Draft) (r : Rnldef) : Type 0 where
+  long : is_bad_rnldef r ≡ false
+  misplaced : not (eqb (length d.deck.systems) 0) ≡ false
+  full : leb 4096 (length (list_of r.which d.deck.lists).entries) ≡ false
+
+of_define : (d : Draft) (r : Rnldef) → MayDefine d r → DefineTests d r
+of_define d r h = record {
+  long = rw (of_qname r.q h.0) (rnl_fail r.r h.1);
+  misplaced = rw h.2 refl;
+  full = fewer_not 4096 (length (list_of r.which d.deck.lists).entries) h.3;
 }
 
 -- no test applies to a statement that is right
@@ -160,9 +223,8 @@ no_test d (stmts.Complex c) h = record { long = refl; repeated = refl; misplaced
 no_test d (stmts.System n) h = record { long = of_short n h.0.0; repeated = none_there (system_place d.deck.systems n) h.0.1; misplaced = refl; full = fewer_not 8 (length d.deck.systems) h.0.2; unknown = refl; unbuilt = h.1 }
 no_test d (stmts.Job n) h = record { long = of_short n h.0.0; repeated = none_there (job_place (jobs_now d.deck.systems) n) h.0.1; misplaced = there_not (length d.deck.systems) h.0.2; full = fewer_not 64 (length (jobs_now d.deck.systems)) h.0.3; unknown = refl; unbuilt = h.1 }
 no_test d (stmts.Task n) h = record { long = of_short n h.0.0; repeated = none_there (task_place (tasks_now (jobs_now d.deck.systems)) n) h.0.1; misplaced = there_not (length (jobs_now d.deck.systems)) h.0.2; full = fewer_not 64 (task_count (jobs_now d.deck.systems)) h.0.3; unknown = refl; unbuilt = h.1 }
-no_test d (stmts.Enq e) h = let t = of_ask d e.ask h.0 in record { long = t.long; repeated = refl; misplaced = t.idle; full = t.full; unknown = refl; unbuilt = h.1 }
-no_test d (stmts.Deq a) h = let t = of_ask d a h.0 in record { long = t.long; repeated = refl; misplaced = t.idle; full = t.full; unknown = refl; unbuilt = h.1 }
-no_test d (stmts.Wait a) h = let t = of_ask d a h.0 in record { long = t.long; repeated = refl; misplaced = t.idle; full = t.full; unknown = refl; unbuilt = h.1 }
+no_test d (stmts.Line s) h = record { long = no_bad s h.0.0; repeated = refl; misplaced = there_not (length (tasks_now (jobs_now d.deck.systems))) h.0.1; full = there_not d.room h.0.2; unknown = refl; unbuilt = h.1 }
+no_test d (stmts.Rnldef r) h = let t = of_define d r h.0 in record { long = t.long; repeated = refl; misplaced = t.misplaced; full = t.full; unknown = refl; unbuilt = h.1 }
 no_test d stmts.Schedule h = record { long = refl; repeated = refl; misplaced = there_not (length d.deck.systems) h.0; full = refl; unknown = refl; unbuilt = h.1 }
 no_test d (stmts.Event s a) h = record { long = both_false (is_over s) (is_long_act a) (of_short s h.0.0) (act_short a h.0.1); repeated = refl; misplaced = refl; full = refl; unknown = found_there (event_of d.deck.systems s a) h.0.2.0 h.0.2.1; unbuilt = h.1 }
 
@@ -248,9 +310,9 @@ lines_read text lines none h = rw (none, spelled_is text lines h) refl
 pub reading_spells : (text : List ℕ) (deck : Deck) → reading text ≡ Ok deck → SpellsDeck text deck
 unfolding reading lines_or_fault
 reading_spells text deck h =
-    let b = bind_ok (lines_or_fault text) (λ ls. judge_all no_draft ls >>= ended) deck h in
+    let b = bind_ok (lines_or_fault text) (λ ls. judge_all no_draft (statements ls) >>= ended) deck h in
     let u = unless_ok (byte_fault text) (lines_of text) b.0 b.1 in
-    let j = bind_ok (judge_all no_draft b.0) ended deck b.2 in
+    let j = bind_ok (judge_all no_draft (statements b.0)) ended deck b.2 in
     let e = ended_there j.0 deck j.2 in
     let a = allowed_of text u.0 in
     record {
@@ -258,7 +320,7 @@ reading_spells text deck h =
       lines = b.0;
       spelled = subst (λ (ls : List TokenLine). SpellsLines text ls) u.1 (text_spells text a);
       draft = j.0;
-      says = says b.0 no_draft j.0 j.1;
+      says = says (statements b.0) no_draft j.0 j.1;
       is = e.1;
       system = subst (λ (x : Deck). 0 < length x.systems) e.1 e.0;
     }
@@ -269,7 +331,7 @@ unfolding reading
 spells_reading text deck h =
     let none = no_byte_fault text (record { short = h.short; bytes = h.spelled.allowed }) in
     let some : 0 < length h.draft.deck.systems = subst (λ (x : Deck). 0 < length x.systems) (sym h.is) h.system in
-    rw (lines_read text h.lines none h.spelled, says_again h.lines no_draft h.draft h.says, there_not (length h.draft.deck.systems) some) (ap no_error h.is)
+    rw (lines_read text h.lines none h.spelled, says_again (statements h.lines) no_draft h.draft h.says, there_not (length h.draft.deck.systems) some) (ap no_error h.is)
 
 -- ---- the answers of the reader
 

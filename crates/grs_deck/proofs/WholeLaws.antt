@@ -17,22 +17,27 @@ use Rattle.grs_wire.specs.declared.deck.Choice.TheVariants as choices
 use Rattle.grs_wire.specs.declared.deck.Deck.{Deck}
 use Rattle.deck_scan.specs.declared.token.Token.{Token}
 use Rattle.deck_scan.specs.declared.token.TokenLine.{TokenLine}
-use Rattle.deck_form.specs.Tokens.{◌>>=◌}
 use Rattle.deck_form.specs.declared.event.Act.{Act}
 use Rattle.deck_form.specs.declared.event.Act.TheVariants as acts
 use Rattle.deck_form.specs.declared.complex.Setup.{Setup}
 use Rattle.deck_form.specs.declared.form.Stmt.{Stmt}
 use Rattle.deck_form.specs.declared.form.Stmt.TheVariants as stmts
 use Rattle.deck_form.specs.Complex.{no_setup, is_entries, is_limit}
-use Rattle.deck_form.specs.Spelled.{Sets, Operand, Mode, Entries, Limit, IsFreeOperand, set_operand, IsComplex, IsAct, Spells}
-use Rattle.deck_form.proofs.Taken.{bind_some}
+use Rattle.deck_form.specs.Statements.{statements}
+use Rattle.deck_scan.specs.Next.{◌>>=◌, Sets}
+use Rattle.deck_form.specs.Spelled.{Operand, Mode, Entries, Limit, IsFreeOperand, set_operand, IsComplex, IsAct, Spells}
+use Rattle.deck_scan.proofs.Taking.{bind_some}
 use Rattle.grs_deck.specs.declared.judge.Draft.{Draft}
 use Rattle.grs_deck.specs.Places.{task_count, system_place, job_place, task_place, Fits, system_id, system_at, task_in, unless_own, choice_of, event_of}
 use Rattle.grs_deck.specs.Grow.{with_event, grow}
 use Rattle.grs_deck.specs.Reading.{no_draft, reading}
 use Rattle.grs_deck.specs.Spells.{IsRight, Says, SpellsDeck}
-use Rattle.grs_deck.specs.Whole.{IsTaskOf, IsChoiceOf, IsEventOf, IsDeck}
-use Rattle.grs_deck.proofs.FitsLaws.{fits_grow}
+use Rattle.grs_base.specs.Rnl.{no_entries}
+use Rattle.grs_base.specs.declared.rnl.Which.{Which}
+use Rattle.grs_base.specs.declared.rnl.Which.TheVariants.{Incl, Excl, Con}
+use Rattle.grs_base.specs.declared.rnl.RnlEntry.{RnlEntry}
+use Rattle.grs_deck.specs.Whole.{IsListOf, AreLists, IsTaskOf, IsChoiceOf, IsEventOf, IsDeck}
+use Rattle.grs_deck.proofs.FitsLaws.{fits_grow, lists_grow}
 use Rattle.grs_deck.proofs.SpellsLaws.{no_test, reading_spells}
 
 abbrev some : {A : Type 0} → A → Option A
@@ -135,6 +140,7 @@ pub record IsDraft (d : Draft) : Type 0 where
   pub fits : Fits d.deck.systems
   pub entries : is_entries d.deck.entries ≡ true
   pub limit : is_limit d.deck.limit ≡ true
+  pub lists : AreLists d.deck.lists
   pub events : All (IsEventOf d.deck.systems d.deck.entries) d.deck.events
   pub quiet : d.scheduled ≡ false → d.deck.events ≡ []
 
@@ -142,31 +148,31 @@ no_events : (systems : List SystemDef) (entries : ℕ) (events : List Event) →
 no_events systems entries events e = rw e (All-nil (IsEventOf systems entries))
 
 -- a statement before SCHEDULE that leaves the events
-first_keeps : (d : Draft) (st : Stmt) → IsDraft d → Fits (grow d st).deck.systems → is_entries (grow d st).deck.entries ≡ true → is_limit (grow d st).deck.limit ≡ true → (grow d st).deck.events ≡ [] → IsDraft (grow d st)
-first_keeps d st h fits entries limit none = record { fits = fits; entries = entries; limit = limit; events = no_events (grow d st).deck.systems (grow d st).deck.entries (grow d st).deck.events none; quiet = λ e. none }
+first_keeps : (d : Draft) (st : Stmt) → IsDraft d → Fits (grow d st).deck.systems → AreLists (grow d st).deck.lists → is_entries (grow d st).deck.entries ≡ true → is_limit (grow d st).deck.limit ≡ true → (grow d st).deck.events ≡ [] → IsDraft (grow d st)
+first_keeps d st h fits lists entries limit none = record { fits = fits; entries = entries; limit = limit; lists = lists; events = no_events (grow d st).deck.systems (grow d st).deck.entries (grow d st).deck.events none; quiet = λ e. none }
 
-spelled_first : (d : Draft) (l : TokenLine) (st : Stmt) → d.scheduled ≡ false → IsDraft d → Spells d.scheduled d.deck.entries l st → Fits (grow d st).deck.systems → IsDraft (grow d st)
-spelled_first d l stmts.Unbuilt e h s fits = first_keeps d stmts.Unbuilt h fits h.entries h.limit (h.quiet e)
-spelled_first d l (stmts.Complex c) e h s fits =
+spelled_first : (d : Draft) (l : TokenLine) (st : Stmt) → d.scheduled ≡ false → IsDraft d → Spells d.scheduled d.deck.entries l st → Fits (grow d st).deck.systems → AreLists (grow d st).deck.lists → IsDraft (grow d st)
+spelled_first d l stmts.Unbuilt e h s fits lists = first_keeps d stmts.Unbuilt h fits lists h.entries h.limit (h.quiet e)
+spelled_first d l (stmts.Complex c) e h s fits lists =
     let at : Spells false d.deck.entries l (stmts.Complex c) = subst (λ (b : Bool). Spells b d.deck.entries l (stmts.Complex c)) e s in
     let g = setup_of at.1.0 c at.1.2 in
-    first_keeps d (stmts.Complex c) h fits (given_or is_entries c.entries 64 refl g.entries) (given_or is_limit c.limit 4096 refl g.limit) (h.quiet e)
-spelled_first d l (stmts.System n) e h s fits = first_keeps d (stmts.System n) h fits h.entries h.limit (h.quiet e)
-spelled_first d l (stmts.Job n) e h s fits = first_keeps d (stmts.Job n) h fits h.entries h.limit (h.quiet e)
-spelled_first d l (stmts.Task n) e h s fits = first_keeps d (stmts.Task n) h fits h.entries h.limit (h.quiet e)
-spelled_first d l (stmts.Enq a) e h s fits = first_keeps d (stmts.Enq a) h fits h.entries h.limit (h.quiet e)
-spelled_first d l (stmts.Deq a) e h s fits = first_keeps d (stmts.Deq a) h fits h.entries h.limit (h.quiet e)
-spelled_first d l (stmts.Wait a) e h s fits = first_keeps d (stmts.Wait a) h fits h.entries h.limit (h.quiet e)
-spelled_first d l stmts.Schedule e h s fits = first_keeps d stmts.Schedule h fits h.entries h.limit (h.quiet e)
-spelled_first d l (stmts.Event n a) e h s fits = absurd (let at : Spells false d.deck.entries l (stmts.Event n a) = subst (λ (b : Bool). Spells b d.deck.entries l (stmts.Event n a)) e s in at.1)
+    first_keeps d (stmts.Complex c) h fits lists (given_or is_entries c.entries 64 refl g.entries) (given_or is_limit c.limit 4096 refl g.limit) (h.quiet e)
+spelled_first d l (stmts.System n) e h s fits lists = first_keeps d (stmts.System n) h fits lists h.entries h.limit (h.quiet e)
+spelled_first d l (stmts.Job n) e h s fits lists = first_keeps d (stmts.Job n) h fits lists h.entries h.limit (h.quiet e)
+spelled_first d l (stmts.Task n) e h s fits lists = first_keeps d (stmts.Task n) h fits lists h.entries h.limit (h.quiet e)
+spelled_first d l (stmts.Rnldef r) e h s fits lists = first_keeps d (stmts.Rnldef r) h fits lists h.entries h.limit (h.quiet e)
+spelled_first d l (stmts.Line a) e h s fits lists = first_keeps d (stmts.Line a) h fits lists h.entries h.limit (h.quiet e)
+spelled_first d l stmts.Schedule e h s fits lists = first_keeps d stmts.Schedule h fits lists h.entries h.limit (h.quiet e)
+spelled_first d l (stmts.Event n a) e h s fits lists = absurd (let at : Spells false d.deck.entries l (stmts.Event n a) = subst (λ (b : Bool). Spells b d.deck.entries l (stmts.Event n a)) e s in at.1)
 
 -- an event more
 event_more : (d : Draft) (room : ℕ) (n : List ℕ) (a : Act) (rest : List Token) (o : Option Event) → event_of d.deck.systems n a ≡ o → d.scheduled ≡ true → IsAct d.deck.entries rest a → IsDraft d → IsDraft (record { deck = with_event o d.deck; begun = true; scheduled = true; room = room })
-event_more d room n a rest None is e act h = record { fits = h.fits; entries = h.entries; limit = h.limit; events = h.events; quiet = λ k. absurd cc }
+event_more d room n a rest None is e act h = record { fits = h.fits; entries = h.entries; limit = h.limit; lists = h.lists; events = h.events; quiet = λ k. absurd cc }
 event_more d room n a rest (Some v) is e act h = record {
   fits = h.fits;
   entries = h.entries;
   limit = h.limit;
+  lists = h.lists;
   events = All-push (IsEventOf d.deck.systems d.deck.entries) d.deck.events v h.events (event_is d.deck.systems d.deck.entries rest n a v act is);
   quiet = λ k. absurd cc;
 }
@@ -180,21 +186,24 @@ step_keeps d l st h s right = go d.scheduled refl
   where
     go : (b : Bool) → d.scheduled ≡ b → IsDraft (grow d st)
     go true e = spelled_event d l st e h (subst (λ (b : Bool). Spells b d.deck.entries l st) e s)
-    go false e = spelled_first d l st e h s (fits_grow d st (no_test d st right).full h.fits)
+    go false e = let full = (no_test d st right).full in spelled_first d l st e h s (fits_grow d st full h.fits) (lists_grow d st full h.lists)
 
 says_keeps : (ls : List TokenLine) (d e : Draft) → Says d ls e → IsDraft d → IsDraft e
 says_keeps [] d e s h = subst IsDraft s h
 says_keeps (l ∷ ls) d e s h = says_keeps ls (grow d s.0) e s.3 (step_keeps d l s.0 h s.1 s.2)
 
+no_list : (which : Which) → IsListOf which (no_entries which)
+no_list which = record { which_is = refl; few = omega arith; own = All-nil (λ (e : RnlEntry). e.which ≡ which) }
+
 first_draft : IsDraft no_draft
-first_draft = record { fits = record { few = omega arith; each = λ k x lt. absurd (omega (arith, lt)) }; entries = refl; limit = refl; events = All-nil (IsEventOf [] 64); quiet = λ e. refl }
+first_draft = record { lists = record { incl = no_list Incl; excl = no_list Excl; con = no_list Con }; fits = record { few = omega arith; each = λ k x lt. absurd (omega (arith, lt)) }; entries = refl; limit = refl; events = All-nil (IsEventOf [] 64); quiet = λ e. refl }
 
 -- Each deck that is spelled is whole.
 pub spelled_whole : (text : List ℕ) (d : Deck) → SpellsDeck text d → IsDeck d
 spelled_whole text d h =
-    let w = says_keeps h.lines no_draft h.draft h.says first_draft in
+    let w = says_keeps (statements h.lines) no_draft h.draft h.says first_draft in
     let some : 0 < length h.draft.deck.systems = subst (λ (x : Deck). 0 < length x.systems) (sym h.is) h.system in
-    let made : IsDeck h.draft.deck = record { some = some; fits = w.fits; entries = w.entries; limit = w.limit; events = w.events } in
+    let made : IsDeck h.draft.deck = record { some = some; fits = w.fits; entries = w.entries; limit = w.limit; lists = w.lists; events = w.events } in
     subst IsDeck h.is made
 
 pub whole : (text : List ℕ) (r : Result Deck ReadError) → Gives r (reading text) → IfOk r IsDeck

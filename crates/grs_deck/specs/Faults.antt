@@ -8,6 +8,7 @@ use Rattle.deck_scan.specs.Pieces.{SpellsLines}
 use Rattle.deck_scan.specs.Reading.{byte_fault}
 use Rattle.deck_form.specs.declared.form.Stmt.{Stmt}
 use Rattle.deck_form.specs.Spelled.{Spells, IsNoStatement}
+use Rattle.deck_form.specs.Statements.{statements}
 use Rattle.grs_deck.specs.declared.judge.Draft.{Draft}
 use Rattle.grs_deck.specs.Judge.{is_long, is_repeated, is_misplaced, is_full, is_unknown, is_unbuilt}
 use Rattle.grs_deck.specs.Reading.{no_draft}
@@ -66,12 +67,12 @@ pub record NoSystemSaid (ls : List TokenLine) (f : DeckFault) : Type 0 where
   pub none : length draft.deck.systems ≡ 0
   pub is : f ≡ record { line = 0; kind = NoSystem }
 
--- The fault of the lines that a text spells.
+-- The fault of the statements of the lines that a text spells.
 pub record FaultOfLines (text : List ℕ) (f : DeckFault) : Type 0 where
   pub allowed : byte_fault text ≡ None
   pub lines : List TokenLine
   pub spelled : SpellsLines text lines
-  pub fault : FaultyLine lines no_draft f ⊎ NoSystemSaid lines f
+  pub fault : FaultyLine (statements lines) no_draft f ⊎ NoSystemSaid (statements lines) f
 
 -- The fault of length or bytes comes before that of lines.
 abbrev pub IsFault : List ℕ → DeckFault → Type 0

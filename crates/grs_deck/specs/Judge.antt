@@ -1,10 +1,15 @@
 -- What is wrong with a statement, where a deck has been read so far.
 use Rattle.std.specs.Prelude.{ℕ, Bool, false, not, ◌||◌, ◌==◌, nat_lt, nat_le, List, length, Option, Some, None, is_some, is_none, if◌then◌else◌}
-use Rattle.grs_base.specs.Names.{is_qname, is_rname}
+use Rattle.grs_base.specs.Rnl.{RnlView}
+use Rattle.grs_base.specs.declared.rnl.Which.{Which}
+use Rattle.grs_base.specs.declared.rnl.Which.TheVariants.{Incl, Excl, Con}
+use Rattle.grs_base.specs.declared.rnl.Lists.{Lists}
 use Rattle.grs_base.specs.declared.fault.Kind.{Kind}
 use Rattle.grs_base.specs.declared.fault.Kind.TheVariants.{NameLength, Repeated, OutOfPlace, TooMany, UnknownName, NotBuilt}
 use Rattle.grs_wire.specs.declared.deck.SystemDef.{SystemDef}
-use Rattle.deck_form.specs.declared.ask.Ask.{Ask}
+use Rattle.grs_wire.specs.declared.deck.Deck.{Deck}
+use Rattle.job_syntax.specs.Lines.{is_bad}
+use Rattle.rnl_syntax.specs.Operands.{is_bad as is_bad_rnldef}
 use Rattle.deck_form.specs.declared.event.Act.{Act}
 use Rattle.deck_form.specs.declared.event.Act.TheVariants as acts
 use Rattle.deck_form.specs.declared.form.Stmt.{Stmt}
@@ -15,9 +20,6 @@ use Rattle.grs_deck.specs.Places.{jobs_now, tasks_now, task_count, system_place,
 
 abbrev pub is_over : List ℕ → Bool
 is_over name = nat_lt 8 (length name)
-
-abbrev pub is_bad_ask : Ask → Bool
-is_bad_ask a = not (is_qname a.q) || not (is_rname a.r)
 
 abbrev pub is_long_act : Act → Bool
 is_long_act (acts.Task j t) = is_over j || is_over t
@@ -35,12 +37,11 @@ is_long_act acts.Rest = false
 abbrev pub is_long : Stmt → Bool
 is_long stmts.Unbuilt = false
 is_long (stmts.Complex c) = false
+is_long (stmts.Rnldef r) = is_bad_rnldef r
 is_long (stmts.System n) = is_over n
 is_long (stmts.Job n) = is_over n
 is_long (stmts.Task n) = is_over n
-is_long (stmts.Enq e) = is_bad_ask e.ask
-is_long (stmts.Deq a) = is_bad_ask a
-is_long (stmts.Wait a) = is_bad_ask a
+is_long (stmts.Line s) = is_bad s
 is_long stmts.Schedule = false
 is_long (stmts.Event s a) = is_over s || is_long_act a
 
@@ -48,12 +49,11 @@ is_long (stmts.Event s a) = is_over s || is_long_act a
 abbrev pub is_repeated : Draft → Stmt → Bool
 is_repeated d stmts.Unbuilt = false
 is_repeated d (stmts.Complex c) = false
+is_repeated d (stmts.Rnldef r) = false
 is_repeated d (stmts.System n) = is_some (system_place d.deck.systems n)
 is_repeated d (stmts.Job n) = is_some (job_place (jobs_now d.deck.systems) n)
 is_repeated d (stmts.Task n) = is_some (task_place (tasks_now (jobs_now d.deck.systems)) n)
-is_repeated d (stmts.Enq e) = false
-is_repeated d (stmts.Deq a) = false
-is_repeated d (stmts.Wait a) = false
+is_repeated d (stmts.Line s) = false
 is_repeated d stmts.Schedule = false
 is_repeated d (stmts.Event s a) = false
 
@@ -65,38 +65,57 @@ is_idle systems = length (tasks_now (jobs_now systems)) == 0
 abbrev pub is_misplaced : Draft → Stmt → Bool
 is_misplaced d stmts.Unbuilt = false
 is_misplaced d (stmts.Complex c) = d.begun
+is_misplaced d (stmts.Rnldef r) = not (length d.deck.systems == 0)
 is_misplaced d (stmts.System n) = false
 is_misplaced d (stmts.Job n) = length d.deck.systems == 0
 is_misplaced d (stmts.Task n) = length (jobs_now d.deck.systems) == 0
-is_misplaced d (stmts.Enq e) = is_idle d.deck.systems
-is_misplaced d (stmts.Deq a) = is_idle d.deck.systems
-is_misplaced d (stmts.Wait a) = is_idle d.deck.systems
+is_misplaced d (stmts.Line s) = is_idle d.deck.systems
 is_misplaced d stmts.Schedule = length d.deck.systems == 0
 is_misplaced d (stmts.Event s a) = false
+
+-- The name list of this kind.
+abbrev pub list_of : Which → Lists → RnlView
+list_of Incl lists = lists.incl
+list_of Excl lists = lists.excl
+list_of Con lists = lists.con
+
+-- A name list has as many entries as it may have.
+abbrev pub is_list_full : Lists → Which → Bool
+is_list_full lists which = nat_le 4096 (length (list_of which lists).entries)
 
 -- One statement more than the limits allow.
 abbrev pub is_full : Draft → Stmt → Bool
 is_full d stmts.Unbuilt = false
 is_full d (stmts.Complex c) = false
+is_full d (stmts.Rnldef r) = is_list_full d.deck.lists r.which
 is_full d (stmts.System n) = nat_le 8 (length d.deck.systems)
 is_full d (stmts.Job n) = nat_le 64 (length (jobs_now d.deck.systems))
 is_full d (stmts.Task n) = nat_le 64 (task_count (jobs_now d.deck.systems))
-is_full d (stmts.Enq e) = d.room == 0
-is_full d (stmts.Deq a) = d.room == 0
-is_full d (stmts.Wait a) = d.room == 0
+is_full d (stmts.Line s) = d.room == 0
 is_full d stmts.Schedule = false
 is_full d (stmts.Event s a) = false
+
+-- The list of an RNLDEF is full.
+abbrev pub is_crowded : Deck → Stmt → Bool
+is_crowded deck stmts.Unbuilt = false
+is_crowded deck (stmts.Complex c) = false
+is_crowded deck (stmts.Rnldef r) = is_list_full deck.lists r.which
+is_crowded deck (stmts.System n) = false
+is_crowded deck (stmts.Job n) = false
+is_crowded deck (stmts.Task n) = false
+is_crowded deck (stmts.Line s) = false
+is_crowded deck stmts.Schedule = false
+is_crowded deck (stmts.Event s a) = false
 
 -- A name that no statement gave.
 abbrev pub is_unknown : Draft → Stmt → Bool
 is_unknown d stmts.Unbuilt = false
 is_unknown d (stmts.Complex c) = false
+is_unknown d (stmts.Rnldef r) = false
 is_unknown d (stmts.System n) = false
 is_unknown d (stmts.Job n) = false
 is_unknown d (stmts.Task n) = false
-is_unknown d (stmts.Enq e) = false
-is_unknown d (stmts.Deq a) = false
-is_unknown d (stmts.Wait a) = false
+is_unknown d (stmts.Line s) = false
 is_unknown d stmts.Schedule = false
 is_unknown d (stmts.Event s a) = is_none (event_of d.deck.systems s a)
 

@@ -11,7 +11,7 @@ use Rattle.grs_wire.specs.declared.deck.Choice.{Choice}
 use Rattle.grs_wire.specs.declared.deck.Choice.TheVariants as choices
 use Rattle.deck_form.specs.declared.event.Act.{Act}
 use Rattle.deck_form.specs.declared.event.Act.TheVariants as acts
-use Rattle.deck_form.specs.Tokens.{◌>>=◌}
+use Rattle.deck_scan.specs.Next.{◌>>=◌}
 
 -- What the last item has.
 abbrev pub at_last : {A B : Type 0} → (A → List B) → List A → List B

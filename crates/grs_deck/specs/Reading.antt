@@ -4,12 +4,16 @@ use Rattle.grs_base.specs.declared.fault.DeckFault.{DeckFault}
 use Rattle.grs_base.specs.declared.fault.Kind.{Kind}
 use Rattle.grs_base.specs.declared.fault.Kind.TheVariants.{NoSystem}
 use Rattle.grs_base.specs.declared.fault.ReadError.{ReadError}
+use Rattle.grs_base.specs.Rnl.{no_entries}
+use Rattle.grs_base.specs.declared.rnl.Which.TheVariants.{Incl, Excl, Con}
+use Rattle.grs_base.specs.declared.rnl.Lists.{Lists}
 use Rattle.grs_wire.specs.declared.deck.Deck.{Deck}
 use Rattle.deck_scan.specs.declared.token.TokenLine.{TokenLine}
 use Rattle.deck_scan.specs.Gives.{Fails}
 use Rattle.deck_scan.specs.Reading.{lines_or_fault}
 use Rattle.deck_form.specs.declared.form.Stmt.{Stmt}
 use Rattle.deck_form.specs.Form.{form}
+use Rattle.deck_form.specs.Statements.{statements}
 use Rattle.grs_deck.specs.declared.judge.Draft.{Draft}
 use Rattle.grs_deck.specs.Judge.{verdict}
 use Rattle.grs_deck.specs.Grow.{grow}
@@ -24,9 +28,12 @@ abbrev pub Took : Result (Unit {0}) ReadError → Draft → Result Draft DeckFau
 Took (Ok u) new read = read ≡ Ok new
 Took (Err e) new read = Fails e read
 
--- The values without COMPLEX.
+abbrev pub no_lists : Lists
+no_lists = record { incl = no_entries Incl; excl = no_entries Excl; con = no_entries Con }
+
+-- The values without COMPLEX, and no entry of a name list.
 abbrev pub no_deck : Deck
-no_deck = record { star = false; entries = 64; limit = 4096; systems = []; events = [] }
+no_deck = record { star = false; entries = 64; limit = 4096; lists = no_lists; systems = []; events = [] }
 
 -- A deck of which nothing was read.
 abbrev pub no_draft : Draft
@@ -54,7 +61,7 @@ abbrev pub ended : Draft → Result Deck DeckFault
 ended d = if length d.deck.systems == 0 then Err (record { line = 0; kind = NoSystem }) else Ok d.deck
 
 unfoldable pub reading : List ℕ → Result Deck DeckFault
-reading text = lines_or_fault text >>= λ ls. judge_all no_draft ls >>= ended
+reading text = lines_or_fault text >>= λ ls. judge_all no_draft (statements ls) >>= ended
 
 abbrev pub fault_of : Result Deck DeckFault → Option DeckFault
 fault_of (Ok d) = None

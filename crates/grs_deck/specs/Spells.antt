@@ -1,5 +1,5 @@
 -- What a text must be to spell a deck, by cases on its statements.
-use Rattle.std.specs.Prelude.{◌≡◌, ℕ, false, ◌<◌, ◌≤◌, List, [], ◌∷◌, length, Some, None, Result, Ok, Err}
+use Rattle.std.specs.Prelude.{◌≡◌, ℕ, false, ◌<◌, ◌≤◌, List, [], ◌∷◌, length, Option, Some, None, Result, Ok, Err}
 use Rattle.grs_base.specs.Names.{trim_blanks}
 use Rattle.grs_base.specs.declared.fault.ReadError.{ReadError}
 use Rattle.grs_base.specs.declared.fault.ReadError.TheVariants as read_errors
@@ -8,15 +8,20 @@ use Rattle.grs_wire.specs.declared.deck.Deck.{Deck}
 use Rattle.deck_scan.specs.declared.token.TokenLine.{TokenLine}
 use Rattle.deck_scan.specs.Pieces.{SpellsLines}
 use Rattle.deck_scan.specs.Reading.{max_text}
-use Rattle.deck_form.specs.declared.ask.Ask.{Ask}
+use Rattle.job_syntax.specs.declared.display.Shown.{Shown}
+use Rattle.job_syntax.specs.declared.display.Shown.TheVariants as shown
+use Rattle.job_syntax.specs.declared.said.Said.{Said}
+use Rattle.job_syntax.specs.declared.said.Said.TheVariants as said
+use Rattle.rnl_syntax.specs.declared.operands.Rnldef.{Rnldef}
 use Rattle.deck_form.specs.declared.event.Act.{Act}
 use Rattle.deck_form.specs.declared.event.Act.TheVariants as acts
 use Rattle.deck_form.specs.declared.form.Stmt.{Stmt}
 use Rattle.deck_form.specs.declared.form.Stmt.TheVariants as stmts
 use Rattle.deck_form.specs.Spelled.{Spells}
+use Rattle.deck_form.specs.Statements.{statements}
 use Rattle.grs_deck.specs.declared.judge.Draft.{Draft}
 use Rattle.grs_deck.specs.Places.{jobs_now, tasks_now, task_count, system_place, job_place, task_place, event_of}
-use Rattle.grs_deck.specs.Judge.{is_unbuilt}
+use Rattle.grs_deck.specs.Judge.{list_of, is_unbuilt}
 use Rattle.grs_deck.specs.Grow.{grow}
 use Rattle.grs_deck.specs.Reading.{no_draft, fault}
 
@@ -44,20 +49,44 @@ IsQname q = (length q ≤ 8) × (0 < length (trim_blanks q))
 abbrev pub IsRname : List ℕ → Type 0
 IsRname r = (0 < length r) × (length r ≤ 255)
 
+abbrev pub IsMaybeQname : Option (List ℕ) → Type 0
+IsMaybeQname None = Unit {0}
+IsMaybeQname (Some q) = IsQname q
+
+abbrev pub IsMaybeRname : Option (List ℕ) → Type 0
+IsMaybeRname None = Unit {0}
+IsMaybeRname (Some r) = IsRname r
+
+abbrev pub AreShownNames : Shown → Type 0
+AreShownNames shown.Contended = Unit {0}
+AreShownNames (shown.Resource q r) = IsQname q × IsRname r
+
+-- The names of a task line are right.
+abbrev pub AreNames : Said → Type 0
+AreNames (said.Enq e) = IsQname e.ask.q × IsRname e.ask.r
+AreNames (said.Reserve e) = IsQname e.ask.q × IsRname e.ask.r
+AreNames (said.Deq a) = IsQname a.q × IsRname a.r
+AreNames (said.Wait a) = IsQname a.q × IsRname a.r
+AreNames (said.Gqscan s) = IsMaybeQname s.names.q × IsMaybeRname s.names.r
+AreNames (said.Display s) = AreShownNames s
+
 -- A task line: its names are right, a task stands that it belongs to, and there is room for it.
-abbrev pub MayAsk : Draft → Ask → Type 0
-MayAsk d a = IsQname a.q × IsRname a.r × (0 < length (tasks_now (jobs_now d.deck.systems))) × (0 < d.room)
+abbrev pub MaySay : Draft → Said → Type 0
+MaySay d s = AreNames s × (0 < length (tasks_now (jobs_now d.deck.systems))) × (0 < d.room)
+
+-- An entry of a name list: its names are right, no system stands yet, and its list has room.
+abbrev pub MayDefine : Draft → Rnldef → Type 0
+MayDefine d r = IsQname r.q × IsMaybeRname r.r × (d.deck.systems ≡ []) × (length (list_of r.which d.deck.lists).entries < 4096)
 
 -- A statement may stand behind those that made this deck.
 abbrev pub MayStand : Draft → Stmt → Type 0
 MayStand d stmts.Unbuilt = Unit {0}
 MayStand d (stmts.Complex c) = d.begun ≡ false
+MayStand d (stmts.Rnldef r) = MayDefine d r
 MayStand d (stmts.System n) = IsShort n × (system_place d.deck.systems n ≡ None) × (length d.deck.systems < 8)
 MayStand d (stmts.Job n) = IsShort n × (job_place (jobs_now d.deck.systems) n ≡ None) × (0 < length d.deck.systems) × (length (jobs_now d.deck.systems) < 64)
 MayStand d (stmts.Task n) = IsShort n × (task_place (tasks_now (jobs_now d.deck.systems)) n ≡ None) × (0 < length (jobs_now d.deck.systems)) × (task_count (jobs_now d.deck.systems) < 64)
-MayStand d (stmts.Enq e) = MayAsk d e.ask
-MayStand d (stmts.Deq a) = MayAsk d a
-MayStand d (stmts.Wait a) = MayAsk d a
+MayStand d (stmts.Line s) = MaySay d s
 MayStand d stmts.Schedule = 0 < length d.deck.systems
 MayStand d (stmts.Event s a) = IsShort s × IsShortAct a × ((e : Event) × (event_of d.deck.systems s a ≡ Some e))
 
@@ -65,18 +94,19 @@ MayStand d (stmts.Event s a) = IsShort s × IsShortAct a × ((e : Event) × (eve
 abbrev pub IsRight : Draft → Stmt → Type 0
 IsRight d st = MayStand d st × (is_unbuilt d st ≡ false)
 
--- Each line is a statement that is right where it stands, and the deck is what they add.
+-- Each statement's line is a statement that is right where it stands, and the deck is what they add.
 abbrev pub Says : Draft → List TokenLine → Draft → Type 0
 Says d [] e = d ≡ e
 Says d (l ∷ ls) e = (st : Stmt) × Spells d.scheduled d.deck.entries l st × IsRight d st × Says (grow d st) ls e
 
--- A text spells a deck: it is short enough, its lines say the deck, and the deck has a system.
+-- A text spells a deck: it is short enough, the statements of its lines say the deck, and the deck has a
+-- system.
 pub record SpellsDeck (text : List ℕ) (deck : Deck) : Type 0 where
   pub short : length text ≤ max_text
   pub lines : List TokenLine
   pub spelled : SpellsLines text lines
   pub draft : Draft
-  pub says : Says no_draft lines draft
+  pub says : Says no_draft (statements lines) draft
   pub is : draft.deck ≡ deck
   pub system : 0 < length deck.systems
 

@@ -1,5 +1,10 @@
 -- What each deck that is read is like: within the limits, and its events speak of what is there.
-use Rattle.std.specs.Prelude.{◌≡◌, ◌≢◌, ℕ, true, ◌+◌, ◌<◌, List, length, take, slice_get, Some, All}
+use Rattle.std.specs.Prelude.{◌≡◌, ◌≢◌, ℕ, true, ◌+◌, ◌<◌, ◌≤◌, List, length, take, slice_get, Some, All}
+use Rattle.grs_base.specs.Rnl.{RnlView}
+use Rattle.grs_base.specs.declared.rnl.Which.{Which}
+use Rattle.grs_base.specs.declared.rnl.Which.TheVariants.{Incl, Excl, Con}
+use Rattle.grs_base.specs.declared.rnl.RnlEntry.{RnlEntry}
+use Rattle.grs_base.specs.declared.rnl.Lists.{Lists}
 use Rattle.grs_base.specs.declared.resource.SysId.{SysId}
 use Rattle.grs_base.specs.declared.resource.TaskId.{TaskId}
 use Rattle.grs_wire.specs.declared.deck.JobDef.{JobDef}
@@ -40,11 +45,24 @@ pub record IsEventOf (systems : List SystemDef) (entries : ℕ) (e : Event) : Ty
   pub system : slice_get systems e.system.0 ≡ Some found
   pub choice : IsChoiceOf systems entries found e.system e.choice
 
+-- A name list with entries of its own alone, and at most 4,096 of them.
+pub record IsListOf (which : Which) (list : RnlView) : Type 0 where
+  pub which_is : list.which ≡ which
+  pub few : length list.entries ≤ 4096
+  pub own : All (λ (e : RnlEntry). e.which ≡ which) list.entries
+
+-- The three name lists.
+pub record AreLists (lists : Lists) : Type 0 where
+  pub incl : IsListOf Incl lists.incl
+  pub excl : IsListOf Excl lists.excl
+  pub con : IsListOf Con lists.con
+
 -- A deck: at least one system and at most eight, each with at most 64 jobs and 64 tasks; one of the
--- numbers of entries and of the limits that there may be; and events of its systems.
+-- numbers of entries and of the limits that there may be; the three name lists; and events of its systems.
 pub record IsDeck (d : Deck) : Type 0 where
   pub some : 0 < length d.systems
   pub fits : Fits d.systems
   pub entries : is_entries d.entries ≡ true
   pub limit : is_limit d.limit ≡ true
+  pub lists : AreLists d.lists
   pub events : All (IsEventOf d.systems d.entries) d.events

@@ -1,107 +1,29 @@
 //! What each statement adds to a deck. What grows is the last system, its last job, its last task.
-ghost use Rattle.std.specs.Prelude.{◌≡◌, false, OnOk, IfOk};
-ghost use Rattle.grs_base.specs.Names.{trim_blanks, is_qname};
-ghost use Rattle.grs_deck.specs.Judge.{is_bad_ask, is_long};
+ghost use Rattle.std.specs.Prelude.{◌≡◌, false, OnOk};
+ghost use Rattle.grs_deck.specs.Judge.{is_long, is_list_full, is_crowded};
+ghost use Rattle.grs_deck.specs.Whole.{AreLists};
 ghost use Rattle.grs_deck.specs.Places.{Fits};
-ghost use Rattle.grs_deck.specs.Grow.{ret_or_none, rnl_or_yes, is_have, enq_line, deq_line, wait_line, add_job, add_task, add_line, in_jobs, in_tasks, with_setup, with_event, grow_deck};
+ghost use Rattle.grs_deck.specs.Grow.{with_entry, add_job, add_task, add_line, in_jobs, in_tasks, with_setup, with_event, grow_deck};
 
 use crate::places::event_of;
-use deck_form::{Ask, EnqAsk, Setup, Stmt};
-use grs_base::{Item, Line, List, NameFault, NoMemory, Qname, Ret, Rname};
+use deck_form::{Setup, Stmt};
+use grs_base::{Line, List, Lists, NoMemory, RnlEntry, Which};
 use grs_wire::{Deck, JobDef, SystemDef, TaskDef};
+use job_syntax::line_of;
+use rnl_syntax::entry_of;
 use std::alloc::Global;
 
-fn ret_or_none(ret: Option<Ret>) -> Ret
-    ensures { result ≡ ret_or_none ret }
+/// Puts an entry into its list.
+fn push_entry(lists: &mut Lists, entry: RnlEntry) -> Result<(), NoMemory>
+    requires lists { AreLists lists.old }
+    requires room { is_list_full lists.old entry.which ≡ false }
+    ensures { OnOk result (lists.new ≡ with_entry entry lists.old) }
 {
-    match ret {
-        None => Ret::RetNone,
-        Some(ret) => ret,
+    match entry.which {
+        Which::Incl => lists.incl.push(entry),
+        Which::Excl => lists.excl.push(entry),
+        Which::Con => lists.con.push(entry),
     }
-}
-
-fn rnl_or_yes(rnl: Option<bool>) -> bool
-    ensures { result ≡ rnl_or_yes rnl }
-{
-    match rnl {
-        None => true,
-        Some(rnl) => rnl,
-    }
-}
-
-fn is_have(ret: Option<Ret>) -> bool
-    ensures { result ≡ is_have ret }
-{
-    match ret {
-        Some(Ret::RetHave) => true,
-        _ => false,
-    }
-}
-
-/// The names of a line, whose lengths are right.
-fn names_of(alloc: Global, ask: &Ask) -> Result<(Qname, Rname), NoMemory>
-    requires { is_bad_ask ask.now ≡ false }
-    ensures q { IfOk result (λ x. x.0 ≡ trim_blanks ask.now.q) }
-    ensures r { IfOk result (λ x. x.1 ≡ ask.now.r) }
-{
-    let q = match Qname::new(alloc, ask.q.as_slice()) {
-        Ok(q) => q,
-        Err(NameFault::BadLength) => unreachable!(),
-        Err(NameFault::NoMemory) => return Err(NoMemory),
-    };
-    match Rname::new(alloc, ask.r.as_slice()) {
-        Ok(r) => Ok((q, r)),
-        Err(NameFault::BadLength) => unreachable!(),
-        Err(NameFault::NoMemory) => Err(NoMemory),
-    }
-}
-
-fn enq_line(alloc: Global, enq: &EnqAsk) -> Result<Line, NoMemory>
-    requires { is_bad_ask enq.now.ask ≡ false }
-    ensures { IfOk result (λ l. l ≡ enq_line enq.now) }
-{
-    let (q, r) = names_of(alloc, &enq.ask)?;
-    let item = Item {
-        q,
-        r,
-        ctl: enq.ctl,
-        scope: enq.ask.scope,
-    };
-    let mut items = List::new(alloc);
-    items.push(item)?;
-    Ok(Line::Enq {
-        items,
-        ret: ret_or_none(enq.ask.opts.ret),
-        rnl: rnl_or_yes(enq.ask.opts.rnl),
-    })
-}
-
-fn deq_line(alloc: Global, ask: &Ask) -> Result<Line, NoMemory>
-    requires { is_bad_ask ask.now ≡ false }
-    ensures { IfOk result (λ l. l ≡ deq_line ask.now) }
-{
-    let (q, r) = names_of(alloc, ask)?;
-    Ok(Line::Deq {
-        q,
-        r,
-        scope: ask.scope,
-        have: is_have(ask.opts.ret),
-        unit: ask.opts.unit,
-        rnl: rnl_or_yes(ask.opts.rnl),
-    })
-}
-
-fn wait_line(alloc: Global, ask: &Ask) -> Result<Line, NoMemory>
-    requires { is_bad_ask ask.now ≡ false }
-    ensures { IfOk result (λ l. l ≡ wait_line ask.now) }
-{
-    let (q, r) = names_of(alloc, ask)?;
-    Ok(Line::Wait {
-        q,
-        r,
-        scope: ask.scope,
-        rnl: rnl_or_yes(ask.opts.rnl),
-    })
 }
 
 /// Adds a job to the last system.
@@ -205,6 +127,8 @@ fn set_up(deck: &mut Deck, setup: Setup)
 pub fn grow_deck(deck: &mut Deck, alloc: Global, st: Stmt) -> Result<(), NoMemory>
     requires names { is_long st ≡ false }
     requires systems { Fits deck.old.systems }
+    requires lists { AreLists deck.old.lists }
+    requires room { is_crowded deck.old st ≡ false }
     ensures { OnOk result (deck.new ≡ grow_deck deck.old st) }
 {
     match st {
@@ -213,22 +137,19 @@ pub fn grow_deck(deck: &mut Deck, alloc: Global, st: Stmt) -> Result<(), NoMemor
             set_up(deck, setup);
             Ok(())
         }
+        Stmt::Rnldef(rnldef) => {
+            let entry = entry_of(alloc, &rnldef)?;
+            push_entry(&mut deck.lists, entry)
+        }
         Stmt::System(name) => deck.systems.push(SystemDef {
             name,
+            desk: List::new(alloc),
             jobs: List::new(alloc),
         }),
         Stmt::Job(name) => push_job(&mut deck.systems, alloc, name),
         Stmt::Task(name) => push_system_task(&mut deck.systems, alloc, name),
-        Stmt::Enq(enq) => {
-            let line = enq_line(alloc, &enq)?;
-            push_system_line(&mut deck.systems, line)
-        }
-        Stmt::Deq(ask) => {
-            let line = deq_line(alloc, &ask)?;
-            push_system_line(&mut deck.systems, line)
-        }
-        Stmt::Wait(ask) => {
-            let line = wait_line(alloc, &ask)?;
+        Stmt::Line(said) => {
+            let line = line_of(alloc, &said)?;
             push_system_line(&mut deck.systems, line)
         }
         Stmt::Schedule => Ok(()),

@@ -1,13 +1,13 @@
 //! What is wrong with a statement, where a deck has been read so far. Each test is one kind of fault.
 ghost use Rattle.std.specs.Prelude.{◌≡◌, is_some};
 ghost use Rattle.grs_deck.specs.Places.{Fits};
-ghost use Rattle.grs_deck.specs.Judge.{is_over, is_bad_ask, is_long_act, is_long, is_repeated, is_idle, is_misplaced, is_full, is_unknown, is_unbuilt, verdict};
+ghost use Rattle.grs_deck.specs.Judge.{is_over, is_long_act, is_long, is_repeated, is_idle, is_misplaced, is_list_full, is_full, is_unknown, is_unbuilt, verdict};
 
 use crate::places::{
     event_of, job_place, jobs_now, system_place, task_count, task_place, tasks_now,
 };
-use deck_form::{Act, Ask, Stmt};
-use grs_base::{Kind, is_qname, is_rname};
+use deck_form::{Act, Stmt};
+use grs_base::{Kind, Lists, Which};
 use grs_wire::{Deck, SystemDef};
 
 /// A deck so far.
@@ -28,12 +28,6 @@ fn is_over(name: &[u8]) -> bool
     name.len() > 8
 }
 
-fn is_bad_ask(ask: &Ask) -> bool
-    ensures { result ≡ is_bad_ask ask.now }
-{
-    !is_qname(ask.q.as_slice()) || !is_rname(ask.r.as_slice())
-}
-
 fn is_long_act(act: &Act) -> bool
     ensures { result ≡ is_long_act act.now }
 {
@@ -52,9 +46,8 @@ fn is_long(st: &Stmt) -> bool
         Stmt::System(n) => is_over(n.as_slice()),
         Stmt::Job(n) => is_over(n.as_slice()),
         Stmt::Task(n) => is_over(n.as_slice()),
-        Stmt::Enq(enq) => is_bad_ask(&enq.ask),
-        Stmt::Deq(ask) => is_bad_ask(ask),
-        Stmt::Wait(ask) => is_bad_ask(ask),
+        Stmt::Rnldef(rnldef) => rnl_syntax::is_bad(rnldef),
+        Stmt::Line(said) => job_syntax::is_bad(said),
         Stmt::Event { system, act } => is_over(system.as_slice()) || is_long_act(act),
         _ => false,
     }
@@ -95,15 +88,26 @@ fn is_misplaced(draft: &Draft, st: &Stmt) -> bool
     match st {
         Stmt::Unbuilt => false,
         Stmt::Complex(_) => draft.begun,
+        Stmt::Rnldef(_) => systems.len() != 0,
         Stmt::System(_) => false,
         Stmt::Job(_) => systems.len() == 0,
         Stmt::Task(_) => jobs_now(systems).len() == 0,
-        Stmt::Enq(_) => is_idle(systems),
-        Stmt::Deq(_) => is_idle(systems),
-        Stmt::Wait(_) => is_idle(systems),
+        Stmt::Line(_) => is_idle(systems),
         Stmt::Schedule => systems.len() == 0,
         Stmt::Event { .. } => false,
     }
+}
+
+/// Whether a name list has as many entries as it may have.
+fn is_list_full(lists: &Lists, which: Which) -> bool
+    ensures { result ≡ is_list_full lists.now which }
+{
+    let entries = match which {
+        Which::Incl => lists.incl.len(),
+        Which::Excl => lists.excl.len(),
+        Which::Con => lists.con.len(),
+    };
+    4096 <= entries
 }
 
 fn is_full(draft: &Draft, st: &Stmt) -> bool
@@ -112,12 +116,11 @@ fn is_full(draft: &Draft, st: &Stmt) -> bool
 {
     let systems = draft.deck.systems.as_slice();
     match st {
+        Stmt::Rnldef(rnldef) => is_list_full(&draft.deck.lists, rnldef.which),
         Stmt::System(_) => 8 <= systems.len(),
         Stmt::Job(_) => 64 <= jobs_now(systems).len(),
         Stmt::Task(_) => 64 <= task_count(jobs_now(systems)),
-        Stmt::Enq(_) => draft.room == 0,
-        Stmt::Deq(_) => draft.room == 0,
-        Stmt::Wait(_) => draft.room == 0,
+        Stmt::Line(_) => draft.room == 0,
         _ => false,
     }
 }

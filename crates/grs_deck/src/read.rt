@@ -1,19 +1,19 @@
-//! Reads a deck, line by line, up to its first fault.
+//! Reads a deck, statement by statement, up to its first fault.
 ghost use Rattle.std.specs.Prelude.{◌≡◌, ◌||◌, OnOk, IfOk, Some, None};
 ghost use Rattle.deck_scan.specs.Gives.{Gives};
 ghost use Rattle.grs_deck.specs.Places.{Fits};
 ghost use Rattle.grs_deck.specs.Judge.{verdict};
 ghost use Rattle.grs_deck.specs.Grow.{is_schedule, line_count, grow};
 ghost use Rattle.grs_wire.specs.declared.deck.Deck.{Deck as DeckValue};
-ghost use Rattle.grs_deck.specs.Whole.{IsDeck};
+ghost use Rattle.grs_deck.specs.Whole.{AreLists, IsDeck};
 ghost use Rattle.grs_deck.specs.Spells.{SpellsDeck, Answers, IsOkUnlessMemory};
 ghost use Rattle.grs_deck.specs.Reading.{judge_statement, judge, judge_all, ended, reading, Took, no_draft};
 
 use crate::grow::grow_deck;
 use crate::judge::{Draft, verdict};
-use deck_form::{FormError, Stmt, statement};
+use deck_form::{FormError, Stmt, statement, statements};
 use deck_scan::{TokenLine, lines};
-use grs_base::{DeckFault, Kind, List, NoMemory, ReadError};
+use grs_base::{DeckFault, Kind, List, Lists, NoMemory, ReadError};
 use grs_wire::Deck;
 use std::alloc::Global;
 
@@ -31,9 +31,7 @@ fn line_count(st: &Stmt) -> u32
     ensures { result ≡ line_count st.now }
 {
     match st {
-        Stmt::Enq(_) => 1,
-        Stmt::Deq(_) => 1,
-        Stmt::Wait(_) => 1,
+        Stmt::Line(_) => 1,
         _ => 0,
     }
 }
@@ -42,6 +40,7 @@ fn line_count(st: &Stmt) -> u32
 fn grow(draft: &mut Draft, alloc: Global, st: Stmt) -> Result<(), NoMemory>
     requires right { verdict draft.old st ≡ None }
     requires systems { Fits draft.old.deck.systems }
+    requires lists { AreLists draft.old.deck.lists }
     ensures { OnOk result (draft.new ≡ grow draft.old st) }
 {
     draft.begun = true;
@@ -52,7 +51,8 @@ fn grow(draft: &mut Draft, alloc: Global, st: Stmt) -> Result<(), NoMemory>
 
 /// Takes a statement of the right form.
 fn take_statement(draft: &mut Draft, alloc: Global, at: u32, st: Stmt) -> Result<(), ReadError>
-    requires { Fits draft.old.deck.systems }
+    requires systems { Fits draft.old.deck.systems }
+    requires lists { AreLists draft.old.deck.lists }
     ensures { Took result draft.new (judge_statement draft.old at st) }
 {
     match verdict(draft, &st) {
@@ -67,7 +67,8 @@ fn take_statement(draft: &mut Draft, alloc: Global, at: u32, st: Stmt) -> Result
 /// Takes a line.
 #[tactic(auto, unfolding(crate::specs::Reading::judge))]
 fn take_line(draft: &mut Draft, alloc: Global, line: &TokenLine) -> Result<(), ReadError>
-    requires { Fits draft.old.deck.systems }
+    requires systems { Fits draft.old.deck.systems }
+    requires lists { AreLists draft.old.deck.lists }
     ensures { Took result draft.new (judge draft.old line.now) }
 {
     match statement(alloc, draft.scheduled, draft.deck.entries, line) {
@@ -89,6 +90,7 @@ fn start(alloc: Global) -> Draft
             star: false,
             entries: 64,
             limit: 4096,
+            lists: Lists::new(alloc),
             systems: List::new(alloc),
             events: List::new(alloc),
         },
@@ -98,7 +100,7 @@ fn start(alloc: Global) -> Draft
     }
 }
 
-/// Takes the lines in order, up to the first with a fault.
+/// Takes the lines of statements in order, up to the first with a fault.
 fn take_lines(alloc: Global, lines: &[TokenLine]) -> Result<Draft, ReadError>
     ensures { Gives result (judge_all no_draft lines.now) }
 {
@@ -131,6 +133,7 @@ fn read_all(alloc: Global, text: &[u8]) -> Result<Deck, ReadError>
     ensures { Gives result (reading text.now) }
 {
     let all = lines(alloc, text)?;
+    let all = statements(alloc, all)?;
     let draft = take_lines(alloc, all.as_slice())?;
     end(draft)
 }

@@ -1,5 +1,5 @@
 use super::*;
-use grs_base::{Kind, Line, List, NoMemory, ReadError, SysId, TaskId};
+use grs_base::{Form, Kind, Line, List, NoMemory, ReadError, SysId, TaskId};
 use std::test::Fail;
 
 fn fault_of(rt: &HostRuntime, text: &[u8]) -> Option<(u32, Kind)> {
@@ -48,7 +48,21 @@ fn faults(rt: HostRuntime) {
         (b"/* only */\n".as_slice(), 0, Kind::NoSystem),
         (b"SYSTEM SYA\nSYSTEM SYA\n".as_slice(), 2, Kind::Repeated),
         (b"SYSTEM S1\nSYSTEM S2\n".as_slice(), 2, Kind::NotBuilt),
-        (b"RNLDEF RNL(INCL) TYPE(GENE".as_slice(), 1, Kind::NotBuilt),
+        (
+            b"RNLDEF RNL(INCL) TYPE(GENE".as_slice(),
+            1,
+            Kind::BadOperand,
+        ),
+        (
+            b"SYSTEM S1\nRNLDEF RNL(INCL)\nTYPE(GENERIC) QNAME(A)\n".as_slice(),
+            2,
+            Kind::OutOfPlace,
+        ),
+        (
+            b"SYSTEM S1\nJOB J1\nTASK T1\nGQSCAN SCOPE=GLOBAL\n".as_slice(),
+            4,
+            Kind::NotBuilt,
+        ),
     ];
     for (text, line, kind) in cases {
         assert!(rt; fault_of(&rt, text) == Some((line, kind)), "at {text:?}");
@@ -58,10 +72,13 @@ fn faults(rt: HostRuntime) {
 #[test]
 fn a_deck(rt: HostRuntime) -> Result<(), Fail> {
     let text =
-        b"COMPLEX ENTRIES(8)\nSYSTEM SYA\nJOB J1\nTASK T1\nENQ ('A ','it''s',S,STEP),RET=USE\nJOB J2\nTASK T1\nDEQ (X'4a',B.C,SYSTEM),RET=HAVE\nWAIT (A,B,STEP)\nSCHEDULE\nSYA TASK J2.T1\n";
+        b"COMPLEX ENTRIES(8)\nRNLDEF RNL(INCL) TYPE(\nPATTERN) QNAME('Q ')\nSYSTEM SYA\nJOB J1\nTASK T1\nENQ ('A ','it''s',S,STEP),RET=USE\nJOB J2\nTASK T1\nDEQ (X'4a',B.C,SYSTEM),RET=HAVE\nWAIT (A,B,STEP)\nSCHEDULE\nSYA TASK J2.T1\n";
     let deck = read_deck(rt.alloc(), text)?;
     assert!(rt; !deck.star && deck.entries == 8 && deck.limit == 4096);
     assert!(rt; deck.systems.len() == 1 && deck.events.len() == 1);
+    assert!(rt; deck.lists.incl.len() == 1 && deck.lists.excl.len() == 0);
+    let entry = deck.lists.incl.entry(0);
+    assert!(rt; entry.form == Form::Pattern && entry.q.bytes() == b"Q".as_slice());
     let task = TaskId {
         system: SysId(0),
         job: 1,
@@ -92,11 +109,24 @@ fn many_lines(rt: &HostRuntime, count: u32) -> Result<List<u8>, NoMemory> {
     Ok(text)
 }
 
+fn many_entries(rt: &HostRuntime, count: u32) -> Result<List<u8>, NoMemory> {
+    let mut text = List::new(rt.alloc());
+    for _ in 0..count {
+        text.append(b"RNLDEF RNL(CON)\nTYPE(GENERIC) QNAME(Q)\n")?;
+    }
+    text.append(b"SYSTEM SYA\n")?;
+    Ok(text)
+}
+
 #[test]
 fn limits(rt: HostRuntime) -> Result<(), Fail> {
     let full = many_lines(&rt, 16384)?;
     assert!(rt; fault_of(&rt, full.as_slice()) == None);
     let more = many_lines(&rt, 16385)?;
     assert!(rt; fault_of(&rt, more.as_slice()) == Some((16388, Kind::TooMany)));
+    let full = many_entries(&rt, 4096)?;
+    assert!(rt; fault_of(&rt, full.as_slice()) == None);
+    let more = many_entries(&rt, 4097)?;
+    assert!(rt; fault_of(&rt, more.as_slice()) == Some((8193, Kind::TooMany)));
     Ok(())
 }

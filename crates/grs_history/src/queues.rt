@@ -27,7 +27,7 @@ fn settle(
             ..
         } => {
             let res = res.copy(alloc)?;
-            table.reserve()?;
+            table.reserve(&res)?;
             let full = limit as usize <= table.count(*task);
             table.enq(res, *task, *ctl, *ret, full);
         }
@@ -42,6 +42,8 @@ fn settle(
         HistEntry::Release { task, res } => {
             table.release(res, *task);
         }
+        HistEntry::Look { .. } => {}
+        HistEntry::Remove { target, .. } => table.remove_system(*target),
     }
     Ok(())
 }

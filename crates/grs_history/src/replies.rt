@@ -1,19 +1,67 @@
-//! Requests become the entries of a history.
-ghost use Rattle.std.specs.Prelude.{◌≡◌, IfOk, OnOk};
-ghost use Rattle.grs_wire.specs.History.{entry_for, answered};
-ghost use Rattle.grs_wire.specs.Wants.{answer_to, after_want};
+//! What was fixed becomes the entries of a history.
+ghost use Rattle.std.specs.Prelude.{◌≡◌, ◌++◌, ◌∷◌, [], IfOk, OnOk};
+ghost use Rattle.grs_wire.specs.History.{entries_for, look_entries, fixed_entries, after_fixed, answered};
+ghost use Rattle.grs_base.specs.Looks.{look as looked};
+ghost use Rattle.grs_wire.specs.Wants.{after_want};
 
-use grs_base::{Code, List, NoMemory, SysId};
+use grs_base::{Filter, List, NoMemory, Place, SysId, TaskId};
 use grs_wire::{Fixed, HistEntry, Req, Want};
 use queue_table::Table;
 use serial_queue::PlainQueues;
 use std::alloc::Global;
 
-/// Answers one request.
-fn answer(alloc: Global, table: &mut Table<PlainQueues>, req: &Req) -> Result<Code, NoMemory>
-    ensures code { IfOk result (λ code. code ≡ answer_to table.old.held req.now.task req.now.want) }
+/// A look at a place, with what it shows.
+fn look(
+    alloc: Global,
+    table: &Table<PlainQueues>,
+    task: TaskId,
+    place: Place,
+    filter: &Filter,
+) -> Result<HistEntry, NoMemory>
+    ensures { IfOk result (λ entry. entry ≡ HistEntry.Look task place filter.now (looked table.now.held place filter.now)) }
+{
+    let rows = table.look(alloc, place, filter)?;
+    let filter = filter.copy(alloc)?;
+    Ok(HistEntry::Look {
+        task,
+        place,
+        filter,
+        rows,
+    })
+}
+
+/// Puts a look at each of these slices behind a history. There is no memory for slices whose numbers go
+/// past 4,294,967,295.
+fn look_slices(
+    alloc: Global,
+    table: &Table<PlainQueues>,
+    task: TaskId,
+    slices: (u32, u32),
+    filter: &Filter,
+    hist: &mut List<HistEntry>,
+) -> Result<(), NoMemory>
+    ensures { OnOk result (hist.new ≡ hist.old ++ look_entries table.now.held task slices.0 slices.1 filter.now) }
+{
+    let Some(end) = slices.0.checked_add(slices.1) else {
+        return Err(NoMemory);
+    };
+    for slice in slices.0..end {
+        hist.push(look(alloc, table, task, Place::Slice(slice), filter)?)?;
+    }
+    Ok(())
+}
+
+/// Carries out a request, and puts its entries behind a history.
+fn settle(
+    alloc: Global,
+    table: &mut Table<PlainQueues>,
+    req: &Req,
+    hist: &mut List<HistEntry>,
+) -> Result<(), NoMemory>
+    ensures entries { OnOk result (hist.new ≡ hist.old ++ entries_for table.old.held req.now.task req.now.want) }
     ensures after { OnOk result (table.new.held ≡ after_want table.old.held req.now.task req.now.want) }
 {
+    let task = req.task;
     match &req.want {
         Want::Enq {
             res,
@@ -21,27 +69,11 @@ fn answer(alloc: Global, table: &mut Table<PlainQueues>, req: &Req) -> Result<Co
             ret,
             full,
         } => {
+            let asked = res.copy(alloc)?;
             let res = res.copy(alloc)?;
-            table.reserve()?;
-            Ok(table.enq(res, req.task, *ctl, *ret, *full))
-        }
-        Want::Deq { res, have } => Ok(table.deq(res, req.task, *have)),
-        Want::Release { res } => {
-            table.release(res, req.task);
-            Ok(Code::C00)
-        }
-    }
-}
-
-/// A request with its reply.
-fn entry(alloc: Global, req: &Req, code: Code) -> Result<HistEntry, NoMemory>
-    ensures { IfOk result (λ entry. entry ≡ entry_for req.now.task req.now.want code) }
-{
-    let task = req.task;
-    match &req.want {
-        Want::Enq { res, ctl, ret, .. } => {
-            let res = res.copy(alloc)?;
-            Ok(HistEntry::Enq {
+            table.reserve(&asked)?;
+            let code = table.enq(asked, task, *ctl, *ret, *full);
+            hist.push(HistEntry::Enq {
                 task,
                 res,
                 ctl: *ctl,
@@ -51,7 +83,8 @@ fn entry(alloc: Global, req: &Req, code: Code) -> Result<HistEntry, NoMemory>
         }
         Want::Deq { res, have } => {
             let res = res.copy(alloc)?;
-            Ok(HistEntry::Deq {
+            let code = table.deq(&res, task, *have);
+            hist.push(HistEntry::Deq {
                 task,
                 res,
                 have: *have,
@@ -60,21 +93,53 @@ fn entry(alloc: Global, req: &Req, code: Code) -> Result<HistEntry, NoMemory>
         }
         Want::Release { res } => {
             let res = res.copy(alloc)?;
-            Ok(HistEntry::Release { task, res })
+            table.release(&res, task);
+            hist.push(HistEntry::Release { task, res })
+        }
+        Want::Look {
+            first,
+            count,
+            filter,
+        } => look_slices(alloc, table, task, (*first, *count), filter, hist),
+    }
+}
+
+/// Carries out what an event of a system fixed, and puts its entries behind a history.
+fn fix(
+    alloc: Global,
+    table: &mut Table<PlainQueues>,
+    system: SysId,
+    fixed: &Fixed,
+    hist: &mut List<HistEntry>,
+) -> Result<(), NoMemory>
+    ensures entries { OnOk result (hist.new ≡ hist.old ++ fixed_entries table.old.held system fixed.now) }
+    ensures after { OnOk result (table.new.held ≡ after_fixed table.old.held fixed.now) }
+{
+    match fixed {
+        Fixed::Asked(req) => settle(alloc, table, req, hist),
+        Fixed::LocalLook { task, filter } => {
+            hist.push(look(alloc, table, *task, Place::Local(task.system), filter)?)
+        }
+        Fixed::Purged { target } => {
+            table.remove_system(*target);
+            hist.push(HistEntry::Remove {
+                by: system,
+                target: *target,
+            })
         }
     }
 }
 
-/// What was fixed, as a history: each request with the reply that plain lists give at its place.
+/// What was fixed, as a history: each request with the reply that plain lists give at its place, a request
+/// for looks as a look for each of its slices, and each removal. There is no memory for looks at slices
+/// whose numbers go past 4,294,967,295.
 pub fn answers(alloc: Global, fixed: &[(SysId, Fixed)]) -> Result<List<HistEntry>, NoMemory>
     ensures { IfOk result (λ hist. hist ≡ answered fixed.now) }
 {
     let mut table = Table::new(alloc, PlainQueues::new(alloc));
     let mut hist = List::new(alloc);
     for one in fixed {
-        let Fixed::Asked(req) = &one.1;
-        let code = answer(alloc, &mut table, req)?;
-        hist.push(entry(alloc, req, code)?)?;
+        fix(alloc, &mut table, one.0, &one.1, &mut hist)?;
     }
     Ok(hist)
 }

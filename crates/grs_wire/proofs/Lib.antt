@@ -1,3 +1,4 @@
+pub mod MaskLaws
 pub mod WantLaws
 pub mod RemoveLaws
 pub mod HistoryLaws

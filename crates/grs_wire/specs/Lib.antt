@@ -1,3 +1,5 @@
+pub mod Masks
+pub mod LockWords
 pub mod Wants
 pub mod History
 pub mod Laws

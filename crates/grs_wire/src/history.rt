@@ -1,7 +1,9 @@
 //! The history of a run.
 ghost use Rattle.std.specs.Prelude.{◌≡◌, IfOk};
 
-use grs_base::{Code, Copied, Ctl, Filter, List, NoMemory, Place, Res, Ret, Row, SysId, TaskId, copy_all};
+use grs_base::{
+    Code, Copied, Ctl, Filter, List, NoMemory, Place, Res, Ret, Row, SysId, TaskId, copy_all,
+};
 use std::alloc::Global;
 
 /// A request at its place in the history, with the reply that was given to it; or a removal.

@@ -49,14 +49,9 @@ pub enum Answer {
 pub enum Fixed {
     Asked(Req),
     /// A look at the Step and System resources of the task's system.
-    LocalLook {
-        task: TaskId,
-        filter: Filter,
-    },
+    LocalLook { task: TaskId, filter: Filter },
     /// A system was removed.
-    Purged {
-        target: SysId,
-    },
+    Purged { target: SysId },
 }
 
 impl Want {

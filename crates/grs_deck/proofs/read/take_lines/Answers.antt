@@ -1,13 +1,14 @@
 use Rattle.std.proofs.Common.{rules}
 use Rattle.std.proofs.lemmas.Result.{err_from_is_err_and}
 use Rattle.grs_deck.proofs.Loop.{goes_on, fails, is_done}
-use Rattle.grs_deck.proofs.FitsLaws.{fits_judge}
+use Rattle.grs_deck.proofs.FitsLaws.{fits_judge, lists_judge}
 use Rattle.grs_deck.proofs.read.take_lines.Goals as goal
 
 pub loop-line-preserved : goal.loop-line-preserved
 loop-line-preserved c = record {
   reads = goes_on c.loop-line.draft c.take_line.new.draft c.loop-line.rest.now c.in-Some.tail.now c.in-Some.line.now _ c.in-Some.ensures.cases.0 c.in_ok-take_line.ensures c.loop-line.invariant.reads;
   fits = fits_judge c.loop-line.draft c.take_line.new.draft c.in-Some.line.now c.in_ok-take_line.ensures c.loop-line.invariant.fits;
+  lists = lists_judge c.loop-line.draft c.take_line.new.draft c.in-Some.line.now c.in_ok-take_line.ensures c.loop-line.invariant.lists;
 }
 
 pub returns-in_err-take_line : goal.returns-in_err-take_line

@@ -1,0 +1,4 @@
+pub mod Medium
+pub mod Apply
+pub mod Room
+pub mod Acts

@@ -1,0 +1,296 @@
+//! The medium and its calls.
+ghost use Rattle.std.specs.Prelude.{◌≡◌, ◌<◌, ◌≤◌, true, [], length, replicate, IfOk, OnOk};
+ghost use Rattle.grs_medium.specs.Medium.{first_medium, systems_of, medium_at_end};
+ghost use Rattle.grs_medium.specs.Apply.{turn_row, purge_row, rest_row, reply_to, medium_after, changes, row, row_changes, ActFits, MayCall};
+ghost use Rattle.grs_medium.specs.Room.{is_built, HasRoomFor};
+ghost use Rattle.grs_medium.specs.Acts.{act_of};
+ghost use Rattle.rsa_message.specs.Room.{HasRoom};
+
+use crate::sets::{all_at_rest, all_empty, live_of};
+use grs_base::{List, NoMemory, SysId};
+use grs_wire::masks::{has_system, with_system, without_system};
+use grs_wire::{Act, Call, Mail, Reply, Req};
+use rsa_message::Rsa;
+use std::alloc::Global;
+use std::marker::Model;
+
+/// The shared medium. Contracts see its parts, and the room that `reserve` made.
+#[derive(Drop)]
+pub struct Medium {
+    systems: u32,
+    star: bool,
+    rsa: Rsa,
+    words: List<u32>,
+    inboxes: Vec<List<Mail>>,
+    removed: u32,
+    rest: u32,
+}
+
+impl Model for Medium {
+    ghost use Rattle.std.specs.Prelude.{◌≡◌, ◌≤◌, length};
+    ghost use Rattle.grs_medium.specs.Room.{MediumValue};
+
+    ghost Value = { MediumValue };
+
+    ghost view = { λ m. record { state = record { star = m.star; message = m.rsa.message; words = m.words; inboxes = m.inboxes.items; removed = m.removed; rest = m.rest }; room = m.rsa.room } };
+
+    ghost invariant = { λ m. (m.systems ≡ m.rsa.message.systems) × (m.systems ≤ 8) × (length m.inboxes.items ≡ m.systems) };
+}
+
+/// So many empty inboxes.
+fn empty_inboxes(alloc: Global, systems: u32) -> Result<Vec<List<Mail>>, NoMemory>
+    ensures { IfOk result (λ inboxes. inboxes.items ≡ replicate systems []) }
+{
+    let mut inboxes = Vec::new(alloc);
+    for _ in 0..systems {
+        if inboxes.push(List::new(alloc)).is_err() {
+            return Err(NoMemory);
+        }
+    }
+    Ok(inboxes)
+}
+
+/// So many lock words in which nobody has interest.
+fn empty_words(alloc: Global, entries: u32) -> Result<List<u32>, NoMemory>
+    ensures { IfOk result (λ words. words ≡ replicate entries 0) }
+{
+    match Vec::from_elem(alloc, 0, entries as usize) {
+        Ok(words) => Ok(List::from_vec(words)),
+        Err(_) => Err(NoMemory),
+    }
+}
+
+/// The acts that can be asked for today.
+#[derive(Drop)]
+enum Built {
+    Turn(List<Req>),
+    Purge(SysId),
+    Rest,
+}
+
+/// An act that can be asked for.
+fn built_of(act: Act) -> Built
+    requires { is_built act ≡ true }
+    ensures { act ≡ act_of result }
+{
+    match act {
+        Act::Turn { out } => Built::Turn(out),
+        Act::Purge { target } => Built::Purge(target),
+        Act::Rest => Built::Rest,
+        _ => unreachable!(),
+    }
+}
+
+impl Medium {
+    /// The medium at the start, of so many systems (1 to 8) and lock entries, in ring mode or in star mode.
+    pub fn new(alloc: Global, systems: u32, entries: u32, star: bool) -> Result<Medium, NoMemory>
+        requires some { 0 < systems }
+        requires few { systems ≤ 8 }
+        ensures { IfOk result (λ medium. medium.state ≡ first_medium systems entries star) }
+    {
+        let words = empty_words(alloc, entries)?;
+        let inboxes = empty_inboxes(alloc, systems)?;
+        Ok(Medium {
+            systems,
+            star,
+            rsa: Rsa::new(alloc, systems, star),
+            words,
+            inboxes,
+            removed: 0,
+            rest: 0,
+        })
+    }
+
+    /// The lock words.
+    pub fn words(&self) -> &List<u32>
+        ensures { result.now ≡ self.now.state.words }
+    {
+        &self.words
+    }
+
+    /// Whether the complex is in star mode.
+    pub fn star(&self) -> bool
+        ensures { result ≡ self.now.state.star }
+    {
+        self.star
+    }
+
+    /// The set of the systems that were removed.
+    pub fn removed(&self) -> u32
+        ensures { result ≡ self.now.state.removed }
+    {
+        self.removed
+    }
+
+    /// Whether nothing is left to do with the medium: all inboxes of systems that aren't removed are empty, no
+    /// entry of the message is left, and no system has yet to change to star mode.
+    #[tactic(auto, unfolding(crate::specs::Medium::medium_at_end))]
+    pub fn at_end(&self) -> bool
+        ensures { result ≡ medium_at_end self.now.state }
+    {
+        all_empty(self.systems, self.removed, self.inboxes.as_slice()) && self.rsa.at_end()
+    }
+
+    /// Makes room for one `apply` of this call. An entry of the message past the last number that one may have is
+    /// answered NoMemory.
+    pub fn reserve(&mut self, caller: SysId, call: &Call) -> Result<(), NoMemory>
+        requires call { MayCall self.old.state caller call.now }
+        requires built { is_built call.now.act ≡ true }
+        ensures state { self.new.state ≡ self.old.state }
+        ensures room { OnOk result (HasRoomFor self.new.room caller call.now.act) }
+    {
+        match &call.act {
+            Act::Turn { out } => self.rsa.reserve(caller, out.len() as u32),
+            Act::Purge { target: _ } => self.rsa.reserve(caller, 0),
+            Act::Rest => Ok(()),
+            _ => unreachable!(),
+        }
+    }
+
+    /// A Turn.
+    #[tactic(auto, unfolding(crate::specs::Apply::turn_row, rsa_message::specs::Message::rest_after_turn))]
+    fn turn(&mut self, caller: SysId, out: List<Req>) -> Reply
+        requires caller { caller.0 < systems_of self.old.state }
+        requires few { length out ≤ 32 }
+        requires room { HasRoom self.old.room caller (length out) }
+        ensures reply { result ≡ (turn_row self.old.state caller out).0 }
+        ensures state { self.new.state ≡ (turn_row self.old.state caller out).1 }
+    {
+        let live = live_of(self.systems, self.removed);
+        let rest = self.rest;
+        if self.rsa.wakes(caller, out.len() as u32) {
+            self.rest = without_system(rest, caller);
+        }
+        self.rsa.turn(caller, out, live, rest)
+    }
+
+    /// A Purge.
+    #[tactic(auto, unfolding(crate::specs::Apply::purge_row))]
+    fn purge(&mut self, caller: SysId, target: SysId) -> Reply
+        requires caller { caller.0 < systems_of self.old.state }
+        requires room { HasRoom self.old.room caller 0 }
+        ensures reply { result ≡ (purge_row self.old.state caller target).0 }
+        ensures state { self.new.state ≡ (purge_row self.old.state caller target).1 }
+    {
+        if self.star {
+            return Reply::InStar;
+        }
+        if target.0 as u32 >= self.systems || has_system(self.removed, target) {
+            return Reply::NoSuch;
+        }
+        self.removed = with_system(self.removed, target);
+        self.rest = without_system(self.rest, caller);
+        let live = live_of(self.systems, self.removed);
+        self.rsa.drop_system(caller, target, live);
+        Reply::Purged
+    }
+
+    /// Whether all is over once the system has come to rest.
+    #[tactic(auto, unfolding(crate::specs::Apply::rest_row, crate::specs::Medium::medium_at_end))]
+    fn rest_reply(&self, caller: SysId) -> Reply
+        requires { caller.0 < systems_of self.now.state }
+        ensures { result ≡ (rest_row self.now.state caller).0 }
+    {
+        let systems = self.systems;
+        let rest = with_system(self.rest, caller);
+        if all_at_rest(systems, self.removed, rest) && self.at_end() {
+            Reply::Over
+        } else {
+            Reply::Resting
+        }
+    }
+
+    /// A Rest.
+    #[tactic(auto, unfolding(crate::specs::Apply::rest_row))]
+    fn rest(&mut self, caller: SysId) -> Reply
+        requires { caller.0 < systems_of self.old.state }
+        ensures reply { result ≡ (rest_row self.old.state caller).0 }
+        ensures state { self.new.state ≡ (rest_row self.old.state caller).1 }
+    {
+        let reply = self.rest_reply(caller);
+        self.rest = with_system(self.rest, caller);
+        reply
+    }
+
+    /// The row of an act.
+    #[tactic(auto, unfolding(crate::specs::Apply::row))]
+    fn act(&mut self, caller: SysId, built: Built) -> Reply
+        requires caller { caller.0 < systems_of self.old.state }
+        requires fits { ActFits self.old.state caller (act_of built) }
+        requires room { HasRoomFor self.old.room caller (act_of built) }
+        ensures reply { result ≡ (row self.old.state caller (act_of built)).0 }
+        ensures state { self.new.state ≡ (row self.old.state caller (act_of built)).1 }
+    {
+        match built {
+            Built::Turn(out) => self.turn(caller, out),
+            Built::Purge(target) => self.purge(caller, target),
+            Built::Rest => self.rest(caller),
+        }
+    }
+
+    /// One call of the medium: its reply, by the table of the medium. It takes no memory.
+    ///
+    /// Removed comes exactly where the caller was removed; else Stale exactly where the caller doesn't know of all
+    /// removed systems. A Turn is answered NotYours exactly where the message isn't at the caller. A Purge is
+    /// answered InStar exactly in star mode, and else NoSuch exactly where the target was removed or is no system.
+    /// A Rest is answered Over exactly where all that aren't removed are then at rest and nothing is left to do.
+    #[tactic(auto, unfolding(crate::specs::Apply::apply))]
+    pub fn apply(&mut self, caller: SysId, call: Call) -> Reply
+        requires call { MayCall self.old.state caller call }
+        requires built { is_built call.act ≡ true }
+        requires room { HasRoomFor self.old.room caller call.act }
+        ensures reply { result ≡ reply_to self.old.state caller call }
+        ensures state { self.new.state ≡ medium_after self.old.state caller call }
+    {
+        let Call { known, act } = call;
+        let built = built_of(act);
+        if has_system(self.removed, caller) {
+            return Reply::Removed;
+        }
+        if known != self.removed {
+            return Reply::Stale { set: self.removed };
+        }
+        self.act(caller, built)
+    }
+
+    /// What a Purge would be answered, and whether it would change the medium.
+    #[tactic(auto, unfolding(crate::specs::Apply::purge_row, crate::specs::Apply::row_changes))]
+    fn preview_purge(&self, caller: SysId, target: SysId) -> (Reply, bool)
+        requires { caller.0 < systems_of self.now.state }
+        ensures reply { result.0 ≡ (purge_row self.now.state caller target).0 }
+        ensures changes { result.1 ≡ row_changes self.now.state caller (Act.Purge target) }
+    {
+        if self.star {
+            return (Reply::InStar, false);
+        }
+        if target.0 as u32 >= self.systems || has_system(self.removed, target) {
+            return (Reply::NoSuch, false);
+        }
+        (Reply::Purged, true)
+    }
+
+    /// The reply that `apply` of this call would give, and whether it would change the medium.
+    #[tactic(auto, unfolding(crate::specs::Apply::apply, crate::specs::Apply::row, crate::specs::Apply::turn_row, crate::specs::Apply::changes, crate::specs::Apply::row_changes))]
+    pub fn preview(&self, caller: SysId, call: &Call) -> Result<(Reply, bool), NoMemory>
+        requires call { MayCall self.now.state caller call.now }
+        requires built { is_built call.now.act ≡ true }
+        ensures reply { IfOk result (λ shown. shown.0 ≡ reply_to self.now.state caller call.now) }
+        ensures changes { IfOk result (λ shown. shown.1 ≡ changes self.now.state caller call.now) }
+    {
+        if has_system(self.removed, caller) {
+            return Ok((Reply::Removed, false));
+        }
+        if call.known != self.removed {
+            return Ok((Reply::Stale { set: self.removed }, false));
+        }
+        let live = live_of(self.systems, self.removed);
+        match &call.act {
+            Act::Turn { out } => self
+                .rsa
+                .preview_turn(caller, out.len() as u32, live, self.rest),
+            Act::Purge { target } => Ok(self.preview_purge(caller, *target)),
+            Act::Rest => Ok((self.rest_reply(caller), !has_system(self.rest, caller))),
+            _ => unreachable!(),
+        }
+    }
+}

@@ -1,0 +1,62 @@
+//! What is asked of all systems that aren't removed.
+ghost use Rattle.std.specs.Prelude.{◌≡◌, ◌+◌, ◌<◌, ◌≤◌, ◌||◌, [], length, slice_index_or};
+ghost use Rattle.grs_wire.specs.Masks.{has, others, all_others};
+ghost use Rattle.grs_medium.specs.Medium.{is_empty};
+
+use grs_base::{List, SysId};
+use grs_wire::Mail;
+use grs_wire::masks::{has_system, with_system};
+
+/// The systems that aren't removed.
+pub fn live_of(systems: u32, removed: u32) -> u32
+    requires { systems ≤ 8 }
+    ensures { result ≡ others systems removed }
+{
+    let mut live = 0;
+    for s in 0..systems {
+        let system = SysId(s as u8);
+        if !has_system(removed, system) {
+            live = with_system(live, system);
+        }
+    }
+    live
+}
+
+/// Whether the system is removed or at rest.
+fn is_removed_or_rests(removed: u32, rest: u32, system: SysId) -> bool
+    requires { system.0 < 32 }
+    ensures { result ≡ (has removed system.0 || has rest system.0) }
+{
+    has_system(removed, system) || has_system(rest, system)
+}
+
+/// Whether the flag of rest of each system that isn't removed is set.
+#[tactic(auto, using(crate::proofs::SetLaws::all_others_false))]
+pub fn all_at_rest(systems: u32, removed: u32, rest: u32) -> bool
+    requires { systems ≤ 8 }
+    ensures { result ≡ all_others systems removed (λ s. has rest s) }
+{
+    for s in 0..systems {
+        let system = SysId(s as u8);
+        if !is_removed_or_rests(removed, rest, system) {
+            return false;
+        }
+    }
+    true
+}
+
+/// Whether the inbox of each system that isn't removed is empty.
+#[tactic(auto, using(crate::proofs::SetLaws::all_others_false))]
+pub fn all_empty(systems: u32, removed: u32, inboxes: &[List<Mail>]) -> bool
+    requires few { systems ≤ 8 }
+    requires boxes { length inboxes.now ≡ systems }
+    ensures { result ≡ all_others systems removed (λ s. is_empty (slice_index_or inboxes.now s [])) }
+{
+    for s in 0..systems {
+        let system = SysId(s as u8);
+        if !(has_system(removed, system) || inboxes[s as usize].len() == 0) {
+            return false;
+        }
+    }
+    true
+}

@@ -1,0 +1,30 @@
+-- Sets of systems as numbers. Everything else knows them by the first three words and their laws, and never by
+-- their bits.
+use Rattle.std.specs.Prelude.{ℕ, zero, suc, ◌^◌, Bool, true, cond, ◌&&◌, ◌||◌, eqb, bit_and, bit_or, bit_xor}
+use Rattle.std.specs.Int.{bit_at}
+
+-- whether s is in the set m
+unfoldable pub has : ℕ → ℕ → Bool
+has m s = eqb (bit_at m s) 1
+
+-- m without s
+unfoldable pub without : ℕ → ℕ → ℕ
+without m s = bit_xor m (bit_and m (2 ^ s))
+
+-- m with s
+unfoldable pub with_also : ℕ → ℕ → ℕ
+with_also m s = bit_or m (2 ^ s)
+
+-- the set of s alone
+abbrev pub only : ℕ → ℕ
+only s = with_also 0 s
+
+-- the systems below n that aren't in the set m
+abbrev pub others : ℕ → ℕ → ℕ
+others zero m = 0
+others (suc n) m = cond (has m n) (others n m) (with_also (others n m) n)
+
+-- whether each system below n that isn't in the set m passes the test
+abbrev pub all_others : ℕ → ℕ → (ℕ → Bool) → Bool
+all_others zero m test = true
+all_others (suc n) m test = all_others n m test && (has m n || test n)

@@ -1,0 +1,8 @@
+use Rattle.job_syntax.proofs.ReadLaws.{answers, only}
+use Rattle.job_syntax.proofs.read.read_line.Goals as goal
+
+pub returns-clause-exact : goal.returns-clause-exact
+returns-clause-exact c = answers c.args.text.now c.read_all.result c.read_all.ensures
+
+pub returns-clause-only : goal.returns-clause-only
+returns-clause-only c = only c.args.text.now c.read_all.result c.read_all.ensures

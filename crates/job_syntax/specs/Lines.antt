@@ -1,0 +1,93 @@
+-- The line that a task line makes, where its names have the right lengths.
+use Rattle.std.specs.Prelude.{ℕ, Bool, true, false, not, ◌&&◌, ◌||◌, List, [], ◌∷◌, Option, Some, None, is_none, unwrap_or, if◌then◌else◌}
+use Rattle.grs_base.specs.Names.{trim_blanks, is_qname, is_rname}
+use Rattle.grs_base.specs.declared.resource.Ret.{Ret}
+use Rattle.grs_base.specs.declared.resource.Ret.TheVariants.{RetNone, RetUse, RetHave, RetTest, RetChng, RetEcb}
+use Rattle.grs_base.specs.declared.look.Filter.{Filter}
+use Rattle.grs_base.specs.declared.look.Filter.TheVariants as filters
+use Rattle.grs_base.specs.declared.line.Line.{Line}
+use Rattle.grs_base.specs.declared.line.Line.TheVariants as lines
+use Rattle.job_syntax.specs.declared.ask.Ask.{Ask}
+use Rattle.job_syntax.specs.declared.ask.EnqAsk.{EnqAsk}
+use Rattle.job_syntax.specs.declared.display.Wanted.{Wanted}
+use Rattle.job_syntax.specs.declared.display.Shown.{Shown}
+use Rattle.job_syntax.specs.declared.display.Shown.TheVariants as shown
+use Rattle.job_syntax.specs.declared.said.Said.{Said}
+use Rattle.job_syntax.specs.declared.said.Said.TheVariants as said
+
+-- Names of wrong lengths.
+abbrev pub are_bad : List ℕ → List ℕ → Bool
+are_bad q r = not (is_qname q) || not (is_rname r)
+
+abbrev pub is_bad_q : Option (List ℕ) → Bool
+is_bad_q None = false
+is_bad_q (Some q) = not (is_qname q)
+
+abbrev pub is_bad_r : Option (List ℕ) → Bool
+is_bad_r None = false
+is_bad_r (Some r) = not (is_rname r)
+
+abbrev pub is_bad_shown : Shown → Bool
+is_bad_shown shown.Contended = false
+is_bad_shown (shown.Resource q r) = are_bad q r
+
+abbrev pub is_bad : Said → Bool
+is_bad (said.Enq e) = are_bad e.ask.q e.ask.r
+is_bad (said.Reserve e) = are_bad e.ask.q e.ask.r
+is_bad (said.Deq a) = are_bad a.q a.r
+is_bad (said.Wait a) = are_bad a.q a.r
+is_bad (said.Gqscan s) = is_bad_q s.names.q || is_bad_r s.names.r
+is_bad (said.Display s) = is_bad_shown s
+
+-- Without RET an ENQ is unconditional.
+abbrev pub ret_or_none : Option Ret → Ret
+ret_or_none None = RetNone
+ret_or_none (Some r) = r
+
+-- Without RNL the name lists are looked at.
+abbrev pub rnl_or_yes : Option Bool → Bool
+rnl_or_yes None = true
+rnl_or_yes (Some b) = b
+
+abbrev pub is_have : Option Ret → Bool
+is_have None = false
+is_have (Some RetNone) = false
+is_have (Some RetUse) = false
+is_have (Some RetHave) = true
+is_have (Some RetTest) = false
+is_have (Some RetChng) = false
+is_have (Some RetEcb) = false
+
+-- A qname loses its trailing blanks.
+abbrev pub trimmed : Option (List ℕ) → Option (List ℕ)
+trimmed None = None
+trimmed (Some q) = Some (trim_blanks q)
+
+-- Without names every list is shown.
+abbrev pub filter_of : Wanted → Filter
+filter_of n = if is_none n.q && is_none n.r then filters.All else filters.Named (trimmed n.q) n.r
+
+abbrev pub enq_line : EnqAsk → Line
+enq_line e = lines.Enq (record { q = trim_blanks e.ask.q; r = e.ask.r; ctl = e.ctl; scope = e.ask.scope } ∷ []) (ret_or_none e.ask.opts.ret) (rnl_or_yes e.ask.opts.rnl)
+
+abbrev pub reserve_line : EnqAsk → Line
+reserve_line e = lines.Reserve (trim_blanks e.ask.q) e.ask.r e.ctl (unwrap_or e.ask.opts.unit 0) (ret_or_none e.ask.opts.ret) (rnl_or_yes e.ask.opts.rnl)
+
+abbrev pub deq_line : Ask → Line
+deq_line a = lines.Deq (trim_blanks a.q) a.r a.scope (is_have a.opts.ret) a.opts.unit (rnl_or_yes a.opts.rnl)
+
+abbrev pub wait_line : Ask → Line
+wait_line a = lines.Wait (trim_blanks a.q) a.r a.scope (rnl_or_yes a.opts.rnl)
+
+abbrev pub display_line : Shown → Line
+display_line shown.Contended = lines.DisplayC
+display_line (shown.Resource q r) = lines.DisplayRes (trim_blanks q) r
+
+-- The line that a task line makes.
+abbrev pub line_of : Said → Line
+line_of (said.Enq e) = enq_line e
+line_of (said.Reserve e) = reserve_line e
+line_of (said.Deq a) = deq_line a
+line_of (said.Wait a) = wait_line a
+line_of (said.Gqscan s) = lines.Gqscan s.global (filter_of s.names)
+line_of (said.Display s) = display_line s

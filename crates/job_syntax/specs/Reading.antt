@@ -1,0 +1,89 @@
+-- The line that a text of one task line spells, or its fault.
+use Rattle.std.specs.Prelude.{◌≡◌, ℕ, false, ◌≤◌, List, [], ◌∷◌, length, Option, Some, None, Result, Ok, Err, if◌then◌else◌}
+use Rattle.grs_base.specs.declared.fault.DeckFault.{DeckFault}
+use Rattle.grs_base.specs.declared.fault.Kind.{Kind}
+use Rattle.grs_base.specs.declared.fault.Kind.TheVariants.{UnknownStatement, BadOperand, NameLength}
+use Rattle.grs_base.specs.declared.fault.ReadError.{ReadError}
+use Rattle.grs_base.specs.declared.fault.ReadError.TheVariants as read_errors
+use Rattle.grs_base.specs.declared.line.Line.{Line}
+use Rattle.deck_scan.specs.declared.token.Token.{Token}
+use Rattle.deck_scan.specs.declared.token.Token.TheVariants.{Word, Unclosed}
+use Rattle.deck_scan.specs.declared.token.TokenLine.{TokenLine}
+use Rattle.deck_scan.specs.Pieces.{SpellsLines}
+use Rattle.deck_scan.specs.Reading.{max_text, lines_or_fault}
+use Rattle.job_syntax.specs.declared.said.Said.{Said}
+use Rattle.job_syntax.specs.declared.said.Verb.{Verb}
+use Rattle.job_syntax.specs.Said.{verb, said_at}
+use Rattle.job_syntax.specs.Spelled.{IsSaid}
+use Rattle.job_syntax.specs.Lines.{is_bad, line_of}
+
+infixl 10 ◌>>=◌
+abbrev pub ◌>>=◌ : {A B : Type 0} → Result A DeckFault → (A → Result B DeckFault) → Result B DeckFault
+(Ok x) >>= f = f x
+(Err e) >>= f = Err e
+
+abbrev pub refused : {A : Type 0} → ℕ → Kind → Result A DeckFault
+refused at kind = Err (record { line = at; kind = kind })
+
+abbrev pub or_bad : ℕ → Option Said → Result Said DeckFault
+or_bad at (Some s) = Ok s
+or_bad at None = refused at BadOperand
+
+abbrev pub said_by : ℕ → Option Verb → List Token → Result Said DeckFault
+said_by at (Some v) ts = or_bad at (said_at v ts)
+said_by at None ts = refused at UnknownStatement
+
+-- A first word that begins no task line is no statement word here; an unclosed comment is wrong for itself.
+abbrev pub said_first : ℕ → List Token → Result Said DeckFault
+said_first at (Word w ∷ ts) = said_by at (verb w) ts
+said_first at (Unclosed ∷ ts) = refused at BadOperand
+said_first at _ = refused at UnknownStatement
+
+-- Nothing but a parenthesis stands directly behind the first word.
+unfoldable pub said_on : TokenLine → Result Said DeckFault
+said_on l = if l.joined then refused l.at UnknownStatement else said_first l.at l.tokens
+
+abbrev pub sized : ℕ → Said → Result Said DeckFault
+sized at s = if is_bad s then refused at NameLength else Ok s
+
+-- A further statement is wrong where it begins.
+abbrev pub alone : Said → List TokenLine → Result Line DeckFault
+alone s [] = Ok (line_of s)
+alone s (l ∷ ls) = refused l.at BadOperand
+
+abbrev pub sized_alone : ℕ → Said → List TokenLine → Result Line DeckFault
+sized_alone at s ls = sized at s >>= λ t. alone t ls
+
+-- A text without a statement is told as an unknown one on its first line.
+unfoldable pub one_line : List TokenLine → Result Line DeckFault
+one_line [] = refused 1 UnknownStatement
+one_line (l ∷ ls) = said_on l >>= λ s. sized_alone l.at s ls
+
+-- What is read of a text.
+unfoldable pub reading : List ℕ → Result Line DeckFault
+reading text = lines_or_fault text >>= λ ls. one_line ls
+
+-- A text spells a line of a task: it is short enough, it has one line of tokens, and that spells the task
+-- line, whose names are right.
+pub record SpellsLine (text : List ℕ) (line : Line) : Type 0 where
+  pub short : length text ≤ max_text
+  pub tokens : TokenLine
+  pub spelled : SpellsLines text (tokens ∷ [])
+  pub apart : tokens.joined ≡ false
+  pub said : Said
+  pub says : IsSaid tokens.tokens said
+  pub names : is_bad said ≡ false
+  pub makes : line_of said ≡ line
+
+-- What is answered of a text: the line that it spells, else its fault. Want of memory is the only other
+-- answer.
+abbrev pub Answers : Result Line ReadError → List ℕ → Type 0
+Answers (Ok line) text = SpellsLine text line
+Answers (Err read_errors.NoMemory) text = Unit {0}
+Answers (Err (read_errors.Fault f)) text = reading text ≡ Err f
+
+-- This line, unless memory ran out.
+abbrev pub IsOkUnlessMemory : Result Line ReadError → Line → Type 0
+IsOkUnlessMemory (Ok l) line = l ≡ line
+IsOkUnlessMemory (Err read_errors.NoMemory) line = Unit {0}
+IsOkUnlessMemory (Err (read_errors.Fault f)) line = ⊥

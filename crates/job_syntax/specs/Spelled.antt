@@ -1,0 +1,153 @@
+-- How the tokens of a line spell what a task line says, by cases on it.
+use Rattle.std.specs.Prelude.{◌≡◌, ℕ, Bool, true, false, ◌⊎◌, List, [], ◌∷◌, ◌++◌, codes, Some, None}
+use Rattle.std.specs.List.{flat_map}
+use Rattle.grs_base.specs.declared.line.Scope.{Scope}
+use Rattle.grs_base.specs.declared.line.Scope.TheVariants as scopes
+use Rattle.grs_base.specs.declared.resource.Ctl.{Ctl}
+use Rattle.grs_base.specs.declared.resource.Ctl.TheVariants.{E, S}
+use Rattle.grs_base.specs.declared.resource.Ret.{Ret}
+use Rattle.grs_base.specs.declared.resource.Ret.TheVariants.{RetNone, RetUse, RetHave, RetTest, RetChng, RetEcb}
+use Rattle.deck_scan.specs.declared.token.Token.{Token}
+use Rattle.deck_scan.specs.declared.token.Token.TheVariants.{Word, Open, Close, Comma, Equals}
+use Rattle.deck_scan.specs.Next.{Names, Sets}
+use Rattle.job_syntax.specs.declared.options.Opts.{Opts}
+use Rattle.job_syntax.specs.declared.ask.Ask.{Ask}
+use Rattle.job_syntax.specs.declared.ask.EnqAsk.{EnqAsk}
+use Rattle.job_syntax.specs.declared.display.Wanted.{Wanted}
+use Rattle.job_syntax.specs.declared.display.ScanAsk.{ScanAsk}
+use Rattle.job_syntax.specs.declared.display.Shown.{Shown}
+use Rattle.job_syntax.specs.declared.display.Shown.TheVariants as shown
+use Rattle.job_syntax.specs.declared.said.Said.{Said}
+use Rattle.job_syntax.specs.declared.said.Said.TheVariants as said
+use Rattle.job_syntax.specs.declared.said.Verb.{Verb}
+use Rattle.job_syntax.specs.declared.said.Verb.TheVariants as verbs
+use Rattle.job_syntax.specs.Unit.{unit_of}
+use Rattle.job_syntax.specs.Options.{no_opts}
+use Rattle.job_syntax.specs.Ask.{enq_may, reserve_may, deq_may, wait_may}
+use Rattle.job_syntax.specs.Display.{no_names}
+
+abbrev pub ctl_word : Ctl → List ℕ
+ctl_word E = codes "E"
+ctl_word S = codes "S"
+
+abbrev pub scope_word : Scope → List ℕ
+scope_word scopes.Step = codes "STEP"
+scope_word scopes.System = codes "SYSTEM"
+scope_word scopes.Systems = codes "SYSTEMS"
+
+abbrev pub rnl_word : Bool → List ℕ
+rnl_word true = codes "YES"
+rnl_word false = codes "NO"
+
+-- An option of a task line: RET or ECB; RNL; UCB with its word and the unit that the word writes.
+pub data Opt : Type 0 where
+  Given : Ret → Opt
+  Lists : Bool → Opt
+  On : List ℕ → ℕ → Opt
+
+abbrev pub valued : List ℕ → List ℕ → List Token
+valued word value = Comma ∷ Word word ∷ Equals ∷ Word value ∷ []
+
+abbrev pub option : Opt → List Token
+option (Given RetNone) = valued (codes "RET") (codes "NONE")
+option (Given RetUse) = valued (codes "RET") (codes "USE")
+option (Given RetHave) = valued (codes "RET") (codes "HAVE")
+option (Given RetTest) = valued (codes "RET") (codes "TEST")
+option (Given RetChng) = valued (codes "RET") (codes "CHNG")
+option (Given RetEcb) = Comma ∷ Word (codes "ECB") ∷ []
+option (Lists b) = valued (codes "RNL") (rnl_word b)
+option (On w unit) = valued (codes "UCB") w
+
+-- None of its kind stands yet, and its word is right.
+abbrev pub IsFree : Opt → Opts → Type 0
+IsFree (Given r) o = o.ret ≡ None
+IsFree (Lists b) o = o.rnl ≡ None
+IsFree (On w unit) o = (o.unit ≡ None) × (unit_of w ≡ Some unit)
+
+abbrev pub set : Opt → Opts → Opts
+set (Given r) o = record o { ret = Some r }
+set (Lists b) o = record o { rnl = Some b }
+set (On w unit) o = record o { unit = Some unit }
+
+-- ( q , r , then what stands before the scope, the scope, ) and the options.
+pub record IsAsk (front : List Token) (ts : List Token) (a : Ask) : Type 0 where
+  pub q : Token
+  pub r : Token
+  pub given : List Opt
+  pub spelled : ts ≡ Open ∷ q ∷ Comma ∷ r ∷ Comma ∷ (front ++ Word (scope_word a.scope) ∷ Close ∷ flat_map option given)
+  pub named_q : Names q a.q
+  pub named_r : Names r a.r
+  pub options : Sets IsFree set no_opts given a.opts
+
+abbrev pub reach_word : Bool → List ℕ
+reach_word true = codes "GLOBAL"
+reach_word false = codes "LOCAL"
+
+-- A name that a GQSCAN gives: QNAME and RNAME with the tokens and the bytes that these name.
+pub data Want : Type 0 where
+  First : Token → List ℕ → Want
+  Second : Token → List ℕ → Want
+
+abbrev pub want : Want → List Token
+want (First t q) = Comma ∷ Word (codes "QNAME") ∷ Equals ∷ t ∷ []
+want (Second t r) = Comma ∷ Word (codes "RNAME") ∷ Equals ∷ t ∷ []
+
+abbrev pub IsFreeWant : Want → Wanted → Type 0
+IsFreeWant (First t q) o = (o.q ≡ None) × Names t q
+IsFreeWant (Second t r) o = (o.r ≡ None) × Names t r
+
+abbrev pub set_want : Want → Wanted → Wanted
+set_want (First t q) o = record o { q = Some q }
+set_want (Second t r) o = record o { r = Some r }
+
+-- SCOPE = GLOBAL or LOCAL, and the names.
+pub record IsScan (ts : List Token) (s : ScanAsk) : Type 0 where
+  pub given : List Want
+  pub spelled : ts ≡ Word (codes "SCOPE") ∷ Equals ∷ Word (reach_word s.global) ∷ flat_map want given
+  pub names : Sets IsFreeWant set_want no_names given s.names
+
+-- GRS , RES = ( q , r )
+pub record IsResource (ts : List Token) (qname rname : List ℕ) : Type 0 where
+  pub q : Token
+  pub r : Token
+  pub spelled : ts ≡ Word (codes "GRS") ∷ Comma ∷ Word (codes "RES") ∷ Equals ∷ Open ∷ q ∷ Comma ∷ r ∷ Close ∷ []
+  pub named_q : Names q qname
+  pub named_r : Names r rname
+
+abbrev pub IsShown : List Token → Shown → Type 0
+IsShown ts shown.Contended = ts ≡ Word (codes "GRS") ∷ Comma ∷ Word (codes "C") ∷ []
+IsShown ts (shown.Resource q r) = IsResource ts q r
+
+-- What stands behind the first word.
+abbrev pub IsBehind : List Token → Said → Type 0
+IsBehind ts (said.Enq e) = IsAsk (Word (ctl_word e.ctl) ∷ Comma ∷ []) ts e.ask × (enq_may e.ask ≡ true)
+IsBehind ts (said.Reserve e) = IsAsk (Word (ctl_word e.ctl) ∷ Comma ∷ []) ts e.ask × (reserve_may e.ask ≡ true)
+IsBehind ts (said.Deq a) = IsAsk [] ts a × (deq_may a ≡ true)
+IsBehind ts (said.Wait a) = IsAsk [] ts a × (wait_may a ≡ true)
+IsBehind ts (said.Gqscan s) = IsScan ts s
+IsBehind ts (said.Display s) = IsShown ts s
+
+abbrev pub verb_for : Said → Verb
+verb_for (said.Enq e) = verbs.Enq
+verb_for (said.Reserve e) = verbs.Reserve
+verb_for (said.Deq a) = verbs.Deq
+verb_for (said.Wait a) = verbs.Wait
+verb_for (said.Gqscan s) = verbs.Gqscan
+verb_for (said.Display s) = verbs.Display
+
+-- Which word it is. DISPLAY may be written D.
+abbrev pub IsWord : Verb → List ℕ → Type 0
+IsWord verbs.Enq w = w ≡ codes "ENQ"
+IsWord verbs.Reserve w = w ≡ codes "RESERVE"
+IsWord verbs.Deq w = w ≡ codes "DEQ"
+IsWord verbs.Wait w = w ≡ codes "WAIT"
+IsWord verbs.Gqscan w = w ≡ codes "GQSCAN"
+IsWord verbs.Display w = (w ≡ codes "DISPLAY") ⊎ (w ≡ codes "D")
+
+-- Tokens spell a task line: its word, and what belongs behind it.
+pub record IsSaid (ts : List Token) (s : Said) : Type 0 where
+  pub word : List ℕ
+  pub behind : List Token
+  pub parts : ts ≡ Word word ∷ behind
+  pub is_word : IsWord (verb_for s) word
+  pub is_behind : IsBehind behind s

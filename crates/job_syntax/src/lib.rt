@@ -1,0 +1,23 @@
+//! Task lines: from the tokens of a line to what it says, and from a line back to its text. It knows
+//! the forms of single lines, and nothing of systems, jobs and tasks.
+#![tactic(auto)]
+
+mod ask;
+mod display;
+mod line;
+mod options;
+mod print;
+mod read;
+mod said;
+mod unit;
+
+pub use ask::{Ask, EnqAsk};
+pub use display::{ScanAsk, Shown, Wanted};
+pub use line::{is_bad, line_of};
+pub use options::Opts;
+pub use print::print_line;
+pub use read::read_line;
+pub use said::{Said, Verb, said_at, verb_of};
+
+#[cfg(test)]
+mod tests;

@@ -1,0 +1,247 @@
+//! The line that a task line makes. What is read without options has their plain values here.
+ghost use Rattle.std.specs.Prelude.{◌≡◌, true, false, IfOk};
+ghost use Rattle.grs_base.specs.Names.{trim_blanks, is_qname, is_rname};
+ghost use Rattle.job_syntax.specs.Lines.{are_bad, is_bad_q, is_bad_r, is_bad_shown, is_bad, ret_or_none, rnl_or_yes, is_have, trimmed, filter_of, enq_line, reserve_line, deq_line, wait_line, display_line, line_of};
+
+use crate::ask::{Ask, EnqAsk};
+use crate::display::{Shown, Wanted};
+use crate::said::Said;
+use grs_base::{
+    Filter, Item, Line, List, NameFault, NoMemory, Qname, Ret, Rname, is_qname, is_rname,
+};
+use std::alloc::Global;
+
+fn are_bad(q: &[u8], r: &[u8]) -> bool
+    ensures { result ≡ are_bad q.now r.now }
+{
+    !is_qname(q) || !is_rname(r)
+}
+
+fn is_bad_q(q: &Option<List<u8>>) -> bool
+    ensures { result ≡ is_bad_q q.now }
+{
+    match q {
+        None => false,
+        Some(q) => !is_qname(q.as_slice()),
+    }
+}
+
+fn is_bad_r(r: &Option<List<u8>>) -> bool
+    ensures { result ≡ is_bad_r r.now }
+{
+    match r {
+        None => false,
+        Some(r) => !is_rname(r.as_slice()),
+    }
+}
+
+fn is_bad_shown(shown: &Shown) -> bool
+    ensures { result ≡ is_bad_shown shown.now }
+{
+    match shown {
+        Shown::Contended => false,
+        Shown::Resource { q, r } => are_bad(q.as_slice(), r.as_slice()),
+    }
+}
+
+/// Whether a name has a length that it may not have.
+pub fn is_bad(said: &Said) -> bool
+    ensures { result ≡ is_bad said.now }
+{
+    match said {
+        Said::Enq(enq) => are_bad(enq.ask.q.as_slice(), enq.ask.r.as_slice()),
+        Said::Reserve(enq) => are_bad(enq.ask.q.as_slice(), enq.ask.r.as_slice()),
+        Said::Deq(ask) => are_bad(ask.q.as_slice(), ask.r.as_slice()),
+        Said::Wait(ask) => are_bad(ask.q.as_slice(), ask.r.as_slice()),
+        Said::Gqscan(scan) => is_bad_q(&scan.names.q) || is_bad_r(&scan.names.r),
+        Said::Display(shown) => is_bad_shown(shown),
+    }
+}
+
+fn ret_or_none(ret: Option<Ret>) -> Ret
+    ensures { result ≡ ret_or_none ret }
+{
+    match ret {
+        None => Ret::RetNone,
+        Some(ret) => ret,
+    }
+}
+
+fn rnl_or_yes(rnl: Option<bool>) -> bool
+    ensures { result ≡ rnl_or_yes rnl }
+{
+    match rnl {
+        None => true,
+        Some(rnl) => rnl,
+    }
+}
+
+fn is_have(ret: Option<Ret>) -> bool
+    ensures { result ≡ is_have ret }
+{
+    match ret {
+        Some(Ret::RetHave) => true,
+        _ => false,
+    }
+}
+
+fn qname_of(alloc: Global, bytes: &[u8]) -> Result<Qname, NoMemory>
+    requires { is_qname bytes.now ≡ true }
+    ensures { IfOk result (λ q. q ≡ trim_blanks bytes.now) }
+{
+    match Qname::new(alloc, bytes) {
+        Ok(q) => Ok(q),
+        Err(NameFault::BadLength) => unreachable!(),
+        Err(NameFault::NoMemory) => Err(NoMemory),
+    }
+}
+
+fn rname_of(alloc: Global, bytes: &[u8]) -> Result<Rname, NoMemory>
+    requires { is_rname bytes.now ≡ true }
+    ensures { IfOk result (λ r. r ≡ bytes.now) }
+{
+    match Rname::new(alloc, bytes) {
+        Ok(r) => Ok(r),
+        Err(NameFault::BadLength) => unreachable!(),
+        Err(NameFault::NoMemory) => Err(NoMemory),
+    }
+}
+
+/// The names of a line, whose lengths are right.
+fn names_of(alloc: Global, q: &[u8], r: &[u8]) -> Result<(Qname, Rname), NoMemory>
+    requires { are_bad q.now r.now ≡ false }
+    ensures q { IfOk result (λ x. x.0 ≡ trim_blanks q.now) }
+    ensures r { IfOk result (λ x. x.1 ≡ r.now) }
+{
+    let q = qname_of(alloc, q)?;
+    let r = rname_of(alloc, r)?;
+    Ok((q, r))
+}
+
+fn enq_line(alloc: Global, enq: &EnqAsk) -> Result<Line, NoMemory>
+    requires { are_bad enq.now.ask.q enq.now.ask.r ≡ false }
+    ensures { IfOk result (λ l. l ≡ enq_line enq.now) }
+{
+    let (q, r) = names_of(alloc, enq.ask.q.as_slice(), enq.ask.r.as_slice())?;
+    let item = Item {
+        q,
+        r,
+        ctl: enq.ctl,
+        scope: enq.ask.scope,
+    };
+    let mut items = List::new(alloc);
+    items.push(item)?;
+    Ok(Line::Enq {
+        items,
+        ret: ret_or_none(enq.ask.opts.ret),
+        rnl: rnl_or_yes(enq.ask.opts.rnl),
+    })
+}
+
+fn reserve_line(alloc: Global, enq: &EnqAsk) -> Result<Line, NoMemory>
+    requires { are_bad enq.now.ask.q enq.now.ask.r ≡ false }
+    ensures { IfOk result (λ l. l ≡ reserve_line enq.now) }
+{
+    let (q, r) = names_of(alloc, enq.ask.q.as_slice(), enq.ask.r.as_slice())?;
+    Ok(Line::Reserve {
+        q,
+        r,
+        ctl: enq.ctl,
+        unit: enq.ask.opts.unit.unwrap_or(0),
+        ret: ret_or_none(enq.ask.opts.ret),
+        rnl: rnl_or_yes(enq.ask.opts.rnl),
+    })
+}
+
+fn deq_line(alloc: Global, ask: &Ask) -> Result<Line, NoMemory>
+    requires { are_bad ask.now.q ask.now.r ≡ false }
+    ensures { IfOk result (λ l. l ≡ deq_line ask.now) }
+{
+    let (q, r) = names_of(alloc, ask.q.as_slice(), ask.r.as_slice())?;
+    Ok(Line::Deq {
+        q,
+        r,
+        scope: ask.scope,
+        have: is_have(ask.opts.ret),
+        unit: ask.opts.unit,
+        rnl: rnl_or_yes(ask.opts.rnl),
+    })
+}
+
+fn wait_line(alloc: Global, ask: &Ask) -> Result<Line, NoMemory>
+    requires { are_bad ask.now.q ask.now.r ≡ false }
+    ensures { IfOk result (λ l. l ≡ wait_line ask.now) }
+{
+    let (q, r) = names_of(alloc, ask.q.as_slice(), ask.r.as_slice())?;
+    Ok(Line::Wait {
+        q,
+        r,
+        scope: ask.scope,
+        rnl: rnl_or_yes(ask.opts.rnl),
+    })
+}
+
+fn maybe_qname(alloc: Global, q: &Option<List<u8>>) -> Result<Option<Qname>, NoMemory>
+    requires { is_bad_q q.now ≡ false }
+    ensures { IfOk result (λ x. x ≡ trimmed q.now) }
+{
+    match q {
+        None => Ok(None),
+        Some(q) => Ok(Some(qname_of(alloc, q.as_slice())?)),
+    }
+}
+
+fn maybe_rname(alloc: Global, r: &Option<List<u8>>) -> Result<Option<Rname>, NoMemory>
+    requires { is_bad_r r.now ≡ false }
+    ensures { IfOk result (λ x. x ≡ r.now) }
+{
+    match r {
+        None => Ok(None),
+        Some(r) => Ok(Some(rname_of(alloc, r.as_slice())?)),
+    }
+}
+
+fn filter_of(alloc: Global, names: &Wanted) -> Result<Filter, NoMemory>
+    requires q { is_bad_q names.now.q ≡ false }
+    requires r { is_bad_r names.now.r ≡ false }
+    ensures { IfOk result (λ f. f ≡ filter_of names.now) }
+{
+    let q = maybe_qname(alloc, &names.q)?;
+    let r = maybe_rname(alloc, &names.r)?;
+    if names.q.is_none() && names.r.is_none() {
+        Ok(Filter::All)
+    } else {
+        Ok(Filter::Named { q, r })
+    }
+}
+
+fn display_line(alloc: Global, shown: &Shown) -> Result<Line, NoMemory>
+    requires { is_bad_shown shown.now ≡ false }
+    ensures { IfOk result (λ l. l ≡ display_line shown.now) }
+{
+    match shown {
+        Shown::Contended => Ok(Line::DisplayC),
+        Shown::Resource { q, r } => {
+            let (q, r) = names_of(alloc, q.as_slice(), r.as_slice())?;
+            Ok(Line::DisplayRes { q, r })
+        }
+    }
+}
+
+/// The line that a task line makes whose names have the right lengths.
+pub fn line_of(alloc: Global, said: &Said) -> Result<Line, NoMemory>
+    requires { is_bad said.now ≡ false }
+    ensures { IfOk result (λ l. l ≡ line_of said.now) }
+{
+    match said {
+        Said::Enq(enq) => enq_line(alloc, enq),
+        Said::Reserve(enq) => reserve_line(alloc, enq),
+        Said::Deq(ask) => deq_line(alloc, ask),
+        Said::Wait(ask) => wait_line(alloc, ask),
+        Said::Gqscan(scan) => Ok(Line::Gqscan {
+            global: scan.global,
+            filter: filter_of(alloc, &scan.names)?,
+        }),
+        Said::Display(shown) => display_line(alloc, shown),
+    }
+}

@@ -1,0 +1,104 @@
+//! Reads the line of a task from a text of its own.
+ghost use Rattle.std.specs.Prelude.{◌≡◌, Option, Ok};
+ghost use Rattle.grs_base.specs.declared.line.Line.{Line as LineValue};
+ghost use Rattle.deck_scan.specs.Gives.{Gives};
+ghost use Rattle.deck_scan.specs.Next.{Reads};
+ghost use Rattle.job_syntax.specs.declared.said.Said.{Said as SaidValue};
+ghost use Rattle.job_syntax.specs.Reading.{or_bad, said_by, said_first, said_on, sized_alone, one_line, reading, SpellsLine, Answers, IsOkUnlessMemory};
+
+use crate::line::{is_bad, line_of};
+use crate::said::{Said, Verb, said_at, verb_of};
+use deck_scan::{Miss, Token, TokenLine, lines};
+use grs_base::{DeckFault, Kind, Line, ReadError};
+use std::alloc::Global;
+
+fn refused(line: u32, kind: Kind) -> ReadError
+    ensures { result ≡ ReadError.Fault (record { line = line; kind = kind }) }
+{
+    ReadError::Fault(DeckFault { line, kind })
+}
+
+/// What is read, or BadOperand.
+fn or_bad(at: u32, read: Result<Said, Miss>) -> Result<Said, ReadError>
+    ensures { (x : Option SaidValue) → Reads (λ y. y) read x → Gives result (or_bad at x) }
+{
+    match read {
+        Ok(said) => Ok(said),
+        Err(Miss::Bad) => Err(refused(at, Kind::BadOperand)),
+        Err(Miss::NoMemory) => Err(ReadError::NoMemory),
+    }
+}
+
+fn said_by(alloc: Global, at: u32, verb: Option<Verb>, ts: &[Token]) -> Result<Said, ReadError>
+    ensures { Gives result (said_by at verb ts.now) }
+{
+    match verb {
+        None => Err(refused(at, Kind::UnknownStatement)),
+        Some(verb) => or_bad(at, said_at(alloc, verb, ts)),
+    }
+}
+
+/// What a line says.
+#[tactic(auto, unfolding(crate::specs::Reading::said_on))]
+fn said_on(alloc: Global, line: &TokenLine) -> Result<Said, ReadError>
+    ensures { Gives result (said_on line.now) }
+{
+    if line.joined {
+        return Err(refused(line.at, Kind::UnknownStatement));
+    }
+    match line.tokens.as_slice().split_first() {
+        Some((Token::Word(w), rest)) => said_by(alloc, line.at, verb_of(w.as_slice()), rest),
+        Some((Token::Unclosed, _)) => Err(refused(line.at, Kind::BadOperand)),
+        _ => Err(refused(line.at, Kind::UnknownStatement)),
+    }
+}
+
+/// The line that a task line makes which stands alone.
+fn alone(alloc: Global, at: u32, said: Said, rest: &[TokenLine]) -> Result<Line, ReadError>
+    ensures { Gives result (sized_alone at said rest.now) }
+{
+    if is_bad(&said) {
+        return Err(refused(at, Kind::NameLength));
+    }
+    match rest.split_first() {
+        Some((next, _)) => Err(refused(next.at, Kind::BadOperand)),
+        None => Ok(line_of(alloc, &said)?),
+    }
+}
+
+#[tactic(auto, unfolding(crate::specs::Reading::one_line))]
+fn one_line(alloc: Global, all: &[TokenLine]) -> Result<Line, ReadError>
+    ensures { Gives result (one_line all.now) }
+{
+    match all.split_first() {
+        None => Err(refused(1, Kind::UnknownStatement)),
+        Some((line, rest)) => {
+            let said = said_on(alloc, line)?;
+            alone(alloc, line.at, said, rest)
+        }
+    }
+}
+
+/// What is read of a text.
+#[tactic(auto, unfolding(crate::specs::Reading::reading))]
+fn read_all(alloc: Global, text: &[u8]) -> Result<Line, ReadError>
+    ensures { Gives result (reading text.now) }
+{
+    let all = lines(alloc, text)?;
+    one_line(alloc, all.as_slice())
+}
+
+/// The line of a task that a text spells, or the fault of the text, whose lines count from 1.
+///
+/// `TooLong` and `BadByte` are told as of a deck. Else: `UnknownStatement` where the text has no
+/// statement (on line 1), or its first word begins no task line; `BadOperand` where its form is another,
+/// and for a further statement behind a first one without fault, on the line where that begins;
+/// `NameLength` where a name is too short or too long.
+pub fn read_line(alloc: Global, text: &[u8]) -> Result<Line, ReadError>
+    // What is read is spelled so; a fault is that of the text.
+    ensures exact { Answers result text.now }
+    // What is spelled so is read, unless memory runs out.
+    ensures only { (l : LineValue) → SpellsLine text.now l → IsOkUnlessMemory result l }
+{
+    read_all(alloc, text)
+}

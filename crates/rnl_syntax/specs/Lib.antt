@@ -1,0 +1,4 @@
+pub mod Operands
+pub mod Lines
+pub mod Spelled
+pub mod Printed

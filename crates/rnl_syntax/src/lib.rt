@@ -1,0 +1,14 @@
+//! Entries of name lists as RNLDEF statements: from tokens to an entry, and from an entry back to its
+//! text. It knows the form of one statement, and which lines belong to it.
+#![tactic(auto)]
+
+mod lines;
+mod operands;
+mod print;
+
+pub use lines::{goes_on, is_rnldef_word, with_line};
+pub use operands::{Operands, Rnldef, entry_of, is_bad, rnldef_at};
+pub use print::print_rnldef;
+
+#[cfg(test)]
+mod tests;

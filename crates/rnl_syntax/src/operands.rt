@@ -1,0 +1,270 @@
+//! The operands of RNLDEF, in any order, each at most once.
+ghost use Rattle.std.specs.Prelude.{◌≡◌, true, false, IfOk};
+ghost use Rattle.grs_base.specs.Names.{is_qname, is_rname, trim_blanks};
+ghost use Rattle.deck_scan.specs.Next.{Reads, maybe};
+ghost use Rattle.rnl_syntax.specs.Operands.{no_operands, which_of, form_of, with_which, with_form, with_q, with_r, value_of, operand_at, is_specific, whole, rnldef_at, is_bad_r, is_bad, entry_of};
+
+use deck_scan::{Miss, Token, any_word_at, close_at, end_at, name_at, open_at};
+use grs_base::{
+    Form, List, NameFault, NoMemory, Qname, Rname, RnlEntry, Which, is_qname, is_rname,
+};
+use std::alloc::Global;
+
+/// The operands that stand in an RNLDEF: RNL, TYPE, QNAME and RNAME, with names of any length.
+#[derive(Drop)]
+pub struct Operands {
+    pub which: Option<Which>,
+    pub form: Option<Form>,
+    pub q: Option<List<u8>>,
+    pub r: Option<List<u8>>,
+}
+
+/// An RNLDEF of the right form, with names of any length.
+#[derive(Drop)]
+pub struct Rnldef {
+    pub which: Which,
+    pub form: Form,
+    pub q: List<u8>,
+    pub r: Option<List<u8>>,
+}
+
+#[tactic(auto, unfolding(crate::specs::Operands::which_of))]
+fn which_of(w: &[u8]) -> Result<Which, Miss>
+    ensures { Reads (λ x. x) result (which_of w.now) }
+{
+    if w == b"INCL".as_slice() {
+        Ok(Which::Incl)
+    } else if w == b"EXCL".as_slice() {
+        Ok(Which::Excl)
+    } else if w == b"CON".as_slice() {
+        Ok(Which::Con)
+    } else {
+        Err(Miss::Bad)
+    }
+}
+
+#[tactic(auto, unfolding(crate::specs::Operands::form_of))]
+fn form_of(w: &[u8]) -> Result<Form, Miss>
+    ensures { Reads (λ x. x) result (form_of w.now) }
+{
+    if w == b"SPECIFIC".as_slice() {
+        Ok(Form::Specific)
+    } else if w == b"GENERIC".as_slice() {
+        Ok(Form::Generic)
+    } else if w == b"PATTERN".as_slice() {
+        Ok(Form::Pattern)
+    } else {
+        Err(Miss::Bad)
+    }
+}
+
+fn with_which(o: Operands, which: Which) -> Result<Operands, Miss>
+    ensures { Reads (λ x. x) result (with_which o which) }
+{
+    match o.which {
+        Some(_) => Err(Miss::Bad),
+        None => Ok(Operands {
+            which: Some(which),
+            form: o.form,
+            q: o.q,
+            r: o.r,
+        }),
+    }
+}
+
+fn with_form(o: Operands, form: Form) -> Result<Operands, Miss>
+    ensures { Reads (λ x. x) result (with_form o form) }
+{
+    match o.form {
+        Some(_) => Err(Miss::Bad),
+        None => Ok(Operands {
+            which: o.which,
+            form: Some(form),
+            q: o.q,
+            r: o.r,
+        }),
+    }
+}
+
+fn with_q(o: Operands, q: List<u8>) -> Result<Operands, Miss>
+    ensures { Reads (λ x. x) result (with_q o q) }
+{
+    match o.q {
+        Some(_) => Err(Miss::Bad),
+        None => Ok(Operands {
+            which: o.which,
+            form: o.form,
+            q: Some(q),
+            r: o.r,
+        }),
+    }
+}
+
+fn with_r(o: Operands, r: List<u8>) -> Result<Operands, Miss>
+    ensures { Reads (λ x. x) result (with_r o r) }
+{
+    match o.r {
+        Some(_) => Err(Miss::Bad),
+        None => Ok(Operands {
+            which: o.which,
+            form: o.form,
+            q: o.q,
+            r: Some(r),
+        }),
+    }
+}
+
+/// The value of the operand of this word.
+#[tactic(auto, unfolding(crate::specs::Operands::value_of))]
+fn value_of<'a>(
+    alloc: Global,
+    o: Operands,
+    w: &[u8],
+    ts: &'a [Token],
+) -> Result<(Operands, &'a [Token]), Miss>
+    ensures { Reads (λ x. (x.0, x.1.now)) result (value_of o w.now ts.now) }
+{
+    if w == b"RNL".as_slice() {
+        let (v, ts) = any_word_at(ts)?;
+        let which = which_of(v)?;
+        Ok((with_which(o, which)?, ts))
+    } else if w == b"TYPE".as_slice() {
+        let (v, ts) = any_word_at(ts)?;
+        let form = form_of(v)?;
+        Ok((with_form(o, form)?, ts))
+    } else if w == b"QNAME".as_slice() {
+        let (q, ts) = name_at(alloc, ts)?;
+        Ok((with_q(o, q)?, ts))
+    } else if w == b"RNAME".as_slice() {
+        let (r, ts) = name_at(alloc, ts)?;
+        Ok((with_r(o, r)?, ts))
+    } else {
+        Err(Miss::Bad)
+    }
+}
+
+/// One more operand.
+#[tactic(auto, unfolding(crate::specs::Operands::operand_at))]
+fn operand_at(alloc: Global, o: Operands, ts: &[Token]) -> Result<(Operands, &[Token]), Miss>
+    ensures { Reads (λ x. (x.0, x.1.now)) result (operand_at o ts.now) }
+{
+    let (w, ts) = any_word_at(ts)?;
+    let ts = open_at(ts)?;
+    let (o, ts) = value_of(alloc, o, w, ts)?;
+    let ts = close_at(ts)?;
+    Ok((o, ts))
+}
+
+fn maybe_operand(alloc: Global, o: Operands, ts: &[Token]) -> Result<(Operands, &[Token]), Miss>
+    ensures { Reads (λ x. (x.0, x.1.now)) result (maybe operand_at o ts.now) }
+{
+    if ts.len() == 0 {
+        return Ok((o, ts));
+    }
+    operand_at(alloc, o, ts)
+}
+
+fn is_specific(form: Form) -> bool
+    ensures { result ≡ is_specific form }
+{
+    match form {
+        Form::Specific => true,
+        Form::Generic => false,
+        Form::Pattern => false,
+    }
+}
+
+/// Wants RNL, TYPE and QNAME, and RNAME where the entry is SPECIFIC.
+#[tactic(auto, unfolding(crate::specs::Operands::whole))]
+fn whole(o: Operands) -> Result<Rnldef, Miss>
+    ensures { Reads (λ x. x) result (whole o) }
+{
+    let which = o.which.ok_or(Miss::Bad)?;
+    let form = o.form.ok_or(Miss::Bad)?;
+    let q = o.q.ok_or(Miss::Bad)?;
+    if is_specific(form) && o.r.is_none() {
+        return Err(Miss::Bad);
+    }
+    Ok(Rnldef {
+        which,
+        form,
+        q,
+        r: o.r,
+    })
+}
+
+/// What stands behind the word RNLDEF: at most as many operands as there are kinds of them, and
+/// nothing after them.
+#[tactic(auto, unfolding(crate::specs::Operands::rnldef_at))]
+pub fn rnldef_at(alloc: Global, ts: &[Token]) -> Result<Rnldef, Miss>
+    ensures { Reads (λ x. x) result (rnldef_at ts.now) }
+{
+    let none = Operands {
+        which: None,
+        form: None,
+        q: None,
+        r: None,
+    };
+    let (first, ts) = maybe_operand(alloc, none, ts)?;
+    let (second, ts) = maybe_operand(alloc, first, ts)?;
+    let (third, ts) = maybe_operand(alloc, second, ts)?;
+    let (fourth, ts) = maybe_operand(alloc, third, ts)?;
+    end_at(ts)?;
+    whole(fourth)
+}
+
+fn is_bad_r(r: &Option<List<u8>>) -> bool
+    ensures { result ≡ is_bad_r r.now }
+{
+    match r {
+        None => false,
+        Some(r) => !is_rname(r.as_slice()),
+    }
+}
+
+/// Whether a name has a length that it may not have.
+pub fn is_bad(d: &Rnldef) -> bool
+    ensures { result ≡ is_bad d.now }
+{
+    !is_qname(d.q.as_slice()) || is_bad_r(&d.r)
+}
+
+fn qname_of(alloc: Global, bytes: &[u8]) -> Result<Qname, NoMemory>
+    requires { is_qname bytes.now ≡ true }
+    ensures { IfOk result (λ q. q ≡ trim_blanks bytes.now) }
+{
+    match Qname::new(alloc, bytes) {
+        Ok(q) => Ok(q),
+        Err(NameFault::BadLength) => unreachable!(),
+        Err(NameFault::NoMemory) => Err(NoMemory),
+    }
+}
+
+fn rname_of(alloc: Global, r: &Option<List<u8>>) -> Result<Option<Rname>, NoMemory>
+    requires { is_bad_r r.now ≡ false }
+    ensures { IfOk result (λ x. x ≡ r.now) }
+{
+    match r {
+        None => Ok(None),
+        Some(r) => match Rname::new(alloc, r.as_slice()) {
+            Ok(r) => Ok(Some(r)),
+            Err(NameFault::BadLength) => unreachable!(),
+            Err(NameFault::NoMemory) => Err(NoMemory),
+        },
+    }
+}
+
+/// The entry that a statement makes whose names have the right lengths.
+pub fn entry_of(alloc: Global, d: &Rnldef) -> Result<RnlEntry, NoMemory>
+    requires { is_bad d.now ≡ false }
+    ensures { IfOk result (λ e. e ≡ entry_of d.now) }
+{
+    let q = qname_of(alloc, d.q.as_slice())?;
+    let r = rname_of(alloc, &d.r)?;
+    Ok(RnlEntry {
+        which: d.which,
+        form: d.form,
+        q,
+        r,
+    })
+}

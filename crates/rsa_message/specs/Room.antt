@@ -1,0 +1,24 @@
+-- The room that a call of the message was given beforehand, so that it takes no memory.
+use Rattle.std.specs.Prelude.{◌≡◌, ℕ, ◌≤◌, max, List, [], Option, Some, None}
+use Rattle.grs_base.specs.declared.resource.SysId.{SysId}
+use Rattle.grs_wire.specs.declared.medium.RingEntry.{RingEntry}
+use Rattle.rsa_message.specs.Message.{Message, unseen}
+
+-- For whose Turn there is room, if for any, and for how many new entries.
+pub record Room : Type 0 where
+  pub caller : Option SysId
+  pub entries : ℕ
+
+-- room for a Turn of c with at most so many requests, or for one removal
+abbrev pub HasRoom : Room → SysId → ℕ → Type 0
+HasRoom room c count = (room.caller ≡ Some c) × (max count 1 ≤ room.entries)
+
+-- a message with its room
+pub record RsaValue : Type 0 where
+  pub message : Message
+  pub room : Room
+
+-- the copies that are kept for the reply
+abbrev pub given_to : Option SysId → List RingEntry → List RingEntry
+given_to None es = []
+given_to (Some s) es = unseen s es

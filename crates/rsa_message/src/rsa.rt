@@ -1,0 +1,271 @@
+//! The message as a whole.
+ghost use Rattle.std.specs.Prelude.{◌≡◌, ◌+◌, ◌<◌, ◌≤◌, ◌^◌, max, length, if◌then◌else◌, None, IfOk, OnOk};
+ghost use Rattle.rsa_message.specs.Message.{opened, never_opened, unseen, first_number, turn_reply, turned, turned_open, turned_closed, turn_changes, wakes, dropped, closed_by, message_at_end};
+ghost use Rattle.rsa_message.specs.Room.{HasRoom};
+
+use crate::entries::{clear, copy_unseen, first_of_unseen, has_unseen, put};
+use crate::order::{first_in, moved_to, next_due, stands_at};
+use grs_base::{List, NoMemory, SysId};
+use grs_wire::masks::without_system;
+use grs_wire::{Reply, Req, RingBody, RingEntry};
+use std::alloc::Global;
+use std::marker::Model;
+
+/// How many systems there may be.
+pub const MAX_SYSTEMS: u32 = 8;
+
+/// The last number that an entry may have: no memory holds so many.
+pub const LAST_NUMBER: u64 = 0x200_0000_0000_0000;
+
+/// The authority message. Contracts see what it holds, and the room that `reserve` made. `given` are the copies
+/// for the reply to the next Turn of the system `ready`, and `room` says how many entries can be put in.
+#[derive(Drop)]
+pub struct Rsa {
+    alloc: Global,
+    systems: u32,
+    holder: Option<SysId>,
+    closed: bool,
+    still: u32,
+    entries: Vec<RingEntry>,
+    next: u64,
+    given: List<RingEntry>,
+    ready: Option<SysId>,
+    room: u32,
+}
+
+impl Model for Rsa {
+    ghost use Rattle.std.specs.Prelude.{◌≡◌, ◌+◌, ◌<◌, ◌≤◌, ◌^◌, vec_len, vec_capacity};
+    ghost use Rattle.rsa_message.specs.Message.{number_of};
+    ghost use Rattle.rsa_message.specs.Room.{RsaValue, given_to};
+
+    ghost Value = { RsaValue };
+
+    ghost view = { λ r. record { message = record { systems = r.systems; holder = r.holder; closed = r.closed; still = r.still; entries = r.entries.items; next = r.next }; room = record { caller = r.ready; entries = r.room } } };
+
+    ghost invariant = { λ r. (r.systems ≤ 8) × (number_of r.holder < r.systems) × (r.next + r.room ≤ 2 ^ 57 + 1) × (vec_len r.entries + r.room ≤ vec_capacity r.entries) × (r.given ≡ given_to r.ready r.entries.items) };
+}
+
+impl Rsa {
+    /// The message at the start: open and at the first system, or in star mode closed and nowhere. `systems` is
+    /// the number of systems, from 1 to 8.
+    pub fn new(alloc: Global, systems: u32, star: bool) -> Rsa
+        requires some { 0 < systems }
+        requires few { systems ≤ 8 }
+        ensures { result.message ≡ (if star then never_opened systems else opened systems) }
+    {
+        Rsa {
+            alloc,
+            systems,
+            holder: if star { None } else { Some(SysId(0)) },
+            closed: star,
+            still: 0,
+            entries: Vec::new(alloc),
+            next: 1,
+            given: List::new(alloc),
+            ready: None,
+            room: 0,
+        }
+    }
+
+    /// Makes room for one Turn of the system with at most `out` requests, or for one removal. The copies that the
+    /// reply gives are made here. No entry may have a number above `LAST_NUMBER`: the call that would need one
+    /// answers NoMemory.
+    pub fn reserve(&mut self, caller: SysId, out: u32) -> Result<(), NoMemory>
+        requires { caller.0 < self.old.message.systems }
+        ensures message { self.new.message ≡ self.old.message }
+        ensures room { OnOk result (HasRoom self.new.room caller out) }
+    {
+        let wanted = if out == 0 { 1 } else { out };
+        if self.next + wanted as u64 > LAST_NUMBER + 1 {
+            return Err(NoMemory);
+        }
+        if self.entries.reserve(wanted as usize).is_err() {
+            return Err(NoMemory);
+        }
+        let given = copy_unseen(self.alloc, self.entries.as_slice(), caller)?;
+        self.given = given;
+        self.ready = Some(caller);
+        self.room = wanted;
+        Ok(())
+    }
+
+    /// The copies for a reply, of which there are none afterwards.
+    fn take_given(&mut self, caller: SysId) -> List<RingEntry>
+        requires { self.old.room.caller ≡ Some caller }
+        ensures given { result ≡ unseen caller self.old.message.entries }
+        ensures message { self.new.message ≡ self.old.message }
+        ensures caller { self.new.room.caller ≡ None }
+        ensures room { self.new.room.entries ≡ self.old.room.entries }
+    {
+        self.ready = None;
+        std::mem::replace(&mut self.given, List::new(self.alloc))
+    }
+
+    /// A Turn at the open message, once the copies for its reply are taken.
+    #[tactic(auto, unfolding(crate::specs::Message::turned))]
+    fn turn_open(&mut self, caller: SysId, out: List<Req>, live: u32, rest: u32)
+        requires system { caller.0 < self.old.message.systems }
+        requires taken { self.old.room.caller ≡ None }
+        requires room { length out ≤ self.old.room.entries }
+        ensures { self.new.message ≡ turned_open self.old.message caller out live rest }
+    {
+        let count = out.len();
+        let moves = has_unseen(self.entries.as_slice(), caller) || count != 0;
+        let rest = if moves {
+            without_system(rest, caller)
+        } else {
+            rest
+        };
+        clear(&mut self.entries, caller);
+        put(&mut self.entries, self.next, caller, live, out);
+        self.next += count as u64;
+        self.room = 0;
+        let next = next_due(self.systems, caller, self.entries.as_slice(), live, rest);
+        self.holder = Some(next);
+    }
+
+    /// A Turn at the closed message, once the copies for its reply are taken.
+    fn turn_closed(&mut self, caller: SysId)
+        requires system { caller.0 < self.old.message.systems }
+        requires taken { self.old.room.caller ≡ None }
+        ensures { self.new.message ≡ turned_closed self.old.message caller }
+    {
+        clear(&mut self.entries, caller);
+        self.room = 0;
+        self.still = without_system(self.still, caller);
+        self.holder = first_in(self.systems, caller, self.still);
+    }
+
+    /// A Turn of the system: it gets the entries that it has yet to process, and its requests go into the message.
+    /// `live` is the set of the systems that aren't removed, `rest` the set of those at rest. It takes no memory.
+    ///
+    /// Answers NotYours exactly where the message isn't at the caller, with where it is; else Turned.
+    #[tactic(auto, unfolding(crate::specs::Message::turned, crate::specs::Message::turn_reply))]
+    pub fn turn(&mut self, caller: SysId, out: List<Req>, live: u32, rest: u32) -> Reply
+        requires system { caller.0 < self.old.message.systems }
+        requires room { HasRoom self.old.room caller (length out) }
+        ensures reply { result ≡ turn_reply self.old.message caller (length out) }
+        ensures message { self.new.message ≡ turned self.old.message caller out live rest }
+        ensures systems { self.new.message.systems ≡ self.old.message.systems }
+    {
+        if !stands_at(self.holder, caller) {
+            return Reply::NotYours { at: self.holder };
+        }
+        let closed = self.closed;
+        let entries = self.take_given(caller);
+        if closed {
+            self.turn_closed(caller);
+            return Reply::Turned {
+                entries,
+                taken: 0,
+                closed,
+            };
+        }
+        let taken = out.len() as u32;
+        self.turn_open(caller, out, live, rest);
+        Reply::Turned {
+            entries,
+            taken,
+            closed,
+        }
+    }
+
+    /// Whether a Turn of the system with so many requests clears its flag of rest: where an entry is given or put in,
+    /// and at the closed message always.
+    #[tactic(auto, unfolding(crate::specs::Message::wakes))]
+    pub fn wakes(&self, caller: SysId, out: u32) -> bool
+        requires { caller.0 < self.now.message.systems }
+        ensures { result ≡ wakes self.now.message caller out }
+    {
+        stands_at(self.holder, caller)
+            && (self.closed || has_unseen(self.entries.as_slice(), caller) || out != 0)
+    }
+
+    /// The reply that `turn` with so many requests would give, and whether it would change the message.
+    #[tactic(auto, unfolding(crate::specs::Message::turn_reply, crate::specs::Message::turn_changes))]
+    pub fn preview_turn(
+        &self,
+        caller: SysId,
+        out: u32,
+        live: u32,
+        rest: u32,
+    ) -> Result<(Reply, bool), NoMemory>
+        requires { caller.0 < self.now.message.systems }
+        ensures reply { IfOk result (λ shown. shown.0 ≡ turn_reply self.now.message caller out) }
+        ensures changes { IfOk result (λ shown. shown.1 ≡ turn_changes self.now.message caller out live rest) }
+    {
+        if !stands_at(self.holder, caller) {
+            return Ok((Reply::NotYours { at: self.holder }, false));
+        }
+        if !self.closed && self.next + out as u64 > LAST_NUMBER + 1 {
+            return Err(NoMemory);
+        }
+        let entries = copy_unseen(self.alloc, self.entries.as_slice(), caller)?;
+        let moves = has_unseen(self.entries.as_slice(), caller) || out != 0;
+        let next = next_due(self.systems, caller, self.entries.as_slice(), live, rest);
+        let changes = self.closed || moves || next.0 != caller.0;
+        let taken = if self.closed { 0 } else { out };
+        Ok((
+            Reply::Turned {
+                entries,
+                taken,
+                closed: self.closed,
+            },
+            changes,
+        ))
+    }
+
+    /// The target, which the caller removed, leaves the message, and an entry that tells of it goes in. `live` is
+    /// the set of the systems that aren't removed, without the target. It takes no memory.
+    #[tactic(auto, unfolding(crate::specs::Message::dropped))]
+    pub fn drop_system(&mut self, caller: SysId, target: SysId, live: u32)
+        requires target { target.0 < self.old.message.systems }
+        requires room { HasRoom self.old.room caller 0 }
+        ensures message { self.new.message ≡ dropped self.old.message caller target live }
+        ensures systems { self.new.message.systems ≡ self.old.message.systems }
+    {
+        self.ready = None;
+        self.given = List::new(self.alloc);
+        clear(&mut self.entries, target);
+        let _ = self.entries.push(RingEntry {
+            number: self.next,
+            from: caller,
+            body: RingBody::Remove(target),
+            mask: live,
+        });
+        self.next += 1;
+        self.room = 0;
+        if stands_at(self.holder, target) {
+            self.holder = first_in(self.systems, target, live);
+        }
+    }
+
+    /// The message is closed by the caller, which changes to star mode; `live` is the set of the systems that
+    /// aren't removed. From then on it only goes to those that have yet to change. It takes no memory.
+    #[tactic(auto, unfolding(crate::specs::Message::closed_by))]
+    pub fn close(&mut self, caller: SysId, live: u32)
+        requires { caller.0 < self.old.message.systems }
+        ensures { self.new.message ≡ closed_by self.old.message caller live }
+    {
+        let systems = self.systems;
+        let still = without_system(live, caller);
+        self.holder = moved_to(systems, self.holder, still);
+        self.still = still;
+        self.closed = true;
+    }
+
+    /// The number of the first entry that the system has yet to process; None exactly where there is none.
+    pub fn first_unseen(&self, caller: SysId) -> Option<u64>
+        requires { caller.0 < self.now.message.systems }
+        ensures { result ≡ first_number (unseen caller self.now.message.entries) }
+    {
+        first_of_unseen(self.entries.as_slice(), caller)
+    }
+
+    /// Whether no entry is left and no system has yet to change to star mode.
+    pub fn at_end(&self) -> bool
+        ensures { result ≡ message_at_end self.now.message }
+    {
+        self.entries.is_empty() && self.still == 0
+    }
+}
