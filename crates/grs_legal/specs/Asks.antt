@@ -8,7 +8,6 @@ use Rattle.grs_base.specs.declared.line.Scope.{Scope}
 use Rattle.grs_base.specs.declared.line.Scope.TheVariants.{Systems}
 use Rattle.grs_base.specs.declared.line.Line.{Line}
 use Rattle.grs_base.specs.declared.line.Line.TheVariants as lines
-use Rattle.grs_base.specs.declared.line.Item.{Item}
 use Rattle.grs_base.specs.declared.look.Place.{Place}
 use Rattle.grs_base.specs.declared.look.Filter.{Filter}
 use Rattle.grs_base.specs.declared.rnl.Lists.{Lists}

@@ -1,12 +1,10 @@
 -- Which histories are legal.
-use Rattle.std.specs.Prelude.{◌≡◌, ℕ, zero, suc, Bool, true, false, not, ◌&&◌, ◌||◌, nat_lt, ◌-◌, List, [], ◌∷◌, ◌++◌, length, filter, cond, Option, Some, None, slice_get, is_some, IfSome, if◌then◌else◌}
+use Rattle.std.specs.Prelude.{◌≡◌, ℕ, zero, suc, Bool, true, false, not, ◌&&◌, ◌||◌, nat_lt, ◌-◌, List, [], ◌∷◌, ◌++◌, length, filter, cond, Option, Some, None, slice_get, is_some, IfSome}
 use Rattle.std.specs.List.{list_all}
 use Rattle.grs_base.specs.Lists.{owns, has_task}
 use Rattle.grs_base.specs.State.{State, list_of, queued_by}
 use Rattle.grs_base.specs.declared.resource.Res.{Res}
 use Rattle.grs_base.specs.declared.resource.TaskId.{TaskId}
-use Rattle.grs_base.specs.declared.look.Place.{Place}
-use Rattle.grs_base.specs.declared.look.Filter.{Filter}
 use Rattle.grs_base.specs.declared.decision.Code.{Code}
 use Rattle.grs_base.specs.declared.decision.Code.TheVariants as codes
 use Rattle.grs_wire.specs.declared.deck.Deck.{Deck}

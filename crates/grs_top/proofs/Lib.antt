@@ -1,5 +1,5 @@
 pub mod Answering
 pub mod Complete
 pub mod DueLemmas
-pub mod Words
+pub mod OneItem
 mod Samples

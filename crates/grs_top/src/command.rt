@@ -82,7 +82,7 @@ pub fn replay_command<S: Source, K: Sink>(alloc: Global, source: &mut S, sink: &
 ///
 /// `Done` says that all of it was written, and the other statuses what they say there; `Waits` never comes.
 pub fn lists_command<S: Source, K: Sink>(alloc: Global, source: &mut S, sink: &mut K) -> Status
-    ensures { Answers Command.Lists
+    ensures answer { Answers Command.Lists
         (streams (S.left source.old) (K.written sink.old) (S.faults source.old) (K.faults sink.old))
         (streams (S.left source.new) (K.written sink.new) (S.faults source.new) (K.faults sink.new))
         result }
