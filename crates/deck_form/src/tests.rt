@@ -22,7 +22,7 @@ fn kind_of(
 }
 
 #[test]
-fn statements(rt: HostRuntime) -> Result<(), Fail> {
+fn forms(rt: HostRuntime) -> Result<(), Fail> {
     let cases = [
         (false, b"COMPLEX ENTRIES(4) MODE(RING)".as_slice(), None),
         (false, b"SYSTEM SYA".as_slice(), None),
