@@ -8,4 +8,5 @@ returns-in-Ok c =
 pub returns-in-Err-Fault : goal.returns-in-Err-Fault
 returns-in-Err-Fault c =
     let first = rw c.in-Err-Fault.field-0-is at c.in-Err-Fault.ensures.exact in
-    refused_due c.args.command c.args.text.now c.in-Err-Fault.fault c.refused.result first c.refused.ensures.out c.refused.ensures.status
+    let out = rw c.in-Err-Fault.field-0-is at c.refused.ensures.out in
+    refused_due c.args.command c.args.text.now c.in-Err-Fault.fault c.refused.result first out c.refused.ensures.status
