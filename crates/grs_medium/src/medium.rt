@@ -155,6 +155,7 @@ impl Medium {
         requires room { HasRoom self.old.room caller (length out) }
         ensures reply { result ≡ (turn_row self.old.state caller out).0 }
         ensures state { self.new.state ≡ (turn_row self.old.state caller out).1 }
+        ensures systems { systems_of self.new.state ≡ systems_of self.old.state }
     {
         let live = live_of(self.systems, self.removed);
         let rest = self.rest;
@@ -171,6 +172,7 @@ impl Medium {
         requires room { HasRoom self.old.room caller 0 }
         ensures reply { result ≡ (purge_row self.old.state caller target).0 }
         ensures state { self.new.state ≡ (purge_row self.old.state caller target).1 }
+        ensures systems { systems_of self.new.state ≡ systems_of self.old.state }
     {
         if self.star {
             return Reply::InStar;
@@ -206,6 +208,7 @@ impl Medium {
         requires { caller.0 < systems_of self.old.state }
         ensures reply { result ≡ (rest_row self.old.state caller).0 }
         ensures state { self.new.state ≡ (rest_row self.old.state caller).1 }
+        ensures systems { systems_of self.new.state ≡ systems_of self.old.state }
     {
         let reply = self.rest_reply(caller);
         self.rest = with_system(self.rest, caller);
@@ -220,6 +223,7 @@ impl Medium {
         requires room { HasRoomFor self.old.room caller (act_of built) }
         ensures reply { result ≡ (row self.old.state caller (act_of built)).0 }
         ensures state { self.new.state ≡ (row self.old.state caller (act_of built)).1 }
+        ensures systems { systems_of self.new.state ≡ systems_of self.old.state }
     {
         match built {
             Built::Turn(out) => self.turn(caller, out),
@@ -241,6 +245,7 @@ impl Medium {
         requires room { HasRoomFor self.old.room caller call.act }
         ensures reply { result ≡ reply_to self.old.state caller call }
         ensures state { self.new.state ≡ medium_after self.old.state caller call }
+        ensures systems { systems_of self.new.state ≡ systems_of self.old.state }
     {
         let Call { known, act } = call;
         let built = built_of(act);
