@@ -25,9 +25,9 @@ pub rest_behind : (passes : List ℕ → Bool) (text : List ℕ) (marks : List B
     → (k : ℕ) → j ≤ k → k ≤ length text → get_or (set marks j (get_or marks j false || get_or marks (j + 1) false)) k false ≡ some_rest passes (drop k text)
 rest_behind passes text marks j within room before behind k low high = by_place k j _
     (λ here. rw here (get_or-set_same marks j _ false room
-        ∙ ap (λ b. b || get_or marks (j + 1) false) (before j (omega arith))
-        ∙ ap (λ b. passes (drop j text) || b) (behind (j + 1) (omega arith) (omega arith))
-        ∙ rest_at (text_at text j within)))
+    ∙ ap (λ b. b || get_or marks (j + 1) false) (before j (omega arith))
+    ∙ ap (λ b. passes (drop j text) || b) (behind (j + 1) (omega arith) (omega arith))
+    ∙ rest_at (text_at text j within)))
     (λ other. get_or-set_other marks j k _ false other ∙ behind k (omega arith) high)
   where
     rest_at : drop j text ≡ get_or text j 0 ∷ drop (j + 1) text → (passes (drop j text) || some_rest passes (drop (j + 1) text)) ≡ some_rest passes (drop j text)
@@ -46,8 +46,8 @@ pub byte_before : (c : ℕ) (passes : List ℕ → Bool) (text : List ℕ) (mark
     → (k : ℕ) → k < j + 1 → get_or (set marks j ((c == 63 || c == get_or text j 0) && get_or marks (j + 1) false)) k false ≡ one_byte c passes (drop k text)
 byte_before c passes text marks j within room before behind k high = by_place k j _
     (λ here. rw here (get_or-set_same marks j _ false room
-        ∙ ap (λ b. (c == 63 || c == get_or text j 0) && b) (behind (j + 1) (omega arith) (omega arith))
-        ∙ byte_at (text_at text j within)))
+    ∙ ap (λ b. (c == 63 || c == get_or text j 0) && b) (behind (j + 1) (omega arith) (omega arith))
+    ∙ byte_at (text_at text j within)))
     (λ other. get_or-set_other marks j k _ false other ∙ before k (omega arith))
   where
     byte_at : drop j text ≡ get_or text j 0 ∷ drop (j + 1) text → ((c == 63 || c == get_or text j 0) && passes (drop (j + 1) text)) ≡ one_byte c passes (drop j text)
@@ -70,5 +70,5 @@ end_marked text within = record {
   at = λ k low. by_place k (length text) _
       (λ here. rw here (get_or-set_same (replicate 256 false) (length text) true false (rw length-replicate (omega arith)) ∙ sym (ap (matches_pattern []) (drop-length text))))
       (λ other. let behind : 0 < length (drop k text) = rw length-drop (omega arith) in
-          get_or-set_other (replicate 256 false) (length text) k true false other ∙ get_or-replicate 256 k false false (omega arith) ∙ sym (nothing_matches (drop k text) behind))
+      get_or-set_other (replicate 256 false) (length text) k true false other ∙ get_or-replicate 256 k false false (omega arith) ∙ sym (nothing_matches (drop k text) behind));
 }

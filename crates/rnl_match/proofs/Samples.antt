@@ -57,8 +57,11 @@ without : matches (record { which = Incl; form = Specific; q = codes "A"; r = No
 without = refl
 
 -- the first entry that matches counts
-first : find (record { which = Incl; entries =
+first : find (record {
+  which = Incl;
+  entries =
       record { which = Incl; form = Specific; q = codes "A"; r = Some (codes "X") }
       ∷ record { which = Incl; form = Generic; q = codes "A"; r = None }
-      ∷ record { which = Incl; form = Pattern; q = codes "*"; r = None } ∷ [] }) (codes "A") (codes "Y") ≡ Some 1
+      ∷ record { which = Incl; form = Pattern; q = codes "*"; r = None } ∷ [];
+}) (codes "A") (codes "Y") ≡ Some 1
 first = refl

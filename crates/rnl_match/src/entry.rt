@@ -3,7 +3,7 @@ ghost use Rattle.std.specs.Prelude.{◌≡◌, ◌<◌, length, IfSome};
 ghost use Rattle.rnl_match.specs.Matches.{matches_qname, matches_rname, matches_every, matches_some_rname, matches, find};
 
 use super::pattern::matches_pattern;
-use grs_base::{Form, Qname, RnlEntry, RnlList, Rname};
+use grs_base::{Form, Qname, Rname, RnlEntry, RnlList};
 
 fn matches_qname(form: Form, wanted: &Qname, q: &Qname) -> bool
     ensures { result ≡ matches_qname form wanted.now q.now }

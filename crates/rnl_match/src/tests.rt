@@ -1,6 +1,6 @@
 //! The first entry of a list that matches, on worked lists.
 use super::*;
-use grs_base::{Form, Qname, RnlEntry, RnlList, Rname, Which};
+use grs_base::{Form, Qname, Rname, RnlEntry, RnlList, Which};
 use std::alloc::Global;
 use std::test::Fail;
 

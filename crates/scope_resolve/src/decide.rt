@@ -2,7 +2,7 @@
 ghost use Rattle.std.specs.Prelude.{◌≡◌, IfOk};
 ghost use Rattle.scope_resolve.specs.Resolve.{is_listed, unless_excluded, looked_up, scope_of, reserve_looked_up, reserve_kind, kind_of, res_in, resolved};
 
-use grs_base::{Lists, NoMemory, Qname, Res, RnlList, Rname, Scope, SysId};
+use grs_base::{Lists, NoMemory, Qname, Res, Rname, RnlList, Scope, SysId};
 use rnl_match::find;
 use std::alloc::Global;
 

@@ -1,6 +1,6 @@
 //! Worked requests: the lists of a planner, and what they make of each request.
 use super::*;
-use grs_base::{Form, Lists, Qname, Res, RnlEntry, Rname, Scope, SysId, Which};
+use grs_base::{Form, Lists, Qname, Res, Rname, RnlEntry, Scope, SysId, Which};
 use std::alloc::Global;
 use std::test::Fail;
 
@@ -25,9 +25,21 @@ fn lists(alloc: Global) -> Result<Lists, Fail> {
     lists.incl.push(appl)?;
     let temp = entry(alloc, Which::Excl, Form::Specific, b"APPL", Some(b"TEMP"))?;
     lists.excl.push(temp)?;
-    let kept = entry(alloc, Which::Excl, Form::Specific, b"SYSVTOC", Some(b"VOL001"))?;
+    let kept = entry(
+        alloc,
+        Which::Excl,
+        Form::Specific,
+        b"SYSVTOC",
+        Some(b"VOL001"),
+    )?;
     lists.excl.push(kept)?;
-    let converted = entry(alloc, Which::Con, Form::Specific, b"SYSVTOC", Some(b"VOL002"))?;
+    let converted = entry(
+        alloc,
+        Which::Con,
+        Form::Specific,
+        b"SYSVTOC",
+        Some(b"VOL002"),
+    )?;
     lists.con.push(converted)?;
     Ok(lists)
 }
@@ -40,40 +52,57 @@ fn scope_of(res: &Res) -> Scope {
     }
 }
 
+/// Whether a request comes to this kind, and so does its resource.
+fn comes_to(
+    alloc: Global,
+    lists: &Lists,
+    ask: &Ask<'_>,
+    kind: (Scope, bool),
+) -> Result<bool, Fail> {
+    let found = resolve(alloc, lists, ask, SysId(0), 0)?;
+    Ok(resolve_kind(lists, ask) == kind && (scope_of(&found.res), found.hardware) == kind)
+}
+
 #[test]
 fn resolves(rt: HostRuntime) -> Result<(), Fail> {
     let alloc = rt.alloc();
     let lists = lists(alloc)?;
-    let (step, system, systems) = (Scope::Step, Scope::System, Scope::Systems);
-    let appl = b"APPL".as_slice();
-    let vtoc = b"SYSVTOC".as_slice();
-    for (q, r, reserve, scope, rnl, kind) in [
-        (appl, b"TEMP".as_slice(), false, system, true, (system, false)),
-        (appl, b"DATA".as_slice(), false, system, true, (systems, false)),
-        (appl, b"DATA".as_slice(), false, system, false, (system, false)),
-        (appl, b"DATA".as_slice(), false, step, true, (step, false)),
-        (appl, b"TEMP".as_slice(), false, systems, true, (system, false)),
-        (appl, b"TEMP".as_slice(), false, systems, false, (systems, false)),
-        (vtoc, b"VOL001".as_slice(), true, systems, true, (system, true)),
-        (vtoc, b"VOL002".as_slice(), true, systems, true, (systems, false)),
-        (vtoc, b"VOL003".as_slice(), true, systems, true, (systems, true)),
-        (vtoc, b"VOL001".as_slice(), true, systems, false, (systems, true)),
-        (vtoc, b"VOL002".as_slice(), true, systems, false, (systems, true)),
-        (vtoc, b"VOL002".as_slice(), false, systems, true, (systems, false)),
-        (vtoc, b"VOL001".as_slice(), false, system, true, (system, false)),
+    let appl = Qname::new(alloc, b"APPL")?;
+    for (name, scope, rnl, becomes) in [
+        (b"TEMP", Scope::System, true, Scope::System),
+        (b"DATA", Scope::System, true, Scope::Systems),
+        (b"DATA", Scope::System, false, Scope::System),
+        (b"DATA", Scope::Step, true, Scope::Step),
+        (b"TEMP", Scope::Systems, true, Scope::System),
+        (b"TEMP", Scope::Systems, false, Scope::Systems),
     ] {
-        let q = Qname::new(alloc, q)?;
-        let r = Rname::new(alloc, r)?;
         let ask = Ask {
-            reserve,
-            q: &q,
-            r: &r,
+            reserve: false,
+            q: &appl,
+            r: &Rname::new(alloc, name)?,
             scope,
             rnl,
         };
-        assert!(rt; resolve_kind(&lists, &ask) == kind);
-        let found = resolve(alloc, &lists, &ask, SysId(0), 0)?;
-        assert!(rt; (scope_of(&found.res), found.hardware) == kind);
+        assert!(rt; comes_to(alloc, &lists, &ask, (becomes, false))?);
+    }
+    let vtoc = Qname::new(alloc, b"SYSVTOC")?;
+    for (name, reserve, rnl, becomes, hardware) in [
+        (b"VOL001", true, true, Scope::System, true),
+        (b"VOL002", true, true, Scope::Systems, false),
+        (b"VOL003", true, true, Scope::Systems, true),
+        (b"VOL001", true, false, Scope::Systems, true),
+        (b"VOL002", true, false, Scope::Systems, true),
+        (b"VOL001", false, true, Scope::System, false),
+        (b"VOL002", false, true, Scope::Systems, false),
+    ] {
+        let ask = Ask {
+            reserve,
+            q: &vtoc,
+            r: &Rname::new(alloc, name)?,
+            scope: Scope::Systems,
+            rnl,
+        };
+        assert!(rt; comes_to(alloc, &lists, &ask, (becomes, hardware))?);
     }
     Ok(())
 }

@@ -9,6 +9,7 @@ loop-i-preserved c passes start =
     let e = c.either.ensures in
     let j : ℕ = c.loop-i.i - 1 in
     let within : j < length c.args.text.now = omega arith in
-    let room : j < length c.loop-i.marks = grind arith in
-    (before_kept passes c.args.text.now c.loop-i.marks j c.either.result (λ k h. inv.0 k (omega arith)),
-     λ k low high. rw e (rest_behind passes c.args.text.now c.loop-i.marks j within room (λ k h. inv.0 k (omega arith)) (λ k h i. inv.1 k (omega arith) i) k low high))
+    let room : j < length c.loop-i.marks = grind arith in (
+      before_kept passes c.args.text.now c.loop-i.marks j c.either.result (λ k h. inv.0 k (omega arith)),
+      λ k low high. rw e (rest_behind passes c.args.text.now c.loop-i.marks j within room (λ k h. inv.0 k (omega arith)) (λ k h i. inv.1 k (omega arith) i) k low high),
+    )
