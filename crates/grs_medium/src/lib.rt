@@ -5,5 +5,7 @@
 
 mod medium;
 mod sets;
+#[cfg(test)]
+mod tests;
 
 pub use medium::Medium;
