@@ -1,2 +1,4 @@
 pub mod Samples
 pub mod SetLaws
+pub mod KeepLaws
+pub mod ChangeLaws

@@ -2,3 +2,4 @@ pub mod Medium
 pub mod Apply
 pub mod Room
 pub mod Acts
+pub mod Kept

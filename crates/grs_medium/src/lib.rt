@@ -3,6 +3,7 @@
 //! resources, tasks or decks.
 #![tactic(auto)]
 
+pub mod laws;
 mod medium;
 mod sets;
 #[cfg(test)]

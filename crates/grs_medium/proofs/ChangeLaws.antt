@@ -1,0 +1,110 @@
+-- A call that is said to change the medium changes it.
+use Rattle.std.proofs.Common.{◌≡◌, ℕ, ◌+◌, Bool, true, false, cond, not, ◌&&◌, ◌||◌, List, [], ◌∷◌, ◌++◌, length, refl, ap, sym, ◌∙◌, subst, eqb, arith}
+use Rattle.std.specs.Prelude.{Option, Some, None, map, filter, ◌==◌, nat_lt}
+use Rattle.std.specs.List.{list_any}
+use Rattle.std.proofs.lemmas.List.{append-nil}
+use Rattle.grs_base.specs.declared.resource.SysId.{SysId}
+use Rattle.grs_wire.specs.declared.request.Req.{Req}
+use Rattle.grs_wire.specs.declared.medium.Act.{Act}
+use Rattle.grs_wire.specs.declared.medium.Act.TheVariants.{Turn, Switch, Submit, Take, Settle, Tell, Leave, Purge, Rest}
+use Rattle.grs_wire.specs.declared.medium.Call.{Call}
+use Rattle.grs_wire.specs.declared.medium.RingEntry.{RingEntry}
+use Rattle.grs_wire.specs.declared.medium.Reply.{Reply}
+use Rattle.grs_wire.specs.Masks.{has, without, with_also, only}
+use Rattle.grs_wire.proofs.MaskLaws.{has-without_same, has-with_same}
+use Rattle.rsa_message.specs.Message.{Message, is_at, or_else, first_after, is_unseen, any_unseen, left_by, cleared, stamped, is_due, moves, turned_open, turned_closed, turned, turn_changes}
+use Rattle.grs_medium.specs.Apply.{turn_row, purge_row, rest_row, row, row_changes, apply, changes, is_live, without_system}
+use Rattle.grs_medium.specs.Medium.{MediumState, systems_of, live}
+use Rattle.grs_medium.specs.Room.{is_built}
+use Rattle.grs_medium.specs.Kept.{ChangesWhatItSays, WaitsForItsHolder}
+use Rattle.grs_medium.proofs.KeepLaws.{cleared-seen}
+
+-- a call that isn't refused by the checks is its row
+behind_checks : {M : Type 0} (b k r : Bool) (m : M) (x : Reply × M) (y z : Reply) → (r ≡ true → ¬ (x.1 ≡ m)) → (not b && k && r) ≡ true → ¬ ((cond b (y, m) (cond k x (z, m))).1 ≡ m)
+behind_checks true k r m x y z moves h = absurd cc
+behind_checks false true r m x y z moves h = moves h
+behind_checks false false r m x y z moves h = absurd cc
+
+both_parts : (a b : Bool) → (a && b) ≡ true → (a ≡ true) × (b ≡ true)
+both_parts true b h = (refl, h)
+both_parts false b h = absurd cc
+
+is_false : (b : Bool) → not b ≡ true → b ≡ false
+is_false true e = absurd cc
+is_false false e = refl
+
+true_apart : true ≡ false → ⊥
+true_apart e = absurd cc
+
+-- a test tells two values apart
+apart_by : {A : Type 0} (test : A → Bool) (x y : A) → test x ≡ true → test y ≡ false → ¬ (x ≡ y)
+apart_by test x y holds fails e = let same : test x ≡ test y = ap test e in let clash : true ≡ false = sym holds ∙ same ∙ fails in true_apart clash
+
+-- nothing is unseen by s once s has left all masks
+pub unseen-cleared : (s : SysId) (es : List RingEntry) → any_unseen s (cleared s es) ≡ false
+unfolding cleared any_unseen
+unseen-cleared s [] = refl
+unseen-cleared s (e ∷ es) = by_mask (e.mask == only s.0) (unseen-cleared s es)
+  where
+    by_mask : (b : Bool) → list_any (is_unseen s) (map (left_by s) (filter (λ x. not (x.mask == only s.0)) es)) ≡ false
+        → list_any (is_unseen s) (map (left_by s) (cond (not b) (e ∷ filter (λ x. not (x.mask == only s.0)) es) (filter (λ x. not (x.mask == only s.0)) es))) ≡ false
+    by_mask true none = none
+    by_mask false none = rw (has-without_same e.mask s.0) none
+
+-- a Turn at the open message that is said to move something
+open_moves : (m : Message) (c : SysId) (out : List Req) (lives rest : ℕ) → is_at m.holder c ≡ true
+    → (moves m c (length out) || not (is_at (Some (or_else (first_after m.systems c (is_due m.entries lives rest)) c)) c)) ≡ true → ¬ (turned_open m c out lives rest ≡ m)
+unfolding stamped
+open_moves m c (r ∷ rs) lives rest here h e = let same : m.next + length (r ∷ rs) ≡ m.next = ap (λ (x : Message). x.next) e in absurd (omega arith)
+open_moves m c [] lives rest here h e = by_unseen (any_unseen c m.entries) refl
+  where
+    entries : cleared c m.entries ≡ m.entries
+    entries = sym (append-nil (cleared c m.entries)) ∙ ap (λ (x : Message). x.entries) e
+    by_unseen : (b : Bool) → any_unseen c m.entries ≡ b → ⊥
+    by_unseen true u = apart_by (any_unseen c) m.entries (cleared c m.entries) u (unseen-cleared c m.entries) (sym entries)
+    by_unseen false u =
+        let asked : not (is_at (Some (or_else (first_after m.systems c (is_due m.entries lives rest)) c)) c) ≡ true = rw u at h in
+        let moved = rw u at (ap (λ (x : Message). x.holder) e) in
+        let holder : Some (or_else (first_after m.systems c (is_due m.entries lives rest)) c) ≡ m.holder =
+            subst (λ (es : List RingEntry). Some (or_else (first_after m.systems c (is_due es lives rest)) c) ≡ m.holder) (append-nil (cleared c m.entries) ∙ entries) moved in
+        apart_by (λ (x : Option SysId). is_at x c) m.holder _ here (is_false _ asked) (sym holder)
+
+closed_moves : (m : Message) (c : SysId) → has m.still c.0 ≡ true → ¬ (turned_closed m c ≡ m)
+closed_moves m c waits e = apart_by (λ (x : Message). has x.still c.0) m (turned_closed m c) waits (has-without_same m.still c.0) (sym e)
+
+turned_moves : (m : Message) (c : SysId) (out : List Req) (lives rest : ℕ) → (m.closed ≡ true → (s : SysId) → is_at m.holder s ≡ true → has m.still s.0 ≡ true)
+    → turn_changes m c (length out) lives rest ≡ true → ¬ (turned m c out lives rest ≡ m)
+unfolding turned turn_changes
+turned_moves m c out lives rest waits h =
+    let parts = both_parts (is_at m.holder c) _ h in
+    rw parts.0 (by_closed m.closed refl parts.0 parts.1)
+  where
+    by_closed : (b : Bool) → m.closed ≡ b → is_at m.holder c ≡ true
+        → (m.closed || moves m c (length out) || not (is_at (Some (or_else (first_after m.systems c (is_due m.entries lives rest)) c)) c)) ≡ true
+        → ¬ (cond b (turned_closed m c) (turned_open m c out lives rest) ≡ m)
+    by_closed true closed here g = closed_moves m c (waits closed c here)
+    by_closed false closed here g = open_moves m c out lives rest here (rw closed at g)
+
+purge_moves : {M : Type 0} (s l : Bool) (m : M) (x : Reply × M) (y z : Reply) → (not s && l) ≡ true → ¬ (x.1 ≡ m) → ¬ ((cond s (y, m) (cond l x (z, m))).1 ≡ m)
+purge_moves true l m x y z h moves = absurd cc
+purge_moves false true m x y z h moves = moves
+purge_moves false false m x y z h moves = absurd cc
+
+row_moves : (m : MediumState) (c : SysId) (act : Act) → is_built act ≡ true → WaitsForItsHolder m → row_changes m c act ≡ true → ¬ ((row m c act).1 ≡ m)
+unfolding row row_changes turn_row purge_row rest_row
+row_moves m c (Turn out) built waits h = λ e. turned_moves m.message c out (live m) m.rest waits h (ap (λ (x : MediumState). x.message) e)
+row_moves m c (Purge t) built waits h =
+    let living = both_parts (not m.star) (is_live m t) h in
+    let there = both_parts (nat_lt t.0 (systems_of m)) (not (has m.removed t.0)) living.1 in
+    purge_moves m.star (is_live m t) m _ _ _ h (λ e. apart_by (λ (x : MediumState). has x.removed t.0) (without_system m c t) m (has-with_same m.removed t.0) (is_false (has m.removed t.0) there.1) e)
+row_moves m c Rest built waits h = λ e. apart_by (λ (x : MediumState). has x.rest c.0) _ m (has-with_same m.rest c.0) (is_false (has m.rest c.0) h) e
+row_moves m c (Switch words) built waits h = absurd cc
+row_moves m c (Submit entry req) built waits h = absurd cc
+row_moves m c Take built waits h = absurd cc
+row_moves m c (Settle to mail) built waits h = absurd cc
+row_moves m c (Tell to mail) built waits h = absurd cc
+row_moves m c (Leave entry) built waits h = absurd cc
+
+pub changes_what_it_says : ChangesWhatItSays
+unfolding apply changes
+changes_what_it_says m c call built waits h = behind_checks (has m.removed c.0) (call.known == m.removed) (row_changes m c call.act) m (row m c call.act) _ _ (row_moves m c call.act built waits) h

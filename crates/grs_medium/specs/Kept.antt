@@ -1,0 +1,21 @@
+-- What is said of calls that change the medium, and of calls that don't.
+use Rattle.std.specs.Prelude.{◌≡◌, Bool, true, false}
+use Rattle.grs_wire.specs.Masks.{has}
+use Rattle.rsa_message.specs.Message.{is_at}
+use Rattle.grs_base.specs.declared.resource.SysId.{SysId}
+use Rattle.grs_wire.specs.declared.medium.Call.{Call}
+use Rattle.grs_medium.specs.Apply.{medium_after, changes}
+use Rattle.grs_medium.specs.Medium.{MediumState}
+use Rattle.grs_medium.specs.Room.{is_built}
+
+-- A call that isn't said to change the medium leaves it as it was.
+abbrev pub LeavesTheRest : Type 0
+LeavesTheRest = (m : MediumState) (c : SysId) (call : Call) → is_built call.act ≡ true → changes m c call ≡ false → medium_after m c call ≡ m
+
+-- where a closed message stands at a system, that one has yet to change to star mode
+abbrev pub WaitsForItsHolder : MediumState → Type 0
+WaitsForItsHolder m = m.message.closed ≡ true → (c : SysId) → is_at m.message.holder c ≡ true → has m.message.still c.0 ≡ true
+
+-- A call that is said to change the medium doesn't leave it as it was.
+abbrev pub ChangesWhatItSays : Type 0
+ChangesWhatItSays = (m : MediumState) (c : SysId) (call : Call) → is_built call.act ≡ true → WaitsForItsHolder m → changes m c call ≡ true → ¬ (medium_after m c call ≡ m)
