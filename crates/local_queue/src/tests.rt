@@ -1,9 +1,8 @@
 //! A short life of one list.
-use super::Local;
-use grs_base::{Code, Ctl, Filter, Qname, Res, Ret, Rname, SysId, TaskId};
+use super::{Local, Outcome};
+use grs_base::{Code, Ctl, Filter, List, Qname, Res, Ret, Rname, SysId, TaskId};
 use grs_wire::{Answer, Req, Want};
 use std::alloc::Global;
-use std::process::Abort;
 use std::test::Fail;
 
 fn task(number: u16) -> TaskId {
@@ -24,50 +23,46 @@ fn res(alloc: Global) -> Result<Res, Fail> {
     })
 }
 
-fn enq(alloc: Global, ctl: Ctl) -> Result<Want, Fail> {
-    Ok(Want::Enq {
-        res: res(alloc)?,
-        ctl,
-        ret: Ret::RetNone,
-        full: false,
+/// What a task asks for.
+#[derive(Clone, Copy)]
+enum Ask {
+    Enq(Ctl),
+    DeqHave,
+    Release,
+}
+
+fn want(alloc: Global, ask: Ask) -> Result<Want, Fail> {
+    let res = res(alloc)?;
+    Ok(match ask {
+        Ask::Enq(ctl) => Want::Enq {
+            res,
+            ctl,
+            ret: Ret::RetNone,
+            full: false,
+        },
+        Ask::DeqHave => Want::Deq { res, have: true },
+        Ask::Release => Want::Release { res },
     })
 }
 
-fn deq(alloc: Global) -> Result<Want, Fail> {
-    Ok(Want::Deq {
-        res: res(alloc)?,
-        have: true,
-    })
-}
-
-fn release(alloc: Global) -> Result<Want, Fail> {
-    Ok(Want::Release { res: res(alloc)? })
-}
-
-fn is_code(answer: &Answer, wanted: Code) -> bool {
+/// The code of an outcome whose answer is one, and who got control by it.
+fn told(outcome: Outcome) -> (Option<Code>, List<TaskId>) {
+    let Outcome {
+        answer,
+        rank: _,
+        owners,
+    } = outcome;
     match answer {
-        Answer::Coded(code) => *code == wanted,
-        Answer::Rows(_) => false,
+        Answer::Coded(code) => (Some(code), owners),
+        Answer::Rows(_) => (None, owners),
     }
 }
 
-fn expect(
-    rt: &impl Abort,
-    local: &mut Local,
-    number: u16,
-    want: Want,
-    code: Code,
-    owners: &[TaskId],
-) -> Result<(), Fail> {
-    let req = Req {
-        task: task(number),
-        want,
-    };
-    let outcome = local.request(&req)?;
-    assert!(rt; is_code(&outcome.answer, code), "task {number}");
-    assert_eq!(rt; outcome.rank, 0);
-    assert_eq!(rt; outcome.owners.as_slice(), owners, "task {number}");
-    Ok(())
+/// What a task's request leads to.
+fn asked(local: &mut Local, number: u16, want: Want) -> Result<(Option<Code>, List<TaskId>), Fail> {
+    let task = task(number);
+    let req = Req { task, want };
+    Ok(told(local.request(&req)?))
 }
 
 #[test]
@@ -75,32 +70,21 @@ fn gives_control_in_order(rt: HostRuntime) -> Result<(), Fail> {
     let alloc = rt.alloc();
     let mut local = Local::new(alloc, SysId(0));
     let none: [TaskId; 0] = [];
-    expect(&rt, &mut local, 0, enq(alloc, Ctl::S)?, Code::C00, &none)?;
-    expect(&rt, &mut local, 1, enq(alloc, Ctl::E)?, Code::Wait, &none)?;
-    expect(&rt, &mut local, 2, enq(alloc, Ctl::S)?, Code::Wait, &none)?;
-    expect(&rt, &mut local, 3, enq(alloc, Ctl::S)?, Code::Wait, &none)?;
-    expect(&rt, &mut local, 3, deq(alloc)?, Code::C04, &none)?;
-    expect(
-        &rt,
-        &mut local,
-        1,
-        release(alloc)?,
-        Code::C00,
-        &[task(2), task(3)],
-    )?;
-    expect(&rt, &mut local, 0, deq(alloc)?, Code::C00, &none)?;
-    expect(&rt, &mut local, 0, deq(alloc)?, Code::C08, &none)
-}
-
-#[test]
-fn shows_what_is_held(rt: HostRuntime) -> Result<(), Fail> {
-    let alloc = rt.alloc();
-    let mut local = Local::new(alloc, SysId(0));
-    let req = Req {
-        task: task(0),
-        want: enq(alloc, Ctl::S)?,
-    };
-    let _ = local.request(&req)?;
+    let behind = [task(2), task(3)];
+    for (number, ask, wanted, control) in [
+        (0, Ask::Enq(Ctl::S), Code::C00, none.as_slice()),
+        (1, Ask::Enq(Ctl::E), Code::Wait, none.as_slice()),
+        (2, Ask::Enq(Ctl::S), Code::Wait, none.as_slice()),
+        (3, Ask::Enq(Ctl::S), Code::Wait, none.as_slice()),
+        (3, Ask::DeqHave, Code::C04, none.as_slice()),
+        (1, Ask::Release, Code::C00, behind.as_slice()),
+        (0, Ask::DeqHave, Code::C00, none.as_slice()),
+        (0, Ask::DeqHave, Code::C08, none.as_slice()),
+    ] {
+        let (code, owners) = asked(&mut local, number, want(alloc, ask)?)?;
+        assert_eq!(rt; code, Some(wanted), "task {number}");
+        assert_eq!(rt; owners.as_slice(), control, "task {number}");
+    }
     assert_eq!(rt; local.look(&Filter::All)?.len(), 1);
     assert_eq!(rt; local.look(&Filter::Contended)?.len(), 0);
     Ok(())
