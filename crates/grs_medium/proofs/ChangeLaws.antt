@@ -60,13 +60,14 @@ open_moves m c [] lives rest here h e = by_unseen (any_unseen c m.entries) refl
   where
     entries : cleared c m.entries ≡ m.entries
     entries = sym (append-nil (cleared c m.entries)) ∙ ap (λ (x : Message). x.entries) e
+
     by_unseen : (b : Bool) → any_unseen c m.entries ≡ b → ⊥
     by_unseen true u = apart_by (any_unseen c) m.entries (cleared c m.entries) u (unseen-cleared c m.entries) (sym entries)
     by_unseen false u =
         let asked : not (is_at (Some (or_else (first_after m.systems c (is_due m.entries lives rest)) c)) c) ≡ true = rw u at h in
         let moved = rw u at (ap (λ (x : Message). x.holder) e) in
         let holder : Some (or_else (first_after m.systems c (is_due m.entries lives rest)) c) ≡ m.holder =
-            subst (λ (es : List RingEntry). Some (or_else (first_after m.systems c (is_due es lives rest)) c) ≡ m.holder) (append-nil (cleared c m.entries) ∙ entries) moved in
+        subst (λ (es : List RingEntry). Some (or_else (first_after m.systems c (is_due es lives rest)) c) ≡ m.holder) (append-nil (cleared c m.entries) ∙ entries) moved in
         apart_by (λ (x : Option SysId). is_at x c) m.holder _ here (is_false _ asked) (sym holder)
 
 closed_moves : (m : Message) (c : SysId) → has m.still c.0 ≡ true → ¬ (turned_closed m c ≡ m)

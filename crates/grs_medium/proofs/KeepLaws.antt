@@ -33,9 +33,9 @@ not_purged false false m x y z h = refl
 -- a set that lacks s isn't that of s alone
 not_only : (m s : ℕ) → has m s ≡ false → eqb m (only s) ≡ false
 not_only m s h = elim (eqb m (only s)) as (λ b. eqb m (only s) ≡ b → b ≡ false) [
-    | true ↦ λ e. let same : has m s ≡ true = ap (λ (x : ℕ). has x s) (eqb-true m (only s) e) ∙ has-with_same 0 s in absurd cc
-    | false ↦ λ e. refl
-  ] refl
+  | true ↦ λ e. let same : has m s ≡ true = ap (λ (x : ℕ). has x s) (eqb-true m (only s) e) ∙ has-with_same 0 s in absurd cc
+  | false ↦ λ e. refl
+] refl
 
 or_parts : (a b : Bool) → (a || b) ≡ false → (a ≡ false) × (b ≡ false)
 or_parts false b h = (refl, h)

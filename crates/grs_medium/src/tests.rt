@@ -1,84 +1,75 @@
 //! Two systems in a ring: a request goes round, both rest, and one is removed.
 ghost use Rattle.std.specs.Prelude.{◌≡◌, ◌<◌, true};
 ghost use Rattle.grs_medium.specs.Medium.{systems_of};
-ghost use Rattle.grs_medium.specs.Apply.{ActFits};
+ghost use Rattle.grs_medium.specs.Apply.{MayCall};
 ghost use Rattle.grs_medium.specs.Room.{is_built};
 
 use super::Medium;
-use grs_base::{Ctl, List, Qname, Res, Ret, Rname, SysId, TaskId};
+use grs_base::{List, Qname, Res, Rname, SysId, TaskId};
 use grs_wire::{Act, Call, Reply, Req, RingEntry, Want};
 use std::alloc::Global;
 use std::test::Fail;
 
-/// A reply in short: its kind, the number and the mask of the only entry that it gives (else 0), and how many
-/// requests were put in, or another number that it carries.
+/// What a reply says, in short.
 #[derive(Clone, Copy, Debug, PartialEq, Eq)]
-struct Shown {
-    kind: u8,
-    entry: u64,
-    mask: u32,
-    number: u32,
+enum Brief {
+    /// No entry was given, and so many requests were put in.
+    Turned(u32),
+    /// One entry was given, of this number and mask.
+    Given(u64, u32),
+    NotYours(u8),
+    Resting,
+    Over,
+    Purged,
+    Removed,
+    Stale(u32),
+    NoSuch,
+    Another,
 }
 
-fn plain(kind: u8, number: u32) -> Shown {
-    Shown {
-        kind,
-        entry: 0,
-        mask: 0,
-        number,
-    }
-}
-
-fn given(entries: &[RingEntry], taken: u32) -> Shown {
+fn turned(entries: &[RingEntry], taken: u32) -> Brief {
     match entries {
-        [] => plain(1, taken),
-        [entry] => Shown {
-            kind: 1,
-            entry: entry.number,
-            mask: entry.mask,
-            number: taken,
-        },
-        _ => plain(0, 0),
+        [] => Brief::Turned(taken),
+        [entry] => Brief::Given(entry.number, entry.mask),
+        _ => Brief::Another,
     }
 }
 
-fn brief(reply: &Reply) -> Shown {
+fn in_brief(reply: &Reply) -> Brief {
     match reply {
-        Reply::Turned {
-            entries,
-            taken,
-            closed: false,
-        } => given(entries.as_slice(), *taken),
-        Reply::NotYours { at: Some(at) } => plain(2, at.0 as u32),
-        Reply::Resting => plain(3, 0),
-        Reply::Over => plain(4, 0),
-        Reply::Purged => plain(5, 0),
-        Reply::Removed => plain(6, 0),
-        Reply::Stale { set } => plain(7, *set),
-        Reply::NoSuch => plain(8, 0),
-        _ => plain(0, 0),
+        Reply::Turned { entries, taken, .. } => turned(entries.as_slice(), *taken),
+        Reply::NotYours { at: Some(at) } => Brief::NotYours(at.0),
+        Reply::Resting => Brief::Resting,
+        Reply::Over => Brief::Over,
+        Reply::Purged => Brief::Purged,
+        Reply::Removed => Brief::Removed,
+        Reply::Stale { set } => Brief::Stale(*set),
+        Reply::NoSuch => Brief::NoSuch,
+        _ => Brief::Another,
     }
 }
 
-/// Makes a call, and shows what the preview said, whether it spoke of a change, and the reply.
-fn made(
-    medium: &mut Medium,
-    caller: SysId,
-    known: u32,
-    act: Act,
-) -> Result<(Shown, bool, Shown), Fail>
-    requires caller { caller.0 < systems_of medium.old.state }
-    requires fits { ActFits medium.old.state caller act }
-    requires built { is_built act ≡ true }
-    ensures systems { systems_of medium.new.state ≡ systems_of medium.old.state }
+/// What the preview of a call says, and whether it speaks of a change.
+fn previewed(medium: &Medium, caller: SysId, call: &Call) -> Result<(Brief, bool), Fail>
+    requires call { MayCall medium.now.state caller call.now }
+    requires built { is_built call.now.act ≡ true }
 {
-    let call = Call { known, act };
-    let (before, changes) = medium.preview(caller, &call)?;
+    let (reply, changes) = medium.preview(caller, call)?;
+    Ok((in_brief(&reply), changes))
+}
+
+/// What a call is answered.
+fn answered(medium: &mut Medium, caller: SysId, call: Call) -> Result<Brief, Fail>
+    requires call { MayCall medium.old.state caller call }
+    requires built { is_built call.act ≡ true }
+    ensures { systems_of medium.new.state ≡ systems_of medium.old.state }
+{
     medium.reserve(caller, &call)?;
     let reply = medium.apply(caller, call);
-    Ok((brief(&before), changes, brief(&reply)))
+    Ok(in_brief(&reply))
 }
 
+/// A request of system 0.
 fn request(alloc: Global) -> Result<Req, Fail> {
     let q = Qname::new(alloc, b"A")?;
     let r = Rname::new(alloc, b"B")?;
@@ -88,119 +79,92 @@ fn request(alloc: Global) -> Result<Req, Fail> {
             job: 0,
             task: 0,
         },
-        want: Want::Enq {
+        want: Want::Release {
             res: Res::Systems { q, r },
-            ctl: Ctl::E,
-            ret: Ret::RetNone,
-            full: false,
         },
     })
 }
 
-/// What a case asks.
-#[derive(Clone, Copy)]
-enum Ask {
-    /// A Turn with one request.
-    Put,
-    /// A Turn without requests.
-    Turn,
-    Rest,
-    /// That system 1 is removed.
-    Purge,
+/// What a call's preview says, whether it speaks of a change, and what the call is then answered.
+fn made(medium: &mut Medium, caller: SysId, call: Call) -> Result<(Brief, bool, Brief), Fail>
+    requires call { MayCall medium.old.state caller call }
+    requires built { is_built call.act ≡ true }
+    ensures { systems_of medium.new.state ≡ systems_of medium.old.state }
+{
+    let (before, changes) = previewed(medium, caller, &call)?;
+    let reply = answered(medium, caller, call)?;
+    Ok((before, changes, reply))
 }
 
-#[derive(Clone, Copy)]
-struct Case {
-    caller: u8,
-    known: u32,
-    ask: Ask,
-    reply: Shown,
-    changes: bool,
+/// A Turn of system 0 with a request.
+fn put(alloc: Global, medium: &mut Medium) -> Result<(Brief, bool, Brief), Fail>
+    requires { systems_of medium.old.state ≡ 2 }
+    ensures { systems_of medium.new.state ≡ 2 }
+{
+    let mut out = List::new(alloc);
+    out.push(request(alloc)?)?;
+    let act = Act::Turn { out };
+    made(medium, SysId(0), Call { known: 0, act })
 }
 
-const fn line(caller: u8, known: u32, ask: Ask, reply: Shown, changes: bool) -> Case {
-    Case {
-        caller,
-        known,
-        ask,
-        reply,
-        changes,
-    }
-}
-
-fn run(
+/// A Turn without requests.
+fn turn(
     alloc: Global,
     medium: &mut Medium,
     caller: u8,
     known: u32,
-    ask: Ask,
-) -> Result<(Shown, bool, Shown), Fail>
+) -> Result<(Brief, bool, Brief), Fail>
+    requires two { systems_of medium.old.state ≡ 2 }
+    requires caller { caller < 2 }
+    ensures { systems_of medium.new.state ≡ 2 }
+{
+    let out = List::new(alloc);
+    let act = Act::Turn { out };
+    made(medium, SysId(caller), Call { known, act })
+}
+
+fn rest(medium: &mut Medium, caller: u8, known: u32) -> Result<(Brief, bool, Brief), Fail>
+    requires two { systems_of medium.old.state ≡ 2 }
+    requires caller { caller < 2 }
+    ensures { systems_of medium.new.state ≡ 2 }
+{
+    let act = Act::Rest;
+    made(medium, SysId(caller), Call { known, act })
+}
+
+/// System 0 removes system 1.
+fn purge(medium: &mut Medium, known: u32) -> Result<(Brief, bool, Brief), Fail>
     requires { systems_of medium.old.state ≡ 2 }
     ensures { systems_of medium.new.state ≡ 2 }
 {
-    if caller >= 2 {
-        return Ok((plain(0, 0), false, plain(0, 0)));
-    }
-    let who = SysId(caller);
-    match ask {
-        Ask::Put => {
-            let mut out = List::new(alloc);
-            out.push(request(alloc)?)?;
-            made(medium, who, known, Act::Turn { out })
-        }
-        Ask::Turn => made(
-            medium,
-            who,
-            known,
-            Act::Turn {
-                out: List::new(alloc),
-            },
-        ),
-        Ask::Rest => made(medium, who, known, Act::Rest),
-        Ask::Purge => made(
-            medium,
-            SysId(0),
-            known,
-            Act::Purge { target: SysId(1) },
-        ),
-    }
+    let target = SysId(1);
+    let act = Act::Purge { target };
+    made(medium, SysId(0), Call { known, act })
 }
 
-fn turned(entry: u64, mask: u32, number: u32) -> Shown {
-    Shown {
-        kind: 1,
-        entry,
-        mask,
-        number,
-    }
+/// Whether the preview and the call agree on this reply, and on whether it changes something.
+fn agrees(seen: (Brief, bool, Brief), reply: Brief, changes: bool) -> bool {
+    let (before, spoken, after) = seen;
+    before == reply && after == reply && spoken == changes
 }
 
 #[test]
 fn goes_round(rt: HostRuntime) -> Result<(), Fail> {
     let alloc = rt.alloc();
-    let cases = [
-        line(0, 0, Ask::Put, turned(0, 0, 1), true),
-        line(0, 0, Ask::Turn, plain(2, 1), false),
-        line(1, 0, Ask::Turn, turned(1, 3, 0), true),
-        line(0, 0, Ask::Turn, turned(1, 1, 0), true),
-        line(0, 0, Ask::Rest, plain(3, 0), true),
-        line(1, 0, Ask::Rest, plain(4, 0), true),
-        line(0, 0, Ask::Purge, plain(5, 0), true),
-        line(1, 0, Ask::Rest, plain(6, 0), false),
-        line(0, 0, Ask::Rest, plain(7, 2), false),
-        line(0, 2, Ask::Purge, plain(8, 0), false),
-        line(0, 2, Ask::Turn, turned(2, 1, 0), true),
-    ];
     let mut medium = Medium::new(alloc, 2, 1, false)?;
-    for case in cases {
-        let (before, changes, reply) = run(alloc, &mut medium, case.caller, case.known, case.ask)?;
-        assert_eq!(rt; before, case.reply);
-        assert_eq!(rt; changes, case.changes);
-        assert_eq!(rt; reply, case.reply);
-    }
-    assert_eq!(rt; medium.removed(), 2);
-    assert!(rt; medium.at_end(), "the last entry was processed");
-    assert!(rt; !medium.star(), "no change of mode");
+    assert!(rt; agrees(put(alloc, &mut medium)?, Brief::Turned(1), true));
+    assert!(rt; agrees(turn(alloc, &mut medium, 0, 0)?, Brief::NotYours(1), false));
+    assert!(rt; agrees(turn(alloc, &mut medium, 1, 0)?, Brief::Given(1, 3), true));
+    assert!(rt; agrees(turn(alloc, &mut medium, 0, 0)?, Brief::Given(1, 1), true));
+    assert!(rt; agrees(rest(&mut medium, 0, 0)?, Brief::Resting, true));
+    assert!(rt; agrees(rest(&mut medium, 1, 0)?, Brief::Over, true));
+    assert!(rt; agrees(purge(&mut medium, 0)?, Brief::Purged, true));
+    assert!(rt; agrees(rest(&mut medium, 1, 0)?, Brief::Removed, false));
+    assert!(rt; agrees(rest(&mut medium, 0, 0)?, Brief::Stale(2), false));
+    assert!(rt; agrees(purge(&mut medium, 2)?, Brief::NoSuch, false));
+    assert!(rt; !medium.at_end(), "the removal is left");
+    assert!(rt; agrees(turn(alloc, &mut medium, 0, 2)?, Brief::Given(2, 1), true));
+    assert!(rt; medium.at_end() && !medium.star() && medium.removed() == 2);
     assert_eq!(rt; medium.words().len(), 1);
     Ok(())
 }
