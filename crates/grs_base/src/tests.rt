@@ -110,48 +110,40 @@ fn copies(rt: HostRuntime) -> Result<(), Fail> {
 }
 
 #[test]
-fn copies_name_lists_and_filters(rt: HostRuntime) -> Result<(), Fail> {
+fn copies_name_lists(rt: HostRuntime) -> Result<(), Fail> {
     let alloc = rt.alloc();
-    let q = Qname::new(alloc, b"A")?;
-    let r = Rname::new(alloc, b"B")?;
     let mut lists = Lists::new(alloc);
     assert!(rt; lists.excl.len() == 0);
     lists.excl.push(RnlEntry {
         which: Which::Excl,
         form: Form::Generic,
-        q: q.copy(alloc)?,
-        r: Some(r.copy(alloc)?),
+        q: Qname::new(alloc, b"A")?,
+        r: Some(Rname::new(alloc, b"B")?),
     })?;
     let copied = lists.copy(alloc)?;
     assert_eq!(rt; copied.excl.len(), 1);
     assert_eq!(rt; copied.excl.which(), Which::Excl);
     let entry = copied.excl.entry(0);
-    assert!(rt; entry.q == q && entry.r.is_some() && entry.form == Form::Generic);
-    match (Filter::Named {
-        q: Some(q),
-        r: None,
-    })
-    .copy(alloc)?
-    {
-        Filter::Named {
-            q: Some(q),
-            r: None,
-        } => assert_eq!(rt; q.bytes(), b"A".as_slice()),
-        _ => assert!(rt; false),
+    assert_eq!(rt; entry.q.bytes(), b"A".as_slice());
+    assert!(rt; entry.r.is_some() && entry.form == Form::Generic);
+    Ok(())
+}
+
+/// Whether a filter is for this qname and any rname.
+fn is_for_qname(filter: &Filter, bytes: &[u8]) -> bool {
+    match filter {
+        Filter::Named { q: Some(q), r } => q.bytes() == bytes && r.is_none(),
+        _ => false,
     }
-    match (Line::Reserve {
-        q: Qname::new(alloc, b"A")?,
-        r,
-        ctl: Ctl::S,
-        unit: 0x1a01,
-        ret: Ret::RetEcb,
-        rnl: false,
-    })
-    .copy(alloc)?
-    {
-        Line::Reserve { unit, rnl, .. } => assert!(rt; unit == 0x1a01 && !rnl),
-        _ => assert!(rt; false),
-    }
+}
+
+#[test]
+fn copies_filters(rt: HostRuntime) -> Result<(), Fail> {
+    let alloc = rt.alloc();
+    let q = Some(Qname::new(alloc, b"A")?);
+    let filter = Filter::Named { q, r: None };
+    let copied = filter.copy(alloc)?;
+    assert!(rt; is_for_qname(&copied, b"A"));
     Ok(())
 }
 
