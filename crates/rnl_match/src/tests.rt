@@ -1,10 +1,14 @@
 //! The first entry of a list that matches, on worked lists.
+ghost use Rattle.std.specs.Prelude.{◌≡◌, IfOk};
+
 use super::*;
 use grs_base::{Form, Qname, Rname, RnlEntry, RnlList, Which};
 use std::alloc::Global;
 use std::test::Fail;
 
-fn entry(alloc: Global, form: Form, q: &[u8], r: Option<&[u8]>) -> Result<RnlEntry, Fail> {
+fn entry(alloc: Global, form: Form, q: &[u8], r: Option<&[u8]>) -> Result<RnlEntry, Fail>
+    ensures { IfOk result (λ entry. entry.which ≡ Which.Excl) }
+{
     let q = Qname::new(alloc, q)?;
     let r = match r {
         None => None,

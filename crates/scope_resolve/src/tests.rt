@@ -1,4 +1,6 @@
 //! Worked requests: the lists of a planner, and what they make of each request.
+ghost use Rattle.std.specs.Prelude.{◌≡◌, IfOk};
+
 use super::*;
 use grs_base::{Form, Lists, Qname, Res, Rname, RnlEntry, Scope, SysId, Which};
 use std::alloc::Global;
@@ -10,7 +12,9 @@ fn entry(
     form: Form,
     q: &[u8],
     r: Option<&[u8]>,
-) -> Result<RnlEntry, Fail> {
+) -> Result<RnlEntry, Fail>
+    ensures { IfOk result (λ entry. entry.which ≡ which) }
+{
     let q = Qname::new(alloc, q)?;
     let r = match r {
         None => None,
