@@ -22,15 +22,28 @@ fn entry(alloc: Global, form: Form, q: &[u8], r: Option<&[u8]>) -> Result<RnlEnt
     })
 }
 
-#[test]
-fn finds_the_first(rt: HostRuntime) -> Result<(), Fail> {
-    let alloc = rt.alloc();
+/// A list of one entry of each form, and a pattern of many stars.
+fn entries(alloc: Global) -> Result<RnlList, Fail> {
     let mut list = RnlList::new(alloc, Which::Excl);
     list.push(entry(alloc, Form::Specific, b"SYSDSN", Some(b"SYS1"))?)?;
     list.push(entry(alloc, Form::Generic, b"SYSDSN", Some(b"SYS"))?)?;
     list.push(entry(alloc, Form::Pattern, b"APPL*", Some(b"A*B?"))?)?;
     list.push(entry(alloc, Form::Pattern, b"*", Some(b"*?*?*?*?*Z"))?)?;
-    for (q, r, place) in [
+    Ok(list)
+}
+
+/// The place of the first entry that matches these names.
+fn place(alloc: Global, list: &RnlList, q: &[u8], r: &[u8]) -> Result<Option<usize>, Fail> {
+    let q = Qname::new(alloc, q)?;
+    let r = Rname::new(alloc, r)?;
+    Ok(find(list, &q, &r))
+}
+
+#[test]
+fn finds_the_first(rt: HostRuntime) -> Result<(), Fail> {
+    let alloc = rt.alloc();
+    let list = entries(alloc)?;
+    for (q, r, first) in [
         (b"SYSDSN".as_slice(), b"SYS1".as_slice(), Some(0)),
         (b"SYSDSN".as_slice(), b"SYS1.LOG".as_slice(), Some(1)),
         (b"SYSDSN".as_slice(), b"USER".as_slice(), None),
@@ -40,9 +53,7 @@ fn finds_the_first(rt: HostRuntime) -> Result<(), Fail> {
         (b"ANY".as_slice(), b"wxyzZ".as_slice(), Some(3)),
         (b"ANY".as_slice(), b"xyzZ".as_slice(), None),
     ] {
-        let q = Qname::new(alloc, q)?;
-        let r = Rname::new(alloc, r)?;
-        assert_eq!(rt; find(&list, &q, &r), place);
+        assert_eq!(rt; place(alloc, &list, q, r)?, first);
     }
     Ok(())
 }
