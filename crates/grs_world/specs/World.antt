@@ -1,70 +1,105 @@
--- The run of a list of events. There is one system; events of others do nothing.
-use Rattle.std.specs.Prelude.{ℕ, ◌==◌, ◌+◌, List, [], ◌∷◌, ◌++◌, length, map, drop, cond}
+-- The run of a list of events: the medium, and the systems that share it. Each event is one system's.
+use Rattle.std.specs.Prelude.{ℕ, Bool, ◌+◌, List, [], ◌∷◌, ◌++◌, length, map, drop, cond, slice_get, set, Option, Some, None}
 use Rattle.grs_base.specs.declared.resource.SysId.{SysId}
+use Rattle.grs_legal.specs.Asks.{scripts_of}
+use Rattle.grs_medium.specs.Apply.{reply_to, medium_after}
+use Rattle.grs_medium.specs.Medium.{MediumState, first_medium}
+use Rattle.grs_node.specs.Node.{Node, Step, prepare, finish}
+use Rattle.grs_node.specs.declared.prepared.Prepared.{Prepared}
+use Rattle.grs_node.specs.declared.prepared.Prepared.TheVariants.{Quiet, Call, Nothing}
+use Rattle.grs_wire.specs.Masks.{has}
 use Rattle.grs_wire.specs.declared.deck.Deck.{Deck}
+use Rattle.grs_wire.specs.declared.deck.SystemDef.{SystemDef}
 use Rattle.grs_wire.specs.declared.deck.Event.{Event}
 use Rattle.grs_wire.specs.declared.deck.Choice.{Choice}
-use Rattle.grs_wire.specs.declared.deck.Choice.TheVariants.{Task, Turn, Send, Take, Settle, Tell, Leave, Switch, Purge, Rest}
 use Rattle.grs_wire.specs.declared.history.HistEntry.{HistEntry}
-use Rattle.grs_wire.specs.declared.request.Req.{Req}
 use Rattle.grs_wire.specs.declared.request.Fixed.{Fixed}
-use Rattle.grs_wire.specs.declared.request.Fixed.TheVariants.{Asked}
 use Rattle.grs_wire.specs.declared.told.Told.{Told}
 use Rattle.grs_wire.specs.declared.told.ToldLine.{ToldLine}
 use Rattle.grs_wire.specs.History.{answered}
-use Rattle.grs_legal.specs.Asks.{scripts_of, lines_of}
 use Rattle.task_state.specs.View.{new_tasks}
-use Rattle.grs_world.specs.Node.{Node, Step, task_step, only}
 
--- the system, how many events there were, what they fixed and what was told
+-- the medium, the systems by number, how many events there were, what they fixed and what was told
 pub record World : Type 0 where
-  pub node : Node
+  pub medium : MediumState
+  pub nodes : List Node
   pub events : ℕ
   pub fixed : List (SysId × Fixed)
   pub told : List Told
 
--- nothing is queued and no task has begun
-unfoldable pub first_node : Deck → Node
-first_node deck = record { tasks = record { system = 0; tasks = new_tasks (length (scripts_of deck 0)); told = [] }; held = [] }
+-- a system at the start: nothing is queued and no task has begun
+unfoldable pub first_node : Deck → ℕ → Node
+first_node deck s = record {
+  tasks = record { system = s; tasks = new_tasks (length (scripts_of deck s)); told = [] };
+  held = [];
+  shared = [];
+  outbox = [];
+  known = 0;
+  done = 0;
+}
+
+-- these systems of a deck, of which the first has this number
+abbrev pub first_nodes : Deck → ℕ → List SystemDef → List Node
+first_nodes deck s [] = []
+first_nodes deck s (d ∷ ds) = first_node deck s ∷ first_nodes deck (s + 1) ds
 
 unfoldable pub first_world : Deck → World
-first_world deck = record { node = first_node deck; events = 0; fixed = []; told = [] }
+first_world deck = record {
+  medium = first_medium (length deck.systems) deck.entries deck.star;
+  nodes = first_nodes deck 0 deck.systems;
+  events = 0;
+  fixed = [];
+  told = [];
+}
 
--- what a choice does at the system
-abbrev pub choose : Deck → Node → Choice → Step
-choose deck n (Task t) = task_step deck.limit n t (lines_of deck t)
-choose deck n Turn = only n
-choose deck n (Send t) = only n
-choose deck n Take = only n
-choose deck n Settle = only n
-choose deck n (Tell e) = only n
-choose deck n (Leave e) = only n
-choose deck n Switch = only n
-choose deck n (Purge s) = only n
-choose deck n Rest = only n
+-- an event as its system and the medium see it: what both are afterwards, and what was fixed
+pub record Turnout : Type 0 where
+  pub medium : MediumState
+  pub step : Step
 
--- an event at its system
-abbrev pub event_step : Deck → Node → Event → Step
-event_step deck n e = cond (e.system.0 == 0) (choose deck n e.choice) (only n)
+abbrev pub idle : MediumState → Node → Turnout
+idle m n = record { medium = m; step = record { node = n; fixed = [] } }
 
-abbrev pub fixed_by : SysId → List Req → List (SysId × Fixed)
-fixed_by s qs = map (λ q. (s, Asked q)) qs
+-- what a prepared choice leads to
+unfoldable pub carry_out : Deck → MediumState → SysId → Node → Choice → Prepared → Turnout
+carry_out deck m s n choice Nothing = idle m n
+carry_out deck m s n choice Quiet = record { medium = m; step = finish deck n choice None }
+carry_out deck m s n choice (Call call) =
+    record { medium = medium_after m s call; step = finish deck n choice (Some (reply_to m s call)) }
+
+-- a choice of one system: it is prepared, makes at most one call of the medium, and is finished
+unfoldable pub chosen : Deck → MediumState → SysId → Node → Choice → Turnout
+chosen deck m s n choice = carry_out deck m s n choice (prepare deck n choice)
+
+abbrev pub fixed_by : SysId → List Fixed → List (SysId × Fixed)
+fixed_by s fs = map (λ f. (s, f)) fs
 
 abbrev pub told_by : ℕ → SysId → List ToldLine → List Told
 told_by e s ls = map (λ l. record { event = e; system = s; line = l }) ls
 
--- the world after a step of its system
-abbrev pub world_after : World → SysId → Step → World
-world_after w s step = record {
-  node = step.node;
+-- the world after this came of an event of a system
+unfoldable pub placed : World → SysId → Node → Turnout → World
+placed w s n out = record {
+  medium = out.medium;
+  nodes = set w.nodes s.0 out.step.node;
   events = w.events + 1;
-  fixed = w.fixed ++ fixed_by s step.fixed;
-  told = w.told ++ told_by (w.events + 1) s (drop (length w.node.tasks.told) step.node.tasks.told);
+  fixed = w.fixed ++ fixed_by s out.step.fixed;
+  told = w.told ++ told_by (w.events + 1) s (drop (length n.tasks.told) out.step.node.tasks.told);
 }
 
--- the world after one event
+-- an event that changes nothing, but is counted
+abbrev pub counted : World → World
+counted w = record w { events = w.events + 1 }
+
+-- an event of this system, if it is one
+unfoldable pub happens_at : Deck → World → Event → Option Node → World
+happens_at deck w e None = counted w
+happens_at deck w e (Some n) =
+    cond (has w.medium.removed e.system.0) (counted w) (placed w e.system n (chosen deck w.medium e.system n e.choice))
+
+-- The world after one event. An event of a system that was removed, or isn't in the deck, changes nothing.
 unfoldable pub happens : Deck → World → Event → World
-happens deck w e = world_after w e.system (event_step deck w.node e)
+happens deck w e = happens_at deck w e (slice_get w.nodes e.system.0)
 
 -- the world after these events
 abbrev pub run_from : Deck → World → List Event → World

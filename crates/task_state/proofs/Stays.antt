@@ -3,8 +3,8 @@ use Rattle.std.proofs.Common.{◌≡◌, ℕ, List, length, Option, refl, length
 use Rattle.grs_base.specs.declared.resource.TaskId.{TaskId}
 use Rattle.grs_base.specs.declared.resource.Res.{Res}
 use Rattle.grs_base.specs.declared.resource.Row.{Row}
-use Rattle.grs_wire.specs.declared.request.Req.{Req}
 use Rattle.grs_wire.specs.declared.told.ToldLine.{ToldLine}
+use Rattle.task_state.specs.declared.state.Asked.{Asked}
 use Rattle.task_state.specs.declared.state.Rec.{Rec}
 use Rattle.task_state.specs.declared.state.Phase.{Phase}
 use Rattle.task_state.specs.declared.state.TaskState.{TaskState}
@@ -34,11 +34,11 @@ pub count-phase : (v : TasksView) (t : TaskId) (p : Phase) → length (with_phas
 unfolding with_phase
 count-phase v t p = count-state v t _
 
-pub system-outstanding : (v : TasksView) (t : TaskId) (q : Option Req) → (with_outstanding v t q).system ≡ v.system
+pub system-outstanding : (v : TasksView) (t : TaskId) (q : Option Asked) → (with_outstanding v t q).system ≡ v.system
 unfolding with_outstanding
 system-outstanding v t q = system-state v t _
 
-pub count-outstanding : (v : TasksView) (t : TaskId) (q : Option Req) → length (with_outstanding v t q).tasks ≡ length v.tasks
+pub count-outstanding : (v : TasksView) (t : TaskId) (q : Option Asked) → length (with_outstanding v t q).tasks ≡ length v.tasks
 unfolding with_outstanding
 count-outstanding v t q = count-state v t _
 

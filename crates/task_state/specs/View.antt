@@ -5,8 +5,8 @@ use Rattle.grs_base.specs.declared.resource.Ctl.TheVariants.{E}
 use Rattle.grs_base.specs.declared.resource.Res.{Res}
 use Rattle.grs_base.specs.declared.resource.Row.{Row}
 use Rattle.grs_base.specs.declared.resource.TaskId.{TaskId}
-use Rattle.grs_wire.specs.declared.request.Req.{Req}
 use Rattle.grs_wire.specs.declared.told.ToldLine.{ToldLine}
+use Rattle.task_state.specs.declared.state.Asked.{Asked}
 use Rattle.task_state.specs.declared.state.Rec.{Rec}
 use Rattle.task_state.specs.declared.state.Phase.{Phase}
 use Rattle.task_state.specs.declared.state.Phase.TheVariants.{Ready, ToSend, Sent, HeldAnswer, HeldLine, Ending, Ended}
@@ -81,7 +81,7 @@ unfoldable pub with_phase : TasksView → TaskId → Phase → TasksView
 with_phase v t p = with_state v t (λ x. record x { phase = p; code = code_in p x.code })
 
 -- a task with this request outstanding
-unfoldable pub with_outstanding : TasksView → TaskId → Option Req → TasksView
+unfoldable pub with_outstanding : TasksView → TaskId → Option Asked → TasksView
 with_outstanding v t q = with_state v t (λ x. record x { outstanding = q })
 
 -- a task with one more record, behind the others

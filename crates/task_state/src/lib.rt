@@ -9,5 +9,5 @@ mod tasks;
 mod tests;
 mod units;
 
-pub use state::{Phase, Rec, TaskState};
+pub use state::{Asked, Phase, Rec, TaskState};
 pub use tasks::Tasks;

@@ -33,6 +33,13 @@ pub enum Phase {
     Ended,
 }
 
+/// A request that isn't answered yet, and the device that its record will reserve, if it is to.
+#[derive(Drop)]
+pub struct Asked {
+    pub req: Req,
+    pub unit: Option<u16>,
+}
+
 /// A task: the number of lines that it has taken, its phase, its end code (0 at first), its requests on
 /// record in the order in which they were queued, the request that isn't answered yet, and the rows of its
 /// display so far.
@@ -42,6 +49,6 @@ pub struct TaskState {
     pub phase: Phase,
     pub code: u16,
     pub records: List<Rec>,
-    pub outstanding: Option<Req>,
+    pub outstanding: Option<Asked>,
     pub rows: List<Row>,
 }

@@ -1,12 +1,12 @@
 //! The tasks of a system. Each call changes one task, or tells one line.
 ghost use Rattle.std.specs.Prelude.{◌≡◌, ◌<◌, ◌≤◌, ◌+◌, ◌++◌, ◌∷◌, [], ℕ, true, length, map, sum, IsTrue, ◌↔◌, IfOk, OnOk, OnErr};
-ghost use Rattle.std.specs.Option.{option_copied};
+ghost use Rattle.std.specs.Option.{option_copied, option_map};
 ghost use Rattle.task_state.specs.Units.{is_count, count_at, reserves_of};
 ghost use Rattle.task_state.specs.View as view;
 ghost use Rattle.task_state.specs.View.{TasksView, new_tasks, is_task, code_in, state_of, record_of, with_line, with_phase, with_outstanding, with_record, without_record, with_told, with_exclusive, with_rank, with_rows, without_rows, telling};
 
 use super::records::{find, make_exclusive, mark_told, push_last, set_rank, take_first};
-use super::state::{Phase, Rec, TaskState};
+use super::state::{Asked, Phase, Rec, TaskState};
 use super::units::count_units;
 use grs_base::{List, NoMemory, Res, Row, SysId, TaskId};
 use grs_wire::{Req, ToldLine};
@@ -186,6 +186,14 @@ impl Tasks {
     /// The request that isn't answered yet, if there is one.
     pub fn outstanding(&self, task: TaskId) -> Option<&Req>
         requires { is_task self.now task ≡ true }
+        ensures { option_copied result ≡ option_map (λ a. a.req) (state_of self.now task).outstanding }
+    {
+        self.asked(task).map(|asked| &asked.req)
+    }
+
+    /// The same, with the device that its record will reserve.
+    pub fn asked(&self, task: TaskId) -> Option<&Asked>
+        requires { is_task self.now task ≡ true }
         ensures { option_copied result ≡ (state_of self.now task).outstanding }
     {
         self.state(task).outstanding.as_ref()
@@ -244,12 +252,12 @@ impl Tasks {
     }
 
     /// The task has this request, or none, that isn't answered yet.
-    pub fn set_outstanding(&mut self, task: TaskId, req: Option<Req>)
+    pub fn set_outstanding(&mut self, task: TaskId, asked: Option<Asked>)
         requires { is_task self.old task ≡ true }
-        ensures { self.new ≡ with_outstanding self.old task req }
+        ensures { self.new ≡ with_outstanding self.old task asked }
     {
         let state = &mut self.tasks[task.task as usize];
-        state.outstanding = req;
+        state.outstanding = asked;
     }
 
     /// Puts a record behind the others of its task. There is no memory for more than 4,294,967,295.

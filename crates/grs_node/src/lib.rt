@@ -1,0 +1,7 @@
+//! One system of a complex: its tasks, its lists, and what each of its events does. An event is prepared, makes
+//! at most one call of the medium, and is finished with the reply.
+#![tactic(auto)]
+
+mod prepared;
+
+pub use prepared::Prepared;

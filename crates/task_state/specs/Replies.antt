@@ -1,0 +1,169 @@
+-- What an answer, or control that another's request gave, does to a task, and what the task is told.
+use Rattle.std.specs.Prelude.{ℕ, Bool, true, false, ◌&&◌, ◌==◌, List, [], ◌∷◌, cond, Option, Some, None}
+use Rattle.grs_base.specs.Same.{same_res}
+use Rattle.grs_base.specs.declared.resource.Res.{Res}
+use Rattle.grs_base.specs.declared.resource.Ctl.{Ctl}
+use Rattle.grs_base.specs.declared.resource.Ret.{Ret}
+use Rattle.grs_base.specs.declared.resource.Ret.TheVariants.{RetNone, RetUse, RetHave, RetChng, RetEcb}
+use Rattle.grs_base.specs.declared.resource.TaskId.{TaskId}
+use Rattle.grs_base.specs.declared.decision.Code.{Code}
+use Rattle.grs_base.specs.declared.decision.Code.TheVariants.{C00, C04, C08, C14, C18, Wait, End}
+use Rattle.grs_wire.specs.declared.request.Want.{Want}
+use Rattle.grs_wire.specs.declared.request.Want.TheVariants.{Enq, Deq, Release, Look}
+use Rattle.grs_wire.specs.declared.request.Answer.{Answer}
+use Rattle.grs_wire.specs.declared.request.Answer.TheVariants.{Coded, Rows}
+use Rattle.grs_wire.specs.declared.told.Verb.TheVariants as verbs
+use Rattle.grs_wire.specs.declared.told.Verb.{Verb}
+use Rattle.grs_wire.specs.declared.told.ToldLine.TheVariants as told
+use Rattle.task_state.specs.declared.state.Asked.{Asked}
+use Rattle.task_state.specs.declared.state.Rec.{Rec}
+use Rattle.task_state.specs.declared.state.Phase.{Phase}
+use Rattle.task_state.specs.declared.state.Phase.TheVariants as phases
+use Rattle.task_state.specs.View.{TasksView, is_task, state_of, record_of, with_phase, with_outstanding, with_record, without_record, with_told, with_exclusive, telling}
+
+-- whether a code is 00
+abbrev pub is_granted : Code → Bool
+is_granted C00 = true
+is_granted C04 = false
+is_granted C08 = false
+is_granted C14 = false
+is_granted C18 = false
+is_granted Wait = false
+is_granted (End n) = false
+
+-- whether an ENQ that was answered like this stands in a list
+abbrev pub is_queued : Ret → Code → Bool
+is_queued RetNone C00 = true
+is_queued RetNone Wait = true
+is_queued RetHave C00 = true
+is_queued RetHave Wait = true
+is_queued RetUse C00 = true
+is_queued RetEcb C00 = true
+is_queued RetEcb C04 = true
+is_queued _ _ = false
+
+-- whether an ENQ that was answered like this made its task's control exclusive
+abbrev pub is_changed : Ret → Code → Bool
+is_changed RetChng C00 = true
+is_changed _ _ = false
+
+-- what a task does behind this answer
+abbrev pub phase_after : Code → Phase
+phase_after C00 = phases.Ready
+phase_after C04 = phases.Ready
+phase_after C08 = phases.Ready
+phase_after C14 = phases.Ready
+phase_after C18 = phases.Ready
+phase_after Wait = phases.HeldAnswer
+phase_after (End n) = phases.Ending n
+
+-- telling the code of a task's last line; WAIT isn't told
+unfoldable pub tell_code : TasksView → TaskId → Verb → Code → TasksView
+tell_code v t verb Wait = v
+tell_code v t verb C00 = telling v (told.Coded t (state_of v t).line 0 verb C00)
+tell_code v t verb C04 = telling v (told.Coded t (state_of v t).line 0 verb C04)
+tell_code v t verb C08 = telling v (told.Coded t (state_of v t).line 0 verb C08)
+tell_code v t verb C14 = telling v (told.Coded t (state_of v t).line 0 verb C14)
+tell_code v t verb C18 = telling v (told.Coded t (state_of v t).line 0 verb C18)
+tell_code v t verb (End n) = telling v (told.Coded t (state_of v t).line 0 verb (End n))
+
+-- the record of an ENQ or RESERVE of a task's last line, with the unit that it reserves
+abbrev pub new_record : TasksView → TaskId → Res → Ctl → Option ℕ → Code → Rec
+new_record v t r c unit code = record { res = r; ctl = c; rank = 0; told = is_granted code; unit = unit; line = (state_of v t).line }
+
+-- the records of a task after an ENQ was answered
+unfoldable pub record_enq : TasksView → TaskId → Res → Ctl → Option ℕ → Ret → Code → TasksView
+record_enq v t r c unit ret code =
+    cond (is_queued ret code) (with_record v t (new_record v t r c unit code))
+    (cond (is_changed ret code) (with_exclusive v t r) v)
+
+-- a task after its own request was answered; a record that it makes has this unit
+unfoldable pub answered : TasksView → TaskId → Want → Option ℕ → Code → TasksView
+answered v t (Enq r c ret full) unit code = tell_code (with_phase (record_enq v t r c unit ret code) t (phase_after code)) t verbs.Enq code
+answered v t (Deq r have) unit code = tell_code (with_phase (cond (is_granted code) (without_record v t r) v) t (phase_after code)) t verbs.Deq code
+answered v t (Release r) unit code = without_record v t r
+answered v t (Look first count filter) unit code = v
+
+-- the same by the whole answer; no task asks for looks yet
+unfoldable pub replied : TasksView → TaskId → Want → Option ℕ → Answer → TasksView
+replied v t w unit (Coded code) = answered v t w unit code
+replied v t w unit (Rows rows) = v
+
+-- whether a task is held by the answer of its last line
+abbrev pub is_held : Phase → Bool
+is_held phases.HeldAnswer = true
+is_held phases.Ready = false
+is_held phases.ToSend = false
+is_held phases.Sent = false
+is_held (phases.HeldLine r) = false
+is_held (phases.Ending c) = false
+is_held phases.Ended = false
+
+-- whether a task is held by a WAIT line for this resource
+abbrev pub is_held_for : Res → Phase → Bool
+is_held_for r (phases.HeldLine q) = same_res r q
+is_held_for r phases.HeldAnswer = false
+is_held_for r phases.Ready = false
+is_held_for r phases.ToSend = false
+is_held_for r phases.Sent = false
+is_held_for r (phases.Ending c) = false
+is_held_for r phases.Ended = false
+
+-- a task that is no longer held at a WAIT line for this resource
+unfoldable pub passes_wait : TasksView → TaskId → Res → TasksView
+passes_wait v t r = cond (is_held_for r (state_of v t).phase) (telling (with_phase v t phases.Ready) (told.Coded t (state_of v t).line 0 verbs.Wait C00)) v
+
+-- a task that is told control of an untold record: by the code of its last line if that one waited, else by
+-- posting its ECB
+unfoldable pub tell_record : TasksView → TaskId → Res → Rec → TasksView
+tell_record v t r x =
+    cond (is_held (state_of v t).phase && (x.line == (state_of v t).line))
+    (telling (with_phase (with_told v t r) t phases.Ready) (told.Coded t x.line 0 verbs.Enq C00))
+    (passes_wait (telling (with_told v t r) (told.Post t x.line)) t r)
+
+-- whether a request gives a resource up
+abbrev pub gives_up : Res → Want → Bool
+gives_up r (Enq q c ret full) = false
+gives_up r (Deq q have) = same_res r q
+gives_up r (Release q) = same_res r q
+gives_up r (Look first count filter) = false
+
+-- whether a task's request that isn't answered yet gives a resource up
+abbrev pub is_leaving : Res → Option Asked → Bool
+is_leaving r None = false
+is_leaving r (Some a) = gives_up r a.req.want
+
+-- The same where there is an untold record. Of a resource that the task is about to give up it is told nothing.
+unfoldable pub tell_untold : TasksView → TaskId → Res → Option Rec → TasksView
+tell_untold v t r None = v
+tell_untold v t r (Some x) =
+    cond x.told v (cond (is_leaving r (state_of v t).outstanding) (with_told v t r) (tell_record v t r x))
+
+-- a task that got control of a resource by another's request; one that isn't of this system is passed over
+unfoldable pub tell_control : TasksView → Res → TaskId → TasksView
+tell_control v r t = cond (is_task v t) (tell_untold v t r (record_of (state_of v t).records r)) v
+
+-- these tasks in order
+unfoldable pub tell_all : TasksView → Res → List TaskId → TasksView
+tell_all v r [] = v
+tell_all v r (t ∷ ts) = tell_all (tell_control v r t) r ts
+
+-- these tasks, which became owners of this resource, if it is one
+unfoldable pub tell_new : TasksView → Option Res → List TaskId → TasksView
+tell_new v None ts = v
+tell_new v (Some r) ts = tell_all v r ts
+
+-- what a task that asks this does meanwhile: it is ending where it asks for a RELEASE, else at its lines
+abbrev pub phase_asking : Want → ℕ → Phase
+phase_asking (Enq r c ret full) code = phases.Ready
+phase_asking (Deq r have) code = phases.Ready
+phase_asking (Release r) code = phases.Ending code
+phase_asking (Look first count filter) code = phases.Ready
+
+-- a task whose request is no longer outstanding
+unfoldable pub recalled : TasksView → TaskId → Want → TasksView
+recalled v t w = with_outstanding (with_phase v t (phase_asking w (state_of v t).code)) t None
+
+-- a task whose outstanding request was answered
+unfoldable pub settled : TasksView → TaskId → Asked → Answer → TasksView
+settled v t a answer = replied (recalled v t a.req.want) t a.req.want a.unit answer
