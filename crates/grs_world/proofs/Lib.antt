@@ -3,3 +3,4 @@ pub mod Owners
 pub mod Entries
 pub mod Seen
 pub mod Replied
+pub mod Projections
