@@ -3,3 +3,5 @@ pub mod Owners
 pub mod Entries
 pub mod Seen
 pub mod Stands
+pub mod Replied
+pub mod Projections

@@ -1,0 +1,305 @@
+-- What a history's entries of one task, or of one resource, tell by themselves.
+use Rattle.std.proofs.Common.{◌≡◌, ◌<◌, ℕ, Bool, true, false, cond, not, ◌||◌, List, [], ◌∷◌, ◌++◌, map, length, refl, ap, sym, ◌∙◌, subst, arith}
+use Rattle.std.specs.Prelude.{filter, nat_le}
+use Rattle.std.specs.List.{list_any, list_all}
+use Rattle.std.proofs.lemmas.Bool.{and_parts, ltb-true}
+use Rattle.std.proofs.lemmas.Bool.Decides.{nat_tests}
+use Rattle.grs_base.specs.Same.{same_res, same_task}
+use Rattle.grs_base.specs.Lists.{is_shared, has_task, is_apart, is_owner, deq_code, standing_of, can_have, enq_decision, decide_enq, owns, owners, place_of, list_after, list_exclusive, list_without}
+use Rattle.grs_base.specs.State.{State, list_of, queued_by, is_full, without, after_effect, enq_code}
+use Rattle.grs_base.specs.declared.resource.Res.{Res}
+use Rattle.grs_base.specs.declared.resource.TaskId.{TaskId}
+use Rattle.grs_base.specs.declared.resource.Ctl.{Ctl}
+use Rattle.grs_base.specs.declared.resource.Elem.{Elem}
+use Rattle.grs_base.specs.declared.resource.Ret.{Ret}
+use Rattle.grs_base.specs.declared.resource.Ret.TheVariants.{RetNone, RetUse, RetHave, RetTest, RetChng, RetEcb}
+use Rattle.grs_base.specs.declared.decision.Code.{Code}
+use Rattle.grs_base.specs.declared.decision.Code.TheVariants.{C00, C04, C08, C14, C18, Wait, End}
+use Rattle.grs_base.specs.declared.decision.Effect.{Effect}
+use Rattle.grs_base.specs.declared.decision.Effect.TheVariants.{Nothing, Append, MakeExclusive}
+use Rattle.grs_base.specs.declared.decision.Standing.{Standing}
+use Rattle.grs_base.specs.declared.decision.Standing.TheVariants.{Exclusive, OnlyShared, AmongShared, Waits, Absent}
+use Rattle.grs_base.proofs.Picks.{pick-filter}
+use Rattle.grs_base.proofs.ListLaws.{owns-append, owns-filter, owns-place, same_place, owners-le}
+use Rattle.grs_base.proofs.StateLaws.{only_owner}
+use Rattle.grs_base.proofs.SameLaws.{same_task-exact, same_task-itself, same_res-exact}
+use Rattle.grs_wire.specs.History.{is_by, answer_of, reply_of, step, replay_from, replay}
+use Rattle.grs_wire.specs.Laws.{may_change, list_stepped}
+use Rattle.grs_wire.specs.declared.history.HistEntry.{HistEntry}
+use Rattle.grs_wire.specs.declared.history.HistEntry.TheVariants.{Enq, Deq, Release, Look, Remove}
+use Rattle.grs_wire.specs.declared.request.Answer.{Answer}
+use Rattle.grs_wire.specs.declared.request.Answer.TheVariants.{Coded, Rows}
+use Rattle.grs_wire.specs.declared.request.Want.TheVariants as wants
+use Rattle.grs_wire.proofs.HistoryLaws.{apart-step, keeps_other_lists, steps_by_lists}
+use Rattle.grs_wire.proofs.WantLaws.{cond_both}
+use Rattle.grs_legal.specs.Legal.{entries_of}
+use Rattle.task_state.specs.Replies.{is_granted, is_queued, is_changed}
+use Rattle.grs_world.proofs.Own.{own, exclusive_on, queued_by-own, has_task-own, own-want_other, own-push, own-without, own-exclusive}
+use Rattle.grs_world.proofs.Owners.{all_exclusive, owns-exclusive}
+use Rattle.grs_world.proofs.Seen.{part}
+use Rattle.grs_world.proofs.Replied.{is_plain, RepliedFrom, Replied}
+
+-- what an ENQ's answer tells of its effect; where control was exclusive before, making it so again is the same
+abbrev told_effect : Ret → Code → Effect
+told_effect ret code = cond (is_queued ret code) Append (cond (is_changed ret code) MakeExclusive Nothing)
+
+-- a task's own elements after an entry of its own, by the code alone
+abbrev own_effect : Effect → Res → Ctl → List (Res × Ctl) → List (Res × Ctl)
+own_effect Nothing r c xs = xs
+own_effect Append r c xs = xs ++ (r, c) ∷ []
+own_effect MakeExclusive r c xs = map (exclusive_on r) xs
+
+abbrev own_told : HistEntry → List (Res × Ctl) → List (Res × Ctl)
+own_told (Enq t r c ret code) xs = own_effect (told_effect ret code) r c xs
+own_told (Deq t r have code) xs = cond (is_granted code) (filter (λ k. not (same_res r k.0)) xs) xs
+own_told (Release t r) xs = filter (λ k. not (same_res r k.0)) xs
+own_told (Look t place f rows) xs = xs
+own_told (Remove by target) xs = xs
+
+abbrev own_after : List (Res × Ctl) → List HistEntry → List (Res × Ctl)
+own_after xs [] = xs
+own_after xs (h ∷ hs) = own_after (own_told h xs) hs
+
+own-after_effect : (s : State) (r : Res) (t : TaskId) (c : Ctl) (e : Effect) → own (after_effect s r t c e) t ≡ own_effect e r c (own s t)
+own-after_effect s r t c Nothing = refl
+own-after_effect s r t c Append = own-push s r t c
+own-after_effect s r t c MakeExclusive = own-exclusive s r t
+
+-- the elements of an exclusive owner are so already
+own-already : (s : State) (t : TaskId) (r : Res) → list_all (λ e. not (same_task t e.task) || not (is_shared e.ctl)) (list_of s r) ≡ true → map (exclusive_on r) (own s t) ≡ own s t
+own-already [] t r h = refl
+own-already (x ∷ s) t r h = grind (arith, h, own-already s t r)
+
+-- the code tells the effect of an ENQ, but of an exclusive owner's
+abbrev not_exclusive : Standing → Bool
+not_exclusive Exclusive = false
+not_exclusive OnlyShared = true
+not_exclusive AmongShared = true
+not_exclusive Waits = true
+not_exclusive Absent = true
+
+effect-told : (st : Standing) (ret : Ret) (full can : Bool) → not_exclusive st ≡ true → (enq_decision st ret full can).effect ≡ told_effect ret (enq_decision st ret full can).code
+effect-told st ret full can h = grind (arith, h)
+
+-- an ENQ leaves a task's own elements as its code tells
+abbrev EffectTold : List (Res × Ctl) → Res → Ctl → Ret → Bool → Bool → Standing → Type 0
+EffectTold xs r c ret full can st = own_effect (enq_decision st ret full can).effect r c xs ≡ own_effect (told_effect ret (enq_decision st ret full can).code) r c xs
+
+told_exclusive : (xs : List (Res × Ctl)) (r : Res) (c : Ctl) (ret : Ret) (full can : Bool) → map (exclusive_on r) xs ≡ xs → EffectTold xs r c ret full can Exclusive
+told_exclusive xs r c RetNone full can same = refl
+told_exclusive xs r c RetUse full can same = refl
+told_exclusive xs r c RetHave full can same = refl
+told_exclusive xs r c RetTest full can same = refl
+told_exclusive xs r c RetChng full can same = sym same
+told_exclusive xs r c RetEcb full can same = refl
+
+told_by_standing : (xs : List (Res × Ctl)) (r : Res) (c : Ctl) (ret : Ret) (full can : Bool) (st : Standing) → (st ≡ Exclusive → map (exclusive_on r) xs ≡ xs) → EffectTold xs r c ret full can st
+told_by_standing xs r c ret full can Exclusive same = told_exclusive xs r c ret full can (same refl)
+told_by_standing xs r c ret full can OnlyShared same = ap (λ e. own_effect e r c xs) (effect-told OnlyShared ret full can refl)
+told_by_standing xs r c ret full can AmongShared same = ap (λ e. own_effect e r c xs) (effect-told AmongShared ret full can refl)
+told_by_standing xs r c ret full can Waits same = ap (λ e. own_effect e r c xs) (effect-told Waits ret full can refl)
+told_by_standing xs r c ret full can Absent same = ap (λ e. own_effect e r c xs) (effect-told Absent ret full can refl)
+
+own-enq : (s : State) (r : Res) (t : TaskId) (c : Ctl) (ret : Ret) (full : Bool) → is_apart (list_of s r) ≡ true →
+    own (after_effect s r t c (decide_enq (list_of s r) t c ret full).effect) t ≡ own_effect (told_effect ret (enq_code s r t c ret full)) r c (own s t)
+own-enq s r t c ret full apart =
+    own-after_effect s r t c (decide_enq (list_of s r) t c ret full).effect
+    ∙ told_by_standing (own s t) r c ret full (can_have (list_of s r) c) (standing_of (list_of s r) t) (λ e. own-already s t r (all_exclusive (list_of s r) t apart e))
+
+-- so does a DEQ
+own-deq : (s : State) (r : Res) (t : TaskId) (have : Bool) (st : Standing) →
+    own (cond (is_owner st) (without same_res s r t) s) t ≡ cond (is_granted (deq_code st have)) (filter (λ k. not (same_res r k.0)) (own s t)) (own s t)
+own-deq s r t have Exclusive = own-without s r t
+own-deq s r t have OnlyShared = own-without s r t
+own-deq s r t have AmongShared = own-without s r t
+own-deq s r t true Waits = refl
+own-deq s r t false Waits = refl
+own-deq s r t true Absent = refl
+own-deq s r t false Absent = refl
+
+code_in : Answer → Code
+code_in (Coded code) = code
+code_in (Rows rows) = C00
+
+same_code : (a b : Code) → Coded a ≡ Coded b → a ≡ b
+unfolding code_in
+same_code a b e = ap code_in e
+
+-- what an entry leaves of the elements of its task
+own-told_mine : (limit : ℕ) (s : State) (h : HistEntry) (t : TaskId) → ((r : Res) → is_apart (list_of s r) ≡ true) → is_by t h ≡ true → answer_of h ≡ reply_of limit s h → own (step limit s h) t ≡ own_told h (own s t)
+own-told_mine limit s (Enq u r c ret code) t apart by right =
+    subst (λ x. own (step limit s (Enq x r c ret code)) t ≡ own_effect (told_effect ret code) r c (own s t)) (same_task-exact t u by)
+    (own-enq s r t c ret (is_full limit s t) (apart r)
+    ∙ ap (λ x. own_effect (told_effect ret x) r c (own s t)) (sym (same_code code _ (subst (λ x. Coded code ≡ reply_of limit s (Enq x r c ret code)) (sym (same_task-exact t u by)) right))))
+own-told_mine limit s (Deq u r have code) t apart by right =
+    subst (λ x. own (step limit s (Deq x r have code)) t ≡ own_told (Deq x r have code) (own s t)) (same_task-exact t u by)
+    (own-deq s r t have (standing_of (list_of s r) t)
+    ∙ ap (λ x. own_told (Deq t r have x) (own s t)) (sym (same_code code _ (subst (λ x. Coded code ≡ reply_of limit s (Deq x r have code)) (sym (same_task-exact t u by)) right))))
+own-told_mine limit s (Release u r) t apart by right =
+    subst (λ x. own (step limit s (Release x r)) t ≡ own_told (Release x r) (own s t)) (same_task-exact t u by) (own-without s r t)
+own-told_mine limit s (Look u place f rows) t apart by right = refl
+own-told_mine limit s (Remove by target) t apart mine right = absurd (cc)
+
+-- and of those of another task
+own-told_other : (limit : ℕ) (s : State) (h : HistEntry) (t : TaskId) → is_plain h ≡ true → is_by t h ≡ false → own (step limit s h) t ≡ own s t
+own-told_other limit s (Enq u r c ret code) t plain apart = own-want_other s u (wants.Enq r c ret (is_full limit s u)) t apart
+own-told_other limit s (Deq u r have code) t plain apart = own-want_other s u (wants.Deq r have) t apart
+own-told_other limit s (Release u r) t plain apart = own-want_other s u (wants.Release r) t apart
+own-told_other limit s (Look u place f rows) t plain apart = refl
+own-told_other limit s (Remove by target) t plain apart = absurd (cc)
+
+own-replay_from : (limit : ℕ) (s : State) (P : List HistEntry) (t : TaskId) → ((r : Res) → is_apart (list_of s r) ≡ true) → RepliedFrom limit s P → own (replay_from limit s P) t ≡ own_after (own s t) (entries_of t P)
+own-replay_from limit s [] t apart all = refl
+own-replay_from limit s (h ∷ P) t apart all = own-replay_from limit (step limit s h) P t (λ r. apart-step limit s h r apart) all.2 ∙ by_task (is_by t h) refl
+  where
+    by_task : (b : Bool) → is_by t h ≡ b → own_after (own (step limit s h) t) (entries_of t P) ≡ own_after (own s t) (cond b (h ∷ entries_of t P) (entries_of t P))
+    by_task true e = ap (λ xs. own_after xs (entries_of t P)) (own-told_mine limit s h t apart e all.1)
+    by_task false e = ap (λ xs. own_after xs (entries_of t P)) (own-told_other limit s h t all.0 e)
+
+-- a task's elements depend on its entries alone
+pub own-same : (limit : ℕ) (P Q : List HistEntry) (t : TaskId) → Replied limit P → Replied limit Q → entries_of t P ≡ entries_of t Q → own (replay limit P) t ≡ own (replay limit Q) t
+own-same limit P Q t here there same =
+    own-replay_from limit [] P t (λ r. refl) here.right ∙ ap (own_after []) same ∙ sym (own-replay_from limit [] Q t (λ r. refl) there.right)
+
+pub queued_by-same : (limit : ℕ) (P Q : List HistEntry) (t : TaskId) → Replied limit P → Replied limit Q → entries_of t P ≡ entries_of t Q → queued_by (replay limit P) t ≡ queued_by (replay limit Q) t
+queued_by-same limit P Q t here there same =
+    queued_by-own (replay limit P) t ∙ ap (map (λ k. k.0)) (own-same limit P Q t here there same) ∙ sym (queued_by-own (replay limit Q) t)
+
+pub is_full-same : (limit : ℕ) (P Q : List HistEntry) (t : TaskId) → Replied limit P → Replied limit Q → entries_of t P ≡ entries_of t Q → is_full limit (replay limit P) t ≡ is_full limit (replay limit Q) t
+is_full-same limit P Q t here there same = ap (λ xs. nat_le limit (length xs)) (queued_by-same limit P Q t here there same)
+
+pub has_task-same : (limit : ℕ) (P Q : List HistEntry) (t : TaskId) → Replied limit P → Replied limit Q → entries_of t P ≡ entries_of t Q → (r : Res) → has_task (list_of (replay limit P) r) t ≡ has_task (list_of (replay limit Q) r) t
+has_task-same limit P Q t here there same r =
+    has_task-own (replay limit P) t r ∙ ap (list_any (λ k. same_res r k.0)) (own-same limit P Q t here there same) ∙ sym (has_task-own (replay limit Q) t r)
+
+-- the entries that may change a resource's list
+abbrev pub on_res : Res → List HistEntry → List HistEntry
+on_res r P = filter (λ h. may_change h r) P
+
+-- whether an ENQ's answer tells that its task was full, where that mattered
+abbrev told_full : Code → Bool
+told_full C00 = false
+told_full C04 = false
+told_full C08 = false
+told_full C14 = false
+told_full C18 = true
+told_full Wait = false
+told_full (End n) = true
+
+-- a list after an entry on its resource, by the code alone
+abbrev list_told : HistEntry → List Elem → List Elem
+list_told (Enq t r c ret code) es = list_after es t c (decide_enq es t c ret (told_full code)).effect
+list_told (Deq t r have code) es = cond (is_owner (standing_of es t)) (list_without es t) es
+list_told (Release t r) es = list_without es t
+list_told (Look t place f rows) es = es
+list_told (Remove by target) es = es
+
+abbrev list_told_after : List Elem → List HistEntry → List Elem
+list_told_after es [] = es
+list_told_after es (h ∷ hs) = list_told_after (list_told h es) hs
+
+effect-full : (st : Standing) (ret : Ret) (full can : Bool) → (enq_decision st ret full can).effect ≡ (enq_decision st ret (told_full (enq_decision st ret full can).code) can).effect
+effect-full st ret full can = grind arith
+
+-- what an entry leaves of the list of its resource
+list_told-stepped : (limit : ℕ) (s : State) (h : HistEntry) (r : Res) → is_plain h ≡ true → may_change h r ≡ true → answer_of h ≡ reply_of limit s h → list_stepped (is_full limit s) (list_of s r) h ≡ list_told h (list_of s r)
+list_told-stepped limit s (Enq u q c ret code) r plain on right =
+    ap (list_after (list_of s r) u c)
+    (effect-full (standing_of (list_of s r) u) ret (is_full limit s u) (can_have (list_of s r) c)
+    ∙ ap (λ x. (decide_enq (list_of s r) u c ret (told_full x)).effect) (sym (same_code code _ (subst (λ x. Coded code ≡ reply_of limit s (Enq u x c ret code)) (sym (same_res-exact r q on)) right))))
+list_told-stepped limit s (Deq u q have code) r plain on right = refl
+list_told-stepped limit s (Release u q) r plain on right = refl
+list_told-stepped limit s (Look u place f rows) r plain on right = refl
+list_told-stepped limit s (Remove by target) r plain on right = absurd (cc)
+
+list_of-replay_from : (limit : ℕ) (s : State) (P : List HistEntry) (r : Res) → RepliedFrom limit s P → list_of (replay_from limit s P) r ≡ list_told_after (list_of s r) (on_res r P)
+list_of-replay_from limit s [] r all = refl
+list_of-replay_from limit s (h ∷ P) r all = list_of-replay_from limit (step limit s h) P r all.2 ∙ by_res (may_change h r) refl
+  where
+    by_res : (b : Bool) → may_change h r ≡ b → list_told_after (list_of (step limit s h) r) (on_res r P) ≡ list_told_after (list_of s r) (cond b (h ∷ on_res r P) (on_res r P))
+    by_res true e = ap (λ es. list_told_after es (on_res r P)) (steps_by_lists limit s h r e ∙ list_told-stepped limit s h r all.0 e all.1)
+    by_res false e = ap (λ es. list_told_after es (on_res r P)) (keeps_other_lists limit s h r e)
+
+list_of-replay : (limit : ℕ) (P : List HistEntry) (r : Res) → Replied limit P → list_of (replay limit P) r ≡ list_told_after [] (on_res r P)
+list_of-replay limit P r all = list_of-replay_from limit [] P r all.right
+
+-- a resource's list depends on its entries alone
+pub list_of-same : (limit : ℕ) (P Q : List HistEntry) (r : Res) → Replied limit P → Replied limit Q → on_res r P ≡ on_res r Q → list_of (replay limit P) r ≡ list_of (replay limit Q) r
+list_of-same limit P Q r here there same = list_of-replay limit P r here ∙ ap (list_told_after []) same ∙ sym (list_of-replay limit Q r there)
+
+-- the reply of an entry depends on the list of its resource, and on whether its task is full
+pub reply_of-same : (limit : ℕ) (s u : State) (h : HistEntry) (t : TaskId) (r : Res) → is_by t h ≡ true → may_change h r ≡ true → list_of s r ≡ list_of u r → is_full limit s t ≡ is_full limit u t → reply_of limit s h ≡ reply_of limit u h
+reply_of-same limit s u (Enq v q c ret code) t r by on lists full =
+    subst (λ x. reply_of limit s (Enq x q c ret code) ≡ reply_of limit u (Enq x q c ret code)) (same_task-exact t v by)
+    (subst (λ y. reply_of limit s (Enq t y c ret code) ≡ reply_of limit u (Enq t y c ret code)) (same_res-exact r q on)
+    (ap (λ es. Coded (decide_enq es t c ret (is_full limit s t)).code) lists ∙ ap (λ b. Coded (enq_code u r t c ret b)) full))
+reply_of-same limit s u (Deq v q have code) t r by on lists full =
+    subst (λ y. reply_of limit s (Deq v y have code) ≡ reply_of limit u (Deq v y have code)) (same_res-exact r q on)
+    (ap (λ es. Coded (deq_code (standing_of es v) have)) lists)
+reply_of-same limit s u (Release v q) t r by on lists full = refl
+reply_of-same limit s u (Look v place f rows) t r by on lists full = absurd (cc)
+reply_of-same limit s u (Remove n target) t r by on lists full = absurd (cc)
+
+pub answer-same : (limit : ℕ) (P Q : List HistEntry) (h : HistEntry) (t : TaskId) (r : Res) → Replied limit P → Replied limit Q → entries_of t P ≡ entries_of t Q → on_res r P ≡ on_res r Q → is_by t h ≡ true → may_change h r ≡ true → answer_of h ≡ reply_of limit (replay limit P) h → answer_of h ≡ reply_of limit (replay limit Q) h
+answer-same limit P Q h t r here there mine same by on right =
+    right ∙ reply_of-same limit (replay limit P) (replay limit Q) h t r by on (list_of-same limit P Q r here there same) (is_full-same limit P Q t here there mine)
+
+-- the lists of a part
+pub list_of-part : (p : Res → Bool) (s : State) (r : Res) → p r ≡ true → list_of (part p s) r ≡ list_of s r
+list_of-part p s r h = pick-filter (λ x. same_res r x.0) (λ x. x.1) (λ x. p x.0) (λ x e. subst (λ q. p q ≡ true) (same_res-exact r x.0 e) h) s
+
+pub list_of-part_other : (p : Res → Bool) (s : State) (r : Res) → p r ≡ false → list_of (part p s) r ≡ []
+list_of-part_other p [] r h = refl
+list_of-part_other p (x ∷ s) r h = grind (arith, h, list_of-part_other p s r h, same_res-exact r x.0)
+
+-- whether an entry is a DEQ or RELEASE of this task
+abbrev pub is_leave_of : TaskId → HistEntry → Bool
+is_leave_of t (Enq u r c ret code) = false
+is_leave_of t (Deq u r have code) = same_task t u
+is_leave_of t (Release u r) = same_task t u
+is_leave_of t (Look u place f rows) = false
+is_leave_of t (Remove by target) = false
+
+-- an owner stays one where the only owner's control becomes exclusive
+only_shared-place : (es : List Elem) (u : TaskId) → standing_of es u ≡ OnlyShared → (place_of es u ≡ 0) × (owners es ≡ 1)
+only_shared-place es u h = grind (arith, nat_tests, h)
+
+owns-made_exclusive : (es : List Elem) (t u : TaskId) → standing_of es u ≡ OnlyShared → owns es t ≡ true → owns (list_exclusive es u) t ≡ true
+owns-made_exclusive es t u only h =
+    let first = only_shared-place es u only in
+    let within : place_of es t < owners es = ltb-true _ _ (sym (owns-place es t) ∙ h) in
+    let same : t ≡ u = same_place es t u (omega (arith, first)) (omega (arith, owners-le es)) in
+    subst (λ x. owns (list_exclusive es u) x ≡ true) (sym same) (owns-exclusive es u only)
+
+owns-list_after : (es : List Elem) (t u : TaskId) (c : Ctl) (e : Effect) → (e ≡ MakeExclusive → standing_of es u ≡ OnlyShared) → owns es t ≡ true → owns (list_after es u c e) t ≡ true
+owns-list_after es t u c Nothing only h = h
+owns-list_after es t u c Append only h = owns-append es _ t h
+owns-list_after es t u c MakeExclusive only h = owns-made_exclusive es t u (only refl) h
+
+owns-list_without : (es : List Elem) (t u : TaskId) → same_task t u ≡ false → owns es t ≡ true → owns (list_without es u) t ≡ true
+owns-list_without es t u apart h = owns-filter (λ x. not (same_task u x.task)) t (λ e p. grind (arith, apart, same_task-exact t e.task p, same_task-exact u e.task, same_task-itself)) es h
+
+owns-told : (h : HistEntry) (es : List Elem) (t : TaskId) → is_leave_of t h ≡ false → owns es t ≡ true → owns (list_told h es) t ≡ true
+owns-told (Enq u r c ret code) es t stays has = owns-list_after es t u c _ (only_owner es u c ret (told_full code)) has
+owns-told (Deq u r have code) es t stays has = cond_both (is_owner (standing_of es u)) (list_without es u) es (λ x. owns x t ≡ true) (owns-list_without es t u stays has) has
+owns-told (Release u r) es t stays has = owns-list_without es t u stays has
+owns-told (Look u place f rows) es t stays has = has
+owns-told (Remove by target) es t stays has = has
+
+false-from_not : (b : Bool) → not b ≡ true → b ≡ false
+false-from_not true e = absurd (cc)
+false-from_not false e = refl
+
+owns-told_after : (hs : List HistEntry) (es : List Elem) (t : TaskId) → list_all (λ h. not (is_leave_of t h)) hs ≡ true → owns es t ≡ true → owns (list_told_after es hs) t ≡ true
+owns-told_after [] es t stays has = has
+owns-told_after (h ∷ hs) es t stays has = owns-told_after hs (list_told h es) t (and_parts _ _ stays).1 (owns-told h es t (false-from_not (is_leave_of t h) (and_parts _ _ stays).0) has)
+
+list_told_after-append : (es : List Elem) (hs gs : List HistEntry) → list_told_after es (hs ++ gs) ≡ list_told_after (list_told_after es hs) gs
+list_told_after-append es [] gs = refl
+list_told_after-append es (h ∷ hs) gs = list_told_after-append (list_told h es) hs gs
+
+-- an owner stays one
+pub owns-stays : (limit : ℕ) (P Q more : List HistEntry) (r : Res) (t : TaskId) → Replied limit P → Replied limit Q → on_res r P ≡ on_res r Q ++ more → list_all (λ h. not (is_leave_of t h)) more ≡ true → owns (list_of (replay limit Q) r) t ≡ true → owns (list_of (replay limit P) r) t ≡ true
+owns-stays limit P Q more r t here there same stays has =
+    ap (λ es. owns es t) (list_of-replay limit P r here ∙ ap (list_told_after []) same ∙ list_told_after-append [] (on_res r Q) more)
+    ∙ owns-told_after more (list_told_after [] (on_res r Q)) t stays (subst (λ es. owns es t ≡ true) (list_of-replay limit Q r there) has)
