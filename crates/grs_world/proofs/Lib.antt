@@ -2,6 +2,7 @@ pub mod Own
 pub mod Owners
 pub mod Entries
 pub mod Seen
-pub mod Stands
 pub mod Replied
 pub mod Projections
+pub mod Stands
+pub mod Tape
