@@ -6,3 +6,4 @@ pub mod Replied
 pub mod Projections
 pub mod Stands
 pub mod Tape
+pub mod Views
