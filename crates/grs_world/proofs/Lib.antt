@@ -4,3 +4,4 @@ pub mod Entries
 pub mod Seen
 pub mod Replied
 pub mod Projections
+pub mod Transfer

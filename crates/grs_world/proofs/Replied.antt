@@ -57,7 +57,7 @@ first : HistEntry → List HistEntry → HistEntry
 first other [] = other
 first other (h ∷ hs) = h
 
-only_entry : (P : HistEntry → Type 0) (g h : HistEntry) → g ∷ [] ≡ h ∷ [] → P g → P h
+pub only_entry : (P : HistEntry → Type 0) (g h : HistEntry) → g ∷ [] ≡ h ∷ [] → P g → P h
 unfolding first
 only_entry P g h e p = subst P (ap (first g) e) p
 
