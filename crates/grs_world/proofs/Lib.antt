@@ -7,3 +7,4 @@ pub mod Projections
 pub mod Stands
 pub mod Tape
 pub mod Views
+pub mod Transfer

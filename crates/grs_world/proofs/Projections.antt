@@ -1,5 +1,5 @@
 -- What a history's entries of one task, or of one resource, tell by themselves.
-use Rattle.std.proofs.Common.{◌≡◌, ◌<◌, ℕ, Bool, true, false, cond, not, ◌||◌, List, [], ◌∷◌, ◌++◌, map, length, refl, ap, sym, ◌∙◌, subst, arith}
+use Rattle.std.proofs.Common.{◌≡◌, ◌<◌, ℕ, Bool, true, false, cond, not, ◌&&◌, ◌||◌, Some, List, [], ◌∷◌, ◌++◌, map, length, refl, ap, sym, ◌∙◌, subst, arith}
 use Rattle.std.specs.Prelude.{filter, nat_le}
 use Rattle.std.specs.List.{list_any, list_all}
 use Rattle.std.proofs.lemmas.Bool.{and_parts, ltb-true}
@@ -23,21 +23,23 @@ use Rattle.grs_base.proofs.Picks.{pick-filter}
 use Rattle.grs_base.proofs.ListLaws.{owns-append, owns-filter, owns-place, same_place, owners-le}
 use Rattle.grs_base.proofs.StateLaws.{only_owner}
 use Rattle.grs_base.proofs.SameLaws.{same_task-exact, same_task-itself, same_res-exact}
-use Rattle.grs_wire.specs.History.{is_by, answer_of, reply_of, step, replay_from, replay}
+use Rattle.grs_wire.specs.History.{is_by, answer_of, reply_of, step, replay_from, replay, entries_for}
+use Rattle.grs_wire.specs.Wants.{res_wanted}
 use Rattle.grs_wire.specs.Laws.{may_change, list_stepped}
 use Rattle.grs_wire.specs.declared.history.HistEntry.{HistEntry}
 use Rattle.grs_wire.specs.declared.history.HistEntry.TheVariants.{Enq, Deq, Release, Look, Remove}
 use Rattle.grs_wire.specs.declared.request.Answer.{Answer}
 use Rattle.grs_wire.specs.declared.request.Answer.TheVariants.{Coded, Rows}
+use Rattle.grs_wire.specs.declared.request.Want.{Want}
 use Rattle.grs_wire.specs.declared.request.Want.TheVariants as wants
 use Rattle.grs_wire.proofs.HistoryLaws.{apart-step, keeps_other_lists, steps_by_lists}
 use Rattle.grs_wire.proofs.WantLaws.{cond_both}
 use Rattle.grs_legal.specs.Legal.{entries_of}
-use Rattle.task_state.specs.Replies.{is_granted, is_queued, is_changed}
+use Rattle.task_state.specs.Replies.{is_granted, is_queued, is_changed, gives_up}
 use Rattle.grs_world.proofs.Own.{own, exclusive_on, queued_by-own, has_task-own, own-want_other, own-push, own-without, own-exclusive}
 use Rattle.grs_world.proofs.Owners.{all_exclusive, owns-exclusive}
 use Rattle.grs_world.proofs.Seen.{part}
-use Rattle.grs_world.proofs.Replied.{is_plain, RepliedFrom, Replied}
+use Rattle.grs_world.proofs.Replied.{is_plain, RepliedFrom, Replied, only_entry, one_look}
 
 -- what an ENQ's answer tells of its effect; where control was exclusive before, making it so again is the same
 abbrev told_effect : Ret → Code → Effect
@@ -303,3 +305,28 @@ pub owns-stays : (limit : ℕ) (P Q more : List HistEntry) (r : Res) (t : TaskId
 owns-stays limit P Q more r t here there same stays has =
     ap (λ es. owns es t) (list_of-replay limit P r here ∙ ap (list_told_after []) same ∙ list_told_after-append [] (on_res r Q) more)
     ∙ owns-told_after more (list_told_after [] (on_res r Q)) t stays (subst (λ es. owns es t ≡ true) (list_of-replay limit Q r there) has)
+
+-- an entry of another task takes out nothing of this one's
+pub leave-by : (t : TaskId) (h : HistEntry) → is_by t h ≡ false → is_leave_of t h ≡ false
+leave-by t (Enq u r c ret code) e = refl
+leave-by t (Deq u r have code) e = e
+leave-by t (Release u r) e = e
+leave-by t (Look u place f rows) e = refl
+leave-by t (Remove by target) e = refl
+
+some_value : {X : Type 0} (x y : X) → Some x ≡ Some y → x ≡ y
+some_value x y e = cc
+
+-- the entry of a request may change the list of the resource that is wanted, and no other
+pub may_change-for : (s : State) (t : TaskId) (w : Want) (r q : Res) (h : HistEntry) → res_wanted w ≡ Some r → entries_for s t w ≡ h ∷ [] → may_change h q ≡ same_res q r
+may_change-for s t (wants.Enq x c ret full) r q h of e = only_entry (λ g. may_change g q ≡ same_res q r) _ h e (ap (same_res q) (some_value x r of))
+may_change-for s t (wants.Deq x have) r q h of e = only_entry (λ g. may_change g q ≡ same_res q r) _ h e (ap (same_res q) (some_value x r of))
+may_change-for s t (wants.Release x) r q h of e = only_entry (λ g. may_change g q ≡ same_res q r) _ h e (ap (same_res q) (some_value x r of))
+may_change-for s t (wants.Look from count f) r q h of e = absurd (cc)
+
+-- a request that doesn't give a resource up for a task has no entry there that takes the task out
+pub leave-for : (s : State) (u : TaskId) (w : Want) (t : TaskId) (r : Res) (h : HistEntry) → entries_for s u w ≡ h ∷ [] → not (same_task t u && gives_up r w) ≡ true → may_change h r ≡ true → is_leave_of t h ≡ false
+leave-for s u (wants.Enq x c ret full) t r h e stays = only_entry (λ g. may_change g r ≡ true → is_leave_of t g ≡ false) _ h e (λ on. refl)
+leave-for s u (wants.Deq x have) t r h e stays = only_entry (λ g. may_change g r ≡ true → is_leave_of t g ≡ false) _ h e (λ on. grind (arith, stays, on))
+leave-for s u (wants.Release x) t r h e stays = only_entry (λ g. may_change g r ≡ true → is_leave_of t g ≡ false) _ h e (λ on. grind (arith, stays, on))
+leave-for s u (wants.Look from count f) t r h e stays = one_look (λ g. may_change g r ≡ true → is_leave_of t g ≡ false) s u from count f h e (λ on. refl)

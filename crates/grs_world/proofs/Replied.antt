@@ -57,12 +57,12 @@ first : HistEntry → List HistEntry → HistEntry
 first other [] = other
 first other (h ∷ hs) = h
 
-only_entry : (P : HistEntry → Type 0) (g h : HistEntry) → g ∷ [] ≡ h ∷ [] → P g → P h
+pub only_entry : (P : HistEntry → Type 0) (g h : HistEntry) → g ∷ [] ≡ h ∷ [] → P g → P h
 unfolding first
 only_entry P g h e p = subst P (ap (first g) e) p
 
 -- looks are one entry only where they are one look
-one_look : (P : HistEntry → Type 0) (s : State) (t : TaskId) (from count : ℕ) (f : Filter) (h : HistEntry) → look_entries s t from count f ≡ h ∷ [] → P (Look t (Slice from) f (look s (Slice from) f)) → P h
+pub one_look : (P : HistEntry → Type 0) (s : State) (t : TaskId) (from count : ℕ) (f : Filter) (h : HistEntry) → look_entries s t from count f ≡ h ∷ [] → P (Look t (Slice from) f (look s (Slice from) f)) → P h
 one_look P s t from zero f h e p = absurd (cc)
 one_look P s t from (suc zero) f h e p = only_entry P _ h e p
 one_look P s t from (suc (suc n)) f h e p = absurd (cc)
