@@ -8,3 +8,4 @@ pub mod Stands
 pub mod Tape
 pub mod Views
 pub mod Transfer
+pub mod Carried
