@@ -9,3 +9,5 @@ pub mod Tape
 pub mod Views
 pub mod Transfer
 pub mod Carried
+pub mod Reading
+pub mod Putting
