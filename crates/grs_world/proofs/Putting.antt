@@ -40,7 +40,7 @@ abbrev pub AllMayPut : Deck → ℕ → List HistEntry → List Req → Type 0
 AllMayPut deck s Q [] = Unit {0}
 AllMayPut deck s Q (q ∷ qs) = MayPut deck s Q q × AllMayPut deck s Q qs
 
-pub all_may : (deck : Deck) (Seen : ℕ → List HistEntry → List Req → Node → Type 0) → NodeLaws deck Seen → (s : ℕ) (Q : List HistEntry) (out : List Req) (n : Node) → Seen s Q out n → (before qs behind : List Req) → n.outbox ≡ before ++ qs ++ behind → AllMayPut deck s Q qs
+pub all_may : (deck : Deck) (Seen : ℕ → List HistEntry → List Req → Node → Type 0) → NodeLaws deck Seen → (s : ℕ) (Q : List HistEntry) (out : List Req) (n : Node) → Seen s Q out n → (before qs behind : List Req) → n.outbox ≡ before ++ (qs ++ behind) → AllMayPut deck s Q qs
 all_may deck Seen laws s Q out n seen before [] behind e = tt
 all_may deck Seen laws s Q out n seen before (q ∷ qs) behind e =
     (laws.may_put s Q out n before q (qs ++ behind) seen e, all_may deck Seen laws s Q out n seen (before ++ q ∷ []) qs behind (e ∙ sym (append_assoc before (q ∷ []) (qs ++ behind))))
