@@ -140,7 +140,7 @@ module _ (deck : Deck) (s : ℕ) (front rest Q : List Item) (v : View deck s fro
   mine-whole t e =
       entries_of-items deck t (front ++ rest) whole_items ∙ (ap entries (by-whole t e) ∙ (entries-append (filter (by t) Q) (filter (by t) (waiting s rest)) ∙ ap (λ z. z ++ entries (filter (by t) (waiting s rest))) (sym (entries_of-items deck t Q v.items))))
 
-none_by : (t : TaskId) (xs : List Item) → is_among t (askers (requests xs)) ≡ false → filter (by t) xs ≡ []
+pub none_by : (t : TaskId) (xs : List Item) → is_among t (askers (requests xs)) ≡ false → filter (by t) xs ≡ []
 none_by t [] a = refl
 none_by t (x ∷ xs) a = go (same_task t x.req.task) refl a (none_by t xs)
   where

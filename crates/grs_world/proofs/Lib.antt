@@ -11,3 +11,4 @@ pub mod Transfer
 pub mod Carried
 pub mod Reading
 pub mod Putting
+pub mod Outcomes
