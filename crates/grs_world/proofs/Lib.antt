@@ -12,3 +12,4 @@ pub mod Carried
 pub mod Reading
 pub mod Putting
 pub mod Outcomes
+pub mod Runs
