@@ -34,7 +34,7 @@ use Rattle.grs_world.proofs.Own.{own}
 use Rattle.grs_world.proofs.Lines.{take-more, asks-same, passed-more}
 use Rattle.grs_world.proofs.Invariant.{Each, IsEntryOn, IsEcb, IsRec, IsDue, Past, Passed, IsWaitFor, IsInPhase, IsTask, is_post_before, has_ended, code_bound}
 use Rattle.grs_world.proofs.Others.{none-more, all-more, all-kept, recs-told, phase-told}
-use Rattle.grs_world.proofs.Control.{also, keys-told, distinct-told, queued_control, recs-coded, recs-posted}
+use Rattle.grs_world.proofs.Control.{also, marked, recs-marked, keys-told, distinct-told, queued_control, recs-coded, recs-posted}
 
 -- a task's past after a history
 abbrev pub past : ℕ → List HistEntry → TaskId → Past
@@ -152,6 +152,20 @@ task-posted limit ls P T knows t r y x h rec due going same own =
       },
       (rec.low, posts_ecb (replay limit P) t r _ due.ecb on own, due.coded, due.unposted, no_end-of ls (past limit P t) T t x.line x.phase going h.phase),
     )
+
+-- a task of which a resource is marked as told
+pub task-marked : (ls : List Meaning) (p : Past) (T : List ToldLine) (knows : Res → Bool × Bool) (t : TaskId) (r : Res) (x : TaskState) → IsTask ls p T knows t x → IsTask ls p T (marked knows r) t (record x { records = on_record r (λ z. record z { told = true }) x.records })
+task-marked ls p T knows t r x h = record {
+  keys = keys-told r x.records ∙ h.keys;
+  distinct = distinct-told r x.records ∙ h.distinct;
+  within = h.within;
+  count = h.count;
+  records = recs-marked ls p.asked T knows t r x.line x.phase x.records h.records;
+  codes = h.codes;
+  posts = h.posts;
+  phase = h.phase;
+  emptied = λ e. ap (on_record r (λ z. record z { told = true })) (h.emptied e);
+}
 
 recs-phase : (ls : List Meaning) (E : List HistEntry) (T : List ToldLine) (knows : Res → Bool × Bool) (t : TaskId) (n : ℕ) (ph ph' : Phase) → is_held ph ≡ false → (xs : List Rec) → Each (IsRec ls E T knows t n ph) xs → Each (IsRec ls E T knows t n ph') xs
 recs-phase ls E T knows t n ph ph' e [] h = tt

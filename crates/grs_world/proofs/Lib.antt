@@ -11,3 +11,6 @@ pub mod Keys
 pub mod Asked
 pub mod Decided
 pub mod Seen
+pub mod Asking
+pub mod Views
+pub mod Telling
