@@ -14,3 +14,5 @@ pub mod Seen
 pub mod Asking
 pub mod Views
 pub mod Telling
+pub mod Did
+pub mod Steps
