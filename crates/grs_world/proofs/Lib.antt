@@ -16,3 +16,4 @@ pub mod Views
 pub mod Telling
 pub mod Did
 pub mod Steps
+pub mod Good
