@@ -175,3 +175,7 @@ are_sent t p qs = list_all (λ q. not (same_task t q.task) || is_sent p) qs
 pub sent-kept : (t : TaskId) (p p' : Phase) (qs : List Req) → (is_sent p ≡ true → is_sent p' ≡ true) → are_sent t p qs ≡ true → are_sent t p' qs ≡ true
 sent-kept t p p' [] k h = refl
 sent-kept t p p' (q ∷ qs) k h = grind (arith, h, k, sent-kept t p p' qs k, cases_Bool (same_task t q.task))
+
+pub sent-absent : (t : TaskId) (p : Phase) (qs : List Req) → is_among t (askers qs) ≡ false → are_sent t p qs ≡ true
+sent-absent t p [] h = refl
+sent-absent t p (q ∷ qs) h = grind (arith, h, sent-absent t p qs, cases_Bool (same_task t q.task))

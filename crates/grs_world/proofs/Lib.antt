@@ -17,3 +17,4 @@ pub mod Telling
 pub mod Did
 pub mod Steps
 pub mod Good
+pub mod Events
