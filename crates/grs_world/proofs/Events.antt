@@ -48,7 +48,7 @@ use Rattle.grs_world.proofs.Entries.{line_entries-own, entries_of-own, last_entr
 use Rattle.grs_world.proofs.Lines.{asks_of-at, passed-stop}
 use Rattle.grs_world.proofs.Invariant.{key, Past, IsTask}
 use Rattle.grs_world.proofs.Granted.{past}
-use Rattle.grs_world.proofs.Views.{IsOurs, Holds, IsHere, said, holds-changed, ours-line, agrees-ours, task-knows}
+use Rattle.grs_world.proofs.Ours.{IsOurs, Holds, IsHere, said, holds-changed, ours-line, agrees-ours, task-knows}
 use Rattle.grs_world.proofs.Asking.{unasked-none, Opens, IsAtLines, IsOpenBy, IsAskedBy, asked-absent, are_sent, sent-absent}
 use Rattle.grs_world.proofs.Seen.{askers, ToldBy, none, more}
 use Rattle.task_state.specs.Replies.{is_leaving}

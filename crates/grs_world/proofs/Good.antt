@@ -32,7 +32,7 @@ use Rattle.grs_world.proofs.Entries.{line_entries-other, entries_of-other}
 use Rattle.grs_world.proofs.Invariant.{Past, IsTask}
 use Rattle.grs_world.proofs.Others.{KeepsTask, keeps-want, task-kept, task-told, recs-knows}
 use Rattle.grs_world.proofs.Granted.{past}
-use Rattle.grs_world.proofs.Views.{IsOurs, Holds, IsHere, said, here-knows}
+use Rattle.grs_world.proofs.Ours.{IsOurs, Holds, IsHere, said, here-knows}
 use Rattle.grs_world.proofs.Asking.{unasked, Opens, IsAskedBy, are_sent}
 use Rattle.grs_world.proofs.Seen.{is_res_of, is_home_at, stand_apart}
 use Rattle.task_state.specs.Replies.{is_leaving}

@@ -12,9 +12,11 @@ pub mod Asked
 pub mod Decided
 pub mod Seen
 pub mod Asking
-pub mod Views
+pub mod Ours
 pub mod Telling
 pub mod Did
 pub mod Steps
 pub mod Good
 pub mod Events
+pub mod Meant
+pub mod Parts

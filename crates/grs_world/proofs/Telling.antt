@@ -37,7 +37,7 @@ use Rattle.grs_world.proofs.Granted.{or_right, past, task-coded, task-posted, ta
 use Rattle.grs_world.proofs.Seen.{stand_apart, ToldBy, more, is_line_of, Clears}
 use Rattle.grs_world.proofs.Asking.{unasked, unasked-told, unasked-none, records-unasked, held-none, unheld, Opens, IsOpenBy, open-told, IsAskedBy, asked-none, asked-leaves, sent-kept}
 use Rattle.ring_mode.specs.Ring.{is_sent}
-use Rattle.grs_world.proofs.Views.{IsOurs, Holds, IsHere, said, IsChanged, changed-state, changed-telling, changed-then, changed-none, holds-changed, ours-line, agrees-ours, clears-post, learns, learns-own, learns-other, learns-also, learns-marked, task-knows, here-knows, here-told}
+use Rattle.grs_world.proofs.Ours.{IsOurs, Holds, IsHere, said, IsChanged, changed-state, changed-telling, changed-then, changed-none, holds-changed, ours-line, agrees-ours, clears-post, learns, learns-own, learns-other, learns-also, learns-marked, task-knows, here-knows, here-told}
 
 -- a record with control told
 abbrev pub told_rec : Rec → Rec
