@@ -175,7 +175,7 @@ module _ (deck : Deck) (s : ℕ) (os os' : Opens) (P : List HistEntry) (v : Task
       (subst (λ y. IsHere deck os' (P ++ h ∷ []) (before_telling deck P t w r speaks h mine after) T1 t ls y) (sym did.state) own_here))
 
 -- a task's past after its own entry of a line, and after its own release
-past-line : (limit : ℕ) (P : List HistEntry) (h : HistEntry) (t : TaskId) (is_line : is_by t h ≡ true) → line_entries t (P ++ h ∷ []) ≡ line_entries t P ++ h ∷ [] →
+pub past-line : (limit : ℕ) (P : List HistEntry) (h : HistEntry) (t : TaskId) (is_line : is_by t h ≡ true) → line_entries t (P ++ h ∷ []) ≡ line_entries t P ++ h ∷ [] →
     past limit (P ++ h ∷ []) t ≡ record { lists = replay limit (P ++ h ∷ []); asked = line_entries t P ++ h ∷ []; last = Some h }
 past-line limit P h t mine asked = rw (asked, entries_of-own t P h mine, last_entry-push (entries_of t P) h) refl
 

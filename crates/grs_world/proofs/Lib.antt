@@ -20,3 +20,4 @@ pub mod Good
 pub mod Events
 pub mod Meant
 pub mod Parts
+pub mod Turns
