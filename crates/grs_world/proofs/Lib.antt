@@ -21,3 +21,5 @@ pub mod Events
 pub mod Meant
 pub mod Parts
 pub mod Turns
+pub mod AtNode
+pub mod OwnEntries
