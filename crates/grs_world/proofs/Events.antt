@@ -71,7 +71,7 @@ elems-effect p s r t c Nothing mine h = h
 elems-effect p s r t c Append mine h = all-push (λ z. p z.0 z.1.task) s (r, record { task = t; ctl = c }) h mine
 elems-effect p s r t c MakeExclusive mine h = all-exclusive p s r t h
 
-elems-want : (p : Res → TaskId → Bool) (s : State) (t : TaskId) (w : Want) → ((r : Res) → res_wanted w ≡ Some r → p r t ≡ true) → list_all (λ h. p h.0 h.1.task) s ≡ true → list_all (λ h. p h.0 h.1.task) (after_want s t w) ≡ true
+pub elems-want : (p : Res → TaskId → Bool) (s : State) (t : TaskId) (w : Want) → ((r : Res) → res_wanted w ≡ Some r → p r t ≡ true) → list_all (λ h. p h.0 h.1.task) s ≡ true → list_all (λ h. p h.0 h.1.task) (after_want s t w) ≡ true
 elems-want p s t (Enq r c ret full) mine h = elems-effect p s r t c _ (mine r refl) h
 elems-want p s t (Deq r have) mine h = cond_both (is_owner (standing_of (list_of s r) t)) (without same_res s r t) s (λ x. list_all (λ z. p z.0 z.1.task) x ≡ true) (all-filter (λ z. p z.0 z.1.task) (λ z. not (is_at same_res r t z)) s h) h
 elems-want p s t (Release r) mine h = all-filter (λ z. p z.0 z.1.task) (λ z. not (is_at same_res r t z)) s h

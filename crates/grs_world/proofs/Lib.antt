@@ -23,3 +23,4 @@ pub mod Parts
 pub mod Turns
 pub mod AtNode
 pub mod OwnEntries
+pub mod Processed

@@ -105,7 +105,7 @@ module _ (deck : Deck) (s : ℕ) (os os' : Opens) (Q : List HistEntry) (v : Task
       let x : TaskState = state_of v t in
       did-outstanding v _ t _ v.told ours.here (did-phase v v t x v.told ours.here (did-none v t) (phase_asking w x.code)) None
 
-  own_read : (w : Want) (unit : Option ℕ) (h : HistEntry) →
+  pub own_read : (w : Want) (unit : Option ℕ) (h : HistEntry) →
       IsTask ls (past deck.limit Q t) v.told (λ r. said (owned deck Q r t) (gives_up r w)) t (record (state_of v t) { line = line_asked w (state_of v t).line; phase = phase_asking w (state_of v t).code; outstanding = None }) →
       IsAskedFor deck.limit ls (state_of v t).line (state_of v t).records w unit → entries_for (replay deck.limit Q) t w ≡ h ∷ [] → OwnRead deck s os' Q v t w unit h
   own_read (Enq r c ret full) unit h k asked e =
