@@ -2,3 +2,4 @@ pub mod Own
 pub mod Owners
 pub mod Entries
 pub mod Seen
+pub mod LapsRound
