@@ -1,11 +1,11 @@
 -- How far round the message has gone, counted in systems from one on, and what it comes to next.
-use Rattle.std.proofs.Common.{ℕ, zero, suc, ◌≡◌, ◌≢◌, ◌+◌, ◌-◌, ◌%◌, ◌<◌, ◌≤◌, Bool, true, false, cond, List, [], ◌∷◌, map, Option, Some, None, refl, sym, ap, ◌∙◌, subst, arith}
+use Rattle.std.proofs.Common.{ℕ, zero, suc, ◌≡◌, ◌≢◌, ◌+◌, ◌-◌, ◌%◌, ◌<◌, ◌≤◌, Bool, true, false, cond, List, [], ◌∷◌, map, Option, Some, refl, sym, ap, ◌∙◌, subst, arith}
 use Rattle.std.specs.Prelude.{find}
 use Rattle.std.specs.List.{range_with_len}
-use Rattle.std.proofs.Math.Nat.{mod-eq_of_lt, mod-lt, add-mod_right, mod-add-mod}
-use native.Mathlib.Decide.{ℕ_discrete, dec_lt}
+use Rattle.std.proofs.Math.Nat.{mod-eq_of_lt, mod-lt, add-mod_right}
+use native.Mathlib.Decide.{dec_lt}
 use Rattle.grs_base.specs.declared.resource.SysId.{SysId}
-use Rattle.rsa_message.specs.Message.{after, first_after}
+use Rattle.rsa_message.specs.Message.{first_after}
 
 -- The message, which stands at `here`, has gone `gone` places since it left `start`, and comes to `there` when it has
 -- gone `whole` places, which is once round at most.
@@ -42,6 +42,9 @@ home n s u a =
     let end : a.whole ≡ a.gone = omega (arith, a.yet, a.once) in
     sym a.comes ∙ ap (λ (x : ℕ). (s + x) % n) end ∙ a.stands
 
+pub inside_round : (n s h u : ℕ) → Ahead n s h u → u < n
+inside_round n s h u a = subst (λ (x : ℕ). x < n) a.comes (under n (s + a.whole) (omega (arith, a.left, a.yet, a.once)))
+
 -- each system is some places after another
 pub after_some : (n c u : ℕ) → c < n → u < n → (k : ℕ) × (0 < k) × (k ≤ n) × ((c + k) % n ≡ u)
 after_some n c u low in_it = go (dec_lt c u)
@@ -72,3 +75,17 @@ pub first_found : (test : SysId → Bool) (n : ℕ) (c : SysId) (i : ℕ) → 0 
     → (j : ℕ) × (0 < j) × (j ≤ i) × (first_after n c test ≡ Some (record { 0 = (c.0 + j) % n }))
 unfolding first_after
 first_found test n c i from to passes = found test (λ k. record { 0 = (c.0 + k) % n }) 1 n i (omega arith) (omega arith) passes
+
+-- it is one of the systems
+found_inside : (test : SysId → Bool) (n c : ℕ) (ks : List ℕ) (h : SysId) → 0 < n → find test (map (λ k. record { 0 = (c + k) % n }) ks) ≡ Some h → h.0 < n
+found_inside test n c [] h some e = absurd cc
+found_inside test n c (k ∷ ks) h some e = go (test (record { 0 = (c + k) % n })) (found_inside test n c ks h some) e
+  where
+    go : (b : Bool) → (find test (map (λ k. record { 0 = (c + k) % n }) ks) ≡ Some h → h.0 < n)
+        → cond b (Some (record { 0 = (c + k) % n })) (find test (map (λ k. record { 0 = (c + k) % n }) ks)) ≡ Some h → h.0 < n
+    go true on is = let same : record { 0 = (c + k) % n } ≡ h = cc in subst (λ (x : SysId). x.0 < n) same (under n (c + k) some)
+    go false on is = on is
+
+pub first_inside : (test : SysId → Bool) (n : ℕ) (c h : SysId) → 0 < n → first_after n c test ≡ Some h → h.0 < n
+unfolding first_after
+first_inside test n c h some e = found_inside test n c.0 (range_with_len 1 n) h some e

@@ -3,3 +3,5 @@ pub mod Owners
 pub mod Entries
 pub mod Seen
 pub mod LapsRound
+pub mod LapsMessage
+pub mod Laps
