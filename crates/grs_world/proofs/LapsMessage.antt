@@ -193,15 +193,6 @@ turned_round m c out live rest laws all = go (is_at m.holder c) m.closed refl re
     go true false at shut = open_round m c out live rest laws all (at_itself m.holder c at) shut
     go true true at shut = let none : m.holder ≡ None = laws.shut shut in let some : m.holder ≡ Some c = at_itself m.holder c at in absurd cc
 
-pub turned_systems : (m : Message) (c : SysId) (out : List Req) (live rest : ℕ) → (turned m c out live rest).systems ≡ m.systems
-unfolding turned
-turned_systems m c out live rest = go (is_at m.holder c) m.closed
-  where
-    go : (here closed : Bool) → (cond here (cond closed (turned_closed m c) (turned_open m c out live rest)) m).systems ≡ m.systems
-    go false closed = refl
-    go true false = refl
-    go true true = refl
-
 -- ---- where it has come home
 awaited_of : (n : ℕ) (h : SysId) (before behind : List RingEntry) (e : RingEntry) → AllAwaited n h (before ++ e ∷ behind) → Awaited n h e
 awaited_of n h [] behind e a = a.0

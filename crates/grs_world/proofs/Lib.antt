@@ -5,3 +5,4 @@ pub mod Seen
 pub mod LapsRound
 pub mod LapsMessage
 pub mod Laps
+pub mod LapsSamples
