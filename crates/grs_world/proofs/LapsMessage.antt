@@ -25,11 +25,13 @@ abbrev pub AllAwaited : ℕ → SysId → List RingEntry → Type 0
 AllAwaited systems here [] = Unit {0}
 AllAwaited systems here (e ∷ es) = Awaited systems here e × AllAwaited systems here es
 
--- What holds of the message in a run: closed, it stands nowhere; it stands at a system; and each of its entries is
--- awaited.
+-- What holds of the message in a run.
 pub record Round (m : Message) : Type 0 where
+  -- closed, as it is in star mode, it stands nowhere
   pub shut : m.closed ≡ true → m.holder ≡ None
+  -- it stands at one of the systems, if there is any
   pub inside : (h : SysId) → m.holder ≡ Some h → 0 < m.systems → h.0 < m.systems
+  -- whoever has still to process an entry is not passed over
   pub awaited : (h : SysId) → m.holder ≡ Some h → AllAwaited m.systems h m.entries
 
 -- ---- the set of all systems
@@ -50,6 +52,7 @@ all-below (suc n) u e = go (ℕ_discrete u n) (all-below n u) (rw (has-zero n) a
     go (no other) below in_it = let l : u < n = below (sym (has-with_other (others n 0) n u other) ∙ in_it) in omega arith
 
 -- ---- one entry
+-- some places further on, counted from two systems
 further : (n c f gone j : ℕ) → (f + gone) % n ≡ c → (f + (gone + j)) % n ≡ (c + j) % n
 further n c f gone j stands =
     let more : f + (gone + j) ≡ (f + gone) + j = omega arith in
@@ -76,7 +79,7 @@ onward n c h test moved f gone whole u far once stands comes due =
       comes = comes;
     }
 
--- an entry of a system that the caller had still to process, or has processed before
+-- an entry that was there, now that the caller has processed it
 entry_onward : (n : ℕ) (c h : SysId) (test : SysId → Bool) → or_else (first_after n c test) c ≡ h → (e : RingEntry) → ((u : ℕ) → u < n → has (without e.mask c.0) u ≡ true → test (record { 0 = u }) ≡ true)
     → Awaited n c e → Awaited n h (left_by c e)
 entry_onward n c h test moved e due ahead u here = go (ℕ_discrete u c.0)
@@ -85,8 +88,8 @@ entry_onward n c h test moved e due ahead u here = go (ℕ_discrete u c.0)
     go (yes same) = let no : false ≡ true = sym (has-without_same e.mask c.0) ∙ subst (λ (x : ℕ). has (without e.mask c.0) x ≡ true) same here in absurd cc
     go (no other) =
         let a : Ahead n e.from.0 c.0 u = ahead u (sym (has-without_other e.mask c.0 u other) ∙ here) in
-        let further : a.gone ≢ a.whole = λ same. other (sym a.comes ∙ ap (λ (x : ℕ). (e.from.0 + x) % n) (sym same) ∙ a.stands) in
-        onward n c h test moved e.from.0 a.gone a.whole u (omega (arith, a.yet, further)) a.once a.stands a.comes (due u (inside_round n e.from.0 c.0 u a) here)
+        let short : a.gone ≢ a.whole = λ same. other (sym a.comes ∙ ap (λ (x : ℕ). (e.from.0 + x) % n) (sym same) ∙ a.stands) in
+        onward n c h test moved e.from.0 a.gone a.whole u (omega (arith, a.yet, short)) a.once a.stands a.comes (due u (inside_round n e.from.0 c.0 u a) here)
 
 -- a new entry of the caller, which all have still to process
 new_onward : (n : ℕ) (c h : SysId) (test : SysId → Bool) → or_else (first_after n c test) c ≡ h → (0 < n → c.0 < n) → (e : RingEntry) → e.from ≡ c → e.mask ≡ others n 0

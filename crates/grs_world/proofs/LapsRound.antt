@@ -1,4 +1,4 @@
--- How far round the message has gone, counted in systems from one on, and what it comes to next.
+-- How far round the message has gone, counted in places from a system on, and to whom it comes next.
 use Rattle.std.proofs.Common.{ℕ, zero, suc, ◌≡◌, ◌≢◌, ◌+◌, ◌-◌, ◌%◌, ◌<◌, ◌≤◌, Bool, true, false, cond, List, [], ◌∷◌, map, Option, Some, refl, sym, ap, ◌∙◌, subst, arith}
 use Rattle.std.specs.Prelude.{find}
 use Rattle.std.specs.List.{range_with_len}
@@ -22,7 +22,7 @@ pub record Ahead (systems start here there : ℕ) : Type 0 where
 under : (n x : ℕ) → 0 < n → x % n < n
 under n x some = mod-lt x some
 
--- a place less than once further on is another, unless it is once round
+-- whoever comes to where it was has gone once round
 came_round : (n s k : ℕ) → s < n → 0 < k → k ≤ n → (s + k) % n ≡ s → k ≡ n
 came_round n s k low some most same = go (dec_lt (s + k) n)
   where
