@@ -35,3 +35,7 @@ pub mod Turns
 pub mod AtNode
 pub mod OwnEntries
 pub mod Processed
+pub mod LapsRound
+pub mod LapsMessage
+pub mod Laps
+pub mod LapsSamples

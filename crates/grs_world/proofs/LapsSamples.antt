@@ -1,0 +1,51 @@
+-- Worked messages, by which the law that an answer comes back last is checked.
+use Rattle.std.proofs.Common.{◌≡◌, ℕ, true, false, List, [], ◌∷◌, Some, refl, arith}
+use Rattle.grs_base.specs.declared.resource.Ctl.TheVariants.{E}
+use Rattle.grs_base.specs.declared.resource.Ret.TheVariants.{RetNone}
+use Rattle.grs_base.specs.declared.resource.Res.TheVariants.{Systems}
+use Rattle.grs_base.specs.declared.resource.SysId.{SysId}
+use Rattle.grs_wire.specs.declared.medium.Act.TheVariants.{Turn}
+use Rattle.grs_wire.specs.declared.medium.RingBody.TheVariants.{Request}
+use Rattle.grs_wire.specs.declared.medium.RingEntry.{RingEntry}
+use Rattle.grs_wire.specs.declared.request.Req.{Req}
+use Rattle.grs_wire.specs.declared.request.Want.TheVariants.{Enq}
+use Rattle.grs_wire.specs.Masks.{has, without, with_also}
+use Rattle.rsa_message.specs.Message.{Message, first_after, unseen, any_unseen, cleared, stamped, turn_reply, wakes, rest_after_turn, turned}
+use Rattle.grs_medium.specs.Apply.{turn_row, row, apply, medium_after}
+use Rattle.grs_medium.specs.Medium.{MediumState, first_medium}
+use Rattle.grs_world.specs.Laps.{LastAtHome}
+
+abbrev sys : ℕ → SysId
+sys n = record { 0 = n }
+
+-- a request of a task of system n, and its entry
+abbrev ask : ℕ → Req
+ask n = record { task = record { system = sys n; job = 0; task = 0 }; want = Enq (Systems (65 ∷ []) (66 ∷ [])) E RetNone false }
+
+abbrev entry : ℕ → ℕ → ℕ → RingEntry
+entry number n mask = record { number = number; from = sys n; body = Request (ask n); mask = mask }
+
+-- the message of three systems after a Turn of each of these, which puts these requests in
+abbrev after_turns : MediumState → List (ℕ × List Req) → MediumState
+after_turns m [] = m
+after_turns m ((c, out) ∷ turns) = after_turns (medium_after m (sys c) (record { known = 0; act = Turn out })) turns
+
+abbrev ring : List (ℕ × List Req) → Message
+ring turns = (after_turns (first_medium 3 1 false) turns).message
+
+abbrev message_at : ℕ → List RingEntry → ℕ → Message
+message_at n entries next = record { systems = 3; holder = Some (sys n); closed = false; still = 0; entries = entries; next = next }
+
+-- A request of system 0 goes round, and one of system 2 behind it: each comes home to its own system alone.
+goes_round :
+    (ring ((0, ask 0 ∷ []) ∷ []) ≡ message_at 1 (entry 1 0 7 ∷ []) 2)
+    × (ring ((0, ask 0 ∷ []) ∷ (1, []) ∷ []) ≡ message_at 2 (entry 1 0 5 ∷ []) 2)
+    × (ring ((0, ask 0 ∷ []) ∷ (1, []) ∷ (2, ask 2 ∷ []) ∷ []) ≡ message_at 0 (entry 1 0 1 ∷ entry 2 2 7 ∷ []) 3)
+    × (ring ((0, ask 0 ∷ []) ∷ (1, []) ∷ (2, ask 2 ∷ []) ∷ (0, []) ∷ (1, []) ∷ []) ≡ message_at 2 (entry 2 2 4 ∷ []) 3)
+unfolding has without with_also first_after unseen any_unseen cleared stamped turn_reply wakes rest_after_turn turned turn_row row apply
+goes_round = (refl, refl, refl, refl)
+
+-- a message that came home before system 1 has processed the entry
+home_early : LastAtHome (message_at 0 (entry 1 0 3 ∷ []) 2) → ⊥
+unfolding has
+home_early law = let unseen_by_1 : true ≡ false = law (sys 0) [] [] (entry 1 0 3) refl refl refl 1 (λ e. omega arith) in absurd cc
