@@ -13,3 +13,4 @@ pub mod Reading
 pub mod Putting
 pub mod Outcomes
 pub mod Runs
+pub mod Messages
