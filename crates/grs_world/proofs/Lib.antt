@@ -14,3 +14,4 @@ pub mod Putting
 pub mod Outcomes
 pub mod Runs
 pub mod Messages
+pub mod Sound
