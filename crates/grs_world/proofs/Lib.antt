@@ -24,3 +24,4 @@ pub mod Turns
 pub mod AtNode
 pub mod OwnEntries
 pub mod Processed
+pub mod Puts
