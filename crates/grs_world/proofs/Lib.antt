@@ -25,3 +25,4 @@ pub mod AtNode
 pub mod OwnEntries
 pub mod Processed
 pub mod Puts
+pub mod Quiet
