@@ -138,7 +138,6 @@ is_elsewhere deck s (entries.Remove by target) = false
 abbrev pub after_read : Node → Req → Node
 after_read n q = let side : Side = process (record { tasks = n.tasks; shared = n.shared }) q in record n { tasks = side.tasks; shared = side.shared }
 
-
 -- what a Task event comes to
 pub data QuietStep (deck : Deck) (Seen : ℕ → List HistEntry → List Req → Node → Type 0) (s : ℕ) (Q : List HistEntry) (out : List Req) (n : Node) (step : Step) : Type 0 where
   keeps : step.fixed ≡ [] → Seen s Q out step.node → ToldBy deck s (out ++ step.node.outbox) Q n.tasks.told step.node.tasks.told → QuietStep deck Seen s Q out n step

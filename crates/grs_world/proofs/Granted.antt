@@ -1,0 +1,234 @@
+-- A task that is told control: what holds of it afterwards, and that the lines agree.
+use Rattle.std.proofs.Common.{◌≡◌, ◌-◌, ◌+◌, ℕ, suc, Bool, true, false, not, ◌||◌, List, [], ◌∷◌, ◌++◌, length, take, Option, Some, None, refl, ap, sym, ◌∙◌, subst, arith, inl, inr}
+use Rattle.std.specs.Prelude.{slice_get, ◌⊎◌, IfSome, nat_lt}
+use Rattle.std.specs.List.{list_any, list_all}
+use Rattle.std.proofs.lemmas.Bool.{lt-ltb}
+use Rattle.std.proofs.lemmas.Bool.Decides.{nat_tests}
+use Rattle.grs_base.specs.Same.{same_res, same_task}
+use Rattle.grs_base.specs.Lists.{owns}
+use Rattle.grs_base.specs.State.{State, list_of}
+use Rattle.grs_base.specs.declared.resource.Res.{Res}
+use Rattle.grs_base.specs.declared.resource.Row.{Row}
+use Rattle.grs_base.specs.declared.resource.TaskId.{TaskId}
+use Rattle.grs_base.specs.declared.decision.Code.TheVariants.{C00, Wait}
+use Rattle.grs_legal.specs.declared.meaning.Meaning.{Meaning}
+use Rattle.grs_legal.specs.declared.meaning.Meaning.TheVariants as lines
+use Rattle.grs_base.proofs.SameLaws.{same_res-exact, same_task-itself}
+use Rattle.grs_wire.specs.declared.history.HistEntry.{HistEntry}
+use Rattle.grs_wire.specs.declared.history.HistEntry.TheVariants.{Enq, Deq, Release, Look, Remove}
+use Rattle.task_state.specs.declared.state.Asked.{Asked}
+use Rattle.grs_wire.specs.declared.told.Verb.TheVariants as verbs
+use Rattle.grs_wire.specs.declared.told.ToldLine.{ToldLine}
+use Rattle.grs_wire.specs.declared.told.ToldLine.TheVariants.{Coded, Shown, Post, Ended, Desk}
+use Rattle.grs_wire.specs.History.{code_of, replay}
+use Rattle.grs_legal.specs.Asks.{asks_of, asks_in}
+use Rattle.grs_legal.specs.Legal.{lets_pass, owns_asked, HasControl, line_entries, entries_of, last_entry, passed_behind}
+use Rattle.task_state.specs.declared.state.Rec.{Rec}
+use Rattle.task_state.specs.declared.state.Phase.{Phase}
+use Rattle.task_state.specs.declared.state.Phase.TheVariants as phases
+use Rattle.task_state.specs.declared.state.TaskState.{TaskState}
+use Rattle.task_state.specs.View.{on_record}
+use Rattle.task_state.specs.Replies.{is_held}
+use Rattle.grs_world.specs.Agree.{entry_of_line, tells_control, is_code_before, is_end_of, TellsEnq, TellsWait, Posts, LineAgrees}
+use Rattle.grs_world.proofs.Own.{own}
+use Rattle.grs_world.proofs.Lines.{take-more, asks-same, passed-more}
+use Rattle.grs_world.proofs.Invariant.{Each, IsEntryOn, IsEcb, IsRec, IsDue, Past, Passed, IsWaitFor, IsInPhase, IsTask, is_post_before, has_ended, code_bound}
+use Rattle.grs_world.proofs.Others.{none-more, all-more, all-kept, recs-told, phase-told}
+use Rattle.grs_world.proofs.Control.{also, marked, recs-marked, keys-told, distinct-told, queued_control, recs-coded, recs-posted}
+
+-- a task's past after a history
+abbrev pub past : ℕ → List HistEntry → TaskId → Past
+past limit P t = record { lists = replay limit P; asked = line_entries t P; last = last_entry (entries_of t P) }
+
+some_same : {X : Type 0} (x y : X) → Some x ≡ Some y → x ≡ y
+some_same x y e = cc
+
+-- an entry that waited, of this resource, is told 00 to an owner
+tells_waited : (s : State) (t : TaskId) (r : Res) (o : Option HistEntry) (h : HistEntry) → o ≡ Some h → code_of h ≡ Wait → IsEntryOn r o → owns (list_of s r) t ≡ true → TellsEnq s t C00 o
+tells_waited s t r None h e w on own = absurd on
+tells_waited s t r (Some (Enq u q c ret code)) h e w on own =
+    let is_wait : code ≡ Wait = ap code_of (some_same (Enq u q c ret code) h e) ∙ w in
+    (rw is_wait refl, λ g. subst (λ z. owns (list_of s z) t ≡ true) (sym on.0) own)
+tells_waited s t r (Some (Deq u q have code)) h e w on own = absurd on
+tells_waited s t r (Some (Release u q)) h e w on own = absurd on
+tells_waited s t r (Some (Look u place filter rows)) h e w on own = absurd on
+tells_waited s t r (Some (Remove by target)) h e w on own = absurd on
+
+-- an owner of a resource owns what an entry of it asked for
+owns-on : (s : State) (t : TaskId) (r : Res) (o : Option HistEntry) (h : HistEntry) → o ≡ Some h → IsEntryOn r o → owns (list_of s r) t ≡ true → owns_asked s t h ≡ true
+owns-on s t r None h e on own = absurd on
+owns-on s t r (Some (Enq u q c ret code)) h e on own = subst (λ z. owns_asked s t z ≡ true) (some_same (Enq u q c ret code) h e) (subst (λ z. owns (list_of s z) t ≡ true) (sym on.0) own)
+owns-on s t r (Some (Deq u q have code)) h e on own = absurd on
+owns-on s t r (Some (Release u q)) h e on own = absurd on
+owns-on s t r (Some (Look u place filter rows)) h e on own = absurd on
+owns-on s t r (Some (Remove by target)) h e on own = absurd on
+
+-- an ECB entry is posted to an owner
+posts_ecb : (s : State) (t : TaskId) (r : Res) (o : Option HistEntry) → IsEcb o → IsEntryOn r o → owns (list_of s r) t ≡ true → Posts s t o
+posts_ecb s t r None ecb on own = absurd on
+posts_ecb s t r (Some (Enq u q c ret code)) ecb on own = (ecb.0, ecb.1, subst (λ z. owns (list_of s z) t ≡ true) (sym on.0) own)
+posts_ecb s t r (Some (Deq u q have code)) ecb on own = absurd on
+posts_ecb s t r (Some (Release u q)) ecb on own = absurd on
+posts_ecb s t r (Some (Look u place filter rows)) ecb on own = absurd on
+posts_ecb s t r (Some (Remove by target)) ecb on own = absurd on
+
+code_later : (t : TaskId) (n : ℕ) (l : ToldLine) → is_code_before t n l ≡ true → is_code_before t (suc n) l ≡ true
+code_later t n (Coded u j part verb code) h = grind (arith, nat_tests, h)
+code_later t n (Post u j) h = refl
+code_later t n (Ended u code) h = refl
+code_later t n (Shown u j verb code rows) h = grind (arith, nat_tests, h)
+code_later t n (Desk j said) h = refl
+
+pub codes_later : (t : TaskId) (n : ℕ) (T : List ToldLine) → list_all (is_code_before t n) T ≡ true → list_all (is_code_before t (suc n)) T ≡ true
+codes_later t n T h = all-kept (is_code_before t n) (is_code_before t (suc n)) (code_later t n) T h
+
+pub lt_suc : (n : ℕ) → nat_lt n (suc n) ≡ true
+lt_suc n = lt-ltb n (suc n) (omega arith)
+
+pub or_right : (a b : Bool) → b ≡ true → (a || b) ≡ true
+or_right true b h = refl
+or_right false b h = h
+
+-- a task held by its last answer is told it
+pub task-coded : (limit : ℕ) (ls : List Meaning) (P : List HistEntry) (T : List ToldLine) (knows : Res → Bool × Bool) (t : TaskId) (r : Res) (y : Rec) (n code : ℕ) (xs : List Rec) (o : Option Asked) (ws : List Row) →
+    IsTask ls (past limit P t) T knows t (record { line = n; phase = phases.HeldAnswer; code = code; records = xs; outstanding = o; rows = ws }) →
+    IsRec ls (line_entries t P) T knows t n phases.HeldAnswer y → same_res r y.res ≡ true → y.line ≡ n → owns (list_of (replay limit P) r) t ≡ true →
+    IsTask ls (past limit P t) (T ++ Coded t y.line 0 verbs.Enq C00 ∷ []) (also knows r) t (record { line = n; phase = phases.Ready; code = code; records = on_record r (λ z. record z { told = true }) xs; outstanding = o; rows = ws })
+    × LineAgrees limit ls P T (Coded t y.line 0 verbs.Enq C00)
+task-coded limit ls P T knows t r y n code xs o ws h rec same at own =
+    let on : IsEntryOn r (entry_of_line ls (line_entries t P) y.line) = subst (λ q. IsEntryOn q (entry_of_line ls (line_entries t P) y.line)) (sym (same_res-exact r y.res same)) rec.entry in
+    let on_n : IsEntryOn r (entry_of_line ls (line_entries t P) n) = subst (λ k. IsEntryOn r (entry_of_line ls (line_entries t P) k)) at on in
+    let of_line : entry_of_line ls (line_entries t P) y.line ≡ Some h.phase.last = ap (λ k. entry_of_line ls (line_entries t P) k) at ∙ h.phase.of_line in
+    let codes_at : list_all (is_code_before t y.line) T ≡ true = subst (λ k. list_all (is_code_before t k) T ≡ true) (sym at) h.codes in
+    let last_code : is_code_before t (suc n) (Coded t y.line 0 verbs.Enq C00) ≡ true = or_right (not (same_task t t)) _ (subst (λ k. nat_lt k (suc n) ≡ true) (sym at) (lt_suc n)) in
+    let control : tells_control t ls (line_entries t P) r (Coded t n 0 verbs.Enq C00) ≡ true = grind (arith, same_task-itself t, queued_control r (entry_of_line ls (line_entries t P) n) on_n) in (
+      record {
+        keys = keys-told r xs ∙ h.keys;
+        distinct = distinct-told r xs ∙ h.distinct;
+        within = h.within;
+        count = λ e. h.count refl;
+        records = subst (λ k. Each (IsRec ls (line_entries t P) (T ++ Coded t k 0 verbs.Enq C00 ∷ []) (also knows r) t n phases.Ready) (on_record r (λ z. record z { told = true }) xs)) (sym at)
+            (recs-coded ls (line_entries t P) T knows t r n on_n xs h.records (Coded t n 0 verbs.Enq C00) control (λ k. refl));
+        codes = all-more (is_code_before t (suc n)) T _ (codes_later t n T h.codes) last_code;
+        posts = all-more (is_post_before t (suc n)) T _ h.posts refl;
+        phase = record {
+          going = record { no_code = h.phase.going.no_code; no_end = none-more (is_end_of t) T _ h.phase.going.no_end refl };
+          free = subst (λ z. IfSome z (HasControl (replay limit P) t)) (sym h.phase.is_last) (λ w. owns-on (replay limit P) t r (entry_of_line ls (line_entries t P) y.line) h.phase.last of_line on own);
+          passed = h.phase.passed;
+        };
+        emptied = λ e. absurd (cc);
+      },
+      (rec.low, tells_waited (replay limit P) t r _ h.phase.last of_line h.phase.waits on own, codes_at, h.phase.going.no_end),
+    )
+
+-- a task that has something on record hasn't ended
+no_end-of : (ls : List Meaning) (p : Past) (T : List ToldLine) (t : TaskId) (n : ℕ) (ph : Phase) → has_ended ph ≡ false → IsInPhase ls p T t n ph → list_any (is_end_of t) T ≡ false
+no_end-of ls p T t n phases.Ready e h = h.going.no_end
+no_end-of ls p T t n phases.ToSend e h = h
+no_end-of ls p T t n phases.Sent e h = h
+no_end-of ls p T t n phases.HeldAnswer e h = h.going.no_end
+no_end-of ls p T t n (phases.HeldLine r) e h = h.going.no_end
+no_end-of ls p T t n (phases.Ending c) e h = h.no_end
+no_end-of ls p T t n phases.Ended e h = absurd (cc)
+
+-- a task whose ECB is posted
+pub task-posted : (limit : ℕ) (ls : List Meaning) (P : List HistEntry) (T : List ToldLine) (knows : Res → Bool × Bool) (t : TaskId) (r : Res) (y : Rec) (x : TaskState) →
+    IsTask ls (past limit P t) T knows t x →
+    IsRec ls (line_entries t P) T knows t x.line x.phase y → IsDue ls (line_entries t P) T t y.line → has_ended x.phase ≡ false → same_res r y.res ≡ true → owns (list_of (replay limit P) r) t ≡ true →
+    IsTask ls (past limit P t) (T ++ Post t y.line ∷ []) (also knows r) t (record x { records = on_record r (λ z. record z { told = true }) x.records })
+    × LineAgrees limit ls P T (Post t y.line)
+task-posted limit ls P T knows t r y x h rec due going same own =
+    let on : IsEntryOn r (entry_of_line ls (line_entries t P) y.line) = subst (λ q. IsEntryOn q (entry_of_line ls (line_entries t P) y.line)) (sym (same_res-exact r y.res same)) rec.entry in (
+      record {
+        keys = keys-told r x.records ∙ h.keys;
+        distinct = distinct-told r x.records ∙ h.distinct;
+        within = h.within;
+        count = h.count;
+        records = recs-posted ls (line_entries t P) T knows t r y.line on x.line x.phase x.records h.records;
+        codes = all-more (is_code_before t (code_bound x.phase x.line)) T _ h.codes refl;
+        posts = all-more (is_post_before t (suc x.line)) T _ h.posts (or_right (not (same_task t t)) _ (lt-ltb y.line (suc x.line) (omega (arith, rec.high))));
+        phase = phase-told ls (past limit P t) T t x.line x.phase (Post t y.line) refl h.phase;
+        emptied = λ e. absurd (grind (arith, e, going));
+      },
+      (rec.low, posts_ecb (replay limit P) t r _ due.ecb on own, due.coded, due.unposted, no_end-of ls (past limit P t) T t x.line x.phase going h.phase),
+    )
+
+-- a task of which a resource is marked as told
+pub task-marked : (ls : List Meaning) (p : Past) (T : List ToldLine) (knows : Res → Bool × Bool) (t : TaskId) (r : Res) (x : TaskState) → IsTask ls p T knows t x → IsTask ls p T (marked knows r) t (record x { records = on_record r (λ z. record z { told = true }) x.records })
+task-marked ls p T knows t r x h = record {
+  keys = keys-told r x.records ∙ h.keys;
+  distinct = distinct-told r x.records ∙ h.distinct;
+  within = h.within;
+  count = h.count;
+  records = recs-marked ls p.asked T knows t r x.line x.phase x.records h.records;
+  codes = h.codes;
+  posts = h.posts;
+  phase = h.phase;
+  emptied = λ e. ap (on_record r (λ z. record z { told = true })) (h.emptied e);
+}
+
+recs-phase : (ls : List Meaning) (E : List HistEntry) (T : List ToldLine) (knows : Res → Bool × Bool) (t : TaskId) (n : ℕ) (ph ph' : Phase) → is_held ph ≡ false → (xs : List Rec) → Each (IsRec ls E T knows t n ph) xs → Each (IsRec ls E T knows t n ph') xs
+recs-phase ls E T knows t n ph ph' e [] h = tt
+recs-phase ls E T knows t n ph ph' e (x ∷ xs) h = (
+  record {
+    entry = h.0.entry;
+    low = h.0.low;
+    high = h.0.high;
+    known = h.0.known;
+    control = h.0.control;
+    due = λ u. still (h.0.due u);
+  },
+  recs-phase ls E T knows t n ph ph' e xs h.1,
+)
+  where
+    still : ((is_held ph ≡ true) × (x.line ≡ n)) ⊎ IsDue ls E T t x.line → ((is_held ph' ≡ true) × (x.line ≡ n)) ⊎ IsDue ls E T t x.line
+    still (inl a) = absurd (grind (arith, a.0, e))
+    still (inr d) = inr d
+
+-- one line more that asks nothing and lets the task pass
+pub passed-line : (ls : List Meaning) (p : Past) (t : TaskId) (m : ℕ) (l : Meaning) → slice_get ls m ≡ Some l → asks_in l ≡ [] → length p.asked ≡ length (asks_of (take m ls)) → lets_pass p.lists t l ≡ true → Passed ls p t m → Passed ls p t (m + 1)
+passed-line ls p t m l at asks count lets h =
+    rw (take-more ls m l at, passed-more (take m ls) l asks (length p.asked) count) (all-more (lets_pass p.lists t) (passed_behind (length p.asked) (take m ls)) l h lets)
+
+-- a WAIT line that is at hand lets an owner pass
+wait_passes : (ls : List Meaning) (p : Past) (t : TaskId) (q : Res) (m : ℕ) (o : Option Meaning) → slice_get ls m ≡ o → IsWaitFor q o → length p.asked ≡ length (asks_of (take (m + 1) ls)) → owns (list_of p.lists q) t ≡ true → Passed ls p t m → Passed ls p t (m + 1)
+wait_passes ls p t q m None at w count own h = absurd w
+wait_passes ls p t q m (Some (lines.Enq r c ret unit)) at w count own h = absurd w
+wait_passes ls p t q m (Some (lines.Deq r have)) at w count own h = absurd w
+wait_passes ls p t q m (Some lines.Nothing) at w count own h = absurd w
+wait_passes ls p t q m (Some (lines.Wait r)) at w count own h =
+    passed-line ls p t m (lines.Wait r) at refl (count ∙ ap length (asks-same ls m _ at refl)) (grind (arith, subst (λ z. owns (list_of p.lists z) t ≡ true) (sym w) own)) h
+
+tells_wait : (ls : List Meaning) (E : List HistEntry) (T : List ToldLine) (s : State) (t : TaskId) (q : Res) (o : Option Meaning) → IsWaitFor q o → owns (list_of s q) t ≡ true → list_any (tells_control t ls E q) T ≡ true → TellsWait t ls E T s C00 o
+tells_wait ls E T s t q None w own control = absurd w
+tells_wait ls E T s t q (Some (lines.Enq r c ret unit)) w own control = absurd w
+tells_wait ls E T s t q (Some (lines.Deq r have)) w own control = absurd w
+tells_wait ls E T s t q (Some lines.Nothing) w own control = absurd w
+tells_wait ls E T s t q (Some (lines.Wait r)) w own control =
+    (subst (λ z. owns (list_of s z) t ≡ true) (sym w) own, subst (λ z. list_any (tells_control t ls E z) T ≡ true) (sym w) control)
+
+-- a task held at a WAIT line passes it when it has control
+pub task-passed : (limit : ℕ) (ls : List Meaning) (P : List HistEntry) (T : List ToldLine) (knows : Res → Bool × Bool) (t : TaskId) (q : Res) (n code : ℕ) (xs : List Rec) (o : Option Asked) (ws : List Row) →
+    IsTask ls (past limit P t) T knows t (record { line = n; phase = phases.HeldLine q; code = code; records = xs; outstanding = o; rows = ws }) →
+    owns (list_of (replay limit P) q) t ≡ true → list_any (tells_control t ls (line_entries t P) q) T ≡ true →
+    IsTask ls (past limit P t) (T ++ Coded t n 0 verbs.Wait C00 ∷ []) knows t (record { line = n; phase = phases.Ready; code = code; records = xs; outstanding = o; rows = ws })
+    × LineAgrees limit ls P T (Coded t n 0 verbs.Wait C00)
+task-passed limit ls P T knows t q n code xs o ws h own control =
+    let back : (n - 1) + 1 ≡ n = omega (arith, h.phase.begun) in (
+      record {
+        keys = h.keys;
+        distinct = h.distinct;
+        within = h.within;
+        count = λ e. h.count refl;
+        records = recs-told ls (line_entries t P) T knows t n phases.Ready (Coded t n 0 verbs.Wait C00) xs (λ k. refl) (recs-phase ls (line_entries t P) T knows t n (phases.HeldLine q) phases.Ready refl xs h.records);
+        codes = all-more (is_code_before t (suc n)) T _ (codes_later t n T h.codes) (or_right (not (same_task t t)) _ (lt_suc n));
+        posts = all-more (is_post_before t (suc n)) T _ h.posts refl;
+        phase = record {
+          going = record { no_code = h.phase.going.no_code; no_end = none-more (is_end_of t) T _ h.phase.going.no_end refl };
+          free = h.phase.free;
+          passed = subst (λ m. Passed ls (past limit P t) t m) back (wait_passes ls (past limit P t) t q (n - 1) _ refl h.phase.at (h.count refl ∙ ap (λ m. length (asks_of (take m ls))) (sym back)) own h.phase.passed);
+        };
+        emptied = λ e. absurd (cc);
+      },
+      (h.phase.begun, tells_wait ls (line_entries t P) T (replay limit P) t q _ h.phase.at own control, h.codes, h.phase.going.no_end),
+    )
