@@ -22,6 +22,8 @@ pub mod Reading
 pub mod Putting
 pub mod Outcomes
 pub mod Runs
+pub mod Messages
+pub mod Sound
 pub mod Asking
 pub mod Ours
 pub mod Telling
@@ -39,3 +41,5 @@ pub mod LapsRound
 pub mod LapsMessage
 pub mod Laps
 pub mod LapsSamples
+pub mod Puts
+pub mod Quiet

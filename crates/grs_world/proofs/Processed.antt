@@ -90,7 +90,7 @@ module _ (deck : Deck) (s : ℕ) (Q : List HistEntry) (out0 out : List Req) (n :
   owners-are : new_owners n.shared q.task q.want ≡ new_owners (replay deck.limit Q) q.task q.want
   owners-are = ap (λ z. new_owners z q.task q.want) seen.shared ∙ new_owners-part is_systems (replay deck.limit Q) q.task q.want r is all
 
-is_among-front : (t : TaskId) (xs ys : List Req) → is_among t (askers (xs ++ ys)) ≡ false → is_among t (askers xs) ≡ false
+pub is_among-front : (t : TaskId) (xs ys : List Req) → is_among t (askers (xs ++ ys)) ≡ false → is_among t (askers xs) ≡ false
 is_among-front t [] ys h = refl
 is_among-front t (x ∷ xs) ys h = grind (arith, h, is_among-front t xs ys, cases_Bool (same_task t x.task))
 

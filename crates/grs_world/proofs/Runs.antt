@@ -103,7 +103,7 @@ abbrev pub AllBy : ℕ → List Told → Type 0
 AllBy n [] = Unit {0}
 AllBy n (x ∷ xs) = (x.event ≤ n) × AllBy n xs
 
-by-later : (n m : ℕ) → n ≤ m → (xs : List Told) → AllBy n xs → AllBy m xs
+pub by-later : (n m : ℕ) → n ≤ m → (xs : List Told) → AllBy n xs → AllBy m xs
 by-later n m h [] a = tt
 by-later n m h (x ∷ xs) a = (omega (arith, h, a.0), by-later n m h xs a.1)
 
@@ -116,7 +116,7 @@ by-told n c [] = tt
 by-told n c (l ∷ ls) = (omega arith, by-told n c ls)
 
 -- lines told before an event agree with it as before
-agree-longer : (deck : Deck) (es : List Event) (e : Event) (before : List ToldLine) (xs : List Told) → AllBy (length es) xs → AllAgree deck es before xs → AllAgree deck (es ++ e ∷ []) before xs
+pub agree-longer : (deck : Deck) (es : List Event) (e : Event) (before : List ToldLine) (xs : List Told) → AllBy (length es) xs → AllAgree deck es before xs → AllAgree deck (es ++ e ∷ []) before xs
 agree-longer deck es e before [] n a = tt
 agree-longer deck es e before (x ∷ xs) n a = (subst (λ z. Agrees deck (hist deck z) before x.line) (sym (take-front x.event es (e ∷ []) n.0)) a.0, agree-longer deck es e (before ++ x.line ∷ []) xs n.1 a.1)
 

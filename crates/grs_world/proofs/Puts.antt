@@ -1,0 +1,216 @@
+-- Requests of a system that may be put into the message, and that are.
+use Rattle.std.proofs.Common.{◌≡◌, ◌<◌, ◌-◌, ℕ, zero, suc, Bool, true, false, not, ◌&&◌, ◌||◌, List, [], ◌∷◌, ◌++◌, take, drop, Option, Some, None, refl, ap, sym, ◌∙◌, subst, arith, append-nil, append_assoc}
+use Rattle.std.specs.Prelude.{slice_get, is_some, ◌==◌, IfSome}
+use Rattle.std.specs.List.{list_all}
+use Rattle.std.proofs.lemmas.Bool.{and_parts, cases_Bool, eqb-true}
+use Rattle.grs_base.specs.Same.{same_task}
+use Rattle.grs_base.specs.State.{State, is_systems}
+use Rattle.grs_base.specs.declared.resource.Res.{Res}
+use Rattle.grs_base.specs.declared.resource.TaskId.{TaskId}
+use Rattle.grs_base.proofs.SameLaws.{same_task-itself}
+use Rattle.grs_legal.specs.Asks.{AsksEnq, AsksDeq, lines_of}
+use Rattle.grs_legal.specs.Legal.{HasControl, entries_of, last_entry, lets_pass, next_ask, passed_lines}
+use Rattle.grs_legal.specs.declared.meaning.Meaning.{Meaning}
+use Rattle.grs_legal.specs.declared.meaning.Meaning.TheVariants as lines
+use Rattle.grs_node.specs.Node.{Node, all_sent, put_in}
+use Rattle.grs_wire.specs.History.{replay}
+use Rattle.grs_wire.specs.declared.deck.Deck.{Deck}
+use Rattle.grs_wire.specs.declared.history.HistEntry.{HistEntry}
+use Rattle.grs_wire.specs.declared.request.Req.{Req}
+use Rattle.grs_wire.specs.declared.request.Want.{Want}
+use Rattle.grs_wire.specs.declared.request.Want.TheVariants.{Enq, Deq, Release, Look}
+use Rattle.grs_wire.specs.declared.told.ToldLine.{ToldLine}
+use Rattle.grs_wire.specs.Wants.{res_wanted}
+use Rattle.ring_mode.specs.Ring.{is_sent}
+use Rattle.task_state.specs.Replies.{phase_asking, gives_up, is_leaving}
+use Rattle.task_state.specs.View.{TasksView, is_task, state_of, with_phase, code_in}
+use Rattle.task_state.specs.declared.state.Asked.{Asked}
+use Rattle.task_state.specs.declared.state.Phase.{Phase}
+use Rattle.task_state.specs.declared.state.Phase.TheVariants as phases
+use Rattle.task_state.specs.declared.state.TaskState.{TaskState}
+use Rattle.grs_world.proofs.Invariant.{IsTask}
+use Rattle.grs_world.proofs.Granted.{past}
+use Rattle.grs_world.proofs.Asked.{Asks}
+use Rattle.grs_world.proofs.Seen.{is_home_at, askers, stand_apart, FullFits, MayPut, ask_of, none}
+use Rattle.grs_world.proofs.Asking.{line_asked, unasked, unasked_by, IsAskedFor, IsOpenBy, Opens, IsReq, IsAskedBy, are_sent}
+use Rattle.grs_world.proofs.Ours.{IsOurs, IsHere, said}
+use Rattle.grs_world.proofs.Telling.{told-phase}
+use Rattle.grs_world.proofs.Did.{Did, did-none, did-phase}
+use Rattle.grs_world.proofs.Good.{owned, IsGood, some_of}
+use Rattle.grs_world.proofs.Events.{next_line, passed_before, is_full_by}
+use Rattle.grs_world.proofs.Turns.{quiet_settles, next_release, passed_ending}
+use Rattle.grs_world.proofs.AtNode.{opens_of, Seen}
+use Rattle.grs_world.proofs.OwnEntries.{task-open}
+
+-- what holds of all requests holds of one among them
+all-middle : {X : Type 0} (p : X → Bool) (xs : List X) (q : X) (ys : List X) → list_all p (xs ++ q ∷ ys) ≡ true → p q ≡ true
+all-middle p [] q ys h = (and_parts (p q) (list_all p ys) h).0
+all-middle p (x ∷ xs) q ys h = all-middle p xs q ys (and_parts (p x) (list_all p (xs ++ q ∷ ys)) h).1
+
+asked-middle : (t : TaskId) (o : Option Asked) (xs : List Req) (q : Req) (ys : List Req) → IsAskedBy t o (xs ++ q ∷ ys) → same_task t q.task ≡ true → IsReq q o
+asked-middle t o [] q ys h e = h.0 e
+asked-middle t o (x ∷ xs) q ys h e = asked-middle t o xs q ys h.1 e
+
+all_sent-all : (t : TaskId) (qs : List Req) → are_sent t phases.Sent qs ≡ true
+all_sent-all t [] = refl
+all_sent-all t (q ∷ qs) = grind (arith, all_sent-all t qs, cases_Bool (same_task t q.task))
+
+sent-push : (u : TaskId) (p : Phase) (qs : List Req) (q : Req) → same_task u q.task ≡ false → are_sent u p qs ≡ true → are_sent u p (qs ++ q ∷ []) ≡ true
+sent-push u p [] q apart h = grind (arith, apart)
+sent-push u p (x ∷ qs) q apart h = grind (arith, h, sent-push u p qs q apart)
+
+-- a task of the deck and of the system
+pub home-task : (deck : Deck) (s : ℕ) (os : Opens) (Q : List HistEntry) (v : TasksView) (t : TaskId) → IsGood deck s os Q v → is_home_at deck s t ≡ true → (ls : List Meaning) × IsOurs deck s v t ls
+home-task deck s os Q v t good home =
+    let both = and_parts (t.system.0 == s) (is_some (lines_of deck t)) home in
+    let some = some_of (lines_of deck t) both.1 in
+    (some.0, record { lines = some.1; home = eqb-true t.system.0 s both.0; here = good.here t home })
+
+-- the first request that waits is put in
+put_one : (deck : Deck) (s : ℕ) (Q : List HistEntry) (out : List Req) (q : Req) (box : List Req) (v : TasksView) → IsGood deck s (record { out = out; all = out ++ q ∷ box }) Q v → is_home_at deck s q.task ≡ true →
+    IsGood deck s (record { out = out ++ q ∷ []; all = out ++ q ∷ box }) Q (with_phase v q.task phases.Sent)
+put_one deck s Q out q box v good home =
+    let mine = home-task deck s (record { out = out; all = out ++ q ∷ box }) Q v q.task good home in
+    let k = good.tasks.each q.task mine.0 mine.1 in
+    let x : TaskState = state_of v q.task in
+    let did = did-phase v v q.task x v.told mine.1.here (did-none v q.task) phases.Sent in
+    (quiet_settles deck s (record { out = out; all = out ++ q ∷ box }) (record { out = out ++ q ∷ []; all = out ++ q ∷ box }) Q v good q.task mine.0 mine.1 (with_phase v q.task phases.Sent) _ v.told did
+    (record {
+      task = by_task x mine.0 x.outstanding (asked-middle q.task x.outstanding out q box k.asked (same_task-itself q.task)) k.task;
+      opened = by_opened x mine.0 x.outstanding (asked-middle q.task x.outstanding out q box k.asked (same_task-itself q.task)) k.opened;
+      asked = k.asked;
+      sent = all_sent-all q.task (out ++ q ∷ []);
+    })
+    (λ u o apart a. a) (λ u p apart a. sent-push u p out q apart a) (λ u ms p knows y apart j. j) none).good
+  where
+    by_task : (x : TaskState) (ls : List Meaning) (o : Option Asked) → IsReq q o → IsTask ls (past deck.limit Q q.task) v.told (λ r. said (owned deck Q r q.task) (is_leaving r o)) q.task (unasked_by o x) →
+        IsTask ls (past deck.limit Q q.task) v.told (λ r. said (owned deck Q r q.task) (is_leaving r o)) q.task (unasked_by o (record x { phase = phases.Sent; code = code_in phases.Sent x.code }))
+    by_task x ls None is j = absurd is
+    by_task x ls (Some a) is j = j
+
+    by_opened : (x : TaskState) (ls : List Meaning) (o : Option Asked) → IsReq q o → IsOpenBy deck.limit ls q.task x o → IsOpenBy deck.limit ls q.task (record x { phase = phases.Sent; code = code_in phases.Sent x.code }) o
+    by_opened x ls None is j = absurd is
+    by_opened x ls (Some a) is j = (j.0, refl, j.2)
+
+take-none : {X : Type 0} (xs : List X) → take 0 xs ≡ []
+take-none xs = grind (arith)
+
+drop-none : {X : Type 0} (xs : List X) → drop 0 xs ≡ xs
+drop-none xs = grind (arith)
+
+take-drop : {X : Type 0} (k : ℕ) (xs : List X) → take k xs ++ drop k xs ≡ xs
+take-drop zero xs = ap (λ ys. ys ++ drop 0 xs) (take-none xs) ∙ drop-none xs
+take-drop (suc k) [] = refl
+take-drop (suc k) (x ∷ xs) = ap (λ ys. x ∷ ys) (take-drop k xs)
+
+-- the first requests that wait are put in
+put_all : (deck : Deck) (s : ℕ) (Q : List HistEntry) (k : ℕ) (out box : List Req) (v : TasksView) → IsGood deck s (record { out = out; all = out ++ box }) Q v → list_all (λ q. is_home_at deck s q.task) box ≡ true →
+    IsGood deck s (record { out = out ++ take k box; all = out ++ box }) Q (all_sent v (take k box))
+unfolding all_sent
+put_all deck s Q zero out box v good homes =
+    subst (λ qs. IsGood deck s (record { out = out ++ qs; all = out ++ box }) Q (all_sent v qs)) (sym (take-none box))
+    (subst (λ qs. IsGood deck s (record { out = qs; all = out ++ box }) Q v) (sym (append-nil out)) good)
+put_all deck s Q (suc k) out [] v good homes = subst (λ qs. IsGood deck s (record { out = qs; all = out ++ [] }) Q v) (sym (append-nil out)) good
+put_all deck s Q (suc k) out (q ∷ box) v good homes =
+    let both = and_parts (is_home_at deck s q.task) (list_all (λ z. is_home_at deck s z.task) box) homes in
+    let one = put_one deck s Q out q box v good both.0 in
+    let more = put_all deck s Q k (out ++ q ∷ []) box (with_phase v q.task phases.Sent) (subst (λ qs. IsGood deck s (record { out = out ++ q ∷ []; all = qs }) Q (with_phase v q.task phases.Sent)) (sym (append_assoc out (q ∷ []) box)) one) both.1 in
+    subst (λ qs. IsGood deck s (record { out = out ++ q ∷ take k box; all = qs }) Q (all_sent (with_phase v q.task phases.Sent) (take k box))) (append_assoc out (q ∷ []) box)
+    (subst (λ qs. IsGood deck s (record { out = qs; all = (out ++ q ∷ []) ++ box }) Q (all_sent (with_phase v q.task phases.Sent) (take k box))) (append_assoc out (q ∷ []) (take k box)) more)
+
+all_sent-told : (v : TasksView) (qs : List Req) → (all_sent v qs).told ≡ v.told
+unfolding all_sent
+all_sent-told v [] = refl
+all_sent-told v (q ∷ qs) = all_sent-told (with_phase v q.task phases.Sent) qs ∙ told-phase v q.task phases.Sent
+
+pub put_told : (n : Node) (k : ℕ) → (put_in n k).node.tasks.told ≡ n.tasks.told
+unfolding put_in
+put_told n k = all_sent-told n.tasks (take k n.outbox)
+
+all-behind : {X : Type 0} (p : X → Bool) (xs ys : List X) → list_all p (xs ++ ys) ≡ true → list_all p ys ≡ true
+all-behind p [] ys h = h
+all-behind p (x ∷ xs) ys h = all-behind p xs ys (and_parts (p x) (list_all p (xs ++ ys)) h).1
+
+pub put : (deck : Deck) (s : ℕ) (Q : List HistEntry) (out : List Req) (n : Node) (k : ℕ) → Seen deck s Q out n → Seen deck s Q (out ++ take k n.outbox) (put_in n k).node
+unfolding put_in
+put deck s Q out n k seen =
+    let same : (out ++ take k n.outbox) ++ drop k n.outbox ≡ out ++ n.outbox = append_assoc out (take k n.outbox) (drop k n.outbox) ∙ ap (λ qs. out ++ qs) (take-drop k n.outbox) in
+    record {
+      good = subst (λ qs. IsGood deck s (record { out = out ++ take k n.outbox; all = qs }) Q (all_sent n.tasks (take k n.outbox))) (sym same)
+          (put_all deck s Q k out n.outbox n.tasks seen.good (all-behind (λ q. is_home_at deck s q.task) out n.outbox seen.homes));
+      held = seen.held;
+      shared = seen.shared;
+      homes = ap (list_all (λ q. is_home_at deck s q.task)) same ∙ seen.homes;
+      apart = ap (λ qs. stand_apart (askers qs)) same ∙ seen.apart;
+    }
+
+-- what an outstanding request asks is what its task asks next, and it may
+module _ (deck : Deck) (s : ℕ) (Q : List HistEntry) (t : TaskId) (v : TasksView) (ls : List Meaning) (ours : IsOurs deck s v t ls) where
+  may_put_by : (w : Want) (unit : Option ℕ) →
+      IsTask ls (past deck.limit Q t) v.told (λ r. said (owned deck Q r t) (gives_up r w)) t (record (state_of v t) { line = line_asked w (state_of v t).line; phase = phase_asking w (state_of v t).code; outstanding = None }) →
+      IsAskedFor deck.limit ls (state_of v t).line (state_of v t).records w unit → MayPut deck s Q (record { task = t; want = w })
+  may_put_by (Enq r c ret full) unit k asked =
+      let x : TaskState = state_of v t in
+      let before : Asks ls (past deck.limit Q t) v.told (λ q. said (owned deck Q q t) false) t (x.line - 1) x.code x.records None x.rows (lines.Enq r c ret unit) (AsksEnq r c ret) = record { before = k; at = asked.1; asks = refl } in
+      record {
+        lines = ls;
+        of_deck = ours.lines;
+        home = ours.home;
+        res = r;
+        of_res = refl;
+        systems = asked.2;
+        fits = asked.3 ∙ is_full_by deck.limit (replay deck.limit Q) t x.records k.keys;
+        next = next_line deck.limit ls Q v.told t (x.line - 1) x.code x.records None x.rows (lines.Enq r c ret unit) (AsksEnq r c ret) (λ q. said (owned deck Q q t) false) before;
+        waited = k.phase.free;
+        passed = passed_before deck.limit ls Q v.told t (x.line - 1) x.code x.records None x.rows (lines.Enq r c ret unit) (AsksEnq r c ret) (λ q. said (owned deck Q q t) false) before;
+      }
+  may_put_by (Deq r have) unit k asked =
+      let x : TaskState = state_of v t in
+      let before : Asks ls (past deck.limit Q t) v.told (λ q. said (owned deck Q q t) (gives_up q (Deq r have))) t (x.line - 1) x.code x.records None x.rows (lines.Deq r have) (AsksDeq r have) = record { before = k; at = asked.1; asks = refl } in
+      record {
+        lines = ls;
+        of_deck = ours.lines;
+        home = ours.home;
+        res = r;
+        of_res = refl;
+        systems = asked.2;
+        fits = tt;
+        next = next_line deck.limit ls Q v.told t (x.line - 1) x.code x.records None x.rows (lines.Deq r have) (AsksDeq r have) (λ q. said (owned deck Q q t) (gives_up q (Deq r have))) before;
+        waited = k.phase.free;
+        passed = passed_before deck.limit ls Q v.told t (x.line - 1) x.code x.records None x.rows (lines.Deq r have) (AsksDeq r have) (λ q. said (owned deck Q q t) (gives_up q (Deq r have))) before;
+      }
+  may_put_by (Release r) unit k asked =
+      let x : TaskState = state_of v t in
+      record {
+        lines = ls;
+        of_deck = ours.lines;
+        home = ours.home;
+        res = r;
+        of_res = refl;
+        systems = asked.1;
+        fits = tt;
+        next = next_release deck.limit ls Q v.told t x.line x.code x.code x.records None x.rows (λ q. said (owned deck Q q t) (gives_up q (Release r))) k r asked.0;
+        waited = k.phase.free;
+        passed = passed_ending deck.limit ls Q v.told t x.line x.code x.code x.records None x.rows (λ q. said (owned deck Q q t) (gives_up q (Release r))) k;
+      }
+  may_put_by (Look first count f) unit k asked = absurd asked
+
+pub may_put : (deck : Deck) (s : ℕ) (Q : List HistEntry) (out : List Req) (n : Node) (before : List Req) (q : Req) (behind : List Req) → Seen deck s Q out n → n.outbox ≡ before ++ q ∷ behind → MayPut deck s Q q
+may_put deck s Q out n before q behind seen e =
+    let all_is : out ++ n.outbox ≡ (out ++ before) ++ q ∷ behind = ap (λ qs. out ++ qs) e ∙ sym (append_assoc out before (q ∷ behind)) in
+    let home : is_home_at deck s q.task ≡ true = all-middle (λ z. is_home_at deck s z.task) (out ++ before) q behind (sym (ap (list_all (λ z. is_home_at deck s z.task)) all_is) ∙ seen.homes) in
+    let mine = home-task deck s (opens_of out n) Q n.tasks q.task seen.good home in
+    let k = seen.good.tasks.each q.task mine.0 mine.1 in
+    let is : IsReq q (state_of n.tasks q.task).outstanding = asked-middle q.task _ (out ++ before) q behind (subst (λ qs. IsAskedBy q.task (state_of n.tasks q.task).outstanding qs) all_is k.asked) (same_task-itself q.task) in
+    by_open mine.0 mine.1 k (state_of n.tasks q.task).outstanding refl is
+  where
+    by_open : (ls : List Meaning) (ours : IsOurs deck s n.tasks q.task ls) → IsHere deck (opens_of out n) Q (owned deck Q) n.tasks.told q.task ls (state_of n.tasks q.task) → (o : Option Asked) → (state_of n.tasks q.task).outstanding ≡ o → IsReq q (state_of n.tasks q.task).outstanding → MayPut deck s Q q
+    by_open ls ours k None f is = absurd (subst (IsReq q) f is)
+    by_open ls ours k (Some a) f is =
+        let x : TaskState = state_of n.tasks q.task in
+        let rq : a.req ≡ q = subst (IsReq q) f is in
+        let opened : IsOpenBy deck.limit ls q.task x (Some a) = subst (λ o. IsOpenBy deck.limit ls q.task x o) f k.opened in
+        let asked_for : IsAskedFor deck.limit ls x.line x.records q.want a.unit = subst (λ (z : Req). IsAskedFor deck.limit ls x.line x.records z.want a.unit) rq opened.2 in
+        let task1 = subst (λ o. IsTask ls (past deck.limit Q q.task) n.tasks.told (λ r. said (owned deck Q r q.task) (is_leaving r o)) q.task (unasked_by o x)) f k.task in
+        let task2 = subst (λ (z : Req). IsTask ls (past deck.limit Q q.task) n.tasks.told (λ r. said (owned deck Q r q.task) (gives_up r z.want)) q.task (record x { line = line_asked z.want x.line; phase = phase_asking z.want x.code })) rq task1 in
+        may_put_by deck s Q q.task n.tasks ls ours q.want a.unit (task-open ls (past deck.limit Q q.task) n.tasks.told _ q.task _ None task2) asked_for
