@@ -26,3 +26,4 @@ pub mod OwnEntries
 pub mod Processed
 pub mod Puts
 pub mod Quiet
+pub mod NodeLaws
