@@ -43,3 +43,4 @@ pub mod Laps
 pub mod LapsSamples
 pub mod Puts
 pub mod Quiet
+pub mod NodeLaws
