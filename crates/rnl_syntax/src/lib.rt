@@ -5,10 +5,12 @@
 mod lines;
 mod operands;
 mod print;
+mod read;
 
 pub use lines::{goes_on, is_rnldef_word, with_line};
 pub use operands::{Operands, Rnldef, entry_of, is_bad, rnldef_at};
 pub use print::print_rnldef;
+pub use read::read_rnldef;
 
 #[cfg(test)]
 mod tests;
