@@ -366,7 +366,7 @@ none_found text e n long none h =
 front_is : (text : List ℕ) (e : RnlEntry) (n : ℕ) → n ≤ length text → is_front (take n text) e ≡ true → IsFront text e n
 front_is text e n within h = let f = front_by (take n text) e h in (within, f.0, f.1)
 
-spells_by : (text : List ℕ) (e : RnlEntry) (n : ℕ) → reading text ≡ Ok e → IsFewest text e n → SpellsEntry text e n
+pub spells_by : (text : List ℕ) (e : RnlEntry) (n : ℕ) → reading text ≡ Ok e → IsFewest text e n → SpellsEntry text e n
 spells_by text e n read h = record {
   makes = reading_makes text e read;
   front = front_is text e n h.within h.is;

@@ -3,3 +3,4 @@ pub mod Lines
 pub mod Spelled
 pub mod Printed
 pub mod Reading
+pub mod Laws
