@@ -5,6 +5,7 @@ pub mod Found
 pub mod Pieced
 pub mod Names
 pub mod Print
+pub mod Bits
 pub mod Samples
 pub mod BadBytes
 pub mod Taking

@@ -97,10 +97,10 @@ printable-allowed (b ∷ bs) n h =
     let k = and_parts (is_printable b) (list_all is_printable bs) h in
     rw (k.0, test_not is_printable b 10 k.0 refl) (printable-allowed bs n k.1)
 
-plain_printable : (b : ℕ) → is_plain_byte b ≡ true → is_printable b ≡ true
+pub plain_printable : (b : ℕ) → is_plain_byte b ≡ true → is_printable b ≡ true
 plain_printable b h = grind (arith, nat_tests, h)
 
-all_kept : (p q : ℕ → Bool) → ((b : ℕ) → p b ≡ true → q b ≡ true) → (bs : List ℕ) → list_all p bs ≡ true → list_all q bs ≡ true
+pub all_kept : (p q : ℕ → Bool) → ((b : ℕ) → p b ≡ true → q b ≡ true) → (bs : List ℕ) → list_all p bs ≡ true → list_all q bs ≡ true
 all_kept p q f [] h = refl
 all_kept p q f (b ∷ bs) h = let k = and_parts (p b) (list_all p bs) h in and_from (q b) (list_all q bs) (f b k.0) (all_kept p q f bs k.1)
 
