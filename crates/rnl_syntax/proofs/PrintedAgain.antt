@@ -1,8 +1,13 @@
 -- A printed entry is read again.
-use Rattle.std.proofs.Common.{◌≡◌, ℕ, zero, suc, ◌+◌, ◌≤◌, ◌<◌, Bool, true, false, cond, eqb, List, [], ◌∷◌, ◌++◌, length, take, Option, Some, None, Ok, refl, sym, ap, subst, ◌∙◌, arith, append_assoc, length-append, inl, inr}
+use Rattle.std.proofs.Common.{◌≡◌, ℕ, ◌+◌, ◌≤◌, ◌<◌, Bool, true, false, cond, eqb, List, [], ◌∷◌, ◌++◌, length, take, Option, Some, None, refl, sym, ap, subst, ◌∙◌, arith, append_assoc, length-append, inl, inr, drop}
 use Rattle.std.specs.Prelude.{codes, ◌&&◌, is_none}
 use Rattle.std.specs.List.{list_all}
-use Rattle.std.proofs.lemmas.List.{append-nil, take-append-le}
+use Rattle.std.proofs.Math.Seq.{take-append_seam}
+use Rattle.std.proofs.lemmas.List.{append-nil, take-append-le, take-append-drop}
+use Rattle.deck_scan.specs.Scan.{lines_of}
+use Rattle.deck_scan.proofs.Pieced.{spelled_is}
+use Rattle.rnl_syntax.proofs.Closed.{ends_closed-snoc, line_closes}
+use Rattle.rnl_syntax.proofs.Exact.{closes, all_closes, some, front_closes, last_close, first_closes, rnldef_closes}
 use Rattle.std.proofs.lemmas.List.Folds.{list_all-append}
 use Rattle.grs_base.specs.Printed.{is_printable, printed_name}
 use Rattle.grs_base.specs.Names.{is_qname, is_rname}
@@ -25,10 +30,9 @@ use Rattle.rnl_syntax.specs.Lines.{is_open}
 use Rattle.rnl_syntax.specs.Operands.{is_specific, is_bad_r}
 use Rattle.rnl_syntax.specs.Spelled.{which_word, form_word, Of, As, First, Second, IsRnldef}
 use Rattle.rnl_syntax.specs.Printed.{printed_rname, printed_rnldef}
-use Rattle.rnl_syntax.specs.Reading.{first_from, reading, MakesEntry, is_front, IsFewest, SpellsEntry}
+use Rattle.rnl_syntax.specs.Reading.{first_from, first_statement, MakesEntry, ends_closed, SpellsEntry}
 use Rattle.rnl_syntax.specs.Laws.{IsMaybeRname, IsEntry, begins_operands, IsLineEnd, IsNextLine, MayFollow}
 use Rattle.rnl_syntax.proofs.Behind.{lines_behind}
-use Rattle.rnl_syntax.proofs.ReadLaws.{makes_reading, found_front, spells_by}
 
 -- ---- the pieces of a printed entry
 
@@ -258,10 +262,13 @@ none_bad : bad_line 1 [] ≡ None
 unfolding bad_line
 none_bad = refl
 
-alone : (e : RnlEntry) → IsEntry e → length (printed_rnldef e ++ []) ≤ max_text → MakesEntry (printed_rnldef e ++ []) e
-alone e h short =
+alone_spells : (e : RnlEntry) → IsEntry e → SpellsLines (printed_rnldef e ++ []) (entry_line e ∷ [])
+alone_spells e h =
     let lines : lines_said (entry_pieces e []) ≡ entry_line e ∷ [] = ap (λ (p : Place). (next_line p).lines) (entry_past e [] h) ∙ ap (λ (p : Place). p.lines) (entry_end e) in
-    made_by e (printed_rnldef e ++ []) [] h short (subst (λ (ls : List TokenLine). SpellsLines (printed_rnldef e ++ []) ls) lines (spells_with e [] [] h refl none_bad refl)) refl
+    subst (λ (ls : List TokenLine). SpellsLines (printed_rnldef e ++ []) ls) lines (spells_with e [] [] h refl none_bad refl)
+
+alone : (e : RnlEntry) → IsEntry e → length (printed_rnldef e ++ []) ≤ max_text → MakesEntry (printed_rnldef e ++ []) e
+alone e h short = made_by e (printed_rnldef e ++ []) [] h short (alone_spells e h) refl
 
 -- ---- the next line
 
@@ -303,38 +310,67 @@ next_made e behind h n short =
 
 -- ---- the bytes used
 
-record Least (p : ℕ → Bool) (n : ℕ) : Type 0 where
-  at : ℕ
-  below : at ≤ n
-  is : p at ≡ true
-  first : (k : ℕ) → k < at → p k ≡ false
+-- a printed entry without its last byte
+record Ending (e : RnlEntry) : Type 0 where
+  init : List ℕ
+  parts : printed_rnldef e ≡ init ++ 41 ∷ []
 
-least : (n : ℕ) (p : ℕ → Bool) → p n ≡ true → Least p n
-least zero p h = record { at = 0; below = omega arith; is = h; first = λ k lt. absurd (omega (arith, lt)) }
-least (suc n) p h = go (p 0) refl (least n (λ m. p (suc m)) h)
-  where
-    go : (b : Bool) → p 0 ≡ b → Least (λ m. p (suc m)) n → Least p (suc n)
-    go true e l = record { at = 0; below = omega arith; is = e; first = λ k lt. absurd (omega (arith, lt)) }
-    go false e l = record { at = suc l.at; below = omega (arith, l.below); is = l.is; first = before }
-      where
-        before : (k : ℕ) → k < suc l.at → p k ≡ false
-        before zero lt = e
-        before (suc k) lt = l.first k (omega (arith, lt))
+last_byte : (text : List ℕ) (r : Option (List ℕ)) → (init : List ℕ) × ((text ++ codes ")") ++ printed_rname r ≡ init ++ 41 ∷ [])
+last_byte text None = (text, append-nil (text ++ codes ")"))
+last_byte text (Some r) = ((text ++ codes ")") ++ (codes " RNAME(" ++ printed_name r), sym (append_assoc (text ++ codes ")") (codes " RNAME(" ++ printed_name r) (codes ")")))
 
-used_within : (e : RnlEntry) (behind : List ℕ) → IsEntry e → MakesEntry (printed_rnldef e ++ behind) e → length (printed_rnldef e ++ behind) ≤ max_text → (used : ℕ) × SpellsEntry (printed_rnldef e ++ behind) e used × (used ≤ length (printed_rnldef e))
-used_within e behind h made short =
-    let text : List ℕ = printed_rnldef e ++ behind in
-    let long : length text ≡ length (printed_rnldef e) + length behind = length-append (printed_rnldef e) behind in
+ending : (e : RnlEntry) → Ending e
+ending e = let l = last_byte (codes "RNLDEF RNL(" ++ which_word e.which ++ codes ") TYPE(" ++ form_word e.form ++ codes ") QNAME(" ++ printed_name e.q) e.r in record { init = l.0; parts = l.1 }
+
+line_ends : (which : Which) (form : Form) (q : List ℕ) (r : Option (List ℕ)) → line_closes (entry_line (record { which = which; form = form; q = q; r = r }) ∷ []) ≡ true
+line_ends which form q None = refl
+line_ends which form q (Some r) = refl
+
+-- the closing parentheses of a text that makes the entry
+made_closes : (text : List ℕ) (e : RnlEntry) (h : MakesEntry text e) (lines : List TokenLine) → h.lines ≡ lines → 3 + some e.r ≤ all_closes lines
+made_closes text e h [] none = absurd (let z : None ≡ Some h.statement = sym (ap first_statement none) ∙ h.first in cc)
+made_closes text e h (l ∷ ls) is =
+    let first : Some (first_from l ls) ≡ Some h.statement = sym (ap first_statement is) ∙ h.first in
+    let same : first_from l ls ≡ h.statement = cc in
+    let few = first_closes ls l in
+    let tokens : closes (first_from l ls).tokens ≡ closes (Word (codes "RNLDEF") ∷ h.behind) = ap (λ (s : TokenLine). closes s.tokens) same ∙ ap closes h.parts in
+    let own = rnldef_closes h.behind h.rnldef h.says in
+    let r : some h.rnldef.r ≡ some e.r = ap (λ (x : RnlEntry). some x.r) h.makes in
+    omega (arith, few, tokens, own, r)
+
+no_shorter : (e : RnlEntry) (behind : List ℕ) → IsEntry e → SpellsLines (printed_rnldef e) (entry_line e ∷ []) → (n : ℕ) → n < length (printed_rnldef e) → MakesEntry (take n (printed_rnldef e ++ behind)) e → ⊥
+no_shorter e behind h spelled n lt made =
+    let end = ending e in
+    let long : length (printed_rnldef e) ≡ length (end.init ++ 41 ∷ []) = ap length end.parts in
+    let within : n ≤ length end.init = omega (arith, lt, long, length-append end.init (41 ∷ [])) in
+    let cut : take n (printed_rnldef e ++ behind) ≡ take n end.init = take-append-le n (printed_rnldef e) behind (omega (arith, lt)) ∙ ap (take n) end.parts ∙ take-append-le n end.init (41 ∷ []) within in
+    let low = made_closes (take n (printed_rnldef e ++ behind)) e made made.lines refl in
+    let own : all_closes made.lines ≡ all_closes (lines_of (take n end.init)) = ap all_closes (sym (spelled_is (take n (printed_rnldef e ++ behind)) made.lines made.spelled)) ∙ ap (λ (t : List ℕ). all_closes (lines_of t)) cut in
+    let more = front_closes (take n end.init) (drop n end.init) in
+    let whole : all_closes (lines_of (take n end.init ++ drop n end.init)) ≡ all_closes (lines_of end.init) = ap (λ (t : List ℕ). all_closes (lines_of t)) (take-append-drop n end.init) in
+    let said : lines_of (end.init ++ 41 ∷ []) ≡ entry_line e ∷ [] = ap lines_of (sym end.parts) ∙ spelled_is (printed_rnldef e) (entry_line e ∷ []) spelled in
+    let last = last_close end.init (ap line_closes said ∙ line_ends e.which e.form e.q e.r) in
+    let count : all_closes (lines_of (end.init ++ 41 ∷ [])) ≡ closes (Word (codes "RNLDEF") ∷ entry_tokens e) + 0 = ap all_closes said in
+    let operands = rnldef_closes (entry_tokens e) (rnldef_of e) (parts_say e.which e.form e.q e.r h.needed) in
+    omega (arith, low, own, more, whole, last, count, operands)
+
+-- What is printed of an entry is read as that entry, and used to its end.
+used_all : (e : RnlEntry) (behind : List ℕ) → IsEntry e → MakesEntry (printed_rnldef e ++ behind) e → length (printed_rnldef e ++ behind) ≤ max_text → SpellsEntry (printed_rnldef e ++ behind) e (length (printed_rnldef e))
+used_all e behind h made short =
+    let long : length (printed_rnldef e ++ behind) ≡ length (printed_rnldef e) + length behind = length-append (printed_rnldef e) behind in
     let same : printed_rnldef e ++ [] ≡ printed_rnldef e = append-nil (printed_rnldef e) in
     let few : length (printed_rnldef e ++ []) ≤ max_text = subst (λ (x : List ℕ). length x ≤ max_text) (sym same) (omega (arith, long, short)) in
-    let own : reading (printed_rnldef e) ≡ Ok e = ap reading (sym same) ∙ makes_reading (printed_rnldef e ++ []) e (alone e h few) in
-    let f = found_front (printed_rnldef e) e own in
-    let cut : take f.0 text ≡ take f.0 (printed_rnldef e) = take-append-le f.0 (printed_rnldef e) behind f.1 in
-    let l = least f.0 (λ k. is_front (take k text) e) (ap (λ (x : List ℕ). is_front x e) cut ∙ f.2) in
-    let fewest : IsFewest text e l.at = record { within = omega (arith, l.below, f.1, long); is = l.is; fewest = l.first } in
-    (l.at, spells_by text e l.at (makes_reading text e made) fewest, omega (arith, l.below, f.1))
+    let own : MakesEntry (printed_rnldef e) e = subst (λ (x : List ℕ). MakesEntry x e) same (alone e h few) in
+    let spelled : SpellsLines (printed_rnldef e) (entry_line e ∷ []) = subst (λ (x : List ℕ). SpellsLines x (entry_line e ∷ [])) same (alone_spells e h) in
+    let cut : take (length (printed_rnldef e)) (printed_rnldef e ++ behind) ≡ printed_rnldef e = take-append_seam (printed_rnldef e) behind in
+    let end = ending e in
+    let closed : ends_closed (printed_rnldef e) ≡ true = ap ends_closed end.parts ∙ ends_closed-snoc end.init 41 in
+    record {
+      makes = made;
+      front = (omega (arith, long), ap ends_closed cut ∙ closed, subst (λ (x : List ℕ). MakesEntry x e) (sym cut) own);
+      fewest = λ n lt f. no_shorter e behind h spelled n lt f.2;
+    }
 
--- What is printed of an entry is read as that entry.
-pub entry_again : (e : RnlEntry) (behind : List ℕ) → IsEntry e → MayFollow behind → length (printed_rnldef e ++ behind) ≤ max_text → (used : ℕ) × SpellsEntry (printed_rnldef e ++ behind) e used × (used ≤ length (printed_rnldef e))
-entry_again e behind h (inl none) short = used_within e behind h (subst (λ (t : List ℕ). MakesEntry (printed_rnldef e ++ t) e) (sym none) (alone e h (subst (λ (t : List ℕ). length (printed_rnldef e ++ t) ≤ max_text) none short))) short
-entry_again e behind h (inr next) short = used_within e behind h (next_made e behind h next short) short
+pub entry_again : (e : RnlEntry) (behind : List ℕ) → IsEntry e → MayFollow behind → length (printed_rnldef e ++ behind) ≤ max_text → SpellsEntry (printed_rnldef e ++ behind) e (length (printed_rnldef e))
+entry_again e behind h (inl none) short = used_all e behind h (subst (λ (t : List ℕ). MakesEntry (printed_rnldef e ++ t) e) (sym none) (alone e h (subst (λ (t : List ℕ). length (printed_rnldef e ++ t) ≤ max_text) none short))) short
+entry_again e behind h (inr next) short = used_all e behind h (next_made e behind h next short) short

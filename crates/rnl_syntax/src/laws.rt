@@ -7,7 +7,7 @@ ghost use Rattle.rnl_syntax.specs.Reading.{SpellsEntry};
 ghost use Rattle.rnl_syntax.specs.Laws.{IsEntry, MayFollow};
 
 /// A text that begins with the printed form of an entry spells that entry, where nothing follows, or a
-/// line whose first token goes on with no operand. No byte behind the printed form is used.
+/// line whose first token goes on with no operand. The bytes used are those of the printed form.
 pub fn printed_entries()
-    ensures again { (e : EntryValue) (behind : List ℕ) → IsEntry e → MayFollow behind → length (printed_rnldef e ++ behind) ≤ max_text → (used : ℕ) × SpellsEntry (printed_rnldef e ++ behind) e used × (used ≤ length (printed_rnldef e)) }
+    ensures again { (e : EntryValue) (behind : List ℕ) → IsEntry e → MayFollow behind → length (printed_rnldef e ++ behind) ≤ max_text → SpellsEntry (printed_rnldef e ++ behind) e (length (printed_rnldef e)) }
 {}
