@@ -35,7 +35,7 @@ abbrev pub all_closes : List TokenLine → ℕ
 all_closes [] = 0
 all_closes (l ∷ ls) = closes l.tokens + all_closes ls
 
-closes-append : (ts us : List Token) → closes (ts ++ us) ≡ closes ts + closes us
+pub closes-append : (ts us : List Token) → closes (ts ++ us) ≡ closes ts + closes us
 closes-append [] us = omega arith
 closes-append (t ∷ ts) us = let h = closes-append ts us in omega (arith, h)
 

@@ -1,13 +1,12 @@
 -- A printed entry is read again.
-use Rattle.std.proofs.Common.{◌≡◌, ℕ, ◌+◌, ◌≤◌, ◌<◌, Bool, true, false, cond, eqb, List, [], ◌∷◌, ◌++◌, length, take, Option, Some, None, refl, sym, ap, subst, ◌∙◌, arith, append_assoc, length-append, inl, inr, drop}
+use Rattle.std.proofs.Common.{◌≡◌, ℕ, ◌+◌, ◌≤◌, Bool, true, false, cond, eqb, List, [], ◌∷◌, ◌++◌, length, take, Option, Some, None, refl, sym, ap, subst, ◌∙◌, arith, append_assoc, length-append, inl, inr}
 use Rattle.std.specs.Prelude.{codes, ◌&&◌, is_none}
 use Rattle.std.specs.List.{list_all}
 use Rattle.std.proofs.Math.Seq.{take-append_seam}
-use Rattle.std.proofs.lemmas.List.{append-nil, take-append-le, take-append-drop}
-use Rattle.deck_scan.specs.Scan.{lines_of}
-use Rattle.deck_scan.proofs.Pieced.{spelled_is}
+use Rattle.std.proofs.lemmas.List.{append-nil}
 use Rattle.rnl_syntax.proofs.Closed.{ends_closed-snoc, line_closes}
-use Rattle.rnl_syntax.proofs.Exact.{closes, all_closes, some, front_closes, last_close, first_closes, rnldef_closes}
+use Rattle.rnl_syntax.proofs.Exact.{all_closes, some, rnldef_closes}
+use Rattle.rnl_syntax.proofs.Used.{no_shorter}
 use Rattle.std.proofs.lemmas.List.Folds.{list_all-append}
 use Rattle.grs_base.specs.Printed.{is_printable, printed_name}
 use Rattle.grs_base.specs.Names.{is_qname, is_rname}
@@ -30,7 +29,7 @@ use Rattle.rnl_syntax.specs.Lines.{is_open}
 use Rattle.rnl_syntax.specs.Operands.{is_specific, is_bad_r}
 use Rattle.rnl_syntax.specs.Spelled.{which_word, form_word, Of, As, First, Second, IsRnldef}
 use Rattle.rnl_syntax.specs.Printed.{printed_rname, printed_rnldef}
-use Rattle.rnl_syntax.specs.Reading.{first_from, first_statement, MakesEntry, ends_closed, SpellsEntry}
+use Rattle.rnl_syntax.specs.Reading.{first_from, MakesEntry, ends_closed, SpellsEntry}
 use Rattle.rnl_syntax.specs.Laws.{IsMaybeRname, IsEntry, begins_operands, IsLineEnd, IsNextLine, MayFollow}
 use Rattle.rnl_syntax.proofs.Behind.{lines_behind}
 
@@ -326,33 +325,8 @@ line_ends : (which : Which) (form : Form) (q : List ℕ) (r : Option (List ℕ))
 line_ends which form q None = refl
 line_ends which form q (Some r) = refl
 
--- the closing parentheses of a text that makes the entry
-made_closes : (text : List ℕ) (e : RnlEntry) (h : MakesEntry text e) (lines : List TokenLine) → h.lines ≡ lines → 3 + some e.r ≤ all_closes lines
-made_closes text e h [] none = absurd (let z : None ≡ Some h.statement = sym (ap first_statement none) ∙ h.first in cc)
-made_closes text e h (l ∷ ls) is =
-    let first : Some (first_from l ls) ≡ Some h.statement = sym (ap first_statement is) ∙ h.first in
-    let same : first_from l ls ≡ h.statement = cc in
-    let few = first_closes ls l in
-    let tokens : closes (first_from l ls).tokens ≡ closes (Word (codes "RNLDEF") ∷ h.behind) = ap (λ (s : TokenLine). closes s.tokens) same ∙ ap closes h.parts in
-    let own = rnldef_closes h.behind h.rnldef h.says in
-    let r : some h.rnldef.r ≡ some e.r = ap (λ (x : RnlEntry). some x.r) h.makes in
-    omega (arith, few, tokens, own, r)
-
-no_shorter : (e : RnlEntry) (behind : List ℕ) → IsEntry e → SpellsLines (printed_rnldef e) (entry_line e ∷ []) → (n : ℕ) → n < length (printed_rnldef e) → MakesEntry (take n (printed_rnldef e ++ behind)) e → ⊥
-no_shorter e behind h spelled n lt made =
-    let end = ending e in
-    let long : length (printed_rnldef e) ≡ length (end.init ++ 41 ∷ []) = ap length end.parts in
-    let within : n ≤ length end.init = omega (arith, lt, long, length-append end.init (41 ∷ [])) in
-    let cut : take n (printed_rnldef e ++ behind) ≡ take n end.init = take-append-le n (printed_rnldef e) behind (omega (arith, lt)) ∙ ap (take n) end.parts ∙ take-append-le n end.init (41 ∷ []) within in
-    let low = made_closes (take n (printed_rnldef e ++ behind)) e made made.lines refl in
-    let own : all_closes made.lines ≡ all_closes (lines_of (take n end.init)) = ap all_closes (sym (spelled_is (take n (printed_rnldef e ++ behind)) made.lines made.spelled)) ∙ ap (λ (t : List ℕ). all_closes (lines_of t)) cut in
-    let more = front_closes (take n end.init) (drop n end.init) in
-    let whole : all_closes (lines_of (take n end.init ++ drop n end.init)) ≡ all_closes (lines_of end.init) = ap (λ (t : List ℕ). all_closes (lines_of t)) (take-append-drop n end.init) in
-    let said : lines_of (end.init ++ 41 ∷ []) ≡ entry_line e ∷ [] = ap lines_of (sym end.parts) ∙ spelled_is (printed_rnldef e) (entry_line e ∷ []) spelled in
-    let last = last_close end.init (ap line_closes said ∙ line_ends e.which e.form e.q e.r) in
-    let count : all_closes (lines_of (end.init ++ 41 ∷ [])) ≡ closes (Word (codes "RNLDEF") ∷ entry_tokens e) + 0 = ap all_closes said in
-    let operands = rnldef_closes (entry_tokens e) (rnldef_of e) (parts_say e.which e.form e.q e.r h.needed) in
-    omega (arith, low, own, more, whole, last, count, operands)
+line_count : (e : RnlEntry) → IsEntry e → all_closes (entry_line e ∷ []) ≡ 3 + some e.r
+line_count e h = let k = rnldef_closes (entry_tokens e) (rnldef_of e) (parts_say e.which e.form e.q e.r h.needed) in omega (arith, k)
 
 -- What is printed of an entry is read as that entry, and used to its end.
 used_all : (e : RnlEntry) (behind : List ℕ) → IsEntry e → MakesEntry (printed_rnldef e ++ behind) e → length (printed_rnldef e ++ behind) ≤ max_text → SpellsEntry (printed_rnldef e ++ behind) e (length (printed_rnldef e))
@@ -368,7 +342,7 @@ used_all e behind h made short =
     record {
       makes = made;
       front = (omega (arith, long), ap ends_closed cut ∙ closed, subst (λ (x : List ℕ). MakesEntry x e) (sym cut) own);
-      fewest = λ n lt f. no_shorter e behind h spelled n lt f.2;
+      fewest = λ n lt f. no_shorter (printed_rnldef e) end.init behind e (entry_line e ∷ []) end.parts spelled (line_ends e.which e.form e.q e.r) (line_count e h) n lt f.2;
     }
 
 pub entry_again : (e : RnlEntry) (behind : List ℕ) → IsEntry e → MayFollow behind → length (printed_rnldef e ++ behind) ≤ max_text → SpellsEntry (printed_rnldef e ++ behind) e (length (printed_rnldef e))

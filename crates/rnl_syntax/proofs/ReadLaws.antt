@@ -171,6 +171,7 @@ record Head (s : TokenLine) (ls : List TokenLine) : Type 0 where
   parts : ls ≡ own ++ more
   is : first_from s own ≡ first_from s ls
   closes : line_closes (s ∷ own) ≡ true
+  all : (first_from s own).tokens ≡ s.tokens ++ flat_map (λ (l : TokenLine). l.tokens) own
 
 nothing_more : (s l : TokenLine) → l.tokens ≡ [] → with_line s l ≡ s
 nothing_more s l e = rw (e, append-nil s.tokens) refl
@@ -184,6 +185,7 @@ head_next s l ls more [] none e parts is closes = record {
   parts = refl;
   is = rw e (sym (nothing_more s l none) ∙ is);
   closes = subst (λ (ts : List Token). last_closes ts ≡ true) (append-nil s.tokens) closes;
+  all = sym (append-nil s.tokens);
 }
 head_next s l ls more (t ∷ ts) some e parts is closes = record {
   own = l ∷ [];
@@ -191,27 +193,29 @@ head_next s l ls more (t ∷ ts) some e parts is closes = record {
   parts = refl;
   is = rw e is;
   closes = ap last_closes some ∙ sym (last_closes-append s.tokens ts t) ∙ closes;
+  all = rw e (ap (λ (x : List Token). s.tokens ++ x) (sym (append-nil l.tokens)));
 }
 
-head_more : (s l : TokenLine) (ls own more : List TokenLine) → goes_on s l ≡ true → ls ≡ own ++ more → first_from (with_line s l) own ≡ first_from (with_line s l) ls → line_closes (with_line s l ∷ own) ≡ true → Head s (l ∷ ls)
+head_more : (s l : TokenLine) (ls own more : List TokenLine) → goes_on s l ≡ true → ls ≡ own ++ more → first_from (with_line s l) own ≡ first_from (with_line s l) ls → line_closes (with_line s l ∷ own) ≡ true → (first_from (with_line s l) own).tokens ≡ (s.tokens ++ l.tokens) ++ flat_map (λ (m : TokenLine). m.tokens) own → Head s (l ∷ ls)
 unfolding first_from
-head_more s l ls [] more e parts is closes = head_next s l ls more l.tokens refl e parts is closes
-head_more s l ls (m ∷ ms) more e parts is closes = record {
+head_more s l ls [] more e parts is closes all = head_next s l ls more l.tokens refl e parts is closes
+head_more s l ls (m ∷ ms) more e parts is closes all = record {
   own = l ∷ m ∷ ms;
   more = more;
   parts = ap (λ (x : List TokenLine). l ∷ x) parts;
   is = rw e is;
   closes = closes;
+  all = rw e (all ∙ append_assoc s.tokens l.tokens (flat_map (λ (k : TokenLine). k.tokens) (m ∷ ms)));
 }
 
 head_of : (ls : List TokenLine) (s : TokenLine) → last_closes (first_from s ls).tokens ≡ true → Head s ls
 unfolding first_from
-head_of [] s h = record { own = []; more = []; parts = refl; is = refl; closes = h }
+head_of [] s h = record { own = []; more = []; parts = refl; is = refl; closes = h; all = sym (append-nil s.tokens) }
 head_of (l ∷ ls) s h = go (goes_on s l) refl h (λ k. head_of ls (with_line s l) k)
   where
     go : (b : Bool) → goes_on s l ≡ b → last_closes (cond b (first_from (with_line s l) ls) s).tokens ≡ true → (last_closes (first_from (with_line s l) ls).tokens ≡ true → Head (with_line s l) ls) → Head s (l ∷ ls)
-    go true e k next = let n = next k in head_more s l ls n.own n.more e n.parts n.is n.closes
-    go false e k next = record { own = []; more = l ∷ ls; parts = refl; is = rw e refl; closes = k }
+    go true e k next = let n = next k in head_more s l ls n.own n.more e n.parts n.is n.closes n.all
+    go false e k next = record { own = []; more = l ∷ ls; parts = refl; is = rw e refl; closes = k; all = sym (append-nil s.tokens) }
 
 -- ---- the last operand
 
@@ -234,16 +238,19 @@ statement_closes ts behind t d parts h = rw (parts, h.spelled) (given_close h.gi
 
 -- ---- the front
 
-record MadeFront (text : List ℕ) (e : RnlEntry) : Type 0 where
-  front : List ℕ
-  back : List ℕ
-  parts : text ≡ front ++ 41 ∷ back
-  makes : MakesEntry (front ++ 41 ∷ []) e
+pub record MadeFront (text : List ℕ) (e : RnlEntry) (s : TokenLine) : Type 0 where
+  pub front : List ℕ
+  pub back : List ℕ
+  pub parts : text ≡ front ++ 41 ∷ back
+  pub makes : MakesEntry (front ++ 41 ∷ []) e
+  pub closes : line_closes makes.lines ≡ true
+  pub same : makes.statement ≡ s
+  pub tokens : flat_map (λ (l : TokenLine). l.tokens) makes.lines ≡ s.tokens
 
 some_line : (s t : TokenLine) (o : Option TokenLine) → o ≡ Some s → o ≡ Some t → s ≡ t
 some_line s t o e f = cc
 
-makes_front : (text : List ℕ) (e : RnlEntry) (lines : List TokenLine) (h : MakesEntry text e) → h.lines ≡ lines → MadeFront text e
+pub makes_front : (text : List ℕ) (e : RnlEntry) (lines : List TokenLine) (h : MakesEntry text e) → h.lines ≡ lines → MadeFront text e h.statement
 makes_front text e [] h none = absurd (let z : None ≡ Some h.statement = sym (ap first_statement none) ∙ h.first in cc)
 makes_front text e (l ∷ ls) h is =
     let first : Some (first_from l ls) ≡ Some h.statement = sym (ap first_statement is) ∙ h.first in
@@ -271,6 +278,9 @@ makes_front text e (l ∷ ls) h is =
         names = h.names;
         makes = h.makes;
       };
+      closes = head.closes;
+      same = refl;
+      tokens = sym head.all ∙ ap (λ (s : TokenLine). s.tokens) (head.is ∙ same);
     }
 
 -- ---- equal entries

@@ -1,11 +1,13 @@
 -- Which entries are printed so that they are read again, and what may follow the printed form.
-use Rattle.std.specs.Prelude.{◌≡◌, ℕ, Bool, true, false, ◌&&◌, ◌⊎◌, List, [], ◌∷◌, ◌++◌, Option, Some, None, is_none}
+use Rattle.std.specs.Prelude.{◌≡◌, ℕ, Bool, true, false, ◌&&◌, ◌⊎◌, List, [], ◌∷◌, ◌++◌, Option, Some, None, is_none, take}
+use Rattle.std.specs.List.{flat_map}
 use Rattle.grs_base.specs.Names.{is_rname, IsQname}
 use Rattle.grs_base.specs.declared.rnl.RnlEntry.{RnlEntry}
 use Rattle.deck_scan.specs.declared.token.TokenLine.{TokenLine}
 use Rattle.deck_scan.specs.Named.{are_bytes}
 use Rattle.deck_scan.specs.Pieces.{SpellsLines}
 use Rattle.rnl_syntax.specs.Lines.{begins_operand}
+use Rattle.rnl_syntax.specs.Reading.{first_statement, ends_closed}
 use Rattle.rnl_syntax.specs.Operands.{is_specific}
 
 abbrev pub IsMaybeRname : Option (List ℕ) → Type 0
@@ -41,3 +43,14 @@ pub record IsNextLine (text : List ℕ) : Type 0 where
 -- What may follow a printed RNLDEF: nothing, or the next line.
 abbrev pub MayFollow : List ℕ → Type 0
 MayFollow text = (text ≡ []) ⊎ IsNextLine text
+
+-- So many bytes of a text are its first statement alone: they end with a closing parenthesis, and the tokens
+-- of their lines together are those of the statement.
+pub record AreStatement (text : List ℕ) (used : ℕ) : Type 0 where
+  pub closed : ends_closed (take used text) ≡ true
+  pub all : List TokenLine
+  pub statement : TokenLine
+  pub first : SpellsLines text all × (first_statement all ≡ Some statement)
+  pub own : List TokenLine
+  pub spelled : SpellsLines (take used text) own
+  pub tokens : flat_map (λ (l : TokenLine). l.tokens) own ≡ statement.tokens
