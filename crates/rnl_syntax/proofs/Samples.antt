@@ -1,11 +1,19 @@
 -- What the definitions say of some entries.
-use Rattle.std.proofs.Common.{◌≡◌, List, [], ◌∷◌, Some, None, refl}
+use Rattle.std.proofs.Common.{◌≡◌, ℕ, true, false, List, [], ◌∷◌, ◌++◌, take, Some, None, Result, Ok, Err, refl}
 use Rattle.std.specs.Prelude.{codes}
+use Rattle.grs_base.specs.declared.fault.DeckFault.{DeckFault}
+use Rattle.grs_base.specs.declared.fault.Kind.{Kind}
+use Rattle.grs_base.specs.declared.fault.Kind.TheVariants.{UnknownStatement, BadOperand, NameLength}
+use Rattle.grs_base.specs.declared.rnl.RnlEntry.{RnlEntry}
 use Rattle.grs_base.specs.declared.rnl.Which.TheVariants.{Incl, Excl, Con}
 use Rattle.grs_base.specs.declared.rnl.Form.TheVariants.{Specific, Generic, Pattern}
 use Rattle.deck_scan.specs.declared.token.Token.TheVariants.{Word, Name, Open, Close}
 use Rattle.rnl_syntax.specs.Operands.{which_of, form_of, value_of, operand_at, whole, rnldef_at}
+use Rattle.deck_scan.specs.Bytes.{is_word, is_hex, digit, is_allowed, bad_line}
+use Rattle.deck_scan.specs.Scan.{put, put_word, put_open, end_line, break_off, begin_word, begin, step_in, step, scan_from, finish_in, lines_of}
+use Rattle.deck_scan.specs.Reading.{lines_or_fault}
 use Rattle.rnl_syntax.specs.Printed.{printed_rnldef}
+use Rattle.rnl_syntax.specs.Reading.{first_from, rnldef_on, reading, is_front}
 
 -- an entry of each form, with and without an rname
 printed_entries :
@@ -22,3 +30,25 @@ statements :
     × (rnldef_at (Word (codes "RNL") ∷ Open ∷ Word (codes "CON") ∷ Close ∷ Word (codes "RNL") ∷ Open ∷ Word (codes "CON") ∷ Close ∷ []) ≡ None)
 unfolding which_of form_of value_of operand_at whole rnldef_at
 statements = (refl, refl, refl, refl)
+
+abbrev text : List ℕ
+text = codes "RNLDEF RNL(INCL) TYPE(GENERIC) QNAME(A)  /*x*/" ++ 10 ∷ codes "SYSTEM SYA"
+
+abbrev entry : RnlEntry
+entry = record { which = Incl; form = Generic; q = codes "A"; r = None }
+
+abbrev faulty : ℕ → Kind → Result RnlEntry DeckFault
+faulty line kind = Err (record { line = line; kind = kind })
+
+-- an RNLDEF with more behind it: 39 bytes make it, and fewer don't; no statement; another statement; one that breaks off; a name too long, on a later line
+texts :
+    (reading text ≡ Ok entry)
+    × (is_front (take 39 text) entry ≡ true)
+    × (is_front (take 30 text) entry ≡ false)
+    × (is_front (take 38 text) entry ≡ false)
+    × (reading [] ≡ faulty 1 UnknownStatement)
+    × (reading (codes "SYSTEM SYA") ≡ faulty 1 UnknownStatement)
+    × (reading (codes "RNLDEF RNL(INCL) TYPE(GENE") ≡ faulty 1 BadOperand)
+    × (reading (10 ∷ codes "RNLDEF RNL(INCL) TYPE(GENERIC) QNAME(ABCDEFGHI)") ≡ faulty 2 NameLength)
+unfolding is_word is_hex digit is_allowed bad_line put put_word put_open end_line break_off begin_word begin step_in step scan_from finish_in lines_of lines_or_fault which_of form_of value_of operand_at whole rnldef_at first_from rnldef_on reading is_front
+texts = (refl, refl, refl, refl, refl, refl, refl, refl)
