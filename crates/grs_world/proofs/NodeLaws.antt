@@ -1,28 +1,20 @@
 -- The laws of the systems of a complex.
-use Rattle.std.proofs.Common.{◌≡◌, ℕ, zero, suc, Bool, true, false, List, [], ◌∷◌, ◌++◌, length, Option, Some, None, refl, ap, sym, ◌∙◌, subst, arith, get_or}
-use Rattle.std.specs.Prelude.{is_some, slice_get, ◌==◌, nat_lt}
+use Rattle.std.proofs.Common.{◌≡◌, ℕ, zero, suc, true, List, [], length, Some, refl, ap, sym, ◌∙◌, subst, arith, get_or}
+use Rattle.std.specs.Prelude.{slice_get, ◌==◌, nat_lt}
 use Rattle.std.specs.List.{list_all}
 use Rattle.std.proofs.lemmas.Bool.{and_parts, eqb-true, eq-eqb, lt-ltb}
-use Rattle.grs_base.specs.State.{is_systems}
 use Rattle.grs_base.specs.declared.resource.TaskId.{TaskId}
 use Rattle.grs_legal.specs.Asks.{lines_of, scripts_of}
 use Rattle.grs_legal.specs.declared.meaning.Meaning.{Meaning}
-use Rattle.grs_node.specs.Node.{Node}
 use Rattle.grs_wire.specs.declared.deck.Deck.{Deck}
-use Rattle.grs_wire.specs.declared.history.HistEntry.{HistEntry}
 use Rattle.grs_wire.specs.declared.request.Req.{Req}
-use Rattle.grs_wire.specs.declared.told.ToldLine.{ToldLine}
-use Rattle.grs_wire.specs.History.{replay}
 use Rattle.task_state.specs.View.{is_task, state_of, new_task, new_tasks}
 use Rattle.grs_world.specs.World.{first_node}
 use Rattle.grs_world.proofs.Lines.{slice_get-within}
-use Rattle.grs_world.proofs.Granted.{past}
-use Rattle.grs_world.proofs.Invariant.{IsTask}
-use Rattle.grs_world.proofs.Seen.{part, is_res_of, is_home_at, askers, stand_apart, NodeLaws}
-use Rattle.grs_world.proofs.Asking.{Opens}
+use Rattle.grs_world.proofs.Seen.{is_home_at, askers, stand_apart, NodeLaws}
 use Rattle.grs_world.proofs.Ours.{IsHere, script_at}
 use Rattle.grs_world.proofs.Good.{owned, IsGood, some_of}
-use Rattle.grs_world.proofs.AtNode.{opens_of, Seen}
+use Rattle.grs_world.proofs.AtNode.{Seen}
 use Rattle.grs_world.proofs.Processed.{read_own, read_other, elsewhere}
 use Rattle.grs_world.proofs.Puts.{put, put_told, may_put}
 use Rattle.grs_world.proofs.Quiet.{quiet}
