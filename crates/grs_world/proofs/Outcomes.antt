@@ -105,8 +105,7 @@ module _ (deck : Deck) (Seen : ℕ → List HistEntry → List Req → Node → 
       let stands : MayStand deck P h =
       stands-carried deck t P (entries Q) h carries (by-for (replay deck.limit P) t w h at.made) (answer-for deck.limit (replay deck.limit P) t w h at.full at.made) legal in
       let view_next : entries (Q ++ x ∷ []) ≡ entries Q ++ h ∷ [] = entries-append Q (x ∷ []) in
-      let right_view : Replied deck.limit (entries (Q ++ x ∷ [])) = subst (Replied deck.limit) (sym view_next) (replied_for deck.limit (entries Q) t w h v.replied fits made) in
-      let view : View deck s front (rest ++ x ∷ []) (Q ++ x ∷ []) = view-decided deck s front rest Q x item v own right_view alone in
+      let view : View deck s front (rest ++ x ∷ []) (Q ++ x ∷ []) = view-decided deck s front rest Q x item v own (record { made = made; full = fits; is = item }) alone in
       let grown : front ++ (rest ++ x ∷ []) ≡ (front ++ rest) ++ x ∷ [] = sym (append_assoc front rest (x ∷ [])) in
       let right_whole : Replied deck.limit (entries (front ++ (rest ++ x ∷ []))) =
       subst (Replied deck.limit) (sym (ap entries grown ∙ entries-append (front ++ rest) (x ∷ []))) (replied_for deck.limit P t w h here at.full at.made) in

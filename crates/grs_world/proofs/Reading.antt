@@ -150,11 +150,8 @@ module _ (deck : Deck) (Seen : ℕ → List HistEntry → List Req → Node → 
       view_next : entries (Q ++ x ∷ []) ≡ entries Q ++ x.entry ∷ []
       view_next = entries-append Q (x ∷ [])
 
-      right_view : Replied deck.limit (entries (Q ++ x ∷ []))
-      right_view = subst (Replied deck.limit) (sym view_next) (replied_for deck.limit (entries Q) x.req.task x.req.want x.entry v.replied at_view.full at_view.made)
-
       learned : View deck s (front ++ x ∷ []) (rest ++ extra) (Q ++ x ∷ [])
-      learned = view-learned deck s front (rest ++ extra) Q x v away right_view
+      learned = view-learned deck s front (rest ++ extra) Q x v away at_view
 
       -- another system decided it
       read_elsewhere : for_all x ≡ false → Seen s (entries Q) (requests (waiting s (x ∷ rest))) n → ReadTo deck Seen s T extra n (read_all n (requests (filter for_all (x ∷ rest))))

@@ -235,6 +235,7 @@ first_view deck s = record {
   own = refl;
   tasks = λ t e. refl;
   blocked = tt;
+  tape = tt;
   replied = replied_none deck.limit;
   items = tt;
   front_items = tt;
