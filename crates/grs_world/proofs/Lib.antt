@@ -39,3 +39,4 @@ pub mod OwnEntries
 pub mod Processed
 pub mod Puts
 pub mod Quiet
+pub mod Fronts

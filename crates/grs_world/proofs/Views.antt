@@ -1,21 +1,19 @@
 -- Where a system stands in the history: what it has processed of it, and in which order.
-use Rattle.std.proofs.Common.{◌≡◌, ◌≢◌, cond, Bool, true, false, not, ◌&&◌, ◌||◌, ℕ, List, [], ◌∷◌, ◌++◌, map, Option, Some, None, refl, ap, sym, ◌∙◌, subst, arith, append-nil, append_assoc}
-use Rattle.std.specs.Prelude.{filter, is_some, ◌==◌}
-use Rattle.std.specs.List.{list_all}
-use Rattle.std.proofs.lemmas.Bool.{and_parts, eqb-true, eq-eqb, eqb-false}
-use Rattle.grs_base.specs.Same.{same_res, same_task}
+use Rattle.std.proofs.Common.{◌≡◌, ◌≢◌, cond, Bool, true, false, not, ◌&&◌, ◌||◌, ℕ, List, [], ◌∷◌, ◌++◌, refl, ap, sym, ◌∙◌, subst, append-nil, append_assoc}
+use Rattle.std.specs.Prelude.{filter}
+use Rattle.std.proofs.lemmas.Bool.{eqb-true, eq-eqb}
+use Rattle.grs_base.specs.Same.{same_task}
 use Rattle.grs_base.specs.State.{is_systems}
 use Rattle.grs_base.specs.declared.resource.Res.{Res}
 use Rattle.grs_base.specs.declared.resource.Res.TheVariants as resources
 use Rattle.grs_base.specs.declared.resource.TaskId.{TaskId}
-use Rattle.grs_base.proofs.SameLaws.{same_task-exact, same_task-itself, same_res-exact, same_res-itself}
+use Rattle.grs_base.proofs.SameLaws.{same_task-exact, same_task-itself}
 use Rattle.grs_wire.specs.declared.deck.Deck.{Deck}
-use Rattle.grs_wire.specs.declared.request.Req.{Req}
 use Rattle.grs_world.proofs.Entries.{filter-append, filter-push_kept, filter-push_left}
 use Rattle.grs_world.proofs.Owners.{is_among}
 use Rattle.grs_world.proofs.Replied.{Replied, replied_for}
 use Rattle.grs_world.proofs.Seen.{is_res_of, askers}
-use Rattle.grs_world.proofs.Tape.{Item, entries, requests, by, on, for_all, from, home, IsItem, Items, items-append, At, Tape, tape-append, entries-append, filter-within, filter-none}
+use Rattle.grs_world.proofs.Tape.{Item, entries, requests, by, for_all, from, home, IsItem, Items, items-append, At, Tape, tape-append, entries-append, filter-none}
 
 -- an item for the whole complex of a task of this system
 abbrev pub waits : ℕ → Item → Bool

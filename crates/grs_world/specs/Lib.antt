@@ -1,2 +1,3 @@
 pub mod World
 pub mod Agree
+pub mod Tables
