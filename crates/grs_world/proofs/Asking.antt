@@ -1,9 +1,9 @@
 -- A task whose request is outstanding is seen as one that hasn't asked yet.
-use Rattle.std.proofs.Common.{◌≡◌, ◌<◌, ◌-◌, ℕ, Bool, true, false, not, ◌&&◌, ◌||◌, List, [], ◌∷◌, ◌++◌, map, length, Option, Some, None, refl, ap, sym, ◌∙◌, subst, arith}
+use Rattle.std.proofs.Common.{◌≡◌, ◌<◌, ◌-◌, ℕ, Bool, true, false, not, ◌&&◌, ◌||◌, List, [], ◌∷◌, map, length, Option, Some, None, refl, ap, sym, ◌∙◌, arith}
 use Rattle.std.specs.Prelude.{slice_get, nat_le}
 use Rattle.std.specs.List.{list_all}
-use Rattle.std.proofs.lemmas.Bool.{cases_Bool, and_parts}
-use Rattle.grs_base.specs.Same.{same_res, same_task}
+use Rattle.std.proofs.lemmas.Bool.{cases_Bool}
+use Rattle.grs_base.specs.Same.{same_task}
 use Rattle.grs_base.specs.State.{is_systems}
 use Rattle.grs_base.specs.declared.resource.Res.{Res}
 use Rattle.grs_base.specs.declared.resource.TaskId.{TaskId}
@@ -19,7 +19,7 @@ use Rattle.task_state.specs.declared.state.Phase.{Phase}
 use Rattle.task_state.specs.declared.state.Phase.TheVariants as phases
 use Rattle.task_state.specs.declared.state.TaskState.{TaskState}
 use Rattle.task_state.specs.View.{on_record}
-use Rattle.task_state.specs.Replies.{gives_up, is_leaving, is_held, is_held_for, phase_asking}
+use Rattle.task_state.specs.Replies.{gives_up, is_leaving, is_held, phase_asking}
 use Rattle.task_state.proofs.ViewLaws.{length-on_record}
 use Rattle.grs_world.proofs.Owners.{is_among}
 use Rattle.grs_world.proofs.Invariant.{is_unsent}

@@ -1,8 +1,8 @@
 -- A system of a complex after it has processed a history.
-use Rattle.std.proofs.Common.{◌≡◌, ◌≢◌, ℕ, Bool, true, false, not, ◌&&◌, ◌||◌, List, [], ◌∷◌, ◌++◌, Option, Some, None, refl, ap, sym, ◌∙◌, subst, arith}
+use Rattle.std.proofs.Common.{◌≡◌, ◌≢◌, ℕ, Bool, true, false, not, ◌||◌, List, [], ◌∷◌, ◌++◌, Some, refl, ap, sym, ◌∙◌}
 use Rattle.std.specs.Prelude.{is_some, ◌==◌}
 use Rattle.std.specs.List.{list_all}
-use Rattle.std.proofs.lemmas.Bool.{and_parts, cases_Bool, eqb-true, eq-eqb}
+use Rattle.std.proofs.lemmas.Bool.{and_parts, eqb-true, eq-eqb}
 use Rattle.grs_base.specs.Same.{same_res, same_task}
 use Rattle.grs_base.specs.State.{State, is_systems}
 use Rattle.grs_base.specs.declared.resource.Res.{Res}
@@ -12,7 +12,7 @@ use Rattle.grs_legal.specs.Asks.{lines_of}
 use Rattle.grs_legal.specs.declared.meaning.Meaning.{Meaning}
 use Rattle.grs_node.specs.Node.{Node}
 use Rattle.grs_wire.specs.History.{replay, is_by, entries_for, step}
-use Rattle.grs_wire.specs.Wants.{answer_to, after_want, res_wanted, new_owners}
+use Rattle.grs_wire.specs.Wants.{after_want, res_wanted}
 use Rattle.grs_wire.specs.declared.deck.Deck.{Deck}
 use Rattle.grs_wire.specs.declared.history.HistEntry.{HistEntry}
 use Rattle.grs_wire.specs.declared.history.HistEntry.TheVariants as entries
@@ -22,15 +22,12 @@ use Rattle.grs_wire.specs.declared.request.Want.TheVariants.{Enq, Deq, Release, 
 use Rattle.grs_wire.proofs.WantLaws.{speaks_of}
 use Rattle.task_state.specs.View.{TasksView, is_task}
 use Rattle.task_state.proofs.ViewLaws.{is_task-system}
-use Rattle.task_state.specs.declared.state.Asked.{Asked}
-use Rattle.task_state.specs.declared.state.Phase.{Phase}
-use Rattle.grs_world.proofs.Owners.{is_among}
 use Rattle.grs_world.proofs.Seen.{part, is_res_of, is_home_at, askers, stand_apart, FullFits}
-use Rattle.grs_world.proofs.Asking.{Opens, IsAskedBy, are_sent}
+use Rattle.grs_world.proofs.Asking.{Opens}
 use Rattle.grs_world.proofs.Ours.{IsOurs}
-use Rattle.grs_world.proofs.Good.{IsGood, may_have, replay-push, some_of}
+use Rattle.grs_world.proofs.Good.{IsGood, may_have}
 use Rattle.grs_world.proofs.Meant.{is_own}
-use Rattle.grs_world.proofs.Parts.{after_want-part, answer_to-part, new_owners-part, part-want_other}
+use Rattle.grs_world.proofs.Parts.{after_want-part, part-want_other}
 
 -- the requests that are open at a system: those that were sent, and those that wait
 abbrev pub opens_of : List Req → Node → Opens
@@ -99,21 +96,15 @@ away-task v t s system apart = go (is_task v t) refl
     go true e = absurd (apart (sym (is_task-system v t e) ∙ system))
     go false e = refl
 
+pub first_same : (a b : HistEntry) → a ∷ [] ≡ b ∷ [] → a ≡ b
+first_same a b f = cc
+
 -- a request's entry leads to the lists behind the request
 pub entry-after : (limit : ℕ) (s : State) (t : TaskId) (w : Want) (r : Res) (h : HistEntry) → res_wanted w ≡ Some r → FullFits limit s t w → entries_for s t w ≡ h ∷ [] → (step limit s h ≡ after_want s t w) × ((u : TaskId) → is_by u h ≡ same_task u t)
 entry-after limit s t (Enq q c ret full) r h is fits e =
     let same : h ≡ entries.Enq t q c ret _ = sym (first_same _ _ e) in (ap (step limit s) same ∙ ap (λ b. after_want s t (Enq q c ret b)) (sym fits), λ u. ap (is_by u) same)
-  where
-    first_same : (a b : HistEntry) → a ∷ [] ≡ b ∷ [] → a ≡ b
-    first_same a b f = cc
 entry-after limit s t (Deq q have) r h is fits e = let same : h ≡ entries.Deq t q have _ = sym (first_same _ _ e) in (ap (step limit s) same, λ u. ap (is_by u) same)
-  where
-    first_same : (a b : HistEntry) → a ∷ [] ≡ b ∷ [] → a ≡ b
-    first_same a b f = cc
 entry-after limit s t (Release q) r h is fits e = let same : h ≡ entries.Release t q = sym (first_same _ _ e) in (ap (step limit s) same, λ u. ap (is_by u) same)
-  where
-    first_same : (a b : HistEntry) → a ∷ [] ≡ b ∷ [] → a ≡ b
-    first_same a b f = cc
 entry-after limit s t (Look first count f) r h is fits e = absurd (cc)
 
 pub speaks-by : (w : Want) (r : Res) → res_wanted w ≡ Some r → (q : Res) → speaks_of w q ≡ same_res q r

@@ -29,11 +29,11 @@ use Rattle.grs_wire.specs.declared.told.Verb.{Verb}
 use Rattle.grs_wire.specs.declared.told.Verb.TheVariants as verbs
 use Rattle.grs_wire.specs.declared.told.ToldLine.{ToldLine}
 use Rattle.grs_wire.specs.declared.told.ToldLine.TheVariants.{Coded}
-use Rattle.grs_wire.specs.History.{is_by, replay, entries_for}
+use Rattle.grs_wire.specs.History.{is_by, replay}
 use Rattle.grs_wire.specs.Wants.{answer_to, after_want, res_wanted, new_owners}
 use Rattle.grs_wire.proofs.HistoryLaws.{none_twice}
 use Rattle.grs_wire.proofs.WantLaws.{cond_both, speaks_of}
-use Rattle.grs_legal.specs.Asks.{Ask, AsksEnq, AsksDeq, lines_of, asks_in, asks_of}
+use Rattle.grs_legal.specs.Asks.{Ask, AsksEnq, AsksDeq, lines_of, asks_of}
 use Rattle.grs_legal.specs.Legal.{line_entries, entries_of, IsLegal, lets_pass, passed_lines, next_ask}
 use Rattle.task_state.specs.declared.state.Rec.{Rec}
 use Rattle.task_state.specs.declared.state.Phase.TheVariants as phases
@@ -58,7 +58,8 @@ use Rattle.grs_world.proofs.Decided.{both, by_lists, enq_records, task-enq, task
 use Rattle.grs_world.proofs.Good.{owned, may_have, IsGood, replay-push, has_task-home, owns-has, home-ours, became-apart, all-filter, holds-knows, task-told_after, became, before_telling, before-own, told-all, other-decided}
 use Rattle.grs_world.proofs.Did.{Did, did-answered_enq, did-answered_deq}
 
-all-push : {X : Type 0} (p : X → Bool) (xs : List X) (x : X) → list_all p xs ≡ true → p x ≡ true → list_all p (xs ++ x ∷ []) ≡ true
+-- one item more of which it holds too
+pub all-push : {X : Type 0} (p : X → Bool) (xs : List X) (x : X) → list_all p xs ≡ true → p x ≡ true → list_all p (xs ++ x ∷ []) ≡ true
 all-push p [] x h e = grind (arith, e)
 all-push p (y ∷ xs) x h e = grind (arith, h, all-push p xs x, e)
 

@@ -2,7 +2,7 @@
 use Rattle.std.proofs.Common.{◌≡◌, ℕ, zero, suc, Bool, true, false, not, ◌&&◌, ◌||◌, List, [], ◌∷◌, ◌++◌, take, Option, Some, None, refl, ap, sym, ◌∙◌, subst, arith}
 use Rattle.std.specs.Prelude.{filter, is_some, ◌==◌}
 use Rattle.std.specs.List.{list_any, list_all}
-use Rattle.std.proofs.lemmas.Bool.{and_parts, cases_Bool, eqb-true, eq-eqb}
+use Rattle.std.proofs.lemmas.Bool.{and_parts, cases_Bool, eq-eqb}
 use Rattle.grs_base.specs.Same.{same_res, same_task}
 use Rattle.grs_base.specs.Lists.{owns, owners, has_task, is_apart}
 use Rattle.grs_base.specs.State.{pick, State, list_of, is_systems}
@@ -24,13 +24,12 @@ use Rattle.grs_wire.specs.Wants.{after_want, became_owners}
 use Rattle.grs_wire.proofs.WantLaws.{owns-want, speaks_of, list_of-want_other, by_res}
 use Rattle.grs_wire.proofs.HistoryLaws.{replay_from-append}
 use Rattle.grs_legal.specs.Asks.{lines_of}
-use Rattle.grs_legal.specs.Legal.{line_entries}
 use Rattle.task_state.specs.declared.state.TaskState.{TaskState}
 use Rattle.task_state.specs.View.{TasksView, is_task, state_of}
 use Rattle.grs_world.proofs.Owners.{is_among, is_among-became, owns-front}
 use Rattle.grs_world.proofs.Entries.{line_entries-other, entries_of-other}
 use Rattle.grs_world.proofs.Invariant.{Past, IsTask}
-use Rattle.grs_world.proofs.Others.{KeepsTask, keeps-want, task-kept, task-told, recs-knows}
+use Rattle.grs_world.proofs.Others.{KeepsTask, keeps-want, task-kept, task-told}
 use Rattle.grs_world.proofs.Granted.{past}
 use Rattle.grs_world.proofs.Ours.{IsOurs, Holds, IsHere, said, here-knows}
 use Rattle.grs_world.proofs.Asking.{unasked, Opens, IsAskedBy, are_sent}
@@ -39,7 +38,6 @@ use Rattle.task_state.specs.Replies.{is_leaving}
 use Rattle.task_state.proofs.ViewLaws.{is_task-system}
 use Rattle.grs_world.proofs.Telling.{learns_all, learns_all-is, IsHome}
 use Rattle.grs_world.proofs.Asked.{told_after}
-use Rattle.grs_world.proofs.Decided.{by_lists}
 
 -- what each task owns by the lists after a history
 abbrev pub owned : Deck → List HistEntry → Res → TaskId → Bool

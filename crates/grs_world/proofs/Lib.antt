@@ -40,3 +40,4 @@ pub mod Processed
 pub mod Puts
 pub mod Quiet
 pub mod Fronts
+pub mod NodeLaws

@@ -1,10 +1,6 @@
 -- A system processes an entry of the message.
-use Rattle.std.proofs.Common.{◌≡◌, ◌≢◌, ◌<◌, ◌-◌, ℕ, suc, Bool, true, false, cond, not, ◌&&◌, ◌||◌, List, [], ◌∷◌, ◌++◌, length, Option, Some, None, refl, ap, sym, ◌∙◌, subst, arith}
-use Rattle.std.specs.Prelude.{slice_get, is_some, nat_le}
-use Rattle.std.specs.List.{list_all}
-use Rattle.std.proofs.lemmas.Bool.{and_parts, cases_Bool}
-use Rattle.grs_base.specs.Same.{same_res, same_task}
-use Rattle.grs_base.specs.Lists.{owns, is_owner, standing_of}
+use Rattle.std.proofs.Common.{◌≡◌, ◌-◌, ℕ, suc, Bool, true, false, List, [], ◌∷◌, ◌++◌, Option, Some, None, refl, ap, sym, ◌∙◌, subst, arith}
+use Rattle.grs_base.specs.Same.{same_res}
 use Rattle.grs_base.specs.State.{State, list_of, is_full, is_systems}
 use Rattle.grs_base.specs.declared.resource.Ctl.{Ctl}
 use Rattle.grs_base.specs.declared.resource.Ctl.TheVariants as ctls
@@ -13,41 +9,32 @@ use Rattle.grs_base.specs.declared.resource.Ret.TheVariants as rets
 use Rattle.grs_base.specs.declared.resource.Res.{Res}
 use Rattle.grs_base.specs.declared.resource.TaskId.{TaskId}
 use Rattle.grs_base.proofs.ListLaws.{is_owner-standing}
-use Rattle.grs_base.proofs.SameLaws.{same_res-itself, same_task-itself}
-use Rattle.grs_legal.specs.Asks.{AsksEnq, AsksDeq}
+use Rattle.grs_base.proofs.SameLaws.{same_res-itself}
 use Rattle.grs_legal.specs.declared.meaning.Meaning.{Meaning}
 use Rattle.grs_legal.specs.declared.meaning.Meaning.TheVariants as lines
-use Rattle.grs_node.specs.Node.{Node}
-use Rattle.grs_wire.specs.History.{replay, is_by, entries_for, step}
+use Rattle.grs_wire.specs.History.{replay, entries_for}
 use Rattle.grs_wire.specs.Wants.{answer_to, after_want, res_wanted, new_owners}
 use Rattle.grs_wire.specs.declared.deck.Deck.{Deck}
 use Rattle.grs_wire.specs.declared.history.HistEntry.{HistEntry}
-use Rattle.grs_wire.specs.declared.history.HistEntry.TheVariants as entries
-use Rattle.grs_wire.specs.declared.request.Answer.{Answer}
-use Rattle.grs_wire.specs.declared.request.Req.{Req}
 use Rattle.grs_wire.specs.declared.request.Want.{Want}
 use Rattle.grs_wire.specs.declared.request.Want.TheVariants.{Enq, Deq, Release, Look}
 use Rattle.grs_wire.specs.declared.told.ToldLine.{ToldLine}
-use Rattle.ring_mode.specs.Ring.{process, answer_own, answer_sent, is_asked, is_sent, same_want, same_ctl, same_ret, same_bool}
-use Rattle.task_state.specs.Replies.{replied, recalled, settled, tell_new, phase_asking, gives_up, is_leaving}
-use Rattle.task_state.specs.View.{TasksView, is_task, state_of, code_in}
+use Rattle.ring_mode.specs.Ring.{same_want, same_ctl, same_ret, same_bool}
+use Rattle.task_state.specs.Replies.{replied, recalled, tell_new, phase_asking, gives_up}
+use Rattle.task_state.specs.View.{TasksView, state_of, code_in}
 use Rattle.task_state.specs.declared.state.Asked.{Asked}
-use Rattle.task_state.specs.declared.state.Phase.{Phase}
 use Rattle.task_state.specs.declared.state.Phase.TheVariants as phases
 use Rattle.task_state.specs.declared.state.TaskState.{TaskState}
-use Rattle.grs_world.proofs.Owners.{is_among}
 use Rattle.grs_world.proofs.Invariant.{Past, IsTask}
 use Rattle.grs_world.proofs.Granted.{past}
 use Rattle.grs_world.proofs.Decided.{both, by_lists}
-use Rattle.grs_world.proofs.Seen.{is_home_at, askers, stand_apart, FullFits, IsOthers, after_read, Reads, ToldBy, none}
-use Rattle.grs_world.proofs.Asking.{line_asked, unasked, unasked_by, IsAskedFor, IsOpenBy, Opens, IsReq, IsAskedBy, are_sent}
-use Rattle.grs_world.proofs.Ours.{IsOurs, IsHere, said, task-knows}
+use Rattle.grs_world.proofs.Asking.{line_asked, IsAskedFor, Opens}
+use Rattle.grs_world.proofs.Ours.{IsOurs, said, task-knows}
 use Rattle.grs_world.proofs.Did.{Did, did-none, did-phase, did-outstanding}
-use Rattle.grs_world.proofs.Good.{owned, may_have, IsGood, replay-push, some_of, became}
-use Rattle.grs_world.proofs.Events.{Settles, Moves, settles, before-others_asker, is_full_by, enq_settles, deq_settles}
+use Rattle.grs_world.proofs.Good.{owned, IsGood, replay-push}
+use Rattle.grs_world.proofs.Events.{Settles, Moves, is_full_by, enq_settles, deq_settles}
 use Rattle.grs_world.proofs.Turns.{release_settles, said-stays}
-use Rattle.grs_world.proofs.Parts.{answer_to-part, new_owners-part}
-use Rattle.grs_world.proofs.AtNode.{opens_of, Seen, own-systems, may_own, away-may, away-task, entry-after, speaks-by, held-shared, shared-shared}
+use Rattle.grs_world.proofs.AtNode.{own-systems, may_own, first_same, entry-after}
 
 -- the same task, whatever its outstanding request
 pub task-open : (ls : List Meaning) (p : Past) (T : List ToldLine) (knows : Res → Bool × Bool) (t : TaskId) (x : TaskState) (o : Option Asked) → IsTask ls p T knows t x → IsTask ls p T knows t (record x { outstanding = o })
@@ -93,9 +80,6 @@ pub record OwnRead (deck : Deck) (s : ℕ) (os : Opens) (Q : List HistEntry) (v 
   pub systems : is_systems res ≡ true
   pub after : replay deck.limit (Q ++ h ∷ []) ≡ after_want (replay deck.limit Q) t w
   pub settles : Settles deck s os (Q ++ h ∷ []) v.told (tell_new (replied (recalled v t w) t w unit (answer_to (replay deck.limit Q) t w)) (res_wanted w) (new_owners (replay deck.limit Q) t w))
-
-first_same : (a b : HistEntry) → a ∷ [] ≡ b ∷ [] → a ≡ b
-first_same a b f = cc
 
 module _ (deck : Deck) (s : ℕ) (os os' : Opens) (Q : List HistEntry) (v : TasksView) (good : IsGood deck s os Q v) (t : TaskId) (moves : Moves t os os') (ls : List Meaning) (ours : IsOurs deck s v t ls) where
   -- the task with its request taken back

@@ -3,7 +3,7 @@ use Rattle.std.proofs.Common.{◌≡◌, ◌≢◌, ℕ, Bool, true, false, cond
 use Rattle.std.specs.Prelude.{is_some, ◌==◌}
 use Rattle.std.specs.List.{list_all}
 use Rattle.std.proofs.lemmas.Bool.{and_parts, cases_Bool, eqb-true, eq-eqb}
-use Rattle.grs_base.specs.Same.{same_res, same_task}
+use Rattle.grs_base.specs.Same.{same_task}
 use Rattle.grs_base.specs.Lists.{owns, has_task}
 use Rattle.grs_base.specs.State.{State, list_of, is_full, is_systems}
 use Rattle.grs_base.specs.declared.resource.Res.{Res}
@@ -21,24 +21,21 @@ use Rattle.grs_wire.specs.declared.request.Answer.{Answer}
 use Rattle.grs_wire.specs.declared.request.Req.{Req}
 use Rattle.grs_wire.specs.declared.request.Want.{Want}
 use Rattle.grs_wire.specs.declared.request.Want.TheVariants.{Enq, Deq, Release}
-use Rattle.grs_wire.specs.declared.told.ToldLine.{ToldLine}
 use Rattle.grs_wire.proofs.WantLaws.{by_res, list_of-want_other}
 use Rattle.ring_mode.specs.Ring.{process, answer_own, answer_sent, is_asked, is_sent, same_want}
 use Rattle.task_state.specs.Replies.{replied, recalled, settled, tell_new, tell_all, phase_asking, gives_up, is_leaving}
 use Rattle.task_state.specs.View.{TasksView, is_task, state_of}
 use Rattle.task_state.specs.declared.state.Asked.{Asked}
-use Rattle.task_state.specs.declared.state.Phase.{Phase}
-use Rattle.task_state.specs.declared.state.Rec.{Rec}
 use Rattle.task_state.specs.declared.state.TaskState.{TaskState}
 use Rattle.grs_world.proofs.Owners.{is_among}
 use Rattle.grs_world.proofs.Invariant.{has_res, IsTask}
 use Rattle.grs_world.proofs.Others.{KeepsTask, keeps-want, task-kept}
 use Rattle.grs_world.proofs.Granted.{past}
 use Rattle.grs_world.proofs.Keys.{has_res-task}
-use Rattle.grs_world.proofs.Seen.{part, is_res_of, is_home_at, askers, stand_apart, FullFits, IsOthers, is_elsewhere, after_read, Reads, ToldBy, none}
-use Rattle.grs_world.proofs.Asking.{line_asked, unasked, unasked_by, IsAskedFor, IsOpenBy, Opens, IsReq, IsAskedBy, are_sent}
+use Rattle.grs_world.proofs.Seen.{part, is_res_of, is_home_at, askers, stand_apart, IsOthers, is_elsewhere, after_read, Reads, ToldBy, none}
+use Rattle.grs_world.proofs.Asking.{line_asked, unasked, unasked_by, IsAskedFor, IsOpenBy, IsReq, are_sent}
 use Rattle.grs_world.proofs.Ours.{IsOurs, IsHere, said}
-use Rattle.grs_world.proofs.Good.{owned, may_have, IsGood, replay-push, has_task-home, past-other, some_of, became}
+use Rattle.grs_world.proofs.Good.{owned, may_have, IsGood, replay-push, has_task-home, past-other, some_of}
 use Rattle.grs_world.proofs.Events.{Settles, Moves, settles, elems-want, before-others_asker, unlike-ours}
 use Rattle.grs_world.proofs.Meant.{is_own}
 use Rattle.grs_world.proofs.Parts.{answer_to-part, new_owners-part, part-want_other}

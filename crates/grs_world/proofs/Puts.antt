@@ -1,15 +1,12 @@
 -- Requests of a system that may be put into the message, and that are.
-use Rattle.std.proofs.Common.{◌≡◌, ◌<◌, ◌-◌, ℕ, zero, suc, Bool, true, false, not, ◌&&◌, ◌||◌, List, [], ◌∷◌, ◌++◌, take, drop, Option, Some, None, refl, ap, sym, ◌∙◌, subst, arith, append-nil, append_assoc}
-use Rattle.std.specs.Prelude.{slice_get, is_some, ◌==◌, IfSome}
+use Rattle.std.proofs.Common.{◌≡◌, ◌-◌, ℕ, zero, suc, Bool, true, false, List, [], ◌∷◌, ◌++◌, take, drop, Option, Some, None, refl, ap, sym, ◌∙◌, subst, arith, append-nil, append_assoc}
+use Rattle.std.specs.Prelude.{is_some, ◌==◌}
 use Rattle.std.specs.List.{list_all}
 use Rattle.std.proofs.lemmas.Bool.{and_parts, cases_Bool, eqb-true}
 use Rattle.grs_base.specs.Same.{same_task}
-use Rattle.grs_base.specs.State.{State, is_systems}
-use Rattle.grs_base.specs.declared.resource.Res.{Res}
 use Rattle.grs_base.specs.declared.resource.TaskId.{TaskId}
 use Rattle.grs_base.proofs.SameLaws.{same_task-itself}
 use Rattle.grs_legal.specs.Asks.{AsksEnq, AsksDeq, lines_of}
-use Rattle.grs_legal.specs.Legal.{HasControl, entries_of, last_entry, lets_pass, next_ask, passed_lines}
 use Rattle.grs_legal.specs.declared.meaning.Meaning.{Meaning}
 use Rattle.grs_legal.specs.declared.meaning.Meaning.TheVariants as lines
 use Rattle.grs_node.specs.Node.{Node, all_sent, put_in}
@@ -19,11 +16,8 @@ use Rattle.grs_wire.specs.declared.history.HistEntry.{HistEntry}
 use Rattle.grs_wire.specs.declared.request.Req.{Req}
 use Rattle.grs_wire.specs.declared.request.Want.{Want}
 use Rattle.grs_wire.specs.declared.request.Want.TheVariants.{Enq, Deq, Release, Look}
-use Rattle.grs_wire.specs.declared.told.ToldLine.{ToldLine}
-use Rattle.grs_wire.specs.Wants.{res_wanted}
-use Rattle.ring_mode.specs.Ring.{is_sent}
 use Rattle.task_state.specs.Replies.{phase_asking, gives_up, is_leaving}
-use Rattle.task_state.specs.View.{TasksView, is_task, state_of, with_phase, code_in}
+use Rattle.task_state.specs.View.{TasksView, state_of, with_phase, code_in}
 use Rattle.task_state.specs.declared.state.Asked.{Asked}
 use Rattle.task_state.specs.declared.state.Phase.{Phase}
 use Rattle.task_state.specs.declared.state.Phase.TheVariants as phases
@@ -31,11 +25,11 @@ use Rattle.task_state.specs.declared.state.TaskState.{TaskState}
 use Rattle.grs_world.proofs.Invariant.{IsTask}
 use Rattle.grs_world.proofs.Granted.{past}
 use Rattle.grs_world.proofs.Asked.{Asks}
-use Rattle.grs_world.proofs.Seen.{is_home_at, askers, stand_apart, FullFits, MayPut, ask_of, none}
-use Rattle.grs_world.proofs.Asking.{line_asked, unasked, unasked_by, IsAskedFor, IsOpenBy, Opens, IsReq, IsAskedBy, are_sent}
+use Rattle.grs_world.proofs.Seen.{is_home_at, askers, stand_apart, MayPut, none}
+use Rattle.grs_world.proofs.Asking.{line_asked, unasked_by, IsAskedFor, IsOpenBy, Opens, IsReq, IsAskedBy, are_sent}
 use Rattle.grs_world.proofs.Ours.{IsOurs, IsHere, said}
 use Rattle.grs_world.proofs.Telling.{told-phase}
-use Rattle.grs_world.proofs.Did.{Did, did-none, did-phase}
+use Rattle.grs_world.proofs.Did.{did-none, did-phase}
 use Rattle.grs_world.proofs.Good.{owned, IsGood, some_of}
 use Rattle.grs_world.proofs.Events.{next_line, passed_before, is_full_by}
 use Rattle.grs_world.proofs.Turns.{quiet_settles, next_release, passed_ending}

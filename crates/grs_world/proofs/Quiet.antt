@@ -1,10 +1,10 @@
 -- A task of a system goes on by itself.
-use Rattle.std.proofs.Common.{◌≡◌, ◌<◌, ◌-◌, ℕ, suc, Bool, true, false, cond, not, ◌&&◌, ◌||◌, List, [], ◌∷◌, ◌++◌, map, length, Option, Some, None, refl, ap, sym, ◌∙◌, subst, arith, append_assoc}
-use Rattle.std.specs.Prelude.{slice_get, is_some, nat_le, ◌==◌}
+use Rattle.std.proofs.Common.{◌≡◌, ℕ, suc, Bool, true, false, cond, not, ◌&&◌, ◌||◌, List, [], ◌∷◌, ◌++◌, map, length, Option, Some, None, refl, ap, sym, ◌∙◌, subst, arith, append_assoc}
+use Rattle.std.specs.Prelude.{slice_get, is_some, nat_le}
 use Rattle.std.specs.List.{list_all, list_any}
 use Rattle.std.proofs.lemmas.Bool.{and_parts, cases_Bool}
 use Rattle.grs_base.specs.Same.{same_res, same_task}
-use Rattle.grs_base.specs.Lists.{owns, has_task, is_owner, standing_of, decide_enq, deq_code}
+use Rattle.grs_base.specs.Lists.{owns, has_task, standing_of, decide_enq, deq_code}
 use Rattle.grs_base.specs.declared.resource.Row.{Row}
 use Rattle.grs_base.specs.State.{State, list_of, is_full, is_systems}
 use Rattle.grs_base.specs.declared.resource.Ctl.{Ctl}
@@ -14,12 +14,12 @@ use Rattle.grs_base.specs.declared.resource.TaskId.{TaskId}
 use Rattle.grs_base.specs.declared.decision.Code.{Code}
 use Rattle.grs_base.specs.declared.decision.Code.TheVariants.{C00, C08}
 use Rattle.grs_base.proofs.ListLaws.{same_task-sym}
-use Rattle.grs_base.proofs.SameLaws.{same_res-exact, same_res-itself, same_task-itself}
+use Rattle.grs_base.proofs.SameLaws.{same_res-exact, same_res-itself}
 use Rattle.grs_legal.specs.Asks.{AsksEnq, AsksDeq, asks_in, lines_of}
 use Rattle.grs_legal.specs.Legal.{IsLegal, IsLegalOf, MayStand, lets_pass, line_entries}
 use Rattle.grs_legal.specs.declared.meaning.Meaning.{Meaning}
 use Rattle.grs_legal.specs.declared.meaning.Meaning.TheVariants as lines
-use Rattle.grs_node.specs.Node.{Node, Step, only, with_tasks, decide, post, ask, wait, has_most, take_line, end_step, ready_step, phase_step, task_step, goes_on, may_go, finish_quiet}
+use Rattle.grs_node.specs.Node.{Node, only, with_tasks, decide, post, ask, wait, has_most, take_line, end_step, ready_step, phase_step, task_step, goes_on, may_go, finish_quiet}
 use Rattle.grs_wire.specs.History.{replay, entries_for}
 use Rattle.grs_wire.specs.Wants.{answer_to, after_want, res_wanted, new_owners}
 use Rattle.grs_wire.specs.declared.deck.Deck.{Deck}
@@ -32,10 +32,9 @@ use Rattle.grs_wire.specs.declared.request.Want.TheVariants.{Enq, Deq, Release}
 use Rattle.grs_wire.specs.declared.told.ToldLine.{ToldLine}
 use Rattle.grs_wire.specs.declared.told.ToldLine.TheVariants.{Coded, Ended}
 use Rattle.grs_wire.specs.declared.told.Verb.TheVariants as verbs
-use Rattle.grs_wire.proofs.HistoryLaws.{none_twice}
 use Rattle.grs_wire.proofs.WantLaws.{by_test}
-use Rattle.task_state.specs.Replies.{replied, tell_new, tell_code, phase_asking, is_leaving, gives_up}
-use Rattle.task_state.specs.View.{TasksView, is_task, state_of, record_of, with_line, with_phase, with_outstanding, telling, code_in}
+use Rattle.task_state.specs.Replies.{replied, tell_new, tell_code, phase_asking, is_leaving}
+use Rattle.task_state.specs.View.{TasksView, is_task, state_of, record_of, with_line, with_phase, with_outstanding, telling}
 use Rattle.task_state.specs.declared.state.Asked.{Asked}
 use Rattle.task_state.specs.declared.state.Phase.{Phase}
 use Rattle.task_state.specs.declared.state.Phase.TheVariants as phases
@@ -49,21 +48,20 @@ use Rattle.grs_world.proofs.Control.{found, not_found}
 use Rattle.grs_world.proofs.Granted.{past, or_right}
 use Rattle.grs_world.proofs.Keys.{has_res-task}
 use Rattle.grs_world.proofs.Asked.{Asks}
-use Rattle.grs_world.proofs.Decided.{both, by_lists}
+use Rattle.grs_world.proofs.Decided.{by_lists}
 use Rattle.grs_world.proofs.Seen.{is_res_of, is_home_at, askers, stand_apart, FullFits, QuietStep, keeps, fixes, ToldBy, none, more}
-use Rattle.grs_world.proofs.Asking.{line_asked, unasked, IsAtLines, IsAskedFor, IsOpenBy, Opens, IsReq, IsAskedBy, asked-none, are_sent, sent-absent, held-none}
+use Rattle.grs_world.proofs.Asking.{line_asked, unasked, IsAtLines, IsAskedFor, IsOpenBy, Opens, IsReq, IsAskedBy, asked-none, sent-absent, held-none}
 use Rattle.grs_world.proofs.Ours.{IsOurs, IsHere, said, ours-line, agrees-ours}
 use Rattle.grs_world.proofs.Did.{Did, did-none, did-line, did-phase, did-outstanding, did-telling}
 use Rattle.grs_world.proofs.Steps.{task-skipped, task-waited, task-held, task-ending, task-ended}
-use Rattle.grs_world.proofs.Good.{owned, may_have, IsGood, replay-push, has_task-home, some_of, home-ours, ours-home}
-use Rattle.grs_world.proofs.Events.{Settles, Moves, is_full_by, enq_legal, enq_settles, deq_legal, deq_settles}
+use Rattle.grs_world.proofs.Good.{owned, may_have, IsGood, replay-push, has_task-home, home-ours, ours-home}
+use Rattle.grs_world.proofs.Events.{all-push, Settles, Moves, is_full_by, enq_legal, enq_settles, deq_legal, deq_settles}
 use Rattle.grs_world.proofs.Meant.{is_own, lines_own}
 use Rattle.grs_world.proofs.Parts.{answer_to-part, new_owners-part}
 use Rattle.grs_world.proofs.Turns.{quiet_settles, release_legal, release_settles, task-less, said-less, state-is, plain-task, plain-here}
 use Rattle.grs_world.proofs.AtNode.{opens_of, Seen, own-alone, own-may, may_own, held-alone, shared-alone}
 use Rattle.grs_world.proofs.OwnEntries.{task-open}
 use Rattle.grs_world.proofs.Processed.{is_among-front}
-use Rattle.grs_world.proofs.Puts.{home-task}
 
 -- one request more behind the open ones
 asked-push_own : (t : TaskId) (o : Option Asked) (qs : List Req) (q : Req) → is_among t (askers qs) ≡ false → IsReq q o → IsAskedBy t o (qs ++ q ∷ [])
@@ -73,10 +71,6 @@ asked-push_own t o (x ∷ qs) q h is = (λ e. absurd (grind (arith, h, e)), aske
 asked-push_other : (u : TaskId) (o : Option Asked) (qs : List Req) (q : Req) → same_task u q.task ≡ false → IsAskedBy u o qs → IsAskedBy u o (qs ++ q ∷ [])
 asked-push_other u o [] q apart h = (λ e. absurd (let f : false ≡ true = sym apart ∙ e in cc), tt)
 asked-push_other u o (x ∷ qs) q apart h = (h.0, asked-push_other u o qs q apart h.1)
-
-all-pushed : {X : Type 0} (p : X → Bool) (xs : List X) (x : X) → list_all p xs ≡ true → p x ≡ true → list_all p (xs ++ x ∷ []) ≡ true
-all-pushed p [] x h e = grind (arith, e)
-all-pushed p (y ∷ xs) x h e = grind (arith, h, all-pushed p xs x, e)
 
 is_among-push : (t : TaskId) (qs : List Req) (q : Req) → is_among t (askers (qs ++ q ∷ [])) ≡ (is_among t (askers qs) || same_task t q.task)
 is_among-push t [] q = grind arith
@@ -158,7 +152,7 @@ module _ (deck : Deck) (s : ℕ) (Q : List HistEntry) (out : List Req) (n : Node
           good = settled.good;
           held = seen.held;
           shared = seen.shared;
-          homes = ap (list_all (λ y. is_home_at deck s y.task)) (sym pushed) ∙ all-pushed (λ (y : Req). is_home_at deck s y.task) (out ++ n.outbox) q seen.homes (ours-home deck s n.tasks t ls ours);
+          homes = ap (list_all (λ y. is_home_at deck s y.task)) (sym pushed) ∙ all-push (λ (y : Req). is_home_at deck s y.task) (out ++ n.outbox) q seen.homes (ours-home deck s n.tasks t ls ours);
           apart = ap (λ qs. stand_apart (askers qs)) (sym pushed) ∙ apart-push (out ++ n.outbox) q seen.apart free;
         })
         settled.told
@@ -227,9 +221,6 @@ module _ (deck : Deck) (s : ℕ) (Q : List HistEntry) (out : List Req) (n : Node
 
     -- a task that is ready, by its parts
     module _ (ready : (state_of n.tasks t).phase ≡ phases.Ready) where
-      x_ready : TaskState
-      x_ready = record (state_of n.tasks t) { phase = phases.Ready; outstanding = None }
-
       is_ready : IsTask ls (past deck.limit Q t) n.tasks.told (by_lists (replay deck.limit Q) t) t (record (state_of n.tasks t) { phase = phases.Ready; outstanding = None })
       is_ready = plain-task deck (opens_of out n) Q n.tasks.told t ls (state_of n.tasks t) phases.Ready ready closed here
 

@@ -18,7 +18,6 @@ use Rattle.grs_wire.specs.declared.told.ToldLine.{ToldLine}
 use Rattle.grs_wire.specs.declared.told.ToldLine.TheVariants.{Coded, Post}
 use Rattle.grs_wire.specs.History.{replay}
 use Rattle.grs_wire.proofs.WantLaws.{by_test}
-use Rattle.grs_legal.specs.Asks.{lines_of}
 use Rattle.grs_legal.specs.Legal.{line_entries}
 use Rattle.task_state.specs.declared.state.Rec.{Rec}
 use Rattle.task_state.specs.declared.state.Phase.{Phase}
@@ -27,9 +26,9 @@ use Rattle.task_state.specs.declared.state.TaskState.{TaskState}
 use Rattle.task_state.specs.View.{TasksView, is_task, state_of, with_phase, with_told, telling, record_of, on_record, code_in}
 use Rattle.task_state.proofs.ViewLaws.{state_of-same, told-state, state_of-telling, told-telling}
 use Rattle.task_state.specs.Replies.{is_leaving, is_held, is_held_for, tell_control, tell_untold, tell_record, passes_wait, tell_all}
-use Rattle.grs_world.specs.Agree.{LineAgrees, Agrees, AgreesOf, tells_control, entry_of_line}
+use Rattle.grs_world.specs.Agree.{Agrees, tells_control, entry_of_line}
 use Rattle.grs_world.proofs.Invariant.{IsRec, IsDue, IsEntryOn, IsTask, has_res, has_ended, is_unsent}
-use Rattle.grs_world.proofs.Others.{is_told_to, task-told, recs-knows, any-last}
+use Rattle.grs_world.proofs.Others.{is_told_to, any-last}
 use Rattle.grs_world.proofs.Owners.{is_among}
 use Rattle.grs_world.proofs.Control.{found, not_found, also, marked, queued_control}
 use Rattle.grs_base.proofs.ListLaws.{same_task-sym}

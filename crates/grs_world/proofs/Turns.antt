@@ -1,10 +1,9 @@
 -- Steps of a task: the release of an ending task, and steps that fix nothing.
-use Rattle.std.proofs.Common.{◌≡◌, ℕ, suc, Bool, true, false, cond, not, ◌&&◌, List, [], ◌∷◌, ◌++◌, map, length, take, Option, Some, None, refl, ap, sym, ◌∙◌, subst, arith}
+use Rattle.std.proofs.Common.{◌≡◌, ℕ, Bool, true, false, cond, List, [], ◌∷◌, ◌++◌, map, length, take, Option, Some, None, refl, ap, sym, ◌∙◌, subst}
 use Rattle.std.specs.Prelude.{slice_get, is_some}
 use Rattle.std.specs.List.{list_all}
 use Rattle.grs_base.specs.Same.{same_res, same_task}
-use Rattle.grs_base.specs.Lists.{owns}
-use Rattle.grs_base.specs.State.{State, list_of, without}
+use Rattle.grs_base.specs.State.{State, without}
 use Rattle.grs_base.specs.declared.resource.Res.{Res}
 use Rattle.grs_base.specs.declared.resource.Row.{Row}
 use Rattle.grs_base.specs.declared.resource.TaskId.{TaskId}
@@ -26,7 +25,7 @@ use Rattle.task_state.specs.declared.state.Phase.{Phase}
 use Rattle.task_state.specs.declared.state.Phase.TheVariants as phases
 use Rattle.task_state.specs.declared.state.TaskState.{TaskState}
 use Rattle.task_state.specs.Replies.{is_leaving, replied, tell_new}
-use Rattle.task_state.specs.View.{TasksView, is_task, state_of, without_first}
+use Rattle.task_state.specs.View.{TasksView, state_of, without_first}
 use Rattle.grs_world.proofs.Entries.{line_entries-release}
 use Rattle.grs_world.proofs.Lines.{take-whole}
 use Rattle.grs_world.proofs.Invariant.{Each, IsRec, Past, IsTask}
