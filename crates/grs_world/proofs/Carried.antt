@@ -1,20 +1,18 @@
 -- What carries over from a system's view to the whole history.
-use Rattle.std.proofs.Common.{◌≡◌, ◌≢◌, cond, Bool, true, false, not, ◌&&◌, ◌||◌, ℕ, List, [], ◌∷◌, ◌++◌, map, Option, Some, None, refl, ap, sym, ◌∙◌, subst, arith, append-nil, append_assoc}
-use Rattle.std.specs.Prelude.{filter, is_some, ◌==◌}
+use Rattle.std.proofs.Common.{◌≡◌, ◌≢◌, cond, Bool, true, false, not, ◌&&◌, ◌||◌, ℕ, List, [], ◌∷◌, ◌++◌, Some, refl, ap, sym, ◌∙◌, subst, append-nil, append_assoc}
+use Rattle.std.specs.Prelude.{filter}
 use Rattle.std.specs.List.{list_all}
 use Rattle.std.proofs.lemmas.Bool.{and_parts, eqb-true, eq-eqb, eqb-false}
-use Rattle.grs_base.specs.Same.{same_res, same_task}
+use Rattle.grs_base.specs.Same.{same_task}
 use Rattle.grs_base.specs.Lists.{owns}
-use Rattle.grs_base.specs.State.{State, is_systems, list_of, enq_code, deq_reply}
+use Rattle.grs_base.specs.State.{State, is_systems, list_of}
 use Rattle.grs_base.specs.Lists.{decide_enq, deq_code, standing_of}
 use Rattle.grs_base.specs.declared.resource.Res.{Res}
 use Rattle.grs_base.specs.declared.resource.Res.TheVariants as resources
 use Rattle.grs_base.specs.declared.resource.TaskId.{TaskId}
-use Rattle.grs_base.proofs.SameLaws.{same_task-exact, same_task-itself, same_res-exact, same_res-itself}
-use Rattle.grs_legal.specs.Asks.{lines_of}
-use Rattle.grs_legal.specs.Legal.{entries_of, line_entries}
-use Rattle.grs_legal.specs.declared.meaning.Meaning.{Meaning}
-use Rattle.grs_wire.specs.History.{is_by, replay, entries_for}
+use Rattle.grs_base.proofs.SameLaws.{same_task-exact, same_res-exact}
+use Rattle.grs_legal.specs.Legal.{entries_of}
+use Rattle.grs_wire.specs.History.{replay, entries_for}
 use Rattle.grs_wire.specs.Wants.{res_wanted}
 use Rattle.grs_wire.specs.declared.deck.Deck.{Deck}
 use Rattle.grs_wire.specs.declared.history.HistEntry.{HistEntry}
@@ -25,15 +23,15 @@ use Rattle.grs_wire.specs.declared.request.Want.TheVariants as wants
 use Rattle.grs_wire.specs.declared.told.ToldLine.{ToldLine}
 use Rattle.grs_wire.specs.declared.told.ToldLine.TheVariants as told
 use Rattle.task_state.specs.Replies.{gives_up}
-use Rattle.grs_world.specs.Agree.{Agrees, entry_of_line}
-use Rattle.grs_world.proofs.Entries.{filter-append, filter-push_kept, filter-push_left}
+use Rattle.grs_world.specs.Agree.{Agrees}
+use Rattle.grs_world.proofs.Entries.{filter-append}
 use Rattle.grs_world.proofs.Owners.{is_among}
 use Rattle.grs_world.proofs.Projections.{on_res, is_leave_of, list_of-same, owns-stays, leave-by, leave-for}
-use Rattle.grs_world.proofs.Replied.{Replied, replied_front, replied_for}
-use Rattle.grs_world.proofs.Seen.{FullFits, is_res_of, askers, none_leaves, Clears, IsEnqOf, ToldBy, none, more, is_line_of}
+use Rattle.grs_world.proofs.Replied.{Replied}
+use Rattle.grs_world.proofs.Seen.{is_res_of, askers, none_leaves, Clears, ToldBy, none, more, is_line_of}
 use Rattle.grs_world.proofs.Tape.{Item, entries, requests, by, on, for_all, from, home, IsItem, Items, items-append, At, filter-within, filter-none, entries-append, entries_of-items, on_res-items, by-item, on-item}
 use Rattle.grs_world.proofs.Transfer.{Carries, CarriesLine, line-carried, fits-carried}
-use Rattle.grs_world.proofs.Views.{waits, local, waiting, Blocked, View, no_truth, home-local, local-home, from-home, by-from}
+use Rattle.grs_world.proofs.Views.{waits, local, waiting, Blocked, View, no_truth, local-home, from-home, by-from}
 
 and_on : (a b : Bool) → a ≡ true → b ≡ true → (a && b) ≡ true
 and_on true b e f = f

@@ -43,4 +43,5 @@ pub mod Laps
 pub mod LapsSamples
 pub mod Puts
 pub mod Quiet
+pub mod Fronts
 pub mod NodeLaws

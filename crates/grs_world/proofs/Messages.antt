@@ -1,7 +1,7 @@
 -- What a call leaves of what the message has to hold.
-use Rattle.std.proofs.Common.{◌≡◌, ◌≢◌, ◌≤◌, ◌<◌, ◌+◌, ◌-◌, cond, Bool, true, false, eqb, leb, ◌&&◌, ℕ, zero, suc, List, [], ◌∷◌, ◌++◌, map, length, take, drop, Option, Some, None, refl, ap, sym, ◌∙◌, subst, arith, append-nil, append_assoc, length-append}
-use Rattle.std.specs.Prelude.{filter, ◌==◌}
-use Rattle.std.proofs.lemmas.Bool.{eqb-true, eq-eqb, eqb-false}
+use Rattle.std.proofs.Common.{◌≡◌, ◌≢◌, ◌≤◌, ◌<◌, ◌+◌, ◌-◌, cond, Bool, true, false, eqb, leb, ◌&&◌, ℕ, suc, List, [], ◌∷◌, ◌++◌, length, drop, refl, ap, sym, ◌∙◌, subst, arith, append-nil, length-append}
+use Rattle.std.specs.Prelude.{filter}
+use Rattle.std.proofs.lemmas.Bool.{eqb-true}
 use Rattle.grs_base.specs.declared.resource.SysId.{SysId}
 use Rattle.grs_medium.specs.Medium.{MediumState, live}
 use Rattle.grs_wire.specs.Masks.{has}

@@ -1,30 +1,28 @@
 -- What an event of one system adds to the history, and where the system stands afterwards.
-use Rattle.std.proofs.Common.{◌≡◌, ◌≢◌, cond, Bool, true, false, not, ◌&&◌, ◌||◌, ℕ, List, [], ◌∷◌, ◌++◌, map, take, drop, Option, Some, None, refl, ap, sym, ◌∙◌, subst, arith, append-nil, append_assoc, take-append-drop}
-use Rattle.std.specs.Prelude.{filter, is_some, ◌==◌}
+use Rattle.std.proofs.Common.{◌≡◌, Bool, true, false, not, ◌&&◌, ◌||◌, ℕ, List, [], ◌∷◌, ◌++◌, map, take, drop, refl, ap, sym, ◌∙◌, subst, append-nil, append_assoc, take-append-drop}
+use Rattle.std.specs.Prelude.{filter, ◌==◌}
 use Rattle.std.specs.List.{list_all}
-use Rattle.std.proofs.lemmas.Bool.{and_parts, eqb-true, eq-eqb}
+use Rattle.std.proofs.lemmas.Bool.{and_parts, eqb-true}
 use Rattle.grs_base.specs.Same.{same_task}
 use Rattle.grs_base.specs.State.{is_systems}
 use Rattle.grs_base.specs.declared.resource.TaskId.{TaskId}
 use Rattle.grs_legal.specs.Legal.{LegalFrom, MayStand}
 use Rattle.grs_node.specs.Node.{Node, Step, read_entries, put_in}
-use Rattle.grs_wire.specs.History.{replay, entries_for}
+use Rattle.grs_wire.specs.History.{replay}
 use Rattle.grs_wire.specs.declared.deck.Deck.{Deck}
 use Rattle.grs_wire.specs.declared.history.HistEntry.{HistEntry}
 use Rattle.grs_wire.specs.declared.medium.RingEntry.{RingEntry}
-use Rattle.grs_wire.specs.declared.request.Fixed.{Fixed}
 use Rattle.grs_wire.specs.declared.request.Fixed.TheVariants.{Asked}
 use Rattle.grs_wire.specs.declared.request.Req.{Req}
-use Rattle.grs_wire.specs.declared.told.ToldLine.{ToldLine}
 use Rattle.grs_world.proofs.Carried.{ToldNews, told-whole, at-same, carries-whole, on-own, by-whole, none_by}
-use Rattle.grs_world.proofs.Entries.{filter-append, filter-push_left}
+use Rattle.grs_world.proofs.Entries.{filter-push_left}
 use Rattle.grs_world.proofs.Owners.{is_among}
 use Rattle.grs_world.proofs.Putting.{PutIn, put-all, all_may}
 use Rattle.grs_world.proofs.Reading.{read_all, read-entries, ReadTo, reading}
 use Rattle.grs_world.proofs.Replied.{Replied, replied_front, replied_for, by-for, answer-for}
 use Rattle.grs_world.proofs.Seen.{NodeLaws, QuietStep, keeps, fixes, ToldBy, askers, stand_apart, is_res_of}
 use Rattle.grs_world.proofs.Stands.{Bodies}
-use Rattle.grs_world.proofs.Tape.{Item, entries, requests, for_all, from, home, by, on, IsItem, Items, items-append, At, Tape, entries-append, requests-append, tape-behind, tape-append, replied-tape}
+use Rattle.grs_world.proofs.Tape.{Item, entries, requests, for_all, from, by, IsItem, Items, items-append, At, Tape, entries-append, tape-behind, replied-tape}
 use Rattle.grs_world.proofs.Transfer.{Carries, stands-carried}
 use Rattle.grs_world.proofs.Views.{waits, waiting, View, view-decided, home-local}
 
@@ -105,8 +103,7 @@ module _ (deck : Deck) (Seen : ℕ → List HistEntry → List Req → Node → 
       let stands : MayStand deck P h =
       stands-carried deck t P (entries Q) h carries (by-for (replay deck.limit P) t w h at.made) (answer-for deck.limit (replay deck.limit P) t w h at.full at.made) legal in
       let view_next : entries (Q ++ x ∷ []) ≡ entries Q ++ h ∷ [] = entries-append Q (x ∷ []) in
-      let right_view : Replied deck.limit (entries (Q ++ x ∷ [])) = subst (Replied deck.limit) (sym view_next) (replied_for deck.limit (entries Q) t w h v.replied fits made) in
-      let view : View deck s front (rest ++ x ∷ []) (Q ++ x ∷ []) = view-decided deck s front rest Q x item v own right_view alone in
+      let view : View deck s front (rest ++ x ∷ []) (Q ++ x ∷ []) = view-decided deck s front rest Q x item v own (record { made = made; full = fits; is = item }) alone in
       let grown : front ++ (rest ++ x ∷ []) ≡ (front ++ rest) ++ x ∷ [] = sym (append_assoc front rest (x ∷ [])) in
       let right_whole : Replied deck.limit (entries (front ++ (rest ++ x ∷ []))) =
       subst (Replied deck.limit) (sym (ap entries grown ∙ entries-append (front ++ rest) (x ∷ []))) (replied_for deck.limit P t w h here at.full at.made) in

@@ -1,8 +1,8 @@
 -- Requests of a system's outbox are put into the message.
-use Rattle.std.proofs.Common.{◌≡◌, ◌≢◌, cond, Bool, true, false, not, ◌&&◌, ◌||◌, ℕ, List, [], ◌∷◌, ◌++◌, map, Option, Some, None, refl, ap, sym, ◌∙◌, subst, arith, append-nil, append_assoc}
-use Rattle.std.specs.Prelude.{filter, is_some, ◌==◌}
+use Rattle.std.proofs.Common.{◌≡◌, Bool, true, false, not, ◌&&◌, ◌||◌, ℕ, List, [], ◌∷◌, ◌++◌, Option, Some, refl, ap, sym, ◌∙◌, subst, append-nil, append_assoc}
+use Rattle.std.specs.Prelude.{filter, is_some}
 use Rattle.std.specs.List.{list_all}
-use Rattle.std.proofs.lemmas.Bool.{and_parts, eqb-true, eq-eqb}
+use Rattle.std.proofs.lemmas.Bool.{and_parts, eq-eqb}
 use Rattle.grs_base.specs.Same.{same_task}
 use Rattle.grs_base.specs.State.{State, is_systems}
 use Rattle.grs_base.specs.declared.resource.Res.{Res}
@@ -24,7 +24,7 @@ use Rattle.grs_world.proofs.Entries.{filter-append}
 use Rattle.grs_world.proofs.Owners.{is_among}
 use Rattle.grs_world.proofs.Replied.{Replied, replied_for, answer-for}
 use Rattle.grs_world.proofs.Seen.{NodeLaws, MayPut, askers, stand_apart, FullFits}
-use Rattle.grs_world.proofs.Tape.{Item, entries, requests, for_all, from, IsItem, Items, At, Tape, entries-append, requests-append}
+use Rattle.grs_world.proofs.Tape.{Item, entries, requests, for_all, from, IsItem, At, Tape, entries-append, requests-append}
 use Rattle.grs_world.proofs.Transfer.{Carries, stands-put, fits-carried}
 use Rattle.grs_world.proofs.Views.{waits, waiting, View, view-put}
 

@@ -1,7 +1,7 @@
 -- A system processes what the message gave it.
-use Rattle.std.proofs.Common.{◌≡◌, ◌≢◌, cond, Bool, true, false, not, ◌&&◌, ◌||◌, ℕ, List, [], ◌∷◌, ◌++◌, map, Option, Some, None, refl, ap, sym, ◌∙◌, subst, arith, append-nil, append_assoc}
+use Rattle.std.proofs.Common.{◌≡◌, cond, Bool, true, false, not, ◌&&◌, ℕ, List, [], ◌∷◌, ◌++◌, Some, refl, ap, sym, ◌∙◌, subst, append-nil, append_assoc}
 use Rattle.std.specs.Prelude.{filter, is_some, ◌==◌}
-use Rattle.std.proofs.lemmas.Bool.{eqb-true, eq-eqb, eqb-false}
+use Rattle.std.proofs.lemmas.Bool.{eqb-false}
 use Rattle.grs_base.specs.State.{State, is_systems}
 use Rattle.grs_base.specs.declared.resource.Res.{Res}
 use Rattle.grs_base.specs.declared.resource.TaskId.{TaskId}
@@ -16,11 +16,11 @@ use Rattle.grs_wire.specs.declared.medium.RingEntry.{RingEntry}
 use Rattle.grs_wire.specs.declared.request.Req.{Req}
 use Rattle.grs_wire.specs.declared.request.Want.{Want}
 use Rattle.grs_wire.specs.declared.request.Want.TheVariants as wants
-use Rattle.ring_mode.specs.Ring.{Side, process, process_entry, process_all, is_for_all}
+use Rattle.ring_mode.specs.Ring.{Side, process, process_entry, process_all}
 use Rattle.grs_world.proofs.Carried.{ToldNews, no_news, more_news, told-whole, at-view}
 use Rattle.grs_world.proofs.Entries.{filter-append}
 use Rattle.grs_world.proofs.Replied.{Replied, replied_for, only_entry}
-use Rattle.grs_world.proofs.Seen.{NodeLaws, ToldBy, Reads, IsOthers, after_read, is_elsewhere, is_res_of}
+use Rattle.grs_world.proofs.Seen.{NodeLaws, ToldBy, Reads, after_read, is_elsewhere, is_res_of}
 use Rattle.grs_world.proofs.Stands.{Bodies, none, more}
 use Rattle.grs_world.proofs.Tape.{Item, entries, requests, for_all, from, home, IsItem, Items, At, Tape, entries-append, requests-append}
 use Rattle.grs_world.proofs.Views.{waits, waiting, View, view-own, view-learned, no_truth, home-local, from-home}
@@ -150,11 +150,8 @@ module _ (deck : Deck) (Seen : ℕ → List HistEntry → List Req → Node → 
       view_next : entries (Q ++ x ∷ []) ≡ entries Q ++ x.entry ∷ []
       view_next = entries-append Q (x ∷ [])
 
-      right_view : Replied deck.limit (entries (Q ++ x ∷ []))
-      right_view = subst (Replied deck.limit) (sym view_next) (replied_for deck.limit (entries Q) x.req.task x.req.want x.entry v.replied at_view.full at_view.made)
-
       learned : View deck s (front ++ x ∷ []) (rest ++ extra) (Q ++ x ∷ [])
-      learned = view-learned deck s front (rest ++ extra) Q x v away right_view
+      learned = view-learned deck s front (rest ++ extra) Q x v away at_view
 
       -- another system decided it
       read_elsewhere : for_all x ≡ false → Seen s (entries Q) (requests (waiting s (x ∷ rest))) n → ReadTo deck Seen s T extra n (read_all n (requests (filter for_all (x ∷ rest))))

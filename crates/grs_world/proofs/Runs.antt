@@ -1,15 +1,14 @@
 -- What holds of the world at every moment of a run, and how an event of a system keeps it.
-use Rattle.std.proofs.Common.{◌≡◌, ◌≢◌, ◌≤◌, ◌<◌, ◌+◌, cond, Bool, true, false, not, eqb, leb, ◌&&◌, ◌||◌, ℕ, zero, suc, List, [], ◌∷◌, ◌++◌, map, length, take, drop, Option, Some, None, refl, ap, sym, ◌∙◌, subst, arith, append-nil, append_assoc, length-append}
+use Rattle.std.proofs.Common.{◌≡◌, ◌≢◌, ◌≤◌, ◌+◌, cond, Bool, true, false, eqb, ◌&&◌, ℕ, zero, suc, List, [], ◌∷◌, ◌++◌, map, length, take, drop, Some, None, refl, ap, sym, ◌∙◌, subst, arith, append-nil, append_assoc, length-append}
 use Rattle.std.specs.Prelude.{filter, slice_get, set, ◌==◌}
 use Rattle.std.specs.List.{list_all}
 use Rattle.std.proofs.lemmas.Bool.{and_parts, eqb-true, eq-eqb, eqb-false}
 use Rattle.grs_base.specs.State.{State}
 use Rattle.grs_base.specs.declared.resource.SysId.{SysId}
-use Rattle.grs_base.specs.declared.resource.TaskId.{TaskId}
 use Rattle.grs_legal.specs.Legal.{Legal, LegalFrom}
 use Rattle.grs_medium.specs.Medium.{MediumState, live}
 use Rattle.grs_node.specs.Node.{Node, Step}
-use Rattle.grs_wire.specs.History.{replay, step, entries_for, fixed_entries, after_fixed, answered_from, answered}
+use Rattle.grs_wire.specs.History.{replay, fixed_entries, after_fixed, answered_from, answered}
 use Rattle.grs_wire.specs.Masks.{has}
 use Rattle.grs_wire.specs.Wants.{after_want}
 use Rattle.grs_wire.specs.declared.deck.Deck.{Deck}
@@ -22,14 +21,14 @@ use Rattle.grs_wire.specs.declared.told.Told.{Told}
 use Rattle.grs_wire.specs.declared.told.ToldLine.{ToldLine}
 use Rattle.grs_wire.specs.declared.told.ToldLine.TheVariants as lines
 use Rattle.grs_world.specs.Agree.{Agrees, AllAgree}
-use Rattle.grs_world.specs.World.{World, Turnout, placed, fixed_by, told_by, happens, run_from, run, hist, first_world}
+use Rattle.grs_world.specs.World.{World, placed, fixed_by, told_by, happens, run_from, run, hist, first_world}
 use Rattle.grs_world.proofs.Carried.{LinesAgree, ToldNews, filter-ours}
 use Rattle.grs_world.proofs.Entries.{filter-append}
 use Rattle.grs_world.proofs.Outcomes.{Outcome}
 use Rattle.grs_world.proofs.Replied.{replay-push, step-for}
 use Rattle.grs_world.proofs.Seen.{is_line_of}
-use Rattle.grs_world.proofs.Stands.{Stands, none, gone, kept, waits_for}
-use Rattle.grs_world.proofs.Tape.{Item, entries, requests, for_all, from, IsItem, Items, items-tape, At, Tape, entries-append, requests-append, tape-append}
+use Rattle.grs_world.proofs.Stands.{Stands, waits_for}
+use Rattle.grs_world.proofs.Tape.{Item, entries, requests, for_all, from, Items, items-tape, At, Tape, entries-append, requests-append, tape-append}
 use Rattle.grs_world.proofs.Views.{waits, waiting, View, view-other}
 
 -- ---- the lists after all that was fixed
@@ -267,7 +266,7 @@ module _ (deck : Deck) (Seen : ℕ → List HistEntry → List Req → Node → 
       let grown : entries T' ≡ entries g.T ++ entries o.more = entries-append g.T o.more in
       let hist_now : answered (w.fixed ++ fixed_by e.system st.fixed) ≡ entries T' =
       ap answered fixed_is ∙ (answered-append [] w.fixed (asked e.system o.more) ∙ (ap (λ z. answered w.fixed ++ answered_from z (asked e.system o.more)) g.lists ∙ (ap (λ z. z ++ answered_from (replay deck.limit (entries g.T)) (asked e.system o.more)) g.hist_is
-          ∙ (ap (λ z. entries g.T ++ z) (answered-tape deck e.system (entries g.T) o.more tape) ∙ sym grown)))) in
+      ∙ (ap (λ z. entries g.T ++ z) (answered-tape deck e.system (entries g.T) o.more tape) ∙ sym grown)))) in
       let hist_run : hist deck (es ++ e ∷ []) ≡ entries T' = ap (λ (x : World). answered x.fixed) (run-push deck es (first_world deck) e ∙ is) ∙ hist_now in
       let news : ToldNews deck s (entries T') n.tasks.told st.node.tasks.told = subst (λ xs. ToldNews deck s (entries (xs ++ o.more)) n.tasks.told st.node.tasks.told) whole_s o.news in
       let lines_are : drop (length n.tasks.told) st.node.tasks.told ≡ news.lines = ap (drop (length n.tasks.told)) news.is ∙ drop-front n.tasks.told news.lines in

@@ -1,14 +1,12 @@
 -- Every run is sound.
-use Rattle.std.proofs.Common.{◌≡◌, ◌≢◌, ◌≤◌, ◌<◌, ◌+◌, cond, Bool, true, false, not, eqb, ◌&&◌, ◌||◌, ℕ, zero, suc, List, [], ◌∷◌, ◌++◌, map, length, take, drop, Option, Some, None, refl, ap, sym, ◌∙◌, subst, arith, append-nil, append_assoc, length-append}
-use Rattle.std.specs.Prelude.{filter, slice_get, set, ◌==◌}
-use Rattle.std.proofs.lemmas.Bool.{eqb-true, eq-eqb, eqb-false}
+use Rattle.std.proofs.Common.{◌≡◌, ◌<◌, ◌+◌, cond, Bool, true, false, ◌&&◌, ℕ, zero, suc, List, [], ◌∷◌, ◌++◌, length, take, Option, Some, None, refl, ap, sym, ◌∙◌, subst, arith, append-nil, append_assoc, length-append}
+use Rattle.std.specs.Prelude.{slice_get, ◌==◌}
 use Rattle.grs_base.specs.declared.resource.SysId.{SysId}
 use Rattle.grs_base.specs.declared.resource.TaskId.{TaskId}
 use Rattle.grs_legal.specs.Legal.{Legal}
-use Rattle.grs_medium.specs.Apply.{apply, row, turn_row, rest_row, resting, reply_to, medium_after}
+use Rattle.grs_medium.specs.Apply.{apply, row, turn_row, rest_row, resting}
 use Rattle.grs_medium.specs.Medium.{MediumState, live, first_medium, all_rest, medium_at_end}
 use Rattle.grs_node.specs.Node.{Node, Step, prepare, finish, finish_quiet, finish_call, read_entries, put_in, may_go, is_pending, most_additions}
-use Rattle.grs_node.specs.declared.prepared.Prepared.{Prepared}
 use Rattle.grs_node.specs.declared.prepared.Prepared.TheVariants.{Quiet, Call, Nothing}
 use Rattle.grs_wire.specs.Masks.{has, others}
 use Rattle.grs_wire.specs.declared.deck.Deck.{Deck}
@@ -17,7 +15,6 @@ use Rattle.grs_wire.specs.declared.deck.Event.{Event}
 use Rattle.grs_wire.specs.declared.deck.Choice.{Choice}
 use Rattle.grs_wire.specs.declared.deck.Choice.TheVariants as choices
 use Rattle.grs_wire.specs.declared.history.HistEntry.{HistEntry}
-use Rattle.grs_wire.specs.declared.medium.Act.{Act}
 use Rattle.grs_wire.specs.declared.medium.Act.TheVariants as acts
 use Rattle.grs_wire.specs.declared.medium.Call.{Call as CallOfMedium}
 use Rattle.grs_wire.specs.declared.medium.Reply.{Reply}
@@ -26,14 +23,14 @@ use Rattle.grs_wire.specs.declared.request.Req.{Req}
 use Rattle.grs_wire.proofs.WantLaws.{by_test}
 use Rattle.rsa_message.specs.Message.{Message, is_at, unseen, turn_reply, turned, turned_open, turned_closed, rest_after_turn, opened, never_opened}
 use Rattle.grs_world.specs.Agree.{Sound}
-use Rattle.grs_world.specs.World.{World, Turnout, idle, carry_out, chosen, placed, counted, happens_at, happens, run_from, run, hist, first_node, first_nodes, first_world}
+use Rattle.grs_world.specs.World.{World, Turnout, idle, carry_out, chosen, placed, counted, happens_at, happens, run, first_node, first_nodes, first_world}
 use Rattle.grs_world.proofs.Messages.{message-same, message-turned, given-rest}
 use Rattle.grs_world.proofs.Outcomes.{Outcome, quiet_outcome, still_outcome, turn_outcome}
 use Rattle.grs_world.proofs.Replied.{Replied, replied_none}
-use Rattle.grs_world.proofs.Runs.{GoodWorld, GoodMessage, push, run-push, seen_at, message_log, updated, AllBy, by-later, agree-longer}
+use Rattle.grs_world.proofs.Runs.{GoodWorld, GoodMessage, push, run-push, seen_at, message_log, updated, by-later, agree-longer}
 use Rattle.grs_world.proofs.Seen.{NodeLaws}
 use Rattle.grs_world.proofs.Stands.{none, has-others}
-use Rattle.grs_world.proofs.Tape.{Item, entries, requests, Tape, replied-tape}
+use Rattle.grs_world.proofs.Tape.{entries, requests, Tape, replied-tape}
 use Rattle.grs_world.proofs.Views.{View, waiting}
 
 -- what a first part of the outbox has, taken again
@@ -147,7 +144,7 @@ module _ (deck : Deck) (Seen : ℕ → List HistEntry → List Req → Node → 
         go : (b : Bool) → is_at (run deck es).medium.message.holder e.system ≡ b → (d : Bool) → (run deck es).medium.message.closed ≡ d →
             LeadsBy choices.Turn (
               cond b (replies.Turned (unseen e.system (run deck es).medium.message.entries) (cond d 0 (length (take most_additions n.outbox))) (run deck es).medium.message.closed) (replies.NotYours (run deck es).medium.message.holder),
-              after_turn (cond b (cond d (turned_closed (run deck es).medium.message e.system) (turned_open (run deck es).medium.message e.system (take most_additions n.outbox) (live (run deck es).medium) (run deck es).medium.rest)) (run deck es).medium.message)
+              after_turn (cond b (cond d (turned_closed (run deck es).medium.message e.system) (turned_open (run deck es).medium.message e.system (take most_additions n.outbox) (live (run deck es).medium) (run deck es).medium.rest)) (run deck es).medium.message),
             )
         go false b d k = idle_push (after_turn w.medium.message) refl refl
         go true b false k = good_open k
@@ -235,6 +232,7 @@ first_view deck s = record {
   own = refl;
   tasks = λ t e. refl;
   blocked = tt;
+  tape = tt;
   replied = replied_none deck.limit;
   items = tt;
   front_items = tt;

@@ -1,5 +1,5 @@
 -- What stands in the message of all requests that were ever put in.
-use Rattle.std.proofs.Common.{ℕ, zero, suc, ◌≡◌, ◌≢◌, ◌+◌, ◌-◌, ◌<◌, ◌≤◌, Bool, true, false, cond, not, eqb, leb, ◌&&◌, List, [], ◌∷◌, ◌++◌, length, drop, map, Option, Some, None, ap, sym, ◌∙◌, refl, subst, arith, eqb-true, leb-true, leb-false, le-leb}
+use Rattle.std.proofs.Common.{ℕ, zero, suc, ◌≡◌, ◌≢◌, ◌+◌, ◌-◌, ◌<◌, ◌≤◌, Bool, true, false, cond, not, eqb, leb, ◌&&◌, List, [], ◌∷◌, ◌++◌, length, drop, map, Some, ap, sym, ◌∙◌, refl, subst, arith, eqb-true, leb-true, leb-false, le-leb}
 use Rattle.std.specs.Prelude.{filter, ◌==◌}
 use Rattle.std.proofs.Math.Seq.{drop-nil}
 use Rattle.std.proofs.lemmas.Bool.{eqb-false, lt-leb}
@@ -10,7 +10,7 @@ use Rattle.grs_wire.specs.declared.medium.RingEntry.{RingEntry}
 use Rattle.grs_wire.specs.declared.request.Req.{Req}
 use Rattle.grs_wire.proofs.MaskLaws.{has-without_same, has-without_other, has-zero, has-with_same, has-with_other}
 use Rattle.grs_wire.proofs.WantLaws.{by_test}
-use Rattle.rsa_message.specs.Message.{cleared, left_by, stamped, unseen, is_unseen, first_number}
+use Rattle.rsa_message.specs.Message.{cleared, left_by, stamped, unseen, first_number}
 
 -- Stands U k qs es: of the requests qs, the first of which has place k, those that a system has still to
 -- process stand in es, in order. U j s says that s has still to process the request at place j.

@@ -1,5 +1,5 @@
 -- A history as the requests that led to it, each with its resource and its entry.
-use Rattle.std.proofs.Common.{◌≡◌, cond, Bool, true, false, not, ◌&&◌, ◌||◌, ℕ, List, [], ◌∷◌, ◌++◌, map, length, Option, Some, None, refl, ap, sym, ◌∙◌, subst, append-nil, append_assoc}
+use Rattle.std.proofs.Common.{◌≡◌, cond, Bool, true, false, ◌&&◌, ◌||◌, ℕ, List, [], ◌∷◌, ◌++◌, map, Some, refl, ap, sym, subst, append-nil, append_assoc}
 use Rattle.std.specs.Prelude.{filter, is_some, ◌==◌}
 use Rattle.grs_base.specs.Same.{same_res, same_task}
 use Rattle.grs_base.specs.State.{State, is_systems}
@@ -16,9 +16,7 @@ use Rattle.grs_wire.specs.declared.history.HistEntry.{HistEntry}
 use Rattle.grs_wire.specs.declared.request.Req.{Req}
 use Rattle.grs_wire.specs.declared.request.Want.{Want}
 use Rattle.grs_wire.specs.declared.request.Want.TheVariants as wants
-use Rattle.grs_wire.proofs.WantLaws.{by_test}
 use Rattle.task_state.specs.Replies.{gives_up}
-use Rattle.grs_world.proofs.Entries.{filter-append}
 use Rattle.grs_world.proofs.Projections.{on_res, is_leave_of}
 use Rattle.grs_world.proofs.Replied.{Replied, replied_for}
 use Rattle.grs_world.proofs.Seen.{FullFits, is_res_of}

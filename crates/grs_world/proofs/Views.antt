@@ -1,21 +1,19 @@
 -- Where a system stands in the history: what it has processed of it, and in which order.
-use Rattle.std.proofs.Common.{◌≡◌, ◌≢◌, cond, Bool, true, false, not, ◌&&◌, ◌||◌, ℕ, List, [], ◌∷◌, ◌++◌, map, Option, Some, None, refl, ap, sym, ◌∙◌, subst, arith, append-nil, append_assoc}
-use Rattle.std.specs.Prelude.{filter, is_some, ◌==◌}
-use Rattle.std.specs.List.{list_all}
-use Rattle.std.proofs.lemmas.Bool.{and_parts, eqb-true, eq-eqb, eqb-false}
-use Rattle.grs_base.specs.Same.{same_res, same_task}
+use Rattle.std.proofs.Common.{◌≡◌, ◌≢◌, cond, Bool, true, false, not, ◌&&◌, ◌||◌, ℕ, List, [], ◌∷◌, ◌++◌, refl, ap, sym, ◌∙◌, subst, append-nil, append_assoc}
+use Rattle.std.specs.Prelude.{filter}
+use Rattle.std.proofs.lemmas.Bool.{eqb-true, eq-eqb}
+use Rattle.grs_base.specs.Same.{same_task}
 use Rattle.grs_base.specs.State.{is_systems}
 use Rattle.grs_base.specs.declared.resource.Res.{Res}
 use Rattle.grs_base.specs.declared.resource.Res.TheVariants as resources
 use Rattle.grs_base.specs.declared.resource.TaskId.{TaskId}
-use Rattle.grs_base.proofs.SameLaws.{same_task-exact, same_task-itself, same_res-exact, same_res-itself}
+use Rattle.grs_base.proofs.SameLaws.{same_task-exact, same_task-itself}
 use Rattle.grs_wire.specs.declared.deck.Deck.{Deck}
-use Rattle.grs_wire.specs.declared.request.Req.{Req}
 use Rattle.grs_world.proofs.Entries.{filter-append, filter-push_kept, filter-push_left}
 use Rattle.grs_world.proofs.Owners.{is_among}
-use Rattle.grs_world.proofs.Replied.{Replied}
+use Rattle.grs_world.proofs.Replied.{Replied, replied_for}
 use Rattle.grs_world.proofs.Seen.{is_res_of, askers}
-use Rattle.grs_world.proofs.Tape.{Item, entries, requests, by, on, for_all, from, home, IsItem, Items, items-append, filter-within, filter-none}
+use Rattle.grs_world.proofs.Tape.{Item, entries, requests, by, for_all, from, home, IsItem, Items, items-append, At, Tape, tape-append, entries-append, filter-none}
 
 -- an item for the whole complex of a task of this system
 abbrev pub waits : ℕ → Item → Bool
@@ -43,10 +41,19 @@ pub record View (deck : Deck) (s : ℕ) (front rest Q : List Item) : Type 0 wher
   -- and of each of its tasks all but those that wait
   pub tasks : (t : TaskId) → t.system.0 ≡ s → filter (by t) Q ≡ filter (by t) front ++ filter (by t) (filter local rest)
   pub blocked : Blocked s rest
+  -- each entry of it is by the lists at its place, there as in the history
+  pub tape : Tape deck [] Q
   pub replied : Replied deck.limit (entries Q)
   pub items : Items deck Q
   pub front_items : Items deck front
   pub rest_items : Items deck rest
+
+-- ---- one item more
+tape-push : (deck : Deck) (Q : List Item) (x : Item) → Tape deck [] Q → At deck (entries Q) x → Tape deck [] (Q ++ x ∷ [])
+tape-push deck Q x t a = tape-append deck [] Q (x ∷ []) t (a, tt)
+
+pub replied-push : (deck : Deck) (Q : List Item) (x : Item) → Replied deck.limit (entries Q) → At deck (entries Q) x → Replied deck.limit (entries (Q ++ x ∷ []))
+replied-push deck Q x r a = subst (Replied deck.limit) (sym (entries-append Q (x ∷ []))) (replied_for deck.limit (entries Q) x.req.task x.req.want x.entry r a.full a.made)
 
 -- ---- single items
 pub home-local : (s : ℕ) (r : Res) → is_res_of s r ≡ true → is_systems r ≡ false
@@ -143,6 +150,7 @@ module _ (deck : Deck) (s : ℕ) (front rest Q : List Item) (x : Item) (v : View
         tasks = λ t e. v.tasks t e ∙ (ap (λ z. filter (by t) front ++ filter (by t) z) (cons_kept local x rest loc) ∙ (ap (λ z. filter (by t) front ++ z) (filter-append (by t) (x ∷ []) (filter local rest))
             ∙ (sym (append_assoc (filter (by t) front) (filter (by t) (x ∷ [])) (filter (by t) (filter local rest))) ∙ ap (λ z. z ++ filter (by t) (filter local rest)) (sym (filter-append (by t) front (x ∷ []))))));
         blocked = v.blocked.1;
+        tape = v.tape;
         replied = v.replied;
         items = v.items;
         front_items = items-append deck front (x ∷ []) v.front_items (is_item, tt);
@@ -175,14 +183,15 @@ module _ (deck : Deck) (s : ℕ) (front rest Q : List Item) (x : Item) (v : View
           skip true = cons_left (by t) x (filter local rest) b
           skip false = refl
 
-  pub view-learned : home s x ≡ false → Replied deck.limit (entries (Q ++ x ∷ [])) → View deck s (front ++ x ∷ []) rest (Q ++ x ∷ [])
-  view-learned h right = record {
+  pub view-learned : home s x ≡ false → At deck (entries Q) x → View deck s (front ++ x ∷ []) rest (Q ++ x ∷ [])
+  view-learned h at = record {
     systems = filter-append for_all Q (x ∷ []) ∙ (ap (λ z. z ++ filter for_all (x ∷ [])) v.systems ∙ sym (filter-append for_all front (x ∷ [])));
     others = λ u ne. filter-append (from u) Q (x ∷ []) ∙ (ap (λ z. z ++ filter (from u) (x ∷ [])) (v.others u ne) ∙ sym (filter-append (from u) front (x ∷ [])));
     own = filter-push_left (home s) Q x h ∙ (v.own ∙ (ap (λ z. filter (home s) front ++ z) (cons_left (home s) x rest h) ∙ ap (λ z. z ++ filter (home s) rest) (sym (filter-push_left (home s) front x h))));
     tasks = task_learned h;
     blocked = v.blocked.1;
-    replied = right;
+    tape = tape-push deck Q x v.tape at;
+    replied = replied-push deck Q x v.replied at;
     items = items-append deck Q (x ∷ []) v.items (is_item, tt);
     front_items = items-append deck front (x ∷ []) v.front_items (is_item, tt);
     rest_items = v.rest_items.1;
@@ -225,6 +234,7 @@ module _ (deck : Deck) (s : ℕ) (front rest Q : List Item) (x : Item) (i : IsIt
     own = v.own ∙ ap (λ z. filter (home s) front ++ z) (sym (filter-push_left (home s) rest x h));
     tasks = λ t e. v.tasks t e ∙ ap (λ z. filter (by t) front ++ z) (sym (ap (filter (by t)) (filter-append local rest (x ∷ [])) ∙ (filter-append (by t) (filter local rest) (filter local (x ∷ [])) ∙ (ap (λ z. filter (by t) (filter local rest) ++ z) (none t e) ∙ append-nil (filter (by t) (filter local rest))))));
     blocked = blocked-push s rest x v.blocked apart;
+    tape = v.tape;
     replied = v.replied;
     items = v.items;
     front_items = v.front_items;
@@ -240,8 +250,8 @@ module _ (deck : Deck) (s : ℕ) (front rest Q : List Item) (x : Item) (i : IsIt
   view-put f apart = let loc : local x ≡ false = rw f refl in behind (all_home s x f) (λ t e. ap (filter (by t)) (one_left local x loc)) apart
 
   -- one that the system decides itself
-  pub view-decided : home s x ≡ true → Replied deck.limit (entries (Q ++ x ∷ [])) → is_among x.req.task (askers (requests (waiting s rest))) ≡ false → View deck s front (rest ++ x ∷ []) (Q ++ x ∷ [])
-  view-decided h right apart =
+  pub view-decided : home s x ≡ true → At deck (entries Q) x → is_among x.req.task (askers (requests (waiting s rest))) ≡ false → View deck s front (rest ++ x ∷ []) (Q ++ x ∷ [])
+  view-decided h at apart =
       let one : for_all x ≡ false = home-local s x.res h in
       let mine : from s x ≡ true = home-from deck s x i h in
       let loc : local x ≡ true = rw one refl in
@@ -252,7 +262,8 @@ module _ (deck : Deck) (s : ℕ) (front rest Q : List Item) (x : Item) (i : IsIt
         tasks = λ t e. filter-append (by t) Q (x ∷ []) ∙ (ap (λ z. z ++ filter (by t) (x ∷ [])) (v.tasks t e) ∙ (append_assoc (filter (by t) front) (filter (by t) (filter local rest)) (filter (by t) (x ∷ []))
             ∙ ap (λ z. filter (by t) front ++ z) (sym (filter-append (by t) (filter local rest) (x ∷ [])) ∙ ap (filter (by t)) (sym (filter-push_kept local rest x loc)))));
         blocked = blocked-push s rest x v.blocked apart;
-        replied = right;
+        tape = tape-push deck Q x v.tape at;
+        replied = replied-push deck Q x v.replied at;
         items = items-append deck Q (x ∷ []) v.items (i, tt);
         front_items = v.front_items;
         rest_items = items-append deck rest (x ∷ []) v.rest_items (i, tt);

@@ -1,3 +1,4 @@
 pub mod World
 pub mod Agree
 pub mod Laps
+pub mod Tables
