@@ -31,17 +31,8 @@ use Rattle.grs_world.proofs.Replied.{Replied}
 use Rattle.grs_world.proofs.Seen.{is_res_of, askers, none_leaves, Clears, ToldBy, none, more, is_line_of}
 use Rattle.grs_world.proofs.Tape.{Item, entries, requests, by, on, for_all, from, home, IsItem, Items, items-append, At, filter-within, filter-none, entries-append, entries_of-items, on_res-items, by-item, on-item}
 use Rattle.grs_world.proofs.Transfer.{Carries, CarriesLine, line-carried, fits-carried}
-use Rattle.grs_world.proofs.Views.{waits, local, waiting, Blocked, View, no_truth, local-home, from-home, by-from}
-
-and_on : (a b : Bool) → a ≡ true → b ≡ true → (a && b) ≡ true
-and_on true b e f = f
-and_on false b e f = cc
-
-cons_left : {X : Type 0} (p : X → Bool) (x : X) (xs : List X) → p x ≡ false → filter p (x ∷ xs) ≡ filter p xs
-cons_left p x xs h = rw h refl
-
-cons_kept : {X : Type 0} (p : X → Bool) (x : X) (xs : List X) → p x ≡ true → filter p (x ∷ xs) ≡ x ∷ filter p xs
-cons_kept p x xs h = rw h refl
+use Rattle.grs_world.proofs.Views.{waits, local, waiting, Blocked, View, two_homes, local-home, from-home, by-from}
+use Rattle.grs_world.proofs.Truths.{and_on, cons_kept, cons_left, no_truth, some_value}
 
 -- ---- which items of a resource a system has processed
 same_on : (r : Res) (x : Item) → on r x ≡ true → r ≡ x.res
@@ -62,17 +53,12 @@ is_owner_of (resources.Step n j q r) h = eq-eqb n.0 n.0 refl
 is_owner_of (resources.System n q r) h = eq-eqb n.0 n.0 refl
 is_owner_of (resources.Systems q r) h = cc
 
-homes_same : (s u : ℕ) (r : Res) → is_res_of s r ≡ true → is_res_of u r ≡ true → u ≡ s
-homes_same s u (resources.Step n j q r) h k = sym (eqb-true n.0 u k) ∙ eqb-true n.0 s h
-homes_same s u (resources.System n q r) h k = sym (eqb-true n.0 u k) ∙ eqb-true n.0 s h
-homes_same s u (resources.Systems q r) h k = cc
-
 on-owner : (deck : Deck) (r : Res) → is_systems r ≡ false → (x : Item) → IsItem deck x → on r x ≡ true → from (owner_of r) x ≡ true
 on-owner deck r s x i h =
     let same = same_on r x h in
     let loc : for_all x ≡ false = subst (λ q. is_systems q ≡ false) same s in
     let own : is_res_of (owner_of r) x.res ≡ true = subst (λ q. is_res_of (owner_of r) q ≡ true) same (is_owner_of r s) in
-    eq-eqb x.req.task.system.0 (owner_of r) (homes_same (owner_of r) x.req.task.system.0 x.res own (local-home deck x i loc))
+    eq-eqb x.req.task.system.0 (owner_of r) (two_homes (owner_of r) x.req.task.system.0 x.res own (local-home deck x i loc))
 
 module _ (deck : Deck) (s : ℕ) (front rest Q : List Item) (v : View deck s front rest Q) where
   -- the list of a resource that isn't the system's own is as at the front
@@ -287,14 +273,8 @@ told-whole deck s front rest Q v here opens later is T0 T (more U l by_now ours 
 
 -- ---- the first of the rest
 code_parts : (s u : State) (t : TaskId) (w : Want) (r : Res) → res_wanted w ≡ Some r → list_of s r ≡ list_of u r → entries_for s t w ≡ entries_for u t w
-code_parts s u t (wants.Enq q c ret full) r k e = ap (λ es. hists.Enq t q c ret (decide_enq es t c ret full).code ∷ []) (subst (λ p. list_of s p ≡ list_of u p) (sym (res_same q r k)) e)
-  where
-    res_same : (q r : Res) → Some q ≡ Some r → q ≡ r
-    res_same q r k = cc
-code_parts s u t (wants.Deq q have) r k e = ap (λ es. hists.Deq t q have (deq_code (standing_of es t) have) ∷ []) (subst (λ p. list_of s p ≡ list_of u p) (sym (res_same q r k)) e)
-  where
-    res_same : (q r : Res) → Some q ≡ Some r → q ≡ r
-    res_same q r k = cc
+code_parts s u t (wants.Enq q c ret full) r k e = ap (λ es. hists.Enq t q c ret (decide_enq es t c ret full).code ∷ []) (subst (λ p. list_of s p ≡ list_of u p) (sym (some_value q r k)) e)
+code_parts s u t (wants.Deq q have) r k e = ap (λ es. hists.Deq t q have (deq_code (standing_of es t) have) ∷ []) (subst (λ p. list_of s p ≡ list_of u p) (sym (some_value q r k)) e)
 code_parts s u t (wants.Release q) r k e = refl
 code_parts s u t (wants.Look from count f) r k e = absurd (cc)
 

@@ -1,8 +1,9 @@
 -- Each system's table is that of a front of the history.
-use Rattle.std.proofs.Common.{◌≡◌, ◌-◌, cond, Bool, true, false, ℕ, zero, suc, List, [], ◌∷◌, ◌++◌, length, take, Option, Some, None, refl, ap, sym, ◌∙◌, subst, arith, append-nil, append_assoc, ne_eqb}
+use Rattle.std.proofs.Common.{◌≡◌, ◌-◌, cond, Bool, true, false, ℕ, zero, suc, List, [], ◌∷◌, ◌++◌, take, Option, Some, None, refl, ap, sym, ◌∙◌, subst, arith, append-nil, append_assoc, ne_eqb}
 use Rattle.std.specs.Prelude.{filter, slice_get, ◌==◌}
 use Rattle.grs_base.specs.State.{State, is_systems}
 use Rattle.grs_base.specs.declared.resource.Res.{Res}
+use Rattle.grs_base.specs.declared.resource.Res.TheVariants as resources
 use Rattle.grs_base.specs.declared.resource.SysId.{SysId}
 use Rattle.grs_base.specs.declared.resource.TaskId.{TaskId}
 use Rattle.grs_node.specs.Node.{Node}
@@ -11,6 +12,7 @@ use Rattle.grs_wire.specs.Wants.{res_wanted, after_want}
 use Rattle.grs_wire.specs.declared.deck.Deck.{Deck}
 use Rattle.grs_wire.specs.declared.deck.Event.{Event}
 use Rattle.grs_wire.specs.declared.history.HistEntry.{HistEntry}
+use Rattle.grs_wire.specs.declared.history.HistEntry.TheVariants.{Release}
 use Rattle.grs_wire.specs.declared.medium.RingEntry.{RingEntry}
 use Rattle.grs_wire.specs.declared.request.Req.{Req}
 use Rattle.grs_wire.specs.declared.request.Want.{Want}
@@ -28,6 +30,7 @@ use Rattle.grs_world.proofs.Seen.{NodeLaws, part}
 use Rattle.grs_world.proofs.Sound.{good_run}
 use Rattle.grs_world.proofs.Stands.{Bodies, waits_live, first_number-seen}
 use Rattle.grs_world.proofs.Tape.{Item, entries, requests, for_all, IsItem, Items, items-tape, At, Tape, tape-front}
+use Rattle.grs_world.proofs.Truths.{some_value, take-seam}
 
 -- ---- the table by the requests of the message alone
 abbrev wants_from : State → List Item → State
@@ -53,18 +56,9 @@ part-same deck xs ys t u same = part-tape deck [] xs t ∙ (ap (wants_from (part
 
 -- ---- which entries went through the message
 through-made : (s : State) (u : TaskId) (w : Want) (r : Res) (h : HistEntry) → entries_for s u w ≡ h ∷ [] → res_wanted w ≡ Some r → went_through h ≡ is_systems r
-through-made s u (wants.Enq q c ret full) r h e k = only_entry (λ x. went_through x ≡ is_systems r) _ h e (ap is_systems (res_same q r k))
-  where
-    res_same : (q r : Res) → Some q ≡ Some r → q ≡ r
-    res_same q r k = cc
-through-made s u (wants.Deq q have) r h e k = only_entry (λ x. went_through x ≡ is_systems r) _ h e (ap is_systems (res_same q r k))
-  where
-    res_same : (q r : Res) → Some q ≡ Some r → q ≡ r
-    res_same q r k = cc
-through-made s u (wants.Release q) r h e k = only_entry (λ x. went_through x ≡ is_systems r) _ h e (ap is_systems (res_same q r k))
-  where
-    res_same : (q r : Res) → Some q ≡ Some r → q ≡ r
-    res_same q r k = cc
+through-made s u (wants.Enq q c ret full) r h e k = only_entry (λ x. went_through x ≡ is_systems r) _ h e (ap is_systems (some_value q r k))
+through-made s u (wants.Deq q have) r h e k = only_entry (λ x. went_through x ≡ is_systems r) _ h e (ap is_systems (some_value q r k))
+through-made s u (wants.Release q) r h e k = only_entry (λ x. went_through x ≡ is_systems r) _ h e (ap is_systems (some_value q r k))
 through-made s u (wants.Look from count f) r h e k = absurd (cc)
 
 through-item : (deck : Deck) (x : Item) → IsItem deck x → went_through x.entry ≡ for_all x
@@ -116,10 +110,6 @@ before-items deck (x ∷ xs) i k = go (for_all x) refl k (before-items deck xs i
           first = ap (λ b. cond b (x ∷ filter for_all m.front) (filter for_all m.front)) e ∙ (ap (λ z. x ∷ z) m.first ∙ ap (take (suc k)) (sym (ap (λ b. cond b (x ∷ filter for_all xs) (filter for_all xs)) e)));
         }
 
-take_front : {X : Type 0} (xs ys : List X) → take (length xs) (xs ++ ys) ≡ xs
-take_front [] ys = refl
-take_front (x ∷ xs) ys = ap (λ z. x ∷ z) (take_front xs ys)
-
 none_given : (xs : List Item) (es : List RingEntry) → first_number es ≡ None → Bodies (requests xs) es → xs ≡ []
 none_given [] es f b = refl
 none_given (x ∷ xs) [] f b = elim b [ ]
@@ -141,9 +131,26 @@ module _ (deck : Deck) (Seen : ℕ → List HistEntry → List Req → Node → 
           let count = seen_at g.front s.0 in
           let is : number ≡ suc count = first_number-seen s count (waits_live (live (run deck es).medium) (seen_at g.front) s.0 (g.alive s.0 n at)) (omega arith) g.message.stands number f in
           let b = before-items deck g.T (items-tape deck [] g.T g.tape) count in
-          let same : filter for_all (g.Q s.0) ≡ filter for_all b.front = (g.view s.0).systems ∙ (sym (take_front (filter for_all (g.front s.0)) (filter for_all (g.rest s.0))) ∙ (ap (take count) (sym all_parts) ∙ sym b.first)) in
+          let same : filter for_all (g.Q s.0) ≡ filter for_all b.front = (g.view s.0).systems ∙ (sym (take-seam (filter for_all (g.front s.0)) (filter for_all (g.rest s.0))) ∙ (ap (take count) (sym all_parts) ∙ sym b.first)) in
           part-same deck (g.Q s.0) b.front (g.view s.0).tape (tape-front deck [] b.front b.behind (subst (Tape deck []) (sym b.whole) g.tape)) same
           ∙ ap (λ hs. systems_part (replay deck.limit hs)) (sym (ap (λ k. before_number k (entries g.T)) is ∙ b.is))
 
   pub tables : TablesAreFronts deck es
   tables s n at = table_is s n (good_run deck Seen laws es) at (first_number (unseen s (run deck es).medium.message.entries)) refl
+
+-- ---- worked: a request of each kind of resource, and then one for the whole complex again
+module _ (t u : TaskId) (n : SysId) (q r : List ℕ) where
+  all_three : List HistEntry
+  all_three = Release t (resources.Systems q r) ∷ Release t (resources.System n q r) ∷ Release u (resources.Systems q r) ∷ []
+
+  before_first : before_number 1 all_three ≡ []
+  unfolding all_three
+  before_first = refl
+
+  before_second : before_number 2 all_three ≡ Release t (resources.Systems q r) ∷ Release t (resources.System n q r) ∷ []
+  unfolding all_three
+  before_second = refl
+
+  before_none : before_number 3 all_three ≡ all_three
+  unfolding all_three
+  before_none = refl

@@ -12,6 +12,7 @@ use Rattle.grs_world.proofs.Entries.{filter-append}
 use Rattle.grs_world.proofs.Runs.{GoodMessage, seen_at, message_log, updated, updated_same, updated_other}
 use Rattle.grs_world.proofs.Stands.{Stands, none, gone, kept, Bodies, Stands-cleared, Stands-append, Stands-stamped, unseen-drop, waits_for, waits_new, waits_seen, waits_live}
 use Rattle.grs_world.proofs.Tape.{Item, requests, for_all, requests-append}
+use Rattle.grs_world.proofs.Truths.{drop-seam}
 
 Stands-same : (U V : ℕ → ℕ → Bool) → ((j s : ℕ) → U j s ≡ V j s) → {k : ℕ} {qs : List Req} {es : List RingEntry} → Stands U k qs es → Stands V k qs es
 Stands-same U V same none = none
@@ -32,19 +33,12 @@ seen-within front rest T e =
     let c : length (requests (filter for_all front)) ≡ length (filter for_all front) = length-requests (filter for_all front) in
     omega arith
 
-drop_front : {X : Type 0} (xs ys : List X) (n : ℕ) → n ≡ length xs → drop n (xs ++ ys) ≡ ys
-drop_front xs ys n e = ap (λ k. drop k (xs ++ ys)) e ∙ plain xs ys
-  where
-    plain : {X : Type 0} (xs ys : List X) → drop (length xs) (xs ++ ys) ≡ ys
-    plain [] ys = refl
-    plain (x ∷ xs) ys = plain xs ys
-
 -- the entries given to c are the requests that it has still to process
 pub given-rest : (m : MediumState) (c : SysId) (front : ℕ → List Item) (rest T : List Item) → front c.0 ++ rest ≡ T → has (live m) c.0 ≡ true → GoodMessage m (message_log T) (seen_at front) → Bodies (requests (filter for_all rest)) (unseen c m.message.entries)
 given-rest m c front rest T whole alive g =
     let z : seen_at front c.0 - 0 ≡ seen_at front c.0 = omega arith in
     let parts : drop (seen_at front c.0 - 0) (message_log T) ≡ requests (filter for_all rest) =
-    ap (λ k. drop k (message_log T)) z ∙ (ap (drop (seen_at front c.0)) (log-parts (front c.0) rest T whole) ∙ drop_front (requests (filter for_all (front c.0))) (requests (filter for_all rest)) (seen_at front c.0) (sym (length-requests (filter for_all (front c.0))))) in
+    ap (λ k. drop k (message_log T)) z ∙ (ap (drop (seen_at front c.0)) (log-parts (front c.0) rest T whole) ∙ (ap (λ k. drop k (requests (filter for_all (front c.0)) ++ requests (filter for_all rest))) (sym (length-requests (filter for_all (front c.0)))) ∙ drop-seam (requests (filter for_all (front c.0))) (requests (filter for_all rest)))) in
     subst (λ qs. Bodies qs (unseen c m.message.entries)) parts (unseen-drop c (seen_at front c.0) (waits_live (live m) (seen_at front) c.0 alive) g.stands)
 
 -- nothing happens to the message

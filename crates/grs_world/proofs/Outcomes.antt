@@ -1,5 +1,5 @@
 -- What an event of one system adds to the history, and where the system stands afterwards.
-use Rattle.std.proofs.Common.{◌≡◌, Bool, true, false, not, ◌&&◌, ◌||◌, ℕ, List, [], ◌∷◌, ◌++◌, map, take, drop, refl, ap, sym, ◌∙◌, subst, append-nil, append_assoc, take-append-drop}
+use Rattle.std.proofs.Common.{◌≡◌, Bool, true, false, not, ◌||◌, ℕ, List, [], ◌∷◌, ◌++◌, map, take, drop, refl, ap, sym, ◌∙◌, subst, append-nil, append_assoc, take-append-drop}
 use Rattle.std.specs.Prelude.{filter, ◌==◌}
 use Rattle.std.specs.List.{list_all}
 use Rattle.std.proofs.lemmas.Bool.{and_parts, eqb-true}
@@ -25,6 +25,7 @@ use Rattle.grs_world.proofs.Stands.{Bodies}
 use Rattle.grs_world.proofs.Tape.{Item, entries, requests, for_all, from, by, IsItem, Items, items-append, At, Tape, entries-append, tape-behind, replied-tape}
 use Rattle.grs_world.proofs.Transfer.{Carries, stands-carried}
 use Rattle.grs_world.proofs.Views.{waits, waiting, View, view-decided, home-local}
+use Rattle.grs_world.proofs.Truths.{and_on, or_second}
 
 -- What an event of a system comes to: it stands at front' afterwards, has put these requests into the message,
 -- and the history has these items more.
@@ -41,14 +42,6 @@ pub record Outcome (deck : Deck) (Seen : ℕ → List HistEntry → List Req →
   pub view : View deck s front' rest' Q'
   pub seen : Seen s (entries Q') (requests (waiting s rest')) step.node
   pub news : ToldNews deck s (entries ((front ++ rest) ++ more)) n.tasks.told step.node.tasks.told
-
-and_on : (a b : Bool) → a ≡ true → b ≡ true → (a && b) ≡ true
-and_on true b e f = f
-and_on false b e f = cc
-
-or_second : (a b : Bool) → b ≡ true → (a || b) ≡ true
-or_second true b e = refl
-or_second false b e = e
 
 among_front : (t : TaskId) (xs ys : List Req) → is_among t (askers (xs ++ ys)) ≡ false → is_among t (askers xs) ≡ false
 among_front t [] ys a = refl

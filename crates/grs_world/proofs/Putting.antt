@@ -1,5 +1,5 @@
 -- Requests of a system's outbox are put into the message.
-use Rattle.std.proofs.Common.{◌≡◌, Bool, true, false, not, ◌&&◌, ◌||◌, ℕ, List, [], ◌∷◌, ◌++◌, Option, Some, refl, ap, sym, ◌∙◌, subst, append-nil, append_assoc}
+use Rattle.std.proofs.Common.{◌≡◌, true, false, not, ℕ, List, [], ◌∷◌, ◌++◌, Option, Some, refl, ap, sym, ◌∙◌, subst, append-nil, append_assoc}
 use Rattle.std.specs.Prelude.{filter, is_some}
 use Rattle.std.specs.List.{list_all}
 use Rattle.std.proofs.lemmas.Bool.{and_parts, eq-eqb}
@@ -7,7 +7,6 @@ use Rattle.grs_base.specs.Same.{same_task}
 use Rattle.grs_base.specs.State.{State, is_systems}
 use Rattle.grs_base.specs.declared.resource.Res.{Res}
 use Rattle.grs_base.specs.declared.resource.TaskId.{TaskId}
-use Rattle.grs_base.proofs.SameLaws.{same_task-exact, same_task-itself}
 use Rattle.grs_legal.specs.Asks.{lines_of}
 use Rattle.grs_legal.specs.Legal.{LegalFrom, MayStand}
 use Rattle.grs_legal.specs.declared.meaning.Meaning.{Meaning}
@@ -27,13 +26,7 @@ use Rattle.grs_world.proofs.Seen.{NodeLaws, MayPut, askers, stand_apart, FullFit
 use Rattle.grs_world.proofs.Tape.{Item, entries, requests, for_all, from, IsItem, At, Tape, entries-append, requests-append}
 use Rattle.grs_world.proofs.Transfer.{Carries, stands-put, fits-carried}
 use Rattle.grs_world.proofs.Views.{waits, waiting, View, view-put}
-
-cons_kept : {X : Type 0} (p : X → Bool) (x : X) (xs : List X) → p x ≡ true → filter p (x ∷ xs) ≡ x ∷ filter p xs
-cons_kept p x xs h = rw h refl
-
-and_on : (a b : Bool) → a ≡ true → b ≡ true → (a && b) ≡ true
-and_on true b e f = f
-and_on false b e f = cc
+use Rattle.grs_world.proofs.Truths.{and_on, cons_kept, not_true, or_false, or_first, task_swap}
 
 -- each of these requests may be put in
 abbrev pub AllMayPut : Deck → ℕ → List HistEntry → List Req → Type 0
@@ -51,24 +44,6 @@ one_entry s t (wants.Enq q c ret full) r e = (_, refl)
 one_entry s t (wants.Deq q have) r e = (_, refl)
 one_entry s t (wants.Release q) r e = (_, refl)
 one_entry s t (wants.Look first count f) r e = absurd (cc)
-
-or_false : (a b : Bool) → (a || b) ≡ false → (a ≡ false) × (b ≡ false)
-or_false true b e = cc
-or_false false b e = (refl, e)
-
-not_true : (b : Bool) → not b ≡ true → b ≡ false
-not_true true e = cc
-not_true false e = refl
-
-is_false : (b : Bool) → (b ≡ true → b ≡ false) → b ≡ false
-is_false true h = h refl
-is_false false h = refl
-
-clash : {X : Type 0} (b : Bool) → b ≡ true → b ≡ false → X
-clash b e f = absurd (cc)
-
-task_swap : (t u : TaskId) → same_task t u ≡ false → same_task u t ≡ false
-task_swap t u e = is_false (same_task u t) (λ h. clash (same_task t u) (subst (λ (z : TaskId). same_task z u ≡ true) (same_task-exact u t h) (same_task-itself u)) e)
 
 among_later : (t u : TaskId) (ts us : List TaskId) → is_among t (ts ++ u ∷ us) ≡ false → same_task t u ≡ false
 among_later t u [] us a = (or_false (same_task t u) (is_among t us) a).0
@@ -107,7 +82,7 @@ put-all deck s front Q (q ∷ qs) rest v here may apart =
     let one = one_entry (replay deck.limit P) q.task q.want m.res m.of_res in
     let x : Item = record { req = q; res = m.res; entry = one.0 } in
     let made : entries_for (replay deck.limit P) q.task q.want ≡ one.0 ∷ [] = one.1 in
-    let item : IsItem deck x = record { lists = replay deck.limit P; made = made; wanted = m.of_res; known = some_there (lines_of deck q.task) m.lines m.of_deck; place = or_on (is_systems m.res) _ m.systems } in
+    let item : IsItem deck x = record { lists = replay deck.limit P; made = made; wanted = m.of_res; known = some_there (lines_of deck q.task) m.lines m.of_deck; place = or_first (is_systems m.res) _ m.systems } in
     let alone : is_among q.task (askers (requests (waiting s rest))) ≡ false =
     apart_before (askers (requests (waiting s rest))) q.task (askers qs) (subst (λ ts. stand_apart ts ≡ true) (askers-append (requests (waiting s rest)) (q ∷ qs)) apart) in
     let carries : Carries deck.limit q.task P (entries Q) = carries-whole deck s front rest Q v here q.task m.home alone in
@@ -132,7 +107,3 @@ put-all deck s front Q (q ∷ qs) rest v here may apart =
       legal = (stands, subst (λ z. LegalFrom deck z (entries on.items)) grown on.legal);
       view = subst (λ xs. View deck s front xs Q) (append_assoc rest (x ∷ []) on.items) on.view;
     }
-  where
-    or_on : (a b : Bool) → a ≡ true → (a || b) ≡ true
-    or_on true b e = refl
-    or_on false b e = cc

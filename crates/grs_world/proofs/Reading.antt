@@ -23,21 +23,8 @@ use Rattle.grs_world.proofs.Replied.{Replied, replied_for, only_entry}
 use Rattle.grs_world.proofs.Seen.{NodeLaws, ToldBy, Reads, after_read, is_elsewhere, is_res_of}
 use Rattle.grs_world.proofs.Stands.{Bodies, none, more}
 use Rattle.grs_world.proofs.Tape.{Item, entries, requests, for_all, from, home, IsItem, Items, At, Tape, entries-append, requests-append}
-use Rattle.grs_world.proofs.Views.{waits, waiting, View, view-own, view-learned, no_truth, home-local, from-home}
-
-cons_left : {X : Type 0} (p : X → Bool) (x : X) (xs : List X) → p x ≡ false → filter p (x ∷ xs) ≡ filter p xs
-cons_left p x xs h = rw h refl
-
-cons_kept : {X : Type 0} (p : X → Bool) (x : X) (xs : List X) → p x ≡ true → filter p (x ∷ xs) ≡ x ∷ filter p xs
-cons_kept p x xs h = rw h refl
-
-and_on : (a b : Bool) → a ≡ true → b ≡ true → (a && b) ≡ true
-and_on true b e f = f
-and_on false b e f = cc
-
-and_off : (a b : Bool) → b ≡ false → (a && b) ≡ false
-and_off true b e = e
-and_off false b e = refl
+use Rattle.grs_world.proofs.Views.{waits, waiting, View, view-own, view-learned, home-local, from-home}
+use Rattle.grs_world.proofs.Truths.{and_off, and_on, cons_kept, cons_left, no_truth, some_value}
 
 -- ---- what the node does
 abbrev pub read_all : Node → List Req → Node
@@ -69,25 +56,16 @@ read-entries deck n (x ∷ xs) es i b = go (for_all x) refl es b (λ m fs c. rea
 
 -- ---- what an item is to a system that learns of it
 elsewhere-made : (deck : Deck) (s : ℕ) (st : State) (u : TaskId) (w : Want) (r : Res) (h : HistEntry) → entries_for st u w ≡ h ∷ [] → res_wanted w ≡ Some r → (u.system.0 == s) ≡ false → is_some (lines_of deck u) ≡ true → is_systems r ≡ false → is_res_of s r ≡ false → is_elsewhere deck s h ≡ true
-elsewhere-made deck s st u (wants.Enq q c ret full) r h e k a b d f = only_entry (λ g. is_elsewhere deck s g ≡ true) _ h e (at q (res_same q r k))
+elsewhere-made deck s st u (wants.Enq q c ret full) r h e k a b d f = only_entry (λ g. is_elsewhere deck s g ≡ true) _ h e (at q (some_value q r k))
   where
-    res_same : (q r : Res) → Some q ≡ Some r → q ≡ r
-    res_same q r k = cc
-
     at : (q : Res) → q ≡ r → (not (u.system.0 == s) && (is_some (lines_of deck u) && (not (is_systems q) && not (is_res_of s q)))) ≡ true
     at q same = rw (same, a, b, d, f) refl
-elsewhere-made deck s st u (wants.Deq q have) r h e k a b d f = only_entry (λ g. is_elsewhere deck s g ≡ true) _ h e (at q (res_same q r k))
+elsewhere-made deck s st u (wants.Deq q have) r h e k a b d f = only_entry (λ g. is_elsewhere deck s g ≡ true) _ h e (at q (some_value q r k))
   where
-    res_same : (q r : Res) → Some q ≡ Some r → q ≡ r
-    res_same q r k = cc
-
     at : (q : Res) → q ≡ r → (not (u.system.0 == s) && (is_some (lines_of deck u) && (not (is_systems q) && not (is_res_of s q)))) ≡ true
     at q same = rw (same, a, b, d, f) refl
-elsewhere-made deck s st u (wants.Release q) r h e k a b d f = only_entry (λ g. is_elsewhere deck s g ≡ true) _ h e (at q (res_same q r k))
+elsewhere-made deck s st u (wants.Release q) r h e k a b d f = only_entry (λ g. is_elsewhere deck s g ≡ true) _ h e (at q (some_value q r k))
   where
-    res_same : (q r : Res) → Some q ≡ Some r → q ≡ r
-    res_same q r k = cc
-
     at : (q : Res) → q ≡ r → (not (u.system.0 == s) && (is_some (lines_of deck u) && (not (is_systems q) && not (is_res_of s q)))) ≡ true
     at q same = rw (same, a, b, d, f) refl
 elsewhere-made deck s st u (wants.Look first count f) r h e k a b d g = absurd (cc)

@@ -29,7 +29,8 @@ use Rattle.grs_world.proofs.Replied.{replay-push, step-for}
 use Rattle.grs_world.proofs.Seen.{is_line_of}
 use Rattle.grs_world.proofs.Stands.{Stands, waits_for}
 use Rattle.grs_world.proofs.Tape.{Item, entries, requests, for_all, from, Items, items-tape, At, Tape, entries-append, requests-append, tape-append}
-use Rattle.grs_world.proofs.Views.{waits, waiting, View, view-other}
+use Rattle.grs_world.proofs.Views.{waits, waiting, View, view-other, not_from}
+use Rattle.grs_world.proofs.Truths.{drop-seam, false_by}
 
 -- ---- the lists after all that was fixed
 abbrev pub after_all : State → List (SysId × Fixed) → State
@@ -67,11 +68,6 @@ after-tape deck c P (x ∷ xs) t =
 legal-append : (deck : Deck) (P hs gs : List HistEntry) → LegalFrom deck P hs → LegalFrom deck (P ++ hs) gs → LegalFrom deck P (hs ++ gs)
 legal-append deck P [] gs a b = subst (λ Q. LegalFrom deck Q gs) (append-nil P) b
 legal-append deck P (h ∷ hs) gs a b = (a.0, legal-append deck (P ++ h ∷ []) hs gs a.1 (subst (λ Q. LegalFrom deck Q gs) (sym (append_assoc P (h ∷ []) hs)) b))
-
--- ---- what was told
-drop-front : {X : Type 0} (xs ys : List X) → drop (length xs) (xs ++ ys) ≡ ys
-drop-front [] ys = refl
-drop-front (x ∷ xs) ys = drop-front xs ys
 
 take-front : {X : Type 0} (n : ℕ) (xs ys : List X) → n ≤ length xs → take n (xs ++ ys) ≡ take n xs
 take-front zero xs ys h = grind (arith)
@@ -125,13 +121,6 @@ agree-new deck es n c before [] e a = tt
 agree-new deck es n c before (l ∷ ls) e a =
     (subst (λ z. Agrees deck (hist deck z) before l) (sym (ap (λ m. take m es) e ∙ take-whole es)) a.0, agree-new deck es n c (before ++ l ∷ []) ls e a.1)
 
-no_truth : {X : Type 0} (b : Bool) → b ≡ true → b ≡ false → X
-no_truth b e f = absurd (cc)
-
-false_by : (b : Bool) → (b ≡ true → b ≡ false) → b ≡ false
-false_by true h = h refl
-false_by false h = refl
-
 other_number : (a s u : ℕ) → u ≢ s → (a == s) ≡ true → (a == u) ≡ false
 other_number a s u ne e = false_by (a == u) (λ f. absurd (ne (sym (eqb-true a u f) ∙ eqb-true a s e)))
 
@@ -178,10 +167,6 @@ slice_get-set_other (z ∷ xs) zero zero y ne = absurd (ne refl)
 slice_get-set_other (z ∷ xs) zero (suc j) y ne = refl
 slice_get-set_other (z ∷ xs) (suc i) zero y ne = refl
 slice_get-set_other (z ∷ xs) (suc i) (suc j) y ne = slice_get-set_other xs i j y (λ e. ne (ap suc e))
-
--- ---- another system's view of what came
-not_from : (s u : ℕ) (x : Item) → u ≢ s → from s x ≡ true → from u x ≡ false
-not_from s u x ne f = other_number x.req.task.system.0 s u ne f
 
 pub views-other : (deck : Deck) (s u : ℕ) (front Q xs rest : List Item) → u ≢ s → Items deck xs → list_all (from s) xs ≡ true → View deck u front rest Q → View deck u front (rest ++ xs) Q
 views-other deck s u front Q [] rest ne i f v = subst (λ ys. View deck u front ys Q) (sym (append-nil rest)) v
@@ -269,7 +254,7 @@ module _ (deck : Deck) (Seen : ℕ → List HistEntry → List Req → Node → 
       ∙ (ap (λ z. entries g.T ++ z) (answered-tape deck e.system (entries g.T) o.more tape) ∙ sym grown)))) in
       let hist_run : hist deck (es ++ e ∷ []) ≡ entries T' = ap (λ (x : World). answered x.fixed) (run-push deck es (first_world deck) e ∙ is) ∙ hist_now in
       let news : ToldNews deck s (entries T') n.tasks.told st.node.tasks.told = subst (λ xs. ToldNews deck s (entries (xs ++ o.more)) n.tasks.told st.node.tasks.told) whole_s o.news in
-      let lines_are : drop (length n.tasks.told) st.node.tasks.told ≡ news.lines = ap (drop (length n.tasks.told)) news.is ∙ drop-front n.tasks.told news.lines in
+      let lines_are : drop (length n.tasks.told) st.node.tasks.told ≡ news.lines = ap (drop (length n.tasks.told)) news.is ∙ drop-seam n.tasks.told news.lines in
       let told_now : w.told ++ told_by (w.events + 1) e.system (drop (length n.tasks.told) st.node.tasks.told) ≡ w.told ++ told_by (w.events + 1) e.system news.lines = ap (λ ls. w.told ++ told_by (w.events + 1) e.system ls) lines_are in
       let all_lines : lines_of_told (w.told ++ told_by (w.events + 1) e.system (drop (length n.tasks.told) st.node.tasks.told)) ≡ lines_of_told w.told ++ news.lines =
       ap lines_of_told told_now ∙ (lines_of_told-append w.told (told_by (w.events + 1) e.system news.lines) ∙ ap (λ z. lines_of_told w.told ++ z) (lines-told_by (w.events + 1) e.system news.lines)) in

@@ -1,5 +1,5 @@
 -- A history as the requests that led to it, each with its resource and its entry.
-use Rattle.std.proofs.Common.{◌≡◌, cond, Bool, true, false, ◌&&◌, ◌||◌, ℕ, List, [], ◌∷◌, ◌++◌, map, Some, refl, ap, sym, subst, append-nil, append_assoc}
+use Rattle.std.proofs.Common.{◌≡◌, cond, Bool, true, false, ◌||◌, ℕ, List, [], ◌∷◌, ◌++◌, map, Some, refl, ap, sym, subst, append-nil, append_assoc}
 use Rattle.std.specs.Prelude.{filter, is_some, ◌==◌}
 use Rattle.grs_base.specs.Same.{same_res, same_task}
 use Rattle.grs_base.specs.State.{State, is_systems}
@@ -7,7 +7,6 @@ use Rattle.grs_base.specs.declared.resource.Res.{Res}
 use Rattle.grs_base.specs.declared.resource.TaskId.{TaskId}
 use Rattle.grs_legal.specs.Asks.{lines_of}
 use Rattle.grs_legal.specs.Legal.{entries_of}
-use Rattle.grs_base.proofs.SameLaws.{same_res-itself}
 use Rattle.grs_wire.specs.History.{is_by, replay, entries_for}
 use Rattle.grs_wire.specs.Laws.{may_change}
 use Rattle.grs_wire.specs.Wants.{res_wanted}
@@ -16,9 +15,8 @@ use Rattle.grs_wire.specs.declared.history.HistEntry.{HistEntry}
 use Rattle.grs_wire.specs.declared.request.Req.{Req}
 use Rattle.grs_wire.specs.declared.request.Want.{Want}
 use Rattle.grs_wire.specs.declared.request.Want.TheVariants as wants
-use Rattle.task_state.specs.Replies.{gives_up}
-use Rattle.grs_world.proofs.Projections.{on_res, is_leave_of}
-use Rattle.grs_world.proofs.Replied.{Replied, replied_for}
+use Rattle.grs_world.proofs.Projections.{on_res, may_change-for}
+use Rattle.grs_world.proofs.Replied.{Replied, replied_for, only_entry}
 use Rattle.grs_world.proofs.Seen.{FullFits, is_res_of}
 
 -- a request that was fixed, the resource that it is for, and its entry
@@ -116,56 +114,17 @@ replied-tape deck P (x ∷ xs) r a =
     let one : At deck P x = a.0 in
     subst (Replied deck.limit) (append_assoc P (x.entry ∷ []) (entries xs)) (replied-tape deck (P ++ x.entry ∷ []) xs (replied_for deck.limit P x.req.task x.req.want x.entry r one.full one.made) a.1)
 
--- ---- what an entry tells of its request
-first : HistEntry → List HistEntry → HistEntry
-first other [] = other
-first other (h ∷ hs) = h
-
-only_entry : (P : HistEntry → Type 0) (g h : HistEntry) → g ∷ [] ≡ h ∷ [] → P g → P h
-unfolding first
-only_entry P g h e p = subst P (ap (first g) e) p
-
-some_same : (q r : Res) → Some q ≡ Some r → q ≡ r
-some_same q r e = cc
-
 by-made : (s : State) (t u : TaskId) (w : Want) (r : Res) (h : HistEntry) → entries_for s u w ≡ h ∷ [] → res_wanted w ≡ Some r → is_by t h ≡ same_task t u
 by-made s t u (wants.Enq q c ret full) r h e k = only_entry (λ x. is_by t x ≡ same_task t u) _ h e refl
 by-made s t u (wants.Deq q have) r h e k = only_entry (λ x. is_by t x ≡ same_task t u) _ h e refl
 by-made s t u (wants.Release q) r h e k = only_entry (λ x. is_by t x ≡ same_task t u) _ h e refl
 by-made s t u (wants.Look from count f) r h e k = absurd (cc)
 
-on-made : (s : State) (p : Res) (u : TaskId) (w : Want) (r : Res) (h : HistEntry) → entries_for s u w ≡ h ∷ [] → res_wanted w ≡ Some r → may_change h p ≡ same_res p r
-on-made s p u (wants.Enq q c ret full) r h e k = only_entry (λ x. may_change x p ≡ same_res p r) _ h e (ap (same_res p) (some_same q r k))
-on-made s p u (wants.Deq q have) r h e k = only_entry (λ x. may_change x p ≡ same_res p r) _ h e (ap (same_res p) (some_same q r k))
-on-made s p u (wants.Release q) r h e k = only_entry (λ x. may_change x p ≡ same_res p r) _ h e (ap (same_res p) (some_same q r k))
-on-made s p u (wants.Look from count f) r h e k = absurd (cc)
-
-and_off : (b : Bool) → (b && false) ≡ false
-and_off true = refl
-and_off false = refl
-
-and_on : (b : Bool) (q r : Res) → q ≡ r → b ≡ (b && same_res r q)
-and_on b q r e = rw (e, same_res-itself r) (plain b)
-  where
-    plain : (b : Bool) → b ≡ (b && true)
-    plain true = refl
-    plain false = refl
-
--- a DEQ or RELEASE gives its resource up
-leave-made : (s : State) (t u : TaskId) (w : Want) (r : Res) (h : HistEntry) → entries_for s u w ≡ h ∷ [] → res_wanted w ≡ Some r → is_leave_of t h ≡ (same_task t u && gives_up r w)
-leave-made s t u (wants.Enq q c ret full) r h e k = only_entry (λ x. is_leave_of t x ≡ (same_task t u && false)) _ h e (sym (and_off (same_task t u)))
-leave-made s t u (wants.Deq q have) r h e k = only_entry (λ x. is_leave_of t x ≡ (same_task t u && same_res r q)) _ h e (and_on (same_task t u) q r (some_same q r k))
-leave-made s t u (wants.Release q) r h e k = only_entry (λ x. is_leave_of t x ≡ (same_task t u && same_res r q)) _ h e (and_on (same_task t u) q r (some_same q r k))
-leave-made s t u (wants.Look from count f) r h e k = absurd (cc)
-
 pub by-item : (deck : Deck) (t : TaskId) (x : Item) → IsItem deck x → is_by t x.entry ≡ by t x
 by-item deck t x i = by-made i.lists t x.req.task x.req.want x.res x.entry i.made i.wanted
 
 pub on-item : (deck : Deck) (r : Res) (x : Item) → IsItem deck x → may_change x.entry r ≡ on r x
-on-item deck r x i = on-made i.lists r x.req.task x.req.want x.res x.entry i.made i.wanted
-
-pub leave-item : (deck : Deck) (t : TaskId) (x : Item) → IsItem deck x → is_leave_of t x.entry ≡ (by t x && gives_up x.res x.req.want)
-leave-item deck t x i = leave-made i.lists t x.req.task x.req.want x.res x.entry i.made i.wanted
+on-item deck r x i = may_change-for i.lists x.req.task x.req.want x.res r x.entry i.wanted i.made
 
 filter-entries : (deck : Deck) (p : HistEntry → Bool) (q : Item → Bool) → ((x : Item) → IsItem deck x → p x.entry ≡ q x) → (xs : List Item) → Items deck xs → filter p (entries xs) ≡ entries (filter q xs)
 filter-entries deck p q same [] a = refl

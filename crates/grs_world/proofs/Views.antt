@@ -1,5 +1,5 @@
 -- Where a system stands in the history: what it has processed of it, and in which order.
-use Rattle.std.proofs.Common.{◌≡◌, ◌≢◌, cond, Bool, true, false, not, ◌&&◌, ◌||◌, ℕ, List, [], ◌∷◌, ◌++◌, refl, ap, sym, ◌∙◌, subst, append-nil, append_assoc}
+use Rattle.std.proofs.Common.{◌≡◌, ◌≢◌, cond, Bool, true, false, not, ◌&&◌, ℕ, List, [], ◌∷◌, ◌++◌, refl, ap, sym, ◌∙◌, subst, append-nil, append_assoc}
 use Rattle.std.specs.Prelude.{filter}
 use Rattle.std.proofs.lemmas.Bool.{eqb-true, eq-eqb}
 use Rattle.grs_base.specs.Same.{same_task}
@@ -7,13 +7,14 @@ use Rattle.grs_base.specs.State.{is_systems}
 use Rattle.grs_base.specs.declared.resource.Res.{Res}
 use Rattle.grs_base.specs.declared.resource.Res.TheVariants as resources
 use Rattle.grs_base.specs.declared.resource.TaskId.{TaskId}
-use Rattle.grs_base.proofs.SameLaws.{same_task-exact, same_task-itself}
+use Rattle.grs_base.proofs.SameLaws.{same_task-exact}
 use Rattle.grs_wire.specs.declared.deck.Deck.{Deck}
 use Rattle.grs_world.proofs.Entries.{filter-append, filter-push_kept, filter-push_left}
 use Rattle.grs_world.proofs.Owners.{is_among}
 use Rattle.grs_world.proofs.Replied.{Replied, replied_for}
 use Rattle.grs_world.proofs.Seen.{is_res_of, askers}
 use Rattle.grs_world.proofs.Tape.{Item, entries, requests, by, for_all, from, home, IsItem, Items, items-append, At, Tape, tape-append, entries-append, filter-none}
+use Rattle.grs_world.proofs.Truths.{and_on, and_other, cons_kept, cons_left, false_by, no_truth, or_false, or_other, task_swap}
 
 -- an item for the whole complex of a task of this system
 abbrev pub waits : ℕ → Item → Bool
@@ -61,33 +62,14 @@ home-local s (resources.Step n j q r) h = refl
 home-local s (resources.System n q r) h = refl
 home-local s (resources.Systems q r) h = cc
 
-two_homes : (s u : ℕ) (r : Res) → is_res_of s r ≡ true → is_res_of u r ≡ true → u ≡ s
+pub two_homes : (s u : ℕ) (r : Res) → is_res_of s r ≡ true → is_res_of u r ≡ true → u ≡ s
 two_homes s u (resources.Step n j q r) h k = sym (eqb-true n.0 u k) ∙ eqb-true n.0 s h
 two_homes s u (resources.System n q r) h k = sym (eqb-true n.0 u k) ∙ eqb-true n.0 s h
 two_homes s u (resources.Systems q r) h k = cc
 
-or_second : (a b : Bool) → (a || b) ≡ true → a ≡ false → b ≡ true
-or_second true b e f = cc
-or_second false b e f = e
-
-and_first : (a b : Bool) → (a && b) ≡ true → a ≡ true
-and_first true b e = refl
-and_first false b e = cc
-
-and_other : (a b : Bool) → (a && b) ≡ true → b ≡ true
-and_other true b e = e
-and_other false b e = cc
-
-both : (a b : Bool) → a ≡ true → b ≡ true → (a && b) ≡ true
-both true b e f = f
-both false b e f = cc
-
-pub no_truth : {X : Type 0} (b : Bool) → b ≡ true → b ≡ false → X
-no_truth b e f = absurd (cc)
-
 -- a request that is not for the whole complex is for the task's system
 pub local-home : (deck : Deck) (x : Item) → IsItem deck x → for_all x ≡ false → home x.req.task.system.0 x ≡ true
-local-home deck x i e = or_second (is_systems x.res) (is_res_of x.req.task.system.0 x.res) i.place e
+local-home deck x i e = or_other (is_systems x.res) (is_res_of x.req.task.system.0 x.res) i.place e
 
 pub home-from : (deck : Deck) (s : ℕ) (x : Item) → IsItem deck x → home s x ≡ true → from s x ≡ true
 home-from deck s x i h = eq-eqb x.req.task.system.0 s (two_homes s x.req.task.system.0 x.res h (local-home deck x i (home-local s x.res h)))
@@ -98,16 +80,12 @@ from-home deck s x i f e = subst (λ n. is_res_of n x.res ≡ true) (eqb-true x.
 pub by-from : (s : ℕ) (t : TaskId) (x : Item) → t.system.0 ≡ s → by t x ≡ true → from s x ≡ true
 by-from s t x e b = eq-eqb x.req.task.system.0 s (ap (λ (u : TaskId). u.system.0) (sym (same_task-exact t x.req.task b)) ∙ e)
 
-not_from : (s u : ℕ) (x : Item) → u ≢ s → from s x ≡ true → from u x ≡ false
+pub not_from : (s u : ℕ) (x : Item) → u ≢ s → from s x ≡ true → from u x ≡ false
 not_from s u x ne f = go (from u x) refl
   where
     go : (b : Bool) → from u x ≡ b → b ≡ false
     go true e = absurd (ne (sym (eqb-true x.req.task.system.0 u e) ∙ eqb-true x.req.task.system.0 s f))
     go false e = refl
-
-false_by : (b : Bool) → (b ≡ true → false ≡ true) → b ≡ false
-false_by true h = sym (h refl)
-false_by false h = refl
 
 not_by : (s : ℕ) (t : TaskId) (x : Item) → t.system.0 ≡ s → from s x ≡ false → by t x ≡ false
 not_by s t x e f = false_by (by t x) (λ b. no_truth (from s x) (by-from s t x e b) f)
@@ -117,20 +95,6 @@ not_home deck s x i f = false_by (home s x) (λ h. no_truth (from s x) (home-fro
 
 all_home : (s : ℕ) (x : Item) → for_all x ≡ true → home s x ≡ false
 all_home s x f = false_by (home s x) (λ h. no_truth (for_all x) f (home-local s x.res h))
-
--- ---- filters of a list with one item more
-module _ {X : Type 0} (p : X → Bool) where
-  one_kept : (x : X) → p x ≡ true → filter p (x ∷ []) ≡ x ∷ []
-  one_kept x h = rw h refl
-
-  one_left : (x : X) → p x ≡ false → filter p (x ∷ []) ≡ []
-  one_left x h = rw h refl
-
-  cons_left : (x : X) (xs : List X) → p x ≡ false → filter p (x ∷ xs) ≡ filter p xs
-  cons_left x xs h = rw h refl
-
-  cons_kept : (x : X) (xs : List X) → p x ≡ true → filter p (x ∷ xs) ≡ x ∷ filter p xs
-  cons_kept x xs h = rw h refl
 
 -- ---- the first item of the rest is processed
 module _ (deck : Deck) (s : ℕ) (front rest Q : List Item) (x : Item) (v : View deck s front (x ∷ rest) Q) where
@@ -166,7 +130,7 @@ module _ (deck : Deck) (s : ℕ) (front rest Q : List Item) (x : Item) (v : View
           let mine : from s x ≡ true = by-from s t x e b in
           let all : for_all x ≡ true = true_by (for_all x) (λ f. no_truth (home s x) (from-home deck s x is_item mine f) h) in
           let same : x.req.task ≡ t = sym (same_task-exact t x.req.task b) in
-          let none : filter (by t) rest ≡ [] = subst (λ u. filter (by u) rest ≡ []) same (v.blocked.0 (both (for_all x) (from s x) all mine)) in
+          let none : filter (by t) rest ≡ [] = subst (λ u. filter (by u) rest ≡ []) same (v.blocked.0 (and_on (for_all x) (from s x) all mine)) in
           let none_local : filter (by t) (filter local rest) ≡ [] = filter-none (by t) local rest none in
           let loc : local x ≡ false = rw all refl in
           let before : filter (by t) Q ≡ filter (by t) front =
@@ -196,14 +160,6 @@ module _ (deck : Deck) (s : ℕ) (front rest Q : List Item) (x : Item) (v : View
     front_items = items-append deck front (x ∷ []) v.front_items (is_item, tt);
     rest_items = v.rest_items.1;
   }
-
--- ---- an item is put behind the rest
-or_false : (a b : Bool) → (a || b) ≡ false → (a ≡ false) × (b ≡ false)
-or_false true b e = cc
-or_false false b e = (refl, e)
-
-task_swap : (t u : TaskId) → same_task t u ≡ false → same_task u t ≡ false
-task_swap t u e = false_by (same_task u t) (λ h. no_truth (same_task t u) (subst (λ (z : TaskId). same_task z u ≡ true) (same_task-exact u t h) (same_task-itself u)) e)
 
 blocked-push : (s : ℕ) (rest : List Item) (x : Item) → Blocked s rest → is_among x.req.task (askers (requests (waiting s rest))) ≡ false → Blocked s (rest ++ x ∷ [])
 blocked-push s [] x b a = ((λ w. refl), tt)
@@ -243,11 +199,11 @@ module _ (deck : Deck) (s : ℕ) (front rest Q : List Item) (x : Item) (i : IsIt
 
   -- another system's
   pub view-other : from s x ≡ false → View deck s front (rest ++ x ∷ []) Q
-  view-other f = behind (not_home deck s x i f) (λ t e. filter-none (by t) local (x ∷ []) (one_left (by t) x (not_by s t x e f))) (among-other s rest x f)
+  view-other f = behind (not_home deck s x i f) (λ t e. filter-none (by t) local (x ∷ []) (cons_left (by t) x [] (not_by s t x e f))) (among-other s rest x f)
 
   -- an own request for the whole complex
   pub view-put : for_all x ≡ true → is_among x.req.task (askers (requests (waiting s rest))) ≡ false → View deck s front (rest ++ x ∷ []) Q
-  view-put f apart = let loc : local x ≡ false = rw f refl in behind (all_home s x f) (λ t e. ap (filter (by t)) (one_left local x loc)) apart
+  view-put f apart = let loc : local x ≡ false = rw f refl in behind (all_home s x f) (λ t e. ap (filter (by t)) (cons_left local x [] loc)) apart
 
   -- one that the system decides itself
   pub view-decided : home s x ≡ true → At deck (entries Q) x → is_among x.req.task (askers (requests (waiting s rest))) ≡ false → View deck s front (rest ++ x ∷ []) (Q ++ x ∷ [])

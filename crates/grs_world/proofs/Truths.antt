@@ -1,0 +1,67 @@
+-- Tests, and lists by tests: small laws that the law of the world cites.
+use Rattle.std.proofs.Common.{◌≡◌, Bool, true, false, not, ◌&&◌, ◌||◌, List, [], ◌∷◌, ◌++◌, length, take, drop, Some, refl, ap, subst}
+use Rattle.std.specs.Prelude.{filter}
+use Rattle.grs_base.specs.Same.{same_task}
+use Rattle.grs_base.specs.declared.resource.TaskId.{TaskId}
+use Rattle.grs_base.proofs.SameLaws.{same_task-exact, same_task-itself}
+
+pub no_truth : {X : Type 0} (b : Bool) → b ≡ true → b ≡ false → X
+no_truth b e f = absurd (cc)
+
+pub false_by : (b : Bool) → (b ≡ true → b ≡ false) → b ≡ false
+false_by true h = h refl
+false_by false h = refl
+
+pub and_on : (a b : Bool) → a ≡ true → b ≡ true → (a && b) ≡ true
+and_on true b e f = f
+and_on false b e f = cc
+
+pub and_off : (a b : Bool) → b ≡ false → (a && b) ≡ false
+and_off true b e = e
+and_off false b e = refl
+
+pub and_other : (a b : Bool) → (a && b) ≡ true → b ≡ true
+and_other true b e = e
+and_other false b e = cc
+
+pub or_first : (a b : Bool) → a ≡ true → (a || b) ≡ true
+or_first true b e = refl
+or_first false b e = cc
+
+pub or_second : (a b : Bool) → b ≡ true → (a || b) ≡ true
+or_second true b e = refl
+or_second false b e = e
+
+pub or_other : (a b : Bool) → (a || b) ≡ true → a ≡ false → b ≡ true
+or_other true b e f = cc
+or_other false b e f = e
+
+pub or_false : (a b : Bool) → (a || b) ≡ false → (a ≡ false) × (b ≡ false)
+or_false true b e = cc
+or_false false b e = (refl, e)
+
+pub not_true : (b : Bool) → not b ≡ true → b ≡ false
+not_true true e = cc
+not_true false e = refl
+
+pub task_swap : (t u : TaskId) → same_task t u ≡ false → same_task u t ≡ false
+task_swap t u e = false_by (same_task u t) (λ h. no_truth (same_task t u) (subst (λ (z : TaskId). same_task z u ≡ true) (same_task-exact u t h) (same_task-itself u)) e)
+
+pub some_value : {X : Type 0} (x y : X) → Some x ≡ Some y → x ≡ y
+some_value x y e = cc
+
+-- a filter at the first item
+pub cons_left : {X : Type 0} (p : X → Bool) (x : X) (xs : List X) → p x ≡ false → filter p (x ∷ xs) ≡ filter p xs
+cons_left p x xs h = rw h refl
+
+pub cons_kept : {X : Type 0} (p : X → Bool) (x : X) (xs : List X) → p x ≡ true → filter p (x ∷ xs) ≡ x ∷ filter p xs
+cons_kept p x xs h = rw h refl
+
+-- the two parts of a list
+pub take-seam : {X : Type 0} (xs ys : List X) → take (length xs) (xs ++ ys) ≡ xs
+take-seam [] ys = refl
+take-seam (x ∷ xs) ys = ap (λ z. x ∷ z) (take-seam xs ys)
+
+pub drop-seam : {X : Type 0} (xs ys : List X) → drop (length xs) (xs ++ ys) ≡ ys
+drop-seam [] ys = refl
+drop-seam (x ∷ xs) ys = drop-seam xs ys
