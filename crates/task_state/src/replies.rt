@@ -1,24 +1,22 @@
 //! What the tasks of a system are told: the answers to their own requests, and control that another's
 //! request gave them. Only the tasks change here, never the lists.
 ghost use Rattle.std.specs.Prelude.{◌≡◌, true, cond, option_copied, OnOk};
-ghost use Rattle.task_state.specs.View.{is_task, without_record};
-ghost use Rattle.grs_world.specs.Node as steps;
-ghost use Rattle.grs_world.specs.Running.{tell_line};
+ghost use Rattle.task_state.specs.View.{is_task, state_of, without_record, with_told};
+ghost use Rattle.task_state.specs.Replies as steps;
+ghost use Rattle.task_state.specs.Replies.{tell_line};
 
-use super::codes::{is_changed, is_granted, is_held, is_held_for, is_queued, phase_after};
+use super::codes::{
+    is_changed, is_granted, is_held, is_held_for, is_leaving, is_queued, phase_after, phase_asking,
+};
+use super::state::{Asked, Phase, Rec};
+use super::tasks::Tasks;
 use grs_base::{Code, Ctl, NoMemory, Res, Ret, TaskId};
 use grs_wire::{Answer, ToldLine, Verb, Want};
 use std::alloc::Global;
-use task_state::{Phase, Rec, Tasks};
 
 /// Tells the code of a task's last line; WAIT isn't told.
-#[tactic(auto, using(crate::proofs::Keeps::keeps), unfolding(crate::specs::Node::tell_code))]
-pub(crate) fn tell_code(
-    tasks: &mut Tasks,
-    task: TaskId,
-    verb: Verb,
-    code: Code,
-) -> Result<(), NoMemory>
+#[tactic(auto, using(crate::proofs::Keeps::keeps), unfolding(crate::specs::Replies::tell_code))]
+pub fn tell_code(tasks: &mut Tasks, task: TaskId, verb: Verb, code: Code) -> Result<(), NoMemory>
     requires { is_task tasks.old task ≡ true }
     ensures step { OnOk result (tasks.new ≡ steps.tell_code tasks.old task verb code) }
     ensures system { tasks.new.system ≡ tasks.old.system }
@@ -39,7 +37,7 @@ pub(crate) fn tell_code(
 }
 
 /// Keeps the records of a task whose ENQ was answered; `unit` is the unit that it reserves.
-#[tactic(auto, using(crate::proofs::Keeps::keeps), unfolding(crate::specs::Node::record_enq))]
+#[tactic(auto, using(crate::proofs::Keeps::keeps), unfolding(crate::specs::Replies::record_enq))]
 fn record_enq(
     alloc: Global,
     tasks: &mut Tasks,
@@ -85,7 +83,7 @@ fn record_deq(tasks: &mut Tasks, task: TaskId, res: &Res, code: Code)
 }
 
 /// Answers a task's own request; a record that it makes has this unit.
-#[tactic(auto, using(crate::proofs::Keeps::keeps), unfolding(crate::specs::Node::answered))]
+#[tactic(auto, using(crate::proofs::Keeps::keeps), unfolding(crate::specs::Replies::answered))]
 fn answered(
     alloc: Global,
     tasks: &mut Tasks,
@@ -118,8 +116,8 @@ fn answered(
 }
 
 /// The same by the whole answer. No task asks for looks yet.
-#[tactic(auto, using(crate::proofs::Keeps::keeps), unfolding(crate::specs::Node::replied))]
-pub(crate) fn replied(
+#[tactic(auto, using(crate::proofs::Keeps::keeps), unfolding(crate::specs::Replies::replied))]
+pub fn replied(
     alloc: Global,
     tasks: &mut Tasks,
     task: TaskId,
@@ -138,7 +136,7 @@ pub(crate) fn replied(
 }
 
 /// A task that was held at a WAIT line for this resource goes on.
-#[tactic(auto, using(crate::proofs::Keeps::keeps), unfolding(crate::specs::Node::passes_wait))]
+#[tactic(auto, using(crate::proofs::Keeps::keeps), unfolding(crate::specs::Replies::passes_wait))]
 fn passes_wait(tasks: &mut Tasks, task: TaskId, res: &Res) -> Result<(), NoMemory>
     requires { is_task tasks.old task ≡ true }
     ensures step { OnOk result (tasks.new ≡ steps.passes_wait tasks.old task res.now) }
@@ -161,7 +159,7 @@ fn passes_wait(tasks: &mut Tasks, task: TaskId, res: &Res) -> Result<(), NoMemor
 
 /// Tells a task control for which its line of this number asked: by that line's code if it waited, else
 /// by posting its event control block.
-#[tactic(auto, using(crate::proofs::Keeps::keeps), unfolding(crate::specs::Running::tell_line))]
+#[tactic(auto, using(crate::proofs::Keeps::keeps), unfolding(crate::specs::Replies::tell_line))]
 fn tell_waiter(tasks: &mut Tasks, task: TaskId, res: &Res, line: u32) -> Result<(), NoMemory>
     requires { is_task tasks.old task ≡ true }
     ensures step { OnOk result (tasks.new ≡ tell_line tasks.old task res.now line) }
@@ -185,8 +183,28 @@ fn tell_waiter(tasks: &mut Tasks, task: TaskId, res: &Res, line: u32) -> Result<
     }
 }
 
+/// The same, unless the task is about to give the resource up: then it is told nothing.
+#[tactic(auto, using(crate::proofs::Keeps::keeps))]
+fn tell_unless_leaving(
+    tasks: &mut Tasks,
+    task: TaskId,
+    res: &Res,
+    line: u32,
+) -> Result<(), NoMemory>
+    requires { is_task tasks.old task ≡ true }
+    ensures step { OnOk result (tasks.new ≡ cond (steps.is_leaving res.now (state_of tasks.old task).outstanding) (with_told tasks.old task res.now) (tell_line tasks.old task res.now line)) }
+    ensures system { tasks.new.system ≡ tasks.old.system }
+{
+    if is_leaving(res, tasks.asked(task)) {
+        tasks.mark_told(task, res);
+        Ok(())
+    } else {
+        tell_waiter(tasks, task, res, line)
+    }
+}
+
 /// Tells a task control that it got by another's request; one that isn't of this system is passed over.
-#[tactic(auto, using(crate::proofs::Keeps::keeps, crate::proofs::Keeps::tell_record_line), unfolding(crate::specs::Node::tell_control, crate::specs::Node::tell_untold))]
+#[tactic(auto, using(crate::proofs::Keeps::keeps, crate::proofs::Keeps::tell_record_line), unfolding(crate::specs::Replies::tell_control, crate::specs::Replies::tell_untold))]
 fn tell_control(tasks: &mut Tasks, res: &Res, task: TaskId) -> Result<(), NoMemory>
     ensures step { OnOk result (tasks.new ≡ steps.tell_control tasks.old res.now task) }
     ensures system { tasks.new.system ≡ tasks.old.system }
@@ -197,14 +215,14 @@ fn tell_control(tasks: &mut Tasks, res: &Res, task: TaskId) -> Result<(), NoMemo
     match tasks.record(task, res) {
         Some(rec) if !rec.told => {
             let line = rec.line;
-            tell_waiter(tasks, task, res, line)
+            tell_unless_leaving(tasks, task, res, line)
         }
         _ => Ok(()),
     }
 }
 
 /// Tells these tasks control in order.
-#[tactic(auto, using(crate::proofs::Keeps::keeps), unfolding(crate::specs::Node::tell_all))]
+#[tactic(auto, using(crate::proofs::Keeps::keeps), unfolding(crate::specs::Replies::tell_all))]
 fn tell_all(tasks: &mut Tasks, res: &Res, owners: &[TaskId]) -> Result<(), NoMemory>
     ensures step { OnOk result (tasks.new ≡ steps.tell_all tasks.old res.now owners.now) }
     ensures system { tasks.new.system ≡ tasks.old.system }
@@ -218,12 +236,8 @@ fn tell_all(tasks: &mut Tasks, res: &Res, owners: &[TaskId]) -> Result<(), NoMem
 }
 
 /// Tells control to the tasks that became owners of this resource, if it is one.
-#[tactic(auto, using(crate::proofs::Keeps::keeps), unfolding(crate::specs::Node::tell_new))]
-pub(crate) fn tell_new(
-    tasks: &mut Tasks,
-    res: Option<&Res>,
-    owners: &[TaskId],
-) -> Result<(), NoMemory>
+#[tactic(auto, using(crate::proofs::Keeps::keeps), unfolding(crate::specs::Replies::tell_new))]
+pub fn tell_new(tasks: &mut Tasks, res: Option<&Res>, owners: &[TaskId]) -> Result<(), NoMemory>
     ensures step { OnOk result (tasks.new ≡ steps.tell_new tasks.old (option_copied res.entry) owners.now) }
     ensures system { tasks.new.system ≡ tasks.old.system }
 {
@@ -231,4 +245,28 @@ pub(crate) fn tell_new(
         None => Ok(()),
         Some(res) => tell_all(tasks, res, owners),
     }
+}
+
+/// Answers the request of a task that isn't answered yet, if it has one.
+#[tactic(auto, using(crate::proofs::Keeps::keeps, crate::proofs::ViewLaws::still_asked), unfolding(crate::specs::Replies::settled_any, crate::specs::Replies::settled, crate::specs::Replies::recalled))]
+pub fn settle(
+    alloc: Global,
+    tasks: &mut Tasks,
+    task: TaskId,
+    answer: &Answer,
+) -> Result<(), NoMemory>
+    requires { is_task tasks.old task ≡ true }
+    ensures step { OnOk result (tasks.new ≡ steps.settled_any tasks.old task answer.now (state_of tasks.old task).outstanding) }
+    ensures system { tasks.new.system ≡ tasks.old.system }
+{
+    let Some(asked) = tasks.asked(task) else {
+        return Ok(());
+    };
+    let phase = phase_asking(&asked.req.want, tasks.ending(task));
+    tasks.set_phase(task, phase);
+    let Some(asked) = tasks.take_outstanding(task) else {
+        return Ok(());
+    };
+    let Asked { req, unit } = asked;
+    replied(alloc, tasks, task, &req.want, unit, answer)
 }

@@ -1,9 +1,11 @@
 //! What a code means for the task that is told it. Nothing here changes anything.
 ghost use Rattle.std.specs.Prelude.{◌≡◌};
-ghost use Rattle.grs_world.specs.Node as steps;
+ghost use Rattle.std.specs.Option.{option_copied};
+ghost use Rattle.task_state.specs.Replies as steps;
 
+use super::state::{Asked, Phase};
 use grs_base::{Code, Res, Ret, is_same_res};
-use task_state::Phase;
+use grs_wire::Want;
 
 /// Whether a code is 00.
 pub(crate) fn is_granted(code: Code) -> bool
@@ -61,5 +63,35 @@ pub(crate) fn is_held_for(res: &Res, phase: &Phase) -> bool
         | Phase::HeldAnswer
         | Phase::Ending(_)
         | Phase::Ended => false,
+    }
+}
+
+/// Whether a request gives a resource up.
+fn gives_up(res: &Res, want: &Want) -> bool
+    ensures { result ≡ steps.gives_up res.now want.now }
+{
+    match want {
+        Want::Deq { res: given, .. } | Want::Release { res: given } => is_same_res(res, given),
+        Want::Enq { .. } | Want::Look { .. } => false,
+    }
+}
+
+/// Whether a task's request that isn't answered yet gives a resource up.
+pub(crate) fn is_leaving(res: &Res, asked: Option<&Asked>) -> bool
+    ensures { result ≡ steps.is_leaving res.now (option_copied asked.entry) }
+{
+    match asked {
+        None => false,
+        Some(asked) => gives_up(res, &asked.req.want),
+    }
+}
+
+/// What a task that asks this does meanwhile; `code` is its end code.
+pub(crate) fn phase_asking(want: &Want, code: u16) -> Phase
+    ensures { result ≡ steps.phase_asking want.now code }
+{
+    match want {
+        Want::Release { .. } => Phase::Ending(code),
+        Want::Enq { .. } | Want::Deq { .. } | Want::Look { .. } => Phase::Ready,
     }
 }

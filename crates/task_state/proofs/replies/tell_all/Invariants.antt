@@ -1,6 +1,6 @@
 use Rattle.std.proofs.Common.{◌≡◌, length}
-use Rattle.grs_world.specs.Node.{tell_all}
-use Rattle.grs_world.proofs.replies.tell_all.Given as goal
+use Rattle.task_state.specs.Replies.{tell_all}
+use Rattle.task_state.proofs.replies.tell_all.Given as goal
 
 abbrev pub invariant-loop-task : goal.invariant-loop-task
 invariant-loop-task l = record {
