@@ -12,6 +12,6 @@ mod tasks;
 mod tests;
 mod units;
 
-pub use replies::{replied, settle, tell_code, tell_new};
+pub use replies::{replied, settled, tell_code, tell_new};
 pub use state::{Asked, Phase, Rec, TaskState};
 pub use tasks::Tasks;

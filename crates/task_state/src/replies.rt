@@ -1,6 +1,6 @@
 //! What the tasks of a system are told: the answers to their own requests, and control that another's
 //! request gave them. Only the tasks change here, never the lists.
-ghost use Rattle.std.specs.Prelude.{◌≡◌, true, cond, option_copied, OnOk};
+ghost use Rattle.std.specs.Prelude.{◌≡◌, true, cond, length, option_copied, OnOk};
 ghost use Rattle.task_state.specs.View.{is_task, state_of, without_record, with_told};
 ghost use Rattle.task_state.specs.Replies as steps;
 ghost use Rattle.task_state.specs.Replies.{tell_line};
@@ -20,6 +20,7 @@ pub fn tell_code(tasks: &mut Tasks, task: TaskId, verb: Verb, code: Code) -> Res
     requires { is_task tasks.old task ≡ true }
     ensures step { OnOk result (tasks.new ≡ steps.tell_code tasks.old task verb code) }
     ensures system { tasks.new.system ≡ tasks.old.system }
+    ensures count { length tasks.new.tasks ≡ length tasks.old.tasks }
 {
     match code {
         Code::Wait => Ok(()),
@@ -51,6 +52,7 @@ fn record_enq(
     requires { is_task tasks.old task ≡ true }
     ensures step { OnOk result (tasks.new ≡ steps.record_enq tasks.old task res.now ctl unit ret code) }
     ensures system { tasks.new.system ≡ tasks.old.system }
+    ensures count { length tasks.new.tasks ≡ length tasks.old.tasks }
 {
     if is_queued(ret, code) {
         let rec = Rec {
@@ -76,6 +78,7 @@ fn record_deq(tasks: &mut Tasks, task: TaskId, res: &Res, code: Code)
     requires { is_task tasks.old task ≡ true }
     ensures step { tasks.new ≡ cond (steps.is_granted code) (without_record tasks.old task res.now) tasks.old }
     ensures system { tasks.new.system ≡ tasks.old.system }
+    ensures count { length tasks.new.tasks ≡ length tasks.old.tasks }
 {
     if is_granted(code) {
         let _ = tasks.take_record(task, res);
@@ -95,6 +98,7 @@ fn answered(
     requires { is_task tasks.old task ≡ true }
     ensures step { OnOk result (tasks.new ≡ steps.answered tasks.old task want.now unit code) }
     ensures system { tasks.new.system ≡ tasks.old.system }
+    ensures count { length tasks.new.tasks ≡ length tasks.old.tasks }
 {
     match want {
         Want::Enq { res, ctl, ret, .. } => {
@@ -128,6 +132,7 @@ pub fn replied(
     requires { is_task tasks.old task ≡ true }
     ensures step { OnOk result (tasks.new ≡ steps.replied tasks.old task want.now unit answer.now) }
     ensures system { tasks.new.system ≡ tasks.old.system }
+    ensures count { length tasks.new.tasks ≡ length tasks.old.tasks }
 {
     match answer {
         Answer::Coded(code) => answered(alloc, tasks, task, want, unit, *code),
@@ -141,6 +146,7 @@ fn passes_wait(tasks: &mut Tasks, task: TaskId, res: &Res) -> Result<(), NoMemor
     requires { is_task tasks.old task ≡ true }
     ensures step { OnOk result (tasks.new ≡ steps.passes_wait tasks.old task res.now) }
     ensures system { tasks.new.system ≡ tasks.old.system }
+    ensures count { length tasks.new.tasks ≡ length tasks.old.tasks }
 {
     let state = tasks.state(task);
     if !is_held_for(res, &state.phase) {
@@ -164,6 +170,7 @@ fn tell_waiter(tasks: &mut Tasks, task: TaskId, res: &Res, line: u32) -> Result<
     requires { is_task tasks.old task ≡ true }
     ensures step { OnOk result (tasks.new ≡ tell_line tasks.old task res.now line) }
     ensures system { tasks.new.system ≡ tasks.old.system }
+    ensures count { length tasks.new.tasks ≡ length tasks.old.tasks }
 {
     let state = tasks.state(task);
     let is_waiting = is_held(&state.phase) && line == state.line;
@@ -194,6 +201,7 @@ fn tell_unless_leaving(
     requires { is_task tasks.old task ≡ true }
     ensures step { OnOk result (tasks.new ≡ cond (steps.is_leaving res.now (state_of tasks.old task).outstanding) (with_told tasks.old task res.now) (tell_line tasks.old task res.now line)) }
     ensures system { tasks.new.system ≡ tasks.old.system }
+    ensures count { length tasks.new.tasks ≡ length tasks.old.tasks }
 {
     if is_leaving(res, tasks.asked(task)) {
         tasks.mark_told(task, res);
@@ -208,6 +216,7 @@ fn tell_unless_leaving(
 fn tell_control(tasks: &mut Tasks, res: &Res, task: TaskId) -> Result<(), NoMemory>
     ensures step { OnOk result (tasks.new ≡ steps.tell_control tasks.old res.now task) }
     ensures system { tasks.new.system ≡ tasks.old.system }
+    ensures count { length tasks.new.tasks ≡ length tasks.old.tasks }
 {
     if !tasks.has(task) {
         return Ok(());
@@ -226,6 +235,7 @@ fn tell_control(tasks: &mut Tasks, res: &Res, task: TaskId) -> Result<(), NoMemo
 fn tell_all(tasks: &mut Tasks, res: &Res, owners: &[TaskId]) -> Result<(), NoMemory>
     ensures step { OnOk result (tasks.new ≡ steps.tell_all tasks.old res.now owners.now) }
     ensures system { tasks.new.system ≡ tasks.old.system }
+    ensures count { length tasks.new.tasks ≡ length tasks.old.tasks }
 {
     let mut rest = owners;
     while let Some((task, tail)) = rest.split_first() {
@@ -240,6 +250,7 @@ fn tell_all(tasks: &mut Tasks, res: &Res, owners: &[TaskId]) -> Result<(), NoMem
 pub fn tell_new(tasks: &mut Tasks, res: Option<&Res>, owners: &[TaskId]) -> Result<(), NoMemory>
     ensures step { OnOk result (tasks.new ≡ steps.tell_new tasks.old (option_copied res.entry) owners.now) }
     ensures system { tasks.new.system ≡ tasks.old.system }
+    ensures count { length tasks.new.tasks ≡ length tasks.old.tasks }
 {
     match res {
         None => Ok(()),
@@ -249,7 +260,7 @@ pub fn tell_new(tasks: &mut Tasks, res: Option<&Res>, owners: &[TaskId]) -> Resu
 
 /// Answers the request of a task that isn't answered yet, if it has one.
 #[tactic(auto, using(crate::proofs::Keeps::keeps, crate::proofs::ViewLaws::still_asked), unfolding(crate::specs::Replies::settled_any, crate::specs::Replies::settled, crate::specs::Replies::recalled))]
-pub fn settle(
+pub fn settled(
     alloc: Global,
     tasks: &mut Tasks,
     task: TaskId,
@@ -258,6 +269,7 @@ pub fn settle(
     requires { is_task tasks.old task ≡ true }
     ensures step { OnOk result (tasks.new ≡ steps.settled_any tasks.old task answer.now (state_of tasks.old task).outstanding) }
     ensures system { tasks.new.system ≡ tasks.old.system }
+    ensures count { length tasks.new.tasks ≡ length tasks.old.tasks }
 {
     let Some(asked) = tasks.asked(task) else {
         return Ok(());

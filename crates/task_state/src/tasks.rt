@@ -120,6 +120,20 @@ impl Tasks {
         })
     }
 
+    /// The system.
+    pub fn system(&self) -> SysId
+        ensures { result.0 ≡ self.now.system }
+    {
+        self.system
+    }
+
+    /// How each task stands, in order.
+    pub fn all(&self) -> &[TaskState]
+        ensures { result.now ≡ self.now.tasks }
+    {
+        self.tasks.as_slice()
+    }
+
     /// Whether a task is one of this system's.
     pub fn has(&self, task: TaskId) -> bool
         ensures { result ≡ is_task self.now task }

@@ -6,6 +6,7 @@ abbrev pub invariant-loop-task : goal.invariant-loop-task
 invariant-loop-task l = record {
   step : tell_all l.tasks l.res l.rest ≡ tell_all l.fn.tasks l.res l.owners;
   system : l.tasks.system ≡ l.fn.tasks.system;
+  count : length l.tasks.tasks ≡ length l.fn.tasks.tasks;
 }
 
 abbrev pub decreases-loop-task : goal.decreases-loop-task
