@@ -1,5 +1,5 @@
 -- The units that the tasks of a system reserve in hardware.
-use Rattle.std.specs.Prelude.{ℕ, Bool, List, [], ◌∷◌, ◌++◌, map, cond, Option}
+use Rattle.std.specs.Prelude.{ℕ, List, [], ◌∷◌, ◌++◌, map, cond}
 use Rattle.std.specs.Option.{option_to_list}
 use Rattle.grs_base.specs.declared.resource.SysId.{SysId}
 use Rattle.task_state.specs.declared.state.Rec.{Rec}

@@ -1,9 +1,10 @@
 //! Which task has which lines. The lines stay in the deck.
-ghost use Rattle.std.specs.Prelude.{◌≡◌, ◌++◌, map, length, sum, option_copied, IfOk};
+ghost use Rattle.std.specs.Prelude.{◌≡◌, ◌++◌, map, length, slice_get, sum, option_copied, IfOk};
+ghost use Rattle.grs_node.specs.Scripts.{all_scripts, lines_within};
 ghost use Rattle.grs_legal.specs.Asks.{lines_in, scripts_in, scripts_from, scripts_at, scripts_of};
 
-use grs_base::{Line, List, NoMemory, TaskId};
-use grs_wire::{Deck, JobDef, TaskDef};
+use grs_base::{Line, List, NoMemory, SysId, TaskId};
+use grs_wire::{Deck, JobDef, SystemDef, TaskDef};
 use std::alloc::Global;
 use std::marker::Model;
 
@@ -53,14 +54,18 @@ fn scripts_of_jobs(alloc: Global, jobs: &[JobDef]) -> Result<Vec<Script<'_>>, No
     Ok(scripts)
 }
 
-/// The scripts of all tasks of the first system, in order.
-pub(crate) fn scripts_of_first(alloc: Global, deck: &Deck) -> Result<Vec<Script<'_>>, NoMemory>
-    ensures { IfOk result (λ all. all.items ≡ scripts_of deck.now 0) }
+/// The scripts of the tasks of all systems, in order.
+pub(crate) fn scripts_of_all(
+    alloc: Global,
+    systems: &[SystemDef],
+) -> Result<List<List<Script<'_>>>, NoMemory>
+    ensures { IfOk result (λ all. all ≡ all_scripts systems.now) }
 {
-    match deck.systems.as_slice().first() {
-        None => Ok(Vec::new(alloc)),
-        Some(system) => scripts_of_jobs(alloc, system.jobs.as_slice()),
+    let mut all = List::new(alloc);
+    for system in systems {
+        all.push(List::from_vec(scripts_of_jobs(alloc, system.jobs.as_slice())?))?;
     }
+    Ok(all)
 }
 
 /// The number of tasks of a job. There is no memory for more than 4,294,967,295.
@@ -87,19 +92,26 @@ fn sizes_of_jobs(alloc: Global, jobs: &[JobDef]) -> Result<Vec<u32>, NoMemory>
     Ok(sizes)
 }
 
-/// The numbers of tasks of the jobs of the first system.
-#[tactic(auto, using(crate::proofs::ScriptCounts::counts))]
-pub(crate) fn sizes_of_first(alloc: Global, deck: &Deck) -> Result<Vec<u32>, NoMemory>
-    ensures { IfOk result (λ sizes. sum sizes.items ≡ length (scripts_of deck.now 0)) }
+/// What the deck says of a system, if it has it.
+pub(crate) fn system_at(deck: &Deck, system: SysId) -> Option<&SystemDef>
+    ensures { option_copied result ≡ slice_get deck.now.systems system.0 }
 {
-    match deck.systems.as_slice().first() {
+    deck.systems.as_slice().get(system.0 as usize)
+}
+
+/// The numbers of tasks of the jobs of a system.
+#[tactic(auto, using(crate::proofs::ScriptCounts::counts))]
+pub(crate) fn sizes_of(alloc: Global, deck: &Deck, system: SysId) -> Result<Vec<u32>, NoMemory>
+    ensures { IfOk result (λ sizes. sum sizes.items ≡ length (scripts_of deck.now system.0)) }
+{
+    match system_at(deck, system) {
         None => Ok(Vec::new(alloc)),
-        Some(system) => sizes_of_jobs(alloc, system.jobs.as_slice()),
+        Some(def) => sizes_of_jobs(alloc, def.jobs.as_slice()),
     }
 }
 
-/// The lines of a task.
-pub(crate) fn lines_among<'d>(scripts: &[Script<'d>], task: TaskId) -> Option<&'d List<Line>>
+/// The lines of a task among the scripts of its system.
+fn lines_among<'d>(scripts: &[Script<'d>], task: TaskId) -> Option<&'d List<Line>>
     ensures { option_copied result ≡ lines_in scripts.now task }
 {
     let script = scripts.get(task.task as usize)?;
@@ -108,4 +120,12 @@ pub(crate) fn lines_among<'d>(scripts: &[Script<'d>], task: TaskId) -> Option<&'
     } else {
         None
     }
+}
+
+/// The lines of a task among the scripts of all systems.
+pub(crate) fn lines_within<'d>(all: &[List<Script<'d>>], task: TaskId) -> Option<&'d List<Line>>
+    ensures { option_copied result ≡ lines_within all.now task }
+{
+    let scripts = all.get(task.system.0 as usize)?;
+    lines_among(scripts.as_slice(), task)
 }

@@ -1,14 +1,13 @@
 -- Counts that stand by unit are told apart by the count of each unit.
-use Rattle.std.proofs.Common.{◌≡◌, ◌<◌, ◌+◌, ℕ, zero, suc, Bool, true, false, cond, List, [], ◌∷◌, ◌++◌, Option, Some, None, refl, ap, sym, ◌∙◌, arith}
+use Rattle.std.proofs.Common.{◌≡◌, ◌<◌, ◌+◌, ℕ, suc, Bool, true, false, cond, List, [], ◌∷◌, ◌++◌, Option, Some, None, refl, ap, sym, ◌∙◌, arith}
 use Rattle.std.specs.Prelude.{◌&&◌, ◌==◌, nat_lt}
 use Rattle.std.specs.Option.{option_to_list}
-use Rattle.std.proofs.lemmas.Bool.{cases_Bool}
 use Rattle.std.proofs.lemmas.Bool.Decides.{nat_tests}
 use Rattle.task_state.specs.declared.state.Rec.{Rec}
 use Rattle.task_state.specs.declared.state.TaskState.{TaskState}
-use Rattle.task_state.specs.Units.{is_unit, reserves, reserves_in, reserves_of, count_at, begins_above, is_count, counting}
+use Rattle.task_state.specs.Units.{is_unit, reserves, reserves_in, reserves_of, count_at, begins_above, is_count}
 use Rattle.task_state.proofs.UnitLaws.{is_count-counting, count_at-counting}
-use Rattle.grs_world.specs.Units.{reserved_by, reserved_in, reserved_of, counted}
+use Rattle.grs_node.specs.Units.{reserved_by, reserved_in, reserved_of, counted}
 
 -- how often a unit stands among these
 abbrev pub times : ℕ → List ℕ → ℕ
