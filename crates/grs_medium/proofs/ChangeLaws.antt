@@ -1,23 +1,21 @@
 -- A call that is said to change the medium changes it.
-use Rattle.std.proofs.Common.{◌≡◌, ℕ, ◌+◌, Bool, true, false, cond, not, ◌&&◌, ◌||◌, List, [], ◌∷◌, ◌++◌, length, refl, ap, sym, ◌∙◌, subst, eqb, arith}
-use Rattle.std.specs.Prelude.{Option, Some, None, map, filter, ◌==◌, nat_lt}
+use Rattle.std.proofs.Common.{◌≡◌, ℕ, ◌+◌, Bool, true, false, cond, not, ◌&&◌, ◌||◌, List, [], ◌∷◌, length, refl, ap, sym, ◌∙◌, subst, arith}
+use Rattle.std.specs.Prelude.{Option, Some, map, filter, ◌==◌, nat_lt}
 use Rattle.std.specs.List.{list_any}
 use Rattle.std.proofs.lemmas.List.{append-nil}
 use Rattle.grs_base.specs.declared.resource.SysId.{SysId}
 use Rattle.grs_wire.specs.declared.request.Req.{Req}
 use Rattle.grs_wire.specs.declared.medium.Act.{Act}
 use Rattle.grs_wire.specs.declared.medium.Act.TheVariants.{Turn, Switch, Submit, Take, Settle, Tell, Leave, Purge, Rest}
-use Rattle.grs_wire.specs.declared.medium.Call.{Call}
 use Rattle.grs_wire.specs.declared.medium.RingEntry.{RingEntry}
 use Rattle.grs_wire.specs.declared.medium.Reply.{Reply}
-use Rattle.grs_wire.specs.Masks.{has, without, with_also, only}
+use Rattle.grs_wire.specs.Masks.{has, only}
 use Rattle.grs_wire.proofs.MaskLaws.{has-without_same, has-with_same}
 use Rattle.rsa_message.specs.Message.{Message, is_at, or_else, first_after, is_unseen, any_unseen, left_by, cleared, stamped, is_due, moves, turned_open, turned_closed, turned, turn_changes}
 use Rattle.grs_medium.specs.Apply.{turn_row, purge_row, rest_row, row, row_changes, apply, changes, is_live, without_system}
 use Rattle.grs_medium.specs.Medium.{MediumState, systems_of, live}
 use Rattle.grs_medium.specs.Room.{is_built}
 use Rattle.grs_medium.specs.Kept.{ChangesWhatItSays, WaitsForItsHolder}
-use Rattle.grs_medium.proofs.KeepLaws.{cleared-seen}
 
 -- a call that isn't refused by the checks is its row
 behind_checks : {M : Type 0} (b k r : Bool) (m : M) (x : Reply × M) (y z : Reply) → (r ≡ true → ¬ (x.1 ≡ m)) → (not b && k && r) ≡ true → ¬ ((cond b (y, m) (cond k x (z, m))).1 ≡ m)

@@ -8,10 +8,9 @@ use Rattle.grs_base.specs.declared.resource.SysId.{SysId}
 use Rattle.grs_wire.specs.declared.request.Req.{Req}
 use Rattle.grs_wire.specs.declared.medium.Act.{Act}
 use Rattle.grs_wire.specs.declared.medium.Act.TheVariants.{Turn, Switch, Submit, Take, Settle, Tell, Leave, Purge, Rest}
-use Rattle.grs_wire.specs.declared.medium.Call.{Call}
 use Rattle.grs_wire.specs.declared.medium.RingEntry.{RingEntry}
 use Rattle.grs_wire.specs.declared.medium.Reply.{Reply}
-use Rattle.grs_wire.specs.Masks.{has, without, with_also, only}
+use Rattle.grs_wire.specs.Masks.{has, without, only}
 use Rattle.grs_wire.proofs.MaskLaws.{without-absent, with-present, has-with_same}
 use Rattle.rsa_message.specs.Message.{Message, is_at, or_else, first_after, is_unseen, any_unseen, left_by, cleared, stamped, is_due, moves, wakes, rest_after_turn, turned_open, turned_closed, turned, turn_changes}
 use Rattle.grs_medium.specs.Apply.{turn_row, purge_row, rest_row, row, row_changes, apply, changes, is_live}

@@ -2,3 +2,4 @@ pub mod Samples
 pub mod SetLaws
 pub mod KeepLaws
 pub mod ChangeLaws
+pub mod CauseLaws

@@ -1,5 +1,5 @@
 -- What is said of calls that change the medium, and of calls that don't.
-use Rattle.std.specs.Prelude.{◌≡◌, Bool, true, false}
+use Rattle.std.specs.Prelude.{◌≡◌, true, false}
 use Rattle.grs_wire.specs.Masks.{has}
 use Rattle.rsa_message.specs.Message.{is_at}
 use Rattle.grs_base.specs.declared.resource.SysId.{SysId}

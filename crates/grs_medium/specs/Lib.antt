@@ -3,3 +3,4 @@ pub mod Apply
 pub mod Room
 pub mod Acts
 pub mod Kept
+pub mod Causes

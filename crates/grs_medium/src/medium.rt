@@ -274,7 +274,8 @@ impl Medium {
         (Reply::Purged, true)
     }
 
-    /// The reply that `apply` of this call would give, and whether it would change the medium.
+    /// The reply that `apply` of this call would give, and whether it would change the medium. That the entry of
+    /// a Purge would have a number past the last that one may have is for `reserve` to say, and not said here.
     #[tactic(auto, unfolding(crate::specs::Apply::apply, crate::specs::Apply::row, crate::specs::Apply::turn_row, crate::specs::Apply::changes, crate::specs::Apply::row_changes))]
     pub fn preview(&self, caller: SysId, call: &Call) -> Result<(Reply, bool), NoMemory>
         requires call { MayCall self.now.state caller call.now }

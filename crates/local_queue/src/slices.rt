@@ -2,9 +2,8 @@
 ghost use Rattle.std.specs.Prelude.{◌≡◌, ◌++◌, ◌+◌, min, IfOk};
 ghost use Rattle.grs_wire.specs.Wants.{looks};
 
-use grs_base::{Filter, List, NoMemory, Place, Row, SLICES};
+use grs_base::{Filter, List, NoMemory, Place, Queues, Row, SLICES};
 use queue_table::Table;
-use serial_queue::PlainQueues;
 use std::alloc::Global;
 
 /// Rows with more behind them.
@@ -27,9 +26,9 @@ fn end_of(first: u32, count: u32) -> u32
 }
 
 /// What looks at `count` slices from `first` on show, slice after slice.
-pub(crate) fn look_slices(
+pub(crate) fn look_slices<Q: Queues>(
     alloc: Global,
-    table: &Table<PlainQueues>,
+    table: &Table<Q>,
     first: u32,
     count: u32,
     filter: &Filter,

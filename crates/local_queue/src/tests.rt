@@ -1,7 +1,9 @@
-//! A short life of one list.
-use super::{Local, Outcome};
+//! A short life of one list, and of a table of the whole complex.
+use super::{Local, Outcome, settle};
 use grs_base::{Code, Ctl, Filter, List, Qname, Res, Ret, Rname, SysId, TaskId};
 use grs_wire::{Answer, Req, Want};
+use queue_table::Table;
+use serial_queue::PlainQueues;
 use std::alloc::Global;
 use std::test::Fail;
 
@@ -65,6 +67,44 @@ fn asked(local: &mut Local, number: u16, want: Want) -> Result<(Option<Code>, Li
     Ok(told(local.request(&req)?))
 }
 
+/// The code that an exclusive ENQ of a resource of the whole complex, in slice 11, is answered.
+fn enqueued(
+    alloc: Global,
+    table: &mut Table<PlainQueues>,
+    number: u16,
+) -> Result<Option<Code>, Fail> {
+    let q = Qname::new(alloc, b"PAYROLL")?;
+    let r = Rname::new(alloc, b"MASTER")?;
+    let want = Want::Enq {
+        res: Res::Systems { q, r },
+        ctl: Ctl::E,
+        ret: Ret::RetNone,
+        full: false,
+    };
+    let task = task(number);
+    let (code, _) = told(settle(alloc, table, &Req { task, want })?);
+    Ok(code)
+}
+
+/// How many rows an outcome shows.
+fn count_rows(outcome: &Outcome) -> Option<usize> {
+    match &outcome.answer {
+        Answer::Coded(_) => None,
+        Answer::Rows(rows) => Some(rows.len()),
+    }
+}
+
+/// How many rows looks at two slices show.
+fn shown(alloc: Global, table: &mut Table<PlainQueues>, first: u32) -> Result<Option<usize>, Fail> {
+    let want = Want::Look {
+        first,
+        count: 2,
+        filter: Filter::All,
+    };
+    let task = task(0);
+    Ok(count_rows(&settle(alloc, table, &Req { task, want })?))
+}
+
 #[test]
 fn gives_control_in_order(rt: HostRuntime) -> Result<(), Fail> {
     let alloc = rt.alloc();
@@ -87,5 +127,10 @@ fn gives_control_in_order(rt: HostRuntime) -> Result<(), Fail> {
     }
     assert_eq!(rt; local.look(&Filter::All)?.len(), 1);
     assert_eq!(rt; local.look(&Filter::Contended)?.len(), 0);
+    let mut table = Table::new(alloc, PlainQueues::new(alloc));
+    assert_eq!(rt; enqueued(alloc, &mut table, 0)?, Some(Code::C00));
+    assert_eq!(rt; enqueued(alloc, &mut table, 1)?, Some(Code::Wait));
+    assert_eq!(rt; shown(alloc, &mut table, 9)?, Some(0));
+    assert_eq!(rt; shown(alloc, &mut table, 10)?, Some(1));
     Ok(())
 }

@@ -11,7 +11,6 @@ use Rattle.grs_base.proofs.StateLaws.{appends_absent, only_owner}
 use Rattle.grs_base.proofs.SameLaws.{same_task-exact}
 use Rattle.std.specs.Option.{option_map_or}
 use Rattle.std.specs.Prelude.{Result, Ok, Err, IsOk, OnOk}
-use Rattle.std.specs.Map.{remove_entry}
 use Rattle.std.proofs.lemmas.Bool.{eqb-true, eq-eqb, ne_eqb}
 use Rattle.std.proofs.lemmas.Bool.Decides.{nat_tests}
 use Rattle.grs_base.specs.Same.{same_res, same_task}
@@ -160,40 +159,6 @@ all_named-filter es f (x ∷ hs) h = grind (arith, h, all_named-filter es f hs)
 pub all_named-exclusive : (es : Numbers) (hs : Held ℕ) (q : ℕ) (t : TaskId) → all_named es (with_exclusive nat_eq hs q t) ≡ all_named es hs
 all_named-exclusive es [] q t = refl
 all_named-exclusive es (x ∷ hs) q t = grind (arith, all_named-exclusive es hs q t)
-
--- a resource is let go
-pub number_of-remove_none : (es : Numbers) (r x : Res) → number_of es x ≡ None → number_of (remove_entry (same_res r) es) x ≡ None
-number_of-remove_none [] r x h = h
-number_of-remove_none (e ∷ es) r x h = grind (arith, h, number_of-remove_none es r x)
-
-pub name_of-remove_none : (es : Numbers) (r : Res) (n : ℕ) → name_of es n ≡ None → name_of (remove_entry (same_res r) es) n ≡ None
-name_of-remove_none [] r n h = h
-name_of-remove_none (e ∷ es) r n h = grind (arith, h, name_of-remove_none es r n)
-
-pub is_paired-remove : (es : Numbers) (r : Res) → is_paired es ≡ true → is_paired (remove_entry (same_res r) es) ≡ true
-is_paired-remove [] r p = p
-is_paired-remove (e ∷ es) r p = grind (arith, p, is_paired-remove es r, number_of-remove_none es r e.0, name_of-remove_none es r e.1)
-
-pub name_of-remove_other : (es : Numbers) (r : Res) (q n : ℕ) (x : Res) → number_of es r ≡ Some q → name_of es n ≡ Some x → eqb q n ≡ false → name_of (remove_entry (same_res r) es) n ≡ Some x
-name_of-remove_other [] r q n x h e a = cc
-name_of-remove_other (y ∷ es) r q n x h e a = grind (arith, nat_tests, h, e, a, name_of-remove_other es r q n x)
-
-all_numbers-none : (live less : ℕ → Bool) (q : ℕ) → ((n : ℕ) → live n ≡ true → eqb n q ≡ false → less n ≡ true) → (es : Numbers) → name_of es q ≡ None → all_numbers live es ≡ true → all_numbers less es ≡ true
-all_numbers-none live less q down [] n h = refl
-all_numbers-none live less q down (e ∷ es) n h = grind (arith, nat_tests, n, h, down e.1, all_numbers-none live less q down es)
-
-pub all_numbers-remove : (live less : ℕ → Bool) (q : ℕ) → ((n : ℕ) → live n ≡ true → eqb n q ≡ false → less n ≡ true) → (es : Numbers) (r : Res) → is_paired es ≡ true → number_of es r ≡ Some q → all_numbers live es ≡ true → all_numbers less (remove_entry (same_res r) es) ≡ true
-all_numbers-remove live less q down [] r p n h = cc
-all_numbers-remove live less q down (e ∷ es) r p n h = grind (arith, nat_tests, p, n, h, down e.1, all_numbers-remove live less q down es r, all_numbers-none live less q down es, name_of-number es r q)
-
-pub named-remove : (es : Numbers) (r : Res) (q : ℕ) → number_of es r ≡ Some q → (hs : Held ℕ) → list_at nat_eq hs q ≡ [] → all_named es hs ≡ true → (named (remove_entry (same_res r) es) hs ≡ named es hs) × (all_named (remove_entry (same_res r) es) hs ≡ true)
-named-remove es r q n [] none h = (refl, refl)
-named-remove es r q n (x ∷ hs) none h = step (λ a b. named-remove es r q n hs a b) (name_of es x.0) refl none h
-  where
-    step : (list_at nat_eq hs q ≡ [] → all_named es hs ≡ true → (named (remove_entry (same_res r) es) hs ≡ named es hs) × (all_named (remove_entry (same_res r) es) hs ≡ true)) → (o : Option Res) → name_of es x.0 ≡ o → list_at nat_eq (x ∷ hs) q ≡ [] → (is_some o && all_named es hs) ≡ true →
-        (named (remove_entry (same_res r) es) (x ∷ hs) ≡ option_map_or (λ y. (y, x.1) ∷ named es hs) o (named es hs)) × (all_named (remove_entry (same_res r) es) (x ∷ hs) ≡ true)
-    step rest None e gone k = cc
-    step rest (Some y) e gone k = grind (arith, e, gone, k, name_of-remove_other es r q x.0 y n e, rest)
 
 pub list_of-some : (es : Numbers) (hs : Held ℕ) (r : Res) (o : Option ℕ) → is_paired es ≡ true → o ≡ number_of es r → list_at_some hs o ≡ list_of (named es hs) r
 list_of-some es hs r None p h = sym (list_of-unnamed es hs r p (sym h))

@@ -3,6 +3,6 @@ use Rattle.grs_wire.specs.Wants.{looks}
 use Rattle.local_queue.proofs.slices.look_slices.Given as goal
 
 abbrev pub invariant-loop-slice : goal.invariant-loop-slice
-invariant-loop-slice l =
+invariant-loop-slice g l =
     let last = min (l.first + l.count) 64 in
     l.rows ++ looks l.table.held l.slice (last - l.slice) l.filter ≡ looks l.table.held l.first (last - l.first) l.filter
