@@ -1,14 +1,14 @@
 -- The forms that are read and not yet carried out.
-use Rattle.std.specs.Prelude.{ℕ, Bool, true, false, not, ◌==◌, Option, Some, None}
+use Rattle.std.specs.Prelude.{Bool, true, false, Option, Some, None}
 use Rattle.deck_form.specs.declared.event.Act.{Act}
 use Rattle.deck_form.specs.declared.event.Act.TheVariants as acts
 use Rattle.deck_form.specs.declared.form.Stmt.{Stmt}
 use Rattle.deck_form.specs.declared.form.Stmt.TheVariants as stmts
 
--- Every event but TASK.
+-- Every event but TASK, TURN and REST.
 abbrev pub is_unbuilt_act : Act → Bool
 is_unbuilt_act (acts.Task j t) = false
-is_unbuilt_act acts.Turn = true
+is_unbuilt_act acts.Turn = false
 is_unbuilt_act (acts.Send j t) = true
 is_unbuilt_act acts.Take = true
 is_unbuilt_act acts.Settle = true
@@ -16,21 +16,21 @@ is_unbuilt_act (acts.Tell e) = true
 is_unbuilt_act (acts.Leave e) = true
 is_unbuilt_act acts.Switch = true
 is_unbuilt_act (acts.Purge s) = true
-is_unbuilt_act acts.Rest = true
+is_unbuilt_act acts.Rest = false
 
 -- MODE(STAR).
 abbrev pub is_star : Option Bool → Bool
 is_star None = false
 is_star (Some star) = star
 
--- A statement behind this many SYSTEM statements has a form that is not built.
-abbrev pub is_unbuilt : ℕ → Stmt → Bool
-is_unbuilt systems stmts.Unbuilt = true
-is_unbuilt systems (stmts.Complex c) = is_star c.star
-is_unbuilt systems (stmts.Rnldef d) = false
-is_unbuilt systems (stmts.System n) = not (systems == 0)
-is_unbuilt systems (stmts.Job n) = false
-is_unbuilt systems (stmts.Task n) = false
-is_unbuilt systems (stmts.Line s) = false
-is_unbuilt systems stmts.Schedule = false
-is_unbuilt systems (stmts.Event s a) = is_unbuilt_act a
+-- A statement has a form that is not built.
+abbrev pub is_unbuilt : Stmt → Bool
+is_unbuilt stmts.Unbuilt = true
+is_unbuilt (stmts.Complex c) = is_star c.star
+is_unbuilt (stmts.Rnldef d) = false
+is_unbuilt (stmts.System n) = false
+is_unbuilt (stmts.Job n) = false
+is_unbuilt (stmts.Task n) = false
+is_unbuilt (stmts.Line s) = false
+is_unbuilt stmts.Schedule = false
+is_unbuilt (stmts.Event s a) = is_unbuilt_act a

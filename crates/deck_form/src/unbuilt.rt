@@ -31,7 +31,7 @@ fn is_unbuilt_act(act: &Act) -> bool
 {
     match act {
         Act::Task { .. } => false,
-        Act::Turn => true,
+        Act::Turn => false,
         Act::Send { .. } => true,
         Act::Take => true,
         Act::Settle => true,
@@ -39,19 +39,19 @@ fn is_unbuilt_act(act: &Act) -> bool
         Act::Leave(_) => true,
         Act::Switch => true,
         Act::Purge(_) => true,
-        Act::Rest => true,
+        Act::Rest => false,
     }
 }
 
-/// Whether a statement behind this many SYSTEM statements has a form that is not built.
-pub fn is_unbuilt(systems: usize, st: &Stmt) -> bool
-    ensures { result ≡ is_unbuilt systems st.now }
+/// Whether a statement has a form that is not built.
+pub fn is_unbuilt(st: &Stmt) -> bool
+    ensures { result ≡ is_unbuilt st.now }
 {
     match st {
         Stmt::Unbuilt => true,
         Stmt::Complex(setup) => is_star(setup.star),
         Stmt::Rnldef(_) => false,
-        Stmt::System(_) => systems != 0,
+        Stmt::System(_) => false,
         Stmt::Job(_) => false,
         Stmt::Task(_) => false,
         Stmt::Line(_) => false,

@@ -1,10 +1,10 @@
 -- What tokens spell is read again: names, and things in any order.
-use Rattle.std.proofs.Common.{◌≡◌, ℕ, zero, suc, ◌+◌, ◌≤◌, false, eqb, List, [], ◌∷◌, ◌++◌, length, Option, Some, None, refl, sym, ap, subst, ◌∙◌, arith}
+use Rattle.std.proofs.Common.{◌≡◌, ℕ, zero, suc, ◌≤◌, false, eqb, List, [], ◌∷◌, ◌++◌, length, Option, Some, None, refl, sym, subst, arith}
 use Rattle.std.specs.List.{flat_map}
 use Rattle.std.proofs.lemmas.List.Concat.{flat_map-cons}
 use Rattle.deck_scan.specs.declared.token.Token.{Token}
 use Rattle.deck_scan.specs.declared.token.Token.TheVariants.{Word, Name}
-use Rattle.deck_scan.specs.Next.{◌>>=◌, name_at, maybe, up_to, Names, Sets}
+use Rattle.deck_scan.specs.Next.{name_at, up_to, Names, Sets}
 
 pub name_again : (t : Token) (n : List ℕ) (rest : List Token) → Names t n → name_at (t ∷ rest) ≡ Some (n, rest)
 name_again (Word w) n rest h = rw h refl

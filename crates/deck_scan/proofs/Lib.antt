@@ -4,6 +4,8 @@ pub mod Said
 pub mod Found
 pub mod Pieced
 pub mod Names
+pub mod Print
+pub mod Bits
 pub mod Samples
 pub mod BadBytes
 pub mod Taking

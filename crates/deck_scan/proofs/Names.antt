@@ -84,23 +84,23 @@ piece-past bs bytes p = go (list_all is_plain_byte bs) (list_all is_printable bs
 -- ---- a printed name alone
 
 -- a text of printable bytes has no CR and no byte that isn't allowed
-printable-no_cr : (t : List ℕ) → list_all is_printable t ≡ true → without_cr t ≡ t
+pub printable-no_cr : (t : List ℕ) → list_all is_printable t ≡ true → without_cr t ≡ t
 printable-no_cr [] h = refl
 printable-no_cr (b ∷ bs) h =
     let k = and_parts (is_printable b) (list_all is_printable bs) h in
     rw (test_not is_printable b 13 k.0 refl) (ap (λ (t : List ℕ). b ∷ t) (printable-no_cr bs k.1))
 
-printable-allowed : (t : List ℕ) (n : ℕ) → list_all is_printable t ≡ true → bad_line n t ≡ None
+pub printable-allowed : (t : List ℕ) (n : ℕ) → list_all is_printable t ≡ true → bad_line n t ≡ None
 unfolding bad_line is_allowed
 printable-allowed [] n h = refl
 printable-allowed (b ∷ bs) n h =
     let k = and_parts (is_printable b) (list_all is_printable bs) h in
     rw (k.0, test_not is_printable b 10 k.0 refl) (printable-allowed bs n k.1)
 
-plain_printable : (b : ℕ) → is_plain_byte b ≡ true → is_printable b ≡ true
+pub plain_printable : (b : ℕ) → is_plain_byte b ≡ true → is_printable b ≡ true
 plain_printable b h = grind (arith, nat_tests, h)
 
-all_kept : (p q : ℕ → Bool) → ((b : ℕ) → p b ≡ true → q b ≡ true) → (bs : List ℕ) → list_all p bs ≡ true → list_all q bs ≡ true
+pub all_kept : (p q : ℕ → Bool) → ((b : ℕ) → p b ≡ true → q b ≡ true) → (bs : List ℕ) → list_all p bs ≡ true → list_all q bs ≡ true
 all_kept p q f [] h = refl
 all_kept p q f (b ∷ bs) h = let k = and_parts (p b) (list_all p bs) h in and_from (q b) (list_all q bs) (f b k.0) (all_kept p q f bs k.1)
 
@@ -115,7 +115,7 @@ doubled_printable (b ∷ bs) h = let k = and_parts (is_printable b) (list_all is
 closed_printable : (bs : List ℕ) → list_all is_printable bs ≡ true → list_all is_printable (bs ++ 39 ∷ []) ≡ true
 closed_printable bs h = list_all-append is_printable bs (39 ∷ []) ∙ rw h refl
 
-printed-printable : (bs : List ℕ) → are_bytes bs ≡ true → list_all is_printable (printed_name bs) ≡ true
+pub printed-printable : (bs : List ℕ) → are_bytes bs ≡ true → list_all is_printable (printed_name bs) ≡ true
 printed-printable bs bytes = go (list_all is_plain_byte bs) (list_all is_printable bs) refl refl
   where
     go : (x y : Bool) → list_all is_plain_byte bs ≡ x → list_all is_printable bs ≡ y → list_all is_printable (cond x bs (cond y (39 ∷ (quotes_doubled bs ++ 39 ∷ [])) (88 ∷ 39 ∷ (hex_digits bs ++ 39 ∷ [])))) ≡ true

@@ -10,8 +10,9 @@ use Rattle.deck_form.specs.Form.{form}
 use Rattle.deck_form.specs.Spelled.{Spells, IsNoStatement}
 use Rattle.deck_form.proofs.Taken.{form_taken}
 use Rattle.deck_form.proofs.Unknown.{failed, one_spelled, apart, one_kind, is_none}
+use Rattle.deck_form.specs.Unbuilt.{is_unbuilt}
 use Rattle.grs_deck.specs.declared.judge.Draft.{Draft}
-use Rattle.grs_deck.specs.Judge.{is_long, is_repeated, is_misplaced, is_full, is_unknown, is_unbuilt, verdict}
+use Rattle.grs_deck.specs.Judge.{is_long, is_repeated, is_misplaced, is_full, is_unknown, verdict}
 use Rattle.grs_deck.specs.Grow.{grow}
 use Rattle.grs_deck.specs.Reading.{unless, judge_form, judge}
 use Rattle.grs_deck.specs.Faults.{number, SomeStmt, Applies, IsLeast}
@@ -24,7 +25,7 @@ holds Repeated d st = is_repeated d st
 holds OutOfPlace d st = is_misplaced d st
 holds TooMany d st = is_full d st
 holds UnknownName d st = is_unknown d st
-holds NotBuilt d st = is_unbuilt d st
+holds NotBuilt d st = is_unbuilt st
 holds TooLong d st = false
 holds BadByte d st = false
 holds UnknownStatement d st = false
@@ -54,7 +55,7 @@ verdict_holds d st =
     (tested d st (is_misplaced d st) OutOfPlace _ (λ h. h)
     (tested d st (is_full d st) TooMany _ (λ h. h)
     (tested d st (is_unknown d st) UnknownName _ (λ h. h)
-    (tested d st (is_unbuilt d st) NotBuilt None (λ h. h) tt)))))
+    (tested d st (is_unbuilt st) NotBuilt None (λ h. h) tt)))))
 
 -- one test more before others
 chain : (n : ℕ) (b : Bool) (x k : Kind) (rest : Option Kind) → number x ≤ n → (rest ≡ kind k → number k ≤ n) → cond b (Some x) rest ≡ kind k → number k ≤ n
@@ -78,7 +79,7 @@ verdict_below d st TooMany k v t =
 verdict_below d st UnknownName k v t =
     chain 9 (is_long st) NameLength k _ (lit≤ tt) (chain 9 (is_repeated d st) Repeated k _ (lit≤ tt) (chain 9 (is_misplaced d st) OutOfPlace k _ (lit≤ tt) (chain 9 (is_full d st) TooMany k _ (lit≤ tt) (ends 9 (is_unknown d st) UnknownName k _ (lit≤ tt) t)))) v
 verdict_below d st NotBuilt k v t =
-    chain 11 (is_long st) NameLength k _ (lit≤ tt) (chain 11 (is_repeated d st) Repeated k _ (lit≤ tt) (chain 11 (is_misplaced d st) OutOfPlace k _ (lit≤ tt) (chain 11 (is_full d st) TooMany k _ (lit≤ tt) (chain 11 (is_unknown d st) UnknownName k _ (lit≤ tt) (ends 11 (is_unbuilt d st) NotBuilt k None (lit≤ tt) t))))) v
+    chain 11 (is_long st) NameLength k _ (lit≤ tt) (chain 11 (is_repeated d st) Repeated k _ (lit≤ tt) (chain 11 (is_misplaced d st) OutOfPlace k _ (lit≤ tt) (chain 11 (is_full d st) TooMany k _ (lit≤ tt) (chain 11 (is_unknown d st) UnknownName k _ (lit≤ tt) (ends 11 (is_unbuilt st) NotBuilt k None (lit≤ tt) t))))) v
 verdict_below d st TooLong k v t = absurd cc
 verdict_below d st BadByte k v t = absurd cc
 verdict_below d st UnknownStatement k v t = absurd cc
@@ -99,7 +100,7 @@ applies_holds d l st Repeated h a = some_holds d l st (is_repeated d) h a
 applies_holds d l st OutOfPlace h a = some_holds d l st (is_misplaced d) h a
 applies_holds d l st TooMany h a = some_holds d l st (is_full d) h a
 applies_holds d l st UnknownName h a = some_holds d l st (is_unknown d) h a
-applies_holds d l st NotBuilt h a = some_holds d l st (is_unbuilt d) h a
+applies_holds d l st NotBuilt h a = some_holds d l st is_unbuilt h a
 applies_holds d l st TooLong h a = absurd a
 applies_holds d l st BadByte h a = absurd a
 applies_holds d l st NoSystem h a = absurd a
@@ -130,7 +131,7 @@ no_holds d st Repeated v t = both_ways (is_repeated d st) (tests_of d st v).repe
 no_holds d st OutOfPlace v t = both_ways (is_misplaced d st) (tests_of d st v).misplaced t
 no_holds d st TooMany v t = both_ways (is_full d st) (tests_of d st v).full t
 no_holds d st UnknownName v t = both_ways (is_unknown d st) (tests_of d st v).unknown t
-no_holds d st NotBuilt v t = both_ways (is_unbuilt d st) (tests_of d st v).unbuilt t
+no_holds d st NotBuilt v t = both_ways (is_unbuilt st) (tests_of d st v).unbuilt t
 no_holds d st TooLong v t = cc
 no_holds d st BadByte v t = cc
 no_holds d st UnknownStatement v t = cc

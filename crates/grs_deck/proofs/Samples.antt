@@ -3,9 +3,9 @@ use Rattle.std.proofs.Common.{◌≡◌, ℕ, List, [], ◌∷◌, ◌++◌, Opt
 use Rattle.std.specs.Prelude.{codes}
 use Rattle.grs_base.specs.declared.fault.DeckFault.{DeckFault}
 use Rattle.grs_base.specs.declared.fault.Kind.{Kind}
-use Rattle.grs_base.specs.declared.fault.Kind.TheVariants.{BadByte, UnknownStatement, BadOperand, NameLength, Repeated, OutOfPlace, UnknownName, NoSystem, NotBuilt}
-use Rattle.grs_base.specs.declared.resource.Ctl.TheVariants.{S}
-use Rattle.grs_base.specs.declared.resource.Ret.TheVariants.{RetUse}
+use Rattle.grs_base.specs.declared.fault.Kind.TheVariants.{BadByte, UnknownStatement, BadOperand, NameLength, Repeated, OutOfPlace, TooMany, UnknownName, NoSystem, NotBuilt}
+use Rattle.grs_base.specs.declared.resource.Ctl.TheVariants.{E, S}
+use Rattle.grs_base.specs.declared.resource.Ret.TheVariants.{RetNone, RetUse}
 use Rattle.grs_base.specs.declared.rnl.Which.TheVariants.{Excl}
 use Rattle.grs_base.specs.declared.rnl.Form.TheVariants.{Pattern}
 use Rattle.grs_base.specs.declared.line.Scope.TheVariants as scopes
@@ -27,7 +27,7 @@ use Rattle.deck_form.specs.Event.{verb, pair_at, entry_at, other_at, act_at, eve
 use Rattle.deck_form.specs.UnbuiltWord.{is_unbuilt_word}
 use Rattle.deck_form.specs.Form.{named_at, key, plain_form, first_form, event_form, form}
 use Rattle.grs_deck.specs.Places.{system_place, job_place, task_place}
-use Rattle.grs_deck.specs.Reading.{no_lists, judge, judge_all, reading, fault}
+use Rattle.grs_deck.specs.Reading.{no_lists, no_deck, judge, judge_all, reading, fault}
 
 abbrev at : ℕ → Kind → Option DeckFault
 at n k = Some (record { line = n; kind = k })
@@ -118,20 +118,19 @@ name_lists :
 unfolding is_word is_hex digit is_allowed bad_line put put_word put_open end_line break_off begin_word begin step_in step scan_from finish_in lines_of lines_or_fault is_name_byte all_name is_name short_at dotted_at digits number_of unit_of ret_of rnl_of chosen option_at options_at ctl_at scope_at names_at place_at controlled_at uncontrolled_at enq_at reserve_at deq_at wait_at said_at line_verb which_of form_of value_of rnl_operand_at whole_rnl rnldef_at mode_of entries_of limit_of with_operand operand_at complex_at verb pair_at entry_at other_at act_at event_at is_unbuilt_word named_at key plain_form first_form event_form form statements_from statements system_place job_place task_place judge judge_all reading fault
 name_lists = (refl, refl, refl, refl, refl, refl, refl, refl, refl, refl)
 
--- what is not built: words; MODE(STAR); a second SYSTEM; and what is wrong comes first
+-- what is not built: words; MODE(STAR); and what is wrong comes first
 unbuilt :
     FaultOf (text (codes "SYSTEM SYA" ∷ codes "AT 0 VARY GRS(SYA),PURGE" ∷ [])) (at 2 NotBuilt)
     × FaultOf (text (codes "D" ∷ [])) (at 1 NotBuilt)
     × FaultOf (in_task (codes "GQSCAN SCOPE=GLOBAL" ∷ [])) (at 4 NotBuilt)
     × FaultOf (text (codes "COMPLEX MODE(STAR)" ∷ [])) (at 1 NotBuilt)
-    × FaultOf (text (codes "SYSTEM S1" ∷ codes "SYSTEM S2" ∷ [])) (at 2 NotBuilt)
     × FaultOf (in_task (codes "ENQ (A,B,E,SYSTEMS)" ∷ [])) None
     × FaultOf (in_task (codes "ENQ (A,B,E,SYSTEM),RNL=YES" ∷ [])) None
     × FaultOf (in_task (codes "ENQ ('',B,E,SYSTEMS)" ∷ [])) (at 4 NameLength)
 unfolding is_word is_hex digit is_allowed bad_line put put_word put_open end_line break_off begin_word begin step_in step scan_from finish_in lines_of lines_or_fault is_name_byte all_name is_name short_at dotted_at digits number_of unit_of ret_of rnl_of chosen option_at options_at ctl_at scope_at names_at place_at controlled_at uncontrolled_at enq_at reserve_at deq_at wait_at said_at line_verb which_of form_of value_of rnl_operand_at whole_rnl rnldef_at mode_of entries_of limit_of with_operand operand_at complex_at verb pair_at entry_at other_at act_at event_at is_unbuilt_word named_at key plain_form first_form event_form form statements_from statements system_place job_place task_place judge judge_all reading fault
-unbuilt = (refl, refl, refl, refl, refl, refl, refl, refl)
+unbuilt = (refl, refl, refl, refl, refl, refl, refl)
 
--- event lines: SCHEDULE again; no system; no task; no form; an entry out of range; one in range; a system that is itself; a turn
+-- event lines: SCHEDULE again; no system; no task; no form; an entry out of range; one in range; a system that is itself; SCHEDULE behind a turn; a switch behind a rest
 events :
     FaultOf (text (codes "SYSTEM SYA" ∷ codes "SCHEDULE" ∷ codes "SCHEDULE" ∷ [])) (at 3 BadOperand)
     × FaultOf (text (codes "SYSTEM SYA" ∷ codes "SCHEDULE" ∷ codes "SYB TURN" ∷ [])) (at 3 UnknownName)
@@ -140,9 +139,22 @@ events :
     × FaultOf (text (codes "COMPLEX ENTRIES(4)" ∷ codes "SYSTEM SYA" ∷ codes "SCHEDULE" ∷ codes "SYA TELL 4" ∷ [])) (at 4 BadOperand)
     × FaultOf (text (codes "COMPLEX ENTRIES(4)" ∷ codes "SYSTEM SYA" ∷ codes "SCHEDULE" ∷ codes "SYA LEAVE 03" ∷ [])) (at 4 NotBuilt)
     × FaultOf (text (codes "SYSTEM SYA" ∷ codes "SCHEDULE" ∷ codes "SYA PURGE SYA" ∷ [])) (at 3 UnknownName)
-    × FaultOf (text (codes "SYSTEM SYA" ∷ codes "SCHEDULE" ∷ codes "SYA TURN" ∷ codes "SCHEDULE" ∷ [])) (at 3 NotBuilt)
+    × FaultOf (text (codes "SYSTEM SYA" ∷ codes "SCHEDULE" ∷ codes "SYA TURN" ∷ codes "SCHEDULE" ∷ [])) (at 4 BadOperand)
+    × FaultOf (text (codes "SYSTEM SYA" ∷ codes "SCHEDULE" ∷ codes "SYA REST" ∷ codes "SYA SWITCH" ∷ [])) (at 4 NotBuilt)
 unfolding is_word is_hex digit is_allowed bad_line put put_word put_open end_line break_off begin_word begin step_in step scan_from finish_in lines_of lines_or_fault is_name_byte all_name is_name short_at dotted_at digits number_of unit_of ret_of rnl_of chosen option_at options_at ctl_at scope_at names_at place_at controlled_at uncontrolled_at enq_at reserve_at deq_at wait_at said_at line_verb which_of form_of value_of rnl_operand_at whole_rnl rnldef_at mode_of entries_of limit_of with_operand operand_at complex_at verb pair_at entry_at other_at act_at event_at is_unbuilt_word named_at key plain_form first_form event_form form statements_from statements system_place job_place task_place judge judge_all reading fault
-events = (refl, refl, refl, refl, refl, refl, refl, refl)
+events = (refl, refl, refl, refl, refl, refl, refl, refl, refl)
+
+-- several systems: a name twice, behind another; a job of the other's name; a job twice in one; a task of the other system; a system that there isn't; a task behind another system; nine
+systems :
+    FaultOf (text (codes "SYSTEM S1" ∷ codes "SYSTEM S2" ∷ codes "JOB J" ∷ codes "SYSTEM S1" ∷ [])) (at 4 Repeated)
+    × FaultOf (text (codes "SYSTEM S1" ∷ codes "JOB J" ∷ codes "SYSTEM S2" ∷ codes "JOB J" ∷ [])) None
+    × FaultOf (text (codes "SYSTEM S1" ∷ codes "SYSTEM S2" ∷ codes "JOB J" ∷ codes "JOB J" ∷ [])) (at 4 Repeated)
+    × FaultOf (text (codes "SYSTEM S1" ∷ codes "JOB J" ∷ codes "TASK T" ∷ codes "SYSTEM S2" ∷ codes "SCHEDULE" ∷ codes "S1 TASK J.T" ∷ codes "S2 TASK J.T" ∷ [])) (at 7 UnknownName)
+    × FaultOf (text (codes "SYSTEM S1" ∷ codes "SYSTEM S2" ∷ codes "SCHEDULE" ∷ codes "S2 REST" ∷ codes "S3 REST" ∷ [])) (at 5 UnknownName)
+    × FaultOf (text (codes "SYSTEM S1" ∷ codes "JOB J" ∷ codes "TASK T" ∷ codes "SYSTEM S2" ∷ codes "TASK T" ∷ [])) (at 5 OutOfPlace)
+    × FaultOf (text (codes "SYSTEM A" ∷ codes "SYSTEM B" ∷ codes "SYSTEM C" ∷ codes "SYSTEM D" ∷ codes "SYSTEM E" ∷ codes "SYSTEM F" ∷ codes "SYSTEM G" ∷ codes "SYSTEM H" ∷ codes "SYSTEM I" ∷ [])) (at 9 TooMany)
+unfolding is_word is_hex digit is_allowed bad_line put put_word put_open end_line break_off begin_word begin step_in step scan_from finish_in lines_of lines_or_fault is_name_byte all_name is_name short_at dotted_at digits number_of unit_of ret_of rnl_of chosen option_at options_at ctl_at scope_at names_at place_at controlled_at uncontrolled_at enq_at reserve_at deq_at wait_at said_at line_verb which_of form_of value_of rnl_operand_at whole_rnl rnldef_at mode_of entries_of limit_of with_operand operand_at complex_at verb pair_at entry_at other_at act_at event_at is_unbuilt_word named_at key plain_form first_form event_form form statements_from statements system_place job_place task_place judge judge_all reading fault
+systems = (refl, refl, refl, refl, refl, refl, refl)
 
 abbrev whole : List ℕ
 whole = text (codes "COMPLEX ENTRIES(8)" ∷ codes "RNLDEF RNL(EXCL) TYPE(PATTERN) QNAME('AP* ')" ∷ codes " RNAME(X'4100')" ∷ codes "SYSTEM SYA" ∷ codes "JOB J1" ∷ codes "TASK T1" ∷ codes "ENQ ('A ','it''s',S,STEP),RET=USE" ∷ codes "JOB J2" ∷ codes "TASK T1" ∷ codes "DEQ (X'4a',B.C,SYSTEM),RET=HAVE" ∷ codes "WAIT (A,B,STEP)" ∷ codes "SCHEDULE" ∷ codes "SYA TASK J2.T1" ∷ [])
@@ -171,3 +183,31 @@ deck = record {
 read : reading whole ≡ Ok deck
 unfolding is_word is_hex digit is_allowed bad_line put put_word put_open end_line break_off begin_word begin step_in step scan_from finish_in lines_of lines_or_fault is_name_byte all_name is_name short_at dotted_at digits number_of unit_of ret_of rnl_of chosen option_at options_at ctl_at scope_at names_at place_at controlled_at uncontrolled_at enq_at reserve_at deq_at wait_at said_at line_verb which_of form_of value_of rnl_operand_at whole_rnl rnldef_at mode_of entries_of limit_of with_operand operand_at complex_at verb pair_at entry_at other_at act_at event_at is_unbuilt_word named_at key plain_form first_form event_form form statements_from statements system_place job_place task_place judge judge_all reading fault
 read = refl
+
+-- two systems with their events
+abbrev ring : List ℕ
+ring = text (codes "SYSTEM SYA" ∷ codes "JOB J1" ∷ codes "TASK T1" ∷ codes "ENQ (A,B,E,SYSTEMS)" ∷ codes "SYSTEM SYB" ∷ codes "JOB J1" ∷ codes "TASK T1" ∷ codes "TASK T2" ∷ codes "SCHEDULE" ∷ codes "SYB TASK J1.T2" ∷ codes "SYA TURN" ∷ codes "SYB REST" ∷ [])
+
+ring_deck : reading ring ≡ Ok (record no_deck {
+  systems = record {
+    name = codes "SYA";
+    desk = [];
+    jobs = record {
+      name = codes "J1";
+      tasks = record { name = codes "T1"; lines = lines.Enq (record { q = codes "A"; r = codes "B"; ctl = E; scope = scopes.Systems } ∷ []) RetNone true ∷ [] } ∷ [];
+    } ∷ [];
+  } ∷ record {
+    name = codes "SYB";
+    desk = [];
+    jobs = record {
+      name = codes "J1";
+      tasks = record { name = codes "T1"; lines = [] } ∷ record { name = codes "T2"; lines = [] } ∷ [];
+    } ∷ [];
+  } ∷ [];
+  events = record { system = record { 0 = 1 }; choice = choices.Task (record { system = record { 0 = 1 }; job = 0; task = 1 }) }
+      ∷ record { system = record { 0 = 0 }; choice = choices.Turn }
+      ∷ record { system = record { 0 = 1 }; choice = choices.Rest }
+      ∷ [];
+})
+unfolding is_word is_hex digit is_allowed bad_line put put_word put_open end_line break_off begin_word begin step_in step scan_from finish_in lines_of lines_or_fault is_name_byte all_name is_name short_at dotted_at digits number_of unit_of ret_of rnl_of chosen option_at options_at ctl_at scope_at names_at place_at controlled_at uncontrolled_at enq_at reserve_at deq_at wait_at said_at line_verb which_of form_of value_of rnl_operand_at whole_rnl rnldef_at mode_of entries_of limit_of with_operand operand_at complex_at verb pair_at entry_at other_at act_at event_at is_unbuilt_word named_at key plain_form first_form event_form form statements_from statements system_place job_place task_place judge judge_all reading fault
+ring_deck = refl

@@ -29,9 +29,10 @@ use Rattle.deck_form.specs.Spelled.{Spells}
 use Rattle.deck_form.specs.Statements.{statements}
 use Rattle.deck_form.proofs.Taken.{form_taken}
 use Rattle.deck_form.proofs.Again.{form_again}
+use Rattle.deck_form.specs.Unbuilt.{is_unbuilt}
 use Rattle.grs_deck.specs.declared.judge.Draft.{Draft}
 use Rattle.grs_deck.specs.Places.{jobs_now, tasks_now, task_count, system_place, job_place, task_place, event_of}
-use Rattle.grs_deck.specs.Judge.{is_over, list_of, is_long_act, is_long, is_repeated, is_misplaced, is_full, is_unknown, is_unbuilt, verdict}
+use Rattle.grs_deck.specs.Judge.{is_over, list_of, is_long_act, is_long, is_repeated, is_misplaced, is_full, is_unknown, verdict}
 use Rattle.grs_deck.specs.Grow.{grow}
 use Rattle.grs_deck.specs.Reading.{◌>>=◌, judge, judge_all, no_draft, ended, reading, fault, fault_of}
 use Rattle.grs_deck.specs.Spells.{IsShort, IsShortAct, IsQname, IsRname, IsMaybeQname, IsMaybeRname, AreNames, MaySay, MayDefine, MayStand, IsRight, Says, SpellsDeck, Answers, IsOkUnlessMemory}
@@ -165,7 +166,7 @@ define_by d r long misplaced full =
     let none = eqb-true (length d.deck.systems) 0 (passed (eqb (length d.deck.systems) 0) misplaced) in
     (qname_of r.q (passed (is_qname r.q) k.0), rnl_rname r.r k.1, none_yet d.deck.systems none, fewer 4096 (length (list_of r.which d.deck.lists).entries) full)
 
-may_by : (d : Draft) (st : Stmt) → NoFault (is_long st) (is_repeated d st) (is_misplaced d st) (is_full d st) (is_unknown d st) (is_unbuilt d st) → MayStand d st
+may_by : (d : Draft) (st : Stmt) → NoFault (is_long st) (is_repeated d st) (is_misplaced d st) (is_full d st) (is_unknown d st) (is_unbuilt st) → MayStand d st
 may_by d stmts.Unbuilt h = tt
 may_by d (stmts.Complex c) h = h.misplaced
 may_by d (stmts.System n) h = (short_of n h.long, none_of (system_place d.deck.systems n) h.repeated, fewer 8 (length d.deck.systems) h.full)
@@ -217,7 +218,7 @@ of_define d r h = record {
 }
 
 -- no test applies to a statement that is right
-pub no_test : (d : Draft) (st : Stmt) → IsRight d st → NoFault (is_long st) (is_repeated d st) (is_misplaced d st) (is_full d st) (is_unknown d st) (is_unbuilt d st)
+pub no_test : (d : Draft) (st : Stmt) → IsRight d st → NoFault (is_long st) (is_repeated d st) (is_misplaced d st) (is_full d st) (is_unknown d st) (is_unbuilt st)
 no_test d stmts.Unbuilt h = absurd (let k : true ≡ false = h.1 in cc)
 no_test d (stmts.Complex c) h = record { long = refl; repeated = refl; misplaced = h.0; full = refl; unknown = refl; unbuilt = h.1 }
 no_test d (stmts.System n) h = record { long = of_short n h.0.0; repeated = none_there (system_place d.deck.systems n) h.0.1; misplaced = refl; full = fewer_not 8 (length d.deck.systems) h.0.2; unknown = refl; unbuilt = h.1 }

@@ -24,6 +24,7 @@ use Rattle.deck_form.specs.declared.form.Stmt.{Stmt}
 use Rattle.deck_form.specs.declared.form.Stmt.TheVariants as stmts
 use Rattle.deck_form.specs.Complex.{no_setup, is_entries, is_limit}
 use Rattle.deck_form.specs.Statements.{statements}
+use Rattle.deck_form.specs.Unbuilt.{is_unbuilt_act, is_star, is_unbuilt}
 use Rattle.deck_scan.specs.Next.{◌>>=◌, Sets}
 use Rattle.deck_form.specs.Spelled.{Operand, Mode, Entries, Limit, IsFreeOperand, set_operand, IsComplex, IsAct, Spells}
 use Rattle.deck_scan.proofs.Taking.{bind_some}
@@ -36,7 +37,7 @@ use Rattle.grs_base.specs.Rnl.{no_entries}
 use Rattle.grs_base.specs.declared.rnl.Which.{Which}
 use Rattle.grs_base.specs.declared.rnl.Which.TheVariants.{Incl, Excl, Con}
 use Rattle.grs_base.specs.declared.rnl.RnlEntry.{RnlEntry}
-use Rattle.grs_deck.specs.Whole.{IsListOf, AreLists, IsTaskOf, IsChoiceOf, IsEventOf, IsDeck}
+use Rattle.grs_deck.specs.Whole.{IsListOf, AreLists, IsTaskOf, IsChoiceOf, IsBuilt, IsEventOf, IsDeck}
 use Rattle.grs_deck.proofs.FitsLaws.{fits_grow, lists_grow}
 use Rattle.grs_deck.proofs.SpellsLaws.{no_test, reading_spells}
 
@@ -126,11 +127,26 @@ choice_is systems entries rest s id (acts.Purge n) c act e =
     own_not systems entries s id x.0.0 c (found_of systems n x.0 x.1).below x.2
 choice_is systems entries rest s id acts.Rest c act e = subst (IsChoiceOf systems entries s id) (some_is choices.Rest c e) tt
 
-event_is : (systems : List SystemDef) (entries : ℕ) (rest : List Token) (name : List ℕ) (a : Act) (e : Event) → IsAct entries rest a → event_of systems name a ≡ Some e → IsEventOf systems entries e
-event_is systems entries rest name a e act h =
+-- an event line of a form that is built
+built_is : (systems : List SystemDef) (id : SysId) (s : SystemDef) (a : Act) (c : Choice) → is_unbuilt_act a ≡ false → choice_of systems id s a ≡ Some c → IsBuilt c
+built_is systems id s (acts.Task j t) c b e =
+    let k = bind_some (task_in id s j t) (λ k. Some (choices.Task k)) c e in
+    subst IsBuilt (some_is (choices.Task k.0) c k.2) tt
+built_is systems id s acts.Turn c b e = subst IsBuilt (some_is choices.Turn c e) tt
+built_is systems id s (acts.Send j t) c b e = absurd cc
+built_is systems id s acts.Take c b e = absurd cc
+built_is systems id s acts.Settle c b e = absurd cc
+built_is systems id s (acts.Tell n) c b e = absurd cc
+built_is systems id s (acts.Leave n) c b e = absurd cc
+built_is systems id s acts.Switch c b e = absurd cc
+built_is systems id s (acts.Purge n) c b e = absurd cc
+built_is systems id s acts.Rest c b e = subst IsBuilt (some_is choices.Rest c e) tt
+
+event_is : (systems : List SystemDef) (entries : ℕ) (rest : List Token) (name : List ℕ) (a : Act) (e : Event) → IsAct entries rest a → is_unbuilt_act a ≡ false → event_of systems name a ≡ Some e → IsEventOf systems entries e
+event_is systems entries rest name a e act built h =
     let x = bind_some (system_at systems name) (λ x. choice_of systems x.0 x.1 a >>= λ c. Some (record { system = x.0; choice = c })) e h in
     let c = bind_some (choice_of systems x.0.0 x.0.1 a) (λ c. Some (record { system = x.0.0; choice = c })) e x.2 in
-    let made : IsEventOf systems entries (record { system = x.0.0; choice = c.0 }) = record { found = x.0.1; system = (found_of systems name x.0 x.1).at; choice = choice_is systems entries rest x.0.1 x.0.0 a c.0 act c.1 } in
+    let made : IsEventOf systems entries (record { system = x.0.0; choice = c.0 }) = record { found = x.0.1; system = (found_of systems name x.0 x.1).at; below = (found_of systems name x.0 x.1).below; choice = choice_is systems entries rest x.0.1 x.0.0 a c.0 act c.1; built = built_is systems x.0.0 x.0.1 a c.0 built c.1 } in
     subst (IsEventOf systems entries) (some_is (record { system = x.0.0; choice = c.0 }) e c.2) made
 
 -- ---- a deck so far
@@ -138,6 +154,7 @@ event_is systems entries rest name a e act h =
 -- before SCHEDULE there is no event
 pub record IsDraft (d : Draft) : Type 0 where
   pub fits : Fits d.deck.systems
+  pub ring : d.deck.star ≡ false
   pub entries : is_entries d.deck.entries ≡ true
   pub limit : is_limit d.deck.limit ≡ true
   pub lists : AreLists d.deck.lists
@@ -148,45 +165,50 @@ no_events : (systems : List SystemDef) (entries : ℕ) (events : List Event) →
 no_events systems entries events e = rw e (All-nil (IsEventOf systems entries))
 
 -- a statement before SCHEDULE that leaves the events
-first_keeps : (d : Draft) (st : Stmt) → IsDraft d → Fits (grow d st).deck.systems → AreLists (grow d st).deck.lists → is_entries (grow d st).deck.entries ≡ true → is_limit (grow d st).deck.limit ≡ true → (grow d st).deck.events ≡ [] → IsDraft (grow d st)
-first_keeps d st h fits lists entries limit none = record { fits = fits; entries = entries; limit = limit; lists = lists; events = no_events (grow d st).deck.systems (grow d st).deck.entries (grow d st).deck.events none; quiet = λ e. none }
+first_keeps : (d : Draft) (st : Stmt) → IsDraft d → Fits (grow d st).deck.systems → AreLists (grow d st).deck.lists → (grow d st).deck.star ≡ false → is_entries (grow d st).deck.entries ≡ true → is_limit (grow d st).deck.limit ≡ true → (grow d st).deck.events ≡ [] → IsDraft (grow d st)
+first_keeps d st h fits lists ring entries limit none = record { fits = fits; ring = ring; entries = entries; limit = limit; lists = lists; events = no_events (grow d st).deck.systems (grow d st).deck.entries (grow d st).deck.events none; quiet = λ e. none }
 
-spelled_first : (d : Draft) (l : TokenLine) (st : Stmt) → d.scheduled ≡ false → IsDraft d → Spells d.scheduled d.deck.entries l st → Fits (grow d st).deck.systems → AreLists (grow d st).deck.lists → IsDraft (grow d st)
-spelled_first d l stmts.Unbuilt e h s fits lists = first_keeps d stmts.Unbuilt h fits lists h.entries h.limit (h.quiet e)
-spelled_first d l (stmts.Complex c) e h s fits lists =
+star_not : (o : Option Bool) → is_star o ≡ false → unwrap_or o false ≡ false
+star_not None h = refl
+star_not (Some b) h = h
+
+spelled_first : (d : Draft) (l : TokenLine) (st : Stmt) → d.scheduled ≡ false → IsDraft d → Spells d.scheduled d.deck.entries l st → is_unbuilt st ≡ false → Fits (grow d st).deck.systems → AreLists (grow d st).deck.lists → IsDraft (grow d st)
+spelled_first d l stmts.Unbuilt e h s b fits lists = first_keeps d stmts.Unbuilt h fits lists h.ring h.entries h.limit (h.quiet e)
+spelled_first d l (stmts.Complex c) e h s b fits lists =
     let at : Spells false d.deck.entries l (stmts.Complex c) = subst (λ (b : Bool). Spells b d.deck.entries l (stmts.Complex c)) e s in
     let g = setup_of at.1.0 c at.1.2 in
-    first_keeps d (stmts.Complex c) h fits lists (given_or is_entries c.entries 64 refl g.entries) (given_or is_limit c.limit 4096 refl g.limit) (h.quiet e)
-spelled_first d l (stmts.System n) e h s fits lists = first_keeps d (stmts.System n) h fits lists h.entries h.limit (h.quiet e)
-spelled_first d l (stmts.Job n) e h s fits lists = first_keeps d (stmts.Job n) h fits lists h.entries h.limit (h.quiet e)
-spelled_first d l (stmts.Task n) e h s fits lists = first_keeps d (stmts.Task n) h fits lists h.entries h.limit (h.quiet e)
-spelled_first d l (stmts.Rnldef r) e h s fits lists = first_keeps d (stmts.Rnldef r) h fits lists h.entries h.limit (h.quiet e)
-spelled_first d l (stmts.Line a) e h s fits lists = first_keeps d (stmts.Line a) h fits lists h.entries h.limit (h.quiet e)
-spelled_first d l stmts.Schedule e h s fits lists = first_keeps d stmts.Schedule h fits lists h.entries h.limit (h.quiet e)
-spelled_first d l (stmts.Event n a) e h s fits lists = absurd (let at : Spells false d.deck.entries l (stmts.Event n a) = subst (λ (b : Bool). Spells b d.deck.entries l (stmts.Event n a)) e s in at.1)
+    first_keeps d (stmts.Complex c) h fits lists (star_not c.star b) (given_or is_entries c.entries 64 refl g.entries) (given_or is_limit c.limit 4096 refl g.limit) (h.quiet e)
+spelled_first d l (stmts.System n) e h s b fits lists = first_keeps d (stmts.System n) h fits lists h.ring h.entries h.limit (h.quiet e)
+spelled_first d l (stmts.Job n) e h s b fits lists = first_keeps d (stmts.Job n) h fits lists h.ring h.entries h.limit (h.quiet e)
+spelled_first d l (stmts.Task n) e h s b fits lists = first_keeps d (stmts.Task n) h fits lists h.ring h.entries h.limit (h.quiet e)
+spelled_first d l (stmts.Rnldef r) e h s b fits lists = first_keeps d (stmts.Rnldef r) h fits lists h.ring h.entries h.limit (h.quiet e)
+spelled_first d l (stmts.Line a) e h s b fits lists = first_keeps d (stmts.Line a) h fits lists h.ring h.entries h.limit (h.quiet e)
+spelled_first d l stmts.Schedule e h s b fits lists = first_keeps d stmts.Schedule h fits lists h.ring h.entries h.limit (h.quiet e)
+spelled_first d l (stmts.Event n a) e h s b fits lists = absurd (let at : Spells false d.deck.entries l (stmts.Event n a) = subst (λ (b : Bool). Spells b d.deck.entries l (stmts.Event n a)) e s in at.1)
 
 -- an event more
-event_more : (d : Draft) (room : ℕ) (n : List ℕ) (a : Act) (rest : List Token) (o : Option Event) → event_of d.deck.systems n a ≡ o → d.scheduled ≡ true → IsAct d.deck.entries rest a → IsDraft d → IsDraft (record { deck = with_event o d.deck; begun = true; scheduled = true; room = room })
-event_more d room n a rest None is e act h = record { fits = h.fits; entries = h.entries; limit = h.limit; lists = h.lists; events = h.events; quiet = λ k. absurd cc }
-event_more d room n a rest (Some v) is e act h = record {
+event_more : (d : Draft) (room : ℕ) (n : List ℕ) (a : Act) (rest : List Token) (o : Option Event) → event_of d.deck.systems n a ≡ o → d.scheduled ≡ true → IsAct d.deck.entries rest a → is_unbuilt_act a ≡ false → IsDraft d → IsDraft (record { deck = with_event o d.deck; begun = true; scheduled = true; room = room })
+event_more d room n a rest None is e act b h = record { fits = h.fits; ring = h.ring; entries = h.entries; limit = h.limit; lists = h.lists; events = h.events; quiet = λ k. absurd cc }
+event_more d room n a rest (Some v) is e act b h = record {
   fits = h.fits;
+  ring = h.ring;
   entries = h.entries;
   limit = h.limit;
   lists = h.lists;
-  events = All-push (IsEventOf d.deck.systems d.deck.entries) d.deck.events v h.events (event_is d.deck.systems d.deck.entries rest n a v act is);
+  events = All-push (IsEventOf d.deck.systems d.deck.entries) d.deck.events v h.events (event_is d.deck.systems d.deck.entries rest n a v act b is);
   quiet = λ k. absurd cc;
 }
 
-spelled_event : (d : Draft) (l : TokenLine) (st : Stmt) → d.scheduled ≡ true → IsDraft d → Spells true d.deck.entries l st → IsDraft (grow d st)
-spelled_event d l (stmts.Event n a) e h s = rw e (event_more d (d.room - 0) n a s.0 (event_of d.deck.systems n a) refl e s.3 h)
-spelled_event d l _ e h s = absurd s
+spelled_event : (d : Draft) (l : TokenLine) (st : Stmt) → d.scheduled ≡ true → IsDraft d → Spells true d.deck.entries l st → is_unbuilt st ≡ false → IsDraft (grow d st)
+spelled_event d l (stmts.Event n a) e h s b = rw e (event_more d (d.room - 0) n a s.0 (event_of d.deck.systems n a) refl e s.3 b h)
+spelled_event d l _ e h s b = absurd s
 
 step_keeps : (d : Draft) (l : TokenLine) (st : Stmt) → IsDraft d → Spells d.scheduled d.deck.entries l st → IsRight d st → IsDraft (grow d st)
 step_keeps d l st h s right = go d.scheduled refl
   where
     go : (b : Bool) → d.scheduled ≡ b → IsDraft (grow d st)
-    go true e = spelled_event d l st e h (subst (λ (b : Bool). Spells b d.deck.entries l st) e s)
-    go false e = let full = (no_test d st right).full in spelled_first d l st e h s (fits_grow d st full h.fits) (lists_grow d st full h.lists)
+    go true e = spelled_event d l st e h (subst (λ (b : Bool). Spells b d.deck.entries l st) e s) right.1
+    go false e = let full = (no_test d st right).full in spelled_first d l st e h s right.1 (fits_grow d st full h.fits) (lists_grow d st full h.lists)
 
 says_keeps : (ls : List TokenLine) (d e : Draft) → Says d ls e → IsDraft d → IsDraft e
 says_keeps [] d e s h = subst IsDraft s h
@@ -196,14 +218,14 @@ no_list : (which : Which) → IsListOf which (no_entries which)
 no_list which = record { which_is = refl; few = omega arith; own = All-nil (λ (e : RnlEntry). e.which ≡ which) }
 
 first_draft : IsDraft no_draft
-first_draft = record { lists = record { incl = no_list Incl; excl = no_list Excl; con = no_list Con }; fits = record { few = omega arith; each = λ k x lt. absurd (omega (arith, lt)) }; entries = refl; limit = refl; events = All-nil (IsEventOf [] 64); quiet = λ e. refl }
+first_draft = record { lists = record { incl = no_list Incl; excl = no_list Excl; con = no_list Con }; fits = record { few = omega arith; each = λ k x lt. absurd (omega (arith, lt)) }; ring = refl; entries = refl; limit = refl; events = All-nil (IsEventOf [] 64); quiet = λ e. refl }
 
 -- Each deck that is spelled is whole.
 pub spelled_whole : (text : List ℕ) (d : Deck) → SpellsDeck text d → IsDeck d
 spelled_whole text d h =
     let w = says_keeps (statements h.lines) no_draft h.draft h.says first_draft in
     let some : 0 < length h.draft.deck.systems = subst (λ (x : Deck). 0 < length x.systems) (sym h.is) h.system in
-    let made : IsDeck h.draft.deck = record { some = some; fits = w.fits; entries = w.entries; limit = w.limit; lists = w.lists; events = w.events } in
+    let made : IsDeck h.draft.deck = record { some = some; fits = w.fits; ring = w.ring; entries = w.entries; limit = w.limit; lists = w.lists; events = w.events } in
     subst IsDeck h.is made
 
 pub whole : (text : List ℕ) (r : Result Deck ReadError) → Gives r (reading text) → IfOk r IsDeck

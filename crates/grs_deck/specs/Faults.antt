@@ -9,8 +9,9 @@ use Rattle.deck_scan.specs.Reading.{byte_fault}
 use Rattle.deck_form.specs.declared.form.Stmt.{Stmt}
 use Rattle.deck_form.specs.Spelled.{Spells, IsNoStatement}
 use Rattle.deck_form.specs.Statements.{statements}
+use Rattle.deck_form.specs.Unbuilt.{is_unbuilt}
 use Rattle.grs_deck.specs.declared.judge.Draft.{Draft}
-use Rattle.grs_deck.specs.Judge.{is_long, is_repeated, is_misplaced, is_full, is_unknown, is_unbuilt}
+use Rattle.grs_deck.specs.Judge.{is_long, is_repeated, is_misplaced, is_full, is_unknown}
 use Rattle.grs_deck.specs.Reading.{no_draft}
 use Rattle.grs_deck.specs.Spells.{Says}
 
@@ -41,7 +42,7 @@ Applies Repeated d l = SomeStmt d l (is_repeated d)
 Applies OutOfPlace d l = SomeStmt d l (is_misplaced d)
 Applies TooMany d l = SomeStmt d l (is_full d)
 Applies UnknownName d l = SomeStmt d l (is_unknown d)
-Applies NotBuilt d l = SomeStmt d l (is_unbuilt d)
+Applies NotBuilt d l = SomeStmt d l is_unbuilt
 Applies _ d l = ⊥
 
 -- The least kind that applies.

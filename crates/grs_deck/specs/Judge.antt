@@ -14,7 +14,7 @@ use Rattle.deck_form.specs.declared.event.Act.{Act}
 use Rattle.deck_form.specs.declared.event.Act.TheVariants as acts
 use Rattle.deck_form.specs.declared.form.Stmt.{Stmt}
 use Rattle.deck_form.specs.declared.form.Stmt.TheVariants as stmts
-use Rattle.deck_form.specs.Unbuilt.{is_unbuilt as is_unbuilt_form}
+use Rattle.deck_form.specs.Unbuilt.{is_unbuilt}
 use Rattle.grs_deck.specs.declared.judge.Draft.{Draft}
 use Rattle.grs_deck.specs.Places.{jobs_now, tasks_now, task_count, system_place, job_place, task_place, event_of}
 
@@ -119,10 +119,6 @@ is_unknown d (stmts.Line s) = false
 is_unknown d stmts.Schedule = false
 is_unknown d (stmts.Event s a) = is_none (event_of d.deck.systems s a)
 
--- A form that is not built.
-abbrev pub is_unbuilt : Draft → Stmt → Bool
-is_unbuilt d st = is_unbuilt_form (length d.deck.systems) st
-
 -- The least kind that applies to a statement of the right form.
 abbrev pub verdict : Draft → Stmt → Option Kind
 verdict d st =
@@ -131,5 +127,5 @@ verdict d st =
     else if is_misplaced d st then Some OutOfPlace
     else if is_full d st then Some TooMany
     else if is_unknown d st then Some UnknownName
-    else if is_unbuilt d st then Some NotBuilt
+    else if is_unbuilt st then Some NotBuilt
     else None

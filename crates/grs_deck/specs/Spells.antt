@@ -19,9 +19,10 @@ use Rattle.deck_form.specs.declared.form.Stmt.{Stmt}
 use Rattle.deck_form.specs.declared.form.Stmt.TheVariants as stmts
 use Rattle.deck_form.specs.Spelled.{Spells}
 use Rattle.deck_form.specs.Statements.{statements}
+use Rattle.deck_form.specs.Unbuilt.{is_unbuilt}
 use Rattle.grs_deck.specs.declared.judge.Draft.{Draft}
 use Rattle.grs_deck.specs.Places.{jobs_now, tasks_now, task_count, system_place, job_place, task_place, event_of}
-use Rattle.grs_deck.specs.Judge.{list_of, is_unbuilt}
+use Rattle.grs_deck.specs.Judge.{list_of}
 use Rattle.grs_deck.specs.Grow.{grow}
 use Rattle.grs_deck.specs.Reading.{no_draft, fault}
 
@@ -92,7 +93,7 @@ MayStand d (stmts.Event s a) = IsShort s × IsShortAct a × ((e : Event) × (eve
 
 -- A statement may stand there, and its form is built.
 abbrev pub IsRight : Draft → Stmt → Type 0
-IsRight d st = MayStand d st × (is_unbuilt d st ≡ false)
+IsRight d st = MayStand d st × (is_unbuilt st ≡ false)
 
 -- Each statement's line is a statement that is right where it stands, and the deck is what they add.
 abbrev pub Says : Draft → List TokenLine → Draft → Type 0

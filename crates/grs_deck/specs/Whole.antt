@@ -1,5 +1,5 @@
 -- What each deck that is read is like: within the limits, and its events speak of what is there.
-use Rattle.std.specs.Prelude.{◌≡◌, ◌≢◌, ℕ, true, ◌+◌, ◌<◌, ◌≤◌, List, length, take, slice_get, Some, All}
+use Rattle.std.specs.Prelude.{◌≡◌, ◌≢◌, ℕ, true, false, ◌+◌, ◌<◌, ◌≤◌, List, length, take, slice_get, Some, All}
 use Rattle.grs_base.specs.Rnl.{RnlView}
 use Rattle.grs_base.specs.declared.rnl.Which.{Which}
 use Rattle.grs_base.specs.declared.rnl.Which.TheVariants.{Incl, Excl, Con}
@@ -39,11 +39,26 @@ IsChoiceOf systems entries s id choices.Switch = Unit {0}
 IsChoiceOf systems entries s id (choices.Purge other) = (other.0 < length systems) × (other.0 ≢ id.0)
 IsChoiceOf systems entries s id choices.Rest = Unit {0}
 
--- An event of a system that there is.
+-- What a system does is built: it goes on with a task, takes its turn or rests.
+abbrev pub IsBuilt : Choice → Type 0
+IsBuilt (choices.Task t) = Unit {0}
+IsBuilt choices.Turn = Unit {0}
+IsBuilt (choices.Send t) = ⊥
+IsBuilt choices.Take = ⊥
+IsBuilt choices.Settle = ⊥
+IsBuilt (choices.Tell e) = ⊥
+IsBuilt (choices.Leave e) = ⊥
+IsBuilt choices.Switch = ⊥
+IsBuilt (choices.Purge other) = ⊥
+IsBuilt choices.Rest = Unit {0}
+
+-- An event of a system that there is, of a kind that is built.
 pub record IsEventOf (systems : List SystemDef) (entries : ℕ) (e : Event) : Type 0 where
   pub found : SystemDef
   pub system : slice_get systems e.system.0 ≡ Some found
+  pub below : e.system.0 < length systems
   pub choice : IsChoiceOf systems entries found e.system e.choice
+  pub built : IsBuilt e.choice
 
 -- A name list with entries of its own alone, and at most 4,096 of them.
 pub record IsListOf (which : Which) (list : RnlView) : Type 0 where
@@ -57,11 +72,13 @@ pub record AreLists (lists : Lists) : Type 0 where
   pub excl : IsListOf Excl lists.excl
   pub con : IsListOf Con lists.con
 
--- A deck: at least one system and at most eight, each with at most 64 jobs and 64 tasks; one of the
--- numbers of entries and of the limits that there may be; the three name lists; and events of its systems.
+-- A deck: at least one system and at most eight, each with at most 64 jobs and 64 tasks; ring mode; one of
+-- the numbers of entries and of the limits that there may be; the three name lists; and events of its
+-- systems.
 pub record IsDeck (d : Deck) : Type 0 where
   pub some : 0 < length d.systems
   pub fits : Fits d.systems
+  pub ring : d.star ≡ false
   pub entries : is_entries d.entries ≡ true
   pub limit : is_limit d.limit ≡ true
   pub lists : AreLists d.lists

@@ -1,12 +1,12 @@
 //! What is wrong with a statement, where a deck has been read so far. Each test is one kind of fault.
 ghost use Rattle.std.specs.Prelude.{◌≡◌, is_some};
 ghost use Rattle.grs_deck.specs.Places.{Fits};
-ghost use Rattle.grs_deck.specs.Judge.{is_over, is_long_act, is_long, is_repeated, is_idle, is_misplaced, is_list_full, is_full, is_unknown, is_unbuilt, verdict};
+ghost use Rattle.grs_deck.specs.Judge.{is_over, is_long_act, is_long, is_repeated, is_idle, is_misplaced, is_list_full, is_full, is_unknown, verdict};
 
 use crate::places::{
     event_of, job_place, jobs_now, system_place, task_count, task_place, tasks_now,
 };
-use deck_form::{Act, Stmt};
+use deck_form::{Act, Stmt, is_unbuilt};
 use grs_base::{Kind, Lists, Which};
 use grs_wire::{Deck, SystemDef};
 
@@ -137,12 +137,6 @@ fn is_unknown(draft: &Draft, st: &Stmt) -> bool
     }
 }
 
-fn is_unbuilt(draft: &Draft, st: &Stmt) -> bool
-    ensures { result ≡ is_unbuilt draft.now st.now }
-{
-    deck_form::is_unbuilt(draft.deck.systems.len(), st)
-}
-
 /// The least kind that applies to a statement of the right form.
 pub fn verdict(draft: &Draft, st: &Stmt) -> Option<Kind>
     requires { Fits draft.now.deck.systems }
@@ -158,7 +152,7 @@ pub fn verdict(draft: &Draft, st: &Stmt) -> Option<Kind>
         Some(Kind::TooMany)
     } else if is_unknown(draft, st) {
         Some(Kind::UnknownName)
-    } else if is_unbuilt(draft, st) {
+    } else if is_unbuilt(st) {
         Some(Kind::NotBuilt)
     } else {
         None

@@ -47,7 +47,7 @@ fn faults(rt: HostRuntime) {
         ),
         (b"/* only */\n".as_slice(), 0, Kind::NoSystem),
         (b"SYSTEM SYA\nSYSTEM SYA\n".as_slice(), 2, Kind::Repeated),
-        (b"SYSTEM S1\nSYSTEM S2\n".as_slice(), 2, Kind::NotBuilt),
+        (b"COMPLEX MODE(STAR)\n".as_slice(), 1, Kind::NotBuilt),
         (
             b"RNLDEF RNL(INCL) TYPE(GENE".as_slice(),
             1,

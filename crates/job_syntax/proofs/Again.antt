@@ -1,6 +1,5 @@
 -- What is spelled so is read as a task line.
-use Rattle.std.proofs.Common.{◌≡◌, inl, inr, ◌⊎◌, ℕ, suc, ◌+◌, Bool, true, false, cond, eqb, List, [], ◌∷◌, ◌++◌, length, Option, Some, None, refl, sym, ap, subst, ◌∙◌, arith, lit≤}
-use Rattle.std.specs.Prelude.{codes}
+use Rattle.std.proofs.Common.{◌≡◌, inl, inr, ℕ, suc, ◌+◌, Bool, true, false, eqb, List, [], ◌∷◌, ◌++◌, length, Some, refl, arith, lit≤}
 use Rattle.std.specs.List.{flat_map}
 use Rattle.std.proofs.lemmas.Bool.{ne_eqb}
 use Rattle.grs_base.specs.declared.line.Scope.{Scope}
@@ -9,8 +8,8 @@ use Rattle.grs_base.specs.declared.resource.Ctl.{Ctl}
 use Rattle.grs_base.specs.declared.resource.Ctl.TheVariants.{E, S}
 use Rattle.grs_base.specs.declared.resource.Ret.TheVariants.{RetNone, RetUse, RetHave, RetTest, RetChng, RetEcb}
 use Rattle.deck_scan.specs.declared.token.Token.{Token}
-use Rattle.deck_scan.specs.declared.token.Token.TheVariants.{Word, Open, Close, Comma, Equals}
-use Rattle.deck_scan.specs.Next.{◌>>=◌, up_to, Names, Sets}
+use Rattle.deck_scan.specs.declared.token.Token.TheVariants.{Word, Open, Close, Comma}
+use Rattle.deck_scan.specs.Next.{up_to, Names, Sets}
 use Rattle.deck_scan.proofs.Again.{name_again, is_free, all_again}
 use Rattle.job_syntax.specs.declared.options.Opts.{Opts}
 use Rattle.job_syntax.specs.declared.ask.Ask.{Ask}
@@ -24,10 +23,10 @@ use Rattle.job_syntax.specs.declared.said.Said.TheVariants as said
 use Rattle.job_syntax.specs.declared.said.Verb.{Verb}
 use Rattle.job_syntax.specs.declared.said.Verb.TheVariants as verbs
 use Rattle.job_syntax.specs.Options.{no_opts, ret_of, rnl_of, chosen, option_at, options_at}
-use Rattle.job_syntax.specs.Ask.{ctl_at, scope_at, names_at, place_at, enq_may, reserve_may, deq_may, wait_may, controlled_at, uncontrolled_at, enq_at, reserve_at, deq_at, wait_at}
+use Rattle.job_syntax.specs.Ask.{ctl_at, scope_at, names_at, place_at, controlled_at, uncontrolled_at, enq_at, reserve_at, deq_at, wait_at}
 use Rattle.job_syntax.specs.Display.{no_names, reach_of, want_of, want_at, scan_at, resource_at, shown_at, display_at}
 use Rattle.job_syntax.specs.Said.{verb, said_at}
-use Rattle.job_syntax.specs.Spelled.{ctl_word, scope_word, reach_word, Opt, Given, Lists, On, option, IsFree, set, IsAsk, Want, First, Second, want, IsFreeWant, set_want, IsScan, IsResource, IsShown, IsBehind, verb_for, IsWord, IsSaid}
+use Rattle.job_syntax.specs.Spelled.{ctl_word, scope_word, reach_word, Opt, Given, Lists, On, option, IsFree, set, IsAsk, Want, First, Second, want, IsFreeWant, set_want, IsScan, IsShown, IsBehind, verb_for, IsWord}
 
 names_again : (q r : Token) (qname rname : List ℕ) (rest : List Token) → Names q qname → Names r rname → names_at (Open ∷ q ∷ Comma ∷ r ∷ Comma ∷ rest) ≡ Some (qname, rname, rest)
 unfolding names_at

@@ -7,3 +7,4 @@ pub mod Spelled
 pub mod Lines
 pub mod Printed
 pub mod Reading
+pub mod Laws

@@ -12,7 +12,6 @@ use Rattle.deck_scan.specs.declared.token.Token.TheVariants.{Word, Open, Close, 
 use Rattle.deck_scan.specs.Next.{Names, Sets}
 use Rattle.job_syntax.specs.declared.options.Opts.{Opts}
 use Rattle.job_syntax.specs.declared.ask.Ask.{Ask}
-use Rattle.job_syntax.specs.declared.ask.EnqAsk.{EnqAsk}
 use Rattle.job_syntax.specs.declared.display.Wanted.{Wanted}
 use Rattle.job_syntax.specs.declared.display.ScanAsk.{ScanAsk}
 use Rattle.job_syntax.specs.declared.display.Shown.{Shown}

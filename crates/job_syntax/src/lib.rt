@@ -4,6 +4,7 @@
 
 mod ask;
 mod display;
+mod laws;
 mod line;
 mod options;
 mod print;
@@ -13,6 +14,7 @@ mod unit;
 
 pub use ask::{Ask, EnqAsk};
 pub use display::{ScanAsk, Shown, Wanted};
+pub use laws::printed_lines;
 pub use line::{is_bad, line_of};
 pub use options::Opts;
 pub use print::print_line;

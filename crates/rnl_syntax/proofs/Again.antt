@@ -1,6 +1,5 @@
 -- What is spelled so is read as an RNLDEF.
-use Rattle.std.proofs.Common.{◌≡◌, ℕ, suc, ◌+◌, false, eqb, List, [], ◌∷◌, ◌++◌, length, Option, Some, None, refl, arith, lit≤}
-use Rattle.std.specs.Prelude.{◌&&◌, is_none}
+use Rattle.std.proofs.Common.{◌≡◌, ℕ, suc, ◌+◌, false, eqb, List, ◌∷◌, ◌++◌, length, Some, refl, arith, lit≤}
 use Rattle.std.specs.List.{flat_map}
 use Rattle.std.proofs.lemmas.Bool.{ne_eqb}
 use Rattle.grs_base.specs.declared.rnl.Which.TheVariants.{Incl, Excl, Con}

@@ -2,13 +2,17 @@
 //! text. It knows the form of one statement, and which lines belong to it.
 #![tactic(auto)]
 
+mod laws;
 mod lines;
 mod operands;
 mod print;
+mod read;
 
+pub use laws::printed_entries;
 pub use lines::{goes_on, is_rnldef_word, with_line};
 pub use operands::{Operands, Rnldef, entry_of, is_bad, rnldef_at};
 pub use print::print_rnldef;
+pub use read::read_rnldef;
 
 #[cfg(test)]
 mod tests;

@@ -1,0 +1,395 @@
+-- The reader of an RNLDEF answers what its text spells, and uses the bytes of the statement.
+use Rattle.std.proofs.Common.{◌≡◌, ℕ, ◌+◌, ◌<◌, ◌≤◌, Bool, true, false, cond, ltb, List, [], ◌∷◌, ◌++◌, length, take, Option, Some, None, Result, Ok, Err, refl, sym, ap, subst, ◌∙◌, arith, append_assoc, length-append}
+use Rattle.std.specs.Prelude.{codes}
+use Rattle.std.specs.List.{flat_map}
+use Rattle.std.specs.Str.{bytes_eq}
+use Rattle.std.proofs.Math.Seq.{take-append_seam}
+use Rattle.std.proofs.lemmas.Bool.{ltb-false, ltb-true, le-ltb, and_parts}
+use Rattle.std.proofs.lemmas.List.{append-nil}
+use Rattle.std.proofs.lemmas.Slice.Eq.{bytes_eq-Decides}
+use Rattle.grs_base.specs.declared.fault.DeckFault.{DeckFault}
+use Rattle.grs_base.specs.declared.fault.Kind.TheVariants.{TooLong, UnknownStatement, NameLength}
+use Rattle.grs_base.specs.declared.fault.ReadError.{ReadError}
+use Rattle.grs_base.specs.declared.fault.ReadError.TheVariants as read_errors
+use Rattle.grs_base.specs.declared.rnl.Which.{Which}
+use Rattle.grs_base.specs.declared.rnl.Which.TheVariants.{Incl, Excl, Con}
+use Rattle.grs_base.specs.declared.rnl.Form.{Form}
+use Rattle.grs_base.specs.declared.rnl.Form.TheVariants.{Specific, Generic, Pattern}
+use Rattle.grs_base.specs.declared.rnl.RnlEntry.{RnlEntry}
+use Rattle.deck_scan.specs.declared.token.Token.{Token}
+use Rattle.deck_scan.specs.declared.token.Token.TheVariants.{Word, Close, Unclosed}
+use Rattle.deck_scan.specs.declared.token.TokenLine.{TokenLine}
+use Rattle.deck_scan.specs.Bytes.{bad_line}
+use Rattle.deck_scan.specs.Scan.{lines_of}
+use Rattle.deck_scan.specs.Next.{Sets}
+use Rattle.deck_scan.specs.Pieces.{SpellsLines}
+use Rattle.deck_scan.specs.Reading.{lines_or_fault, unless_fault, byte_fault, bad_byte}
+use Rattle.deck_scan.proofs.Pieced.{spelled_is, spelled_found}
+use Rattle.deck_scan.proofs.Taking.{same_bytes}
+use Rattle.rnl_syntax.specs.declared.operands.Operands.{Operands}
+use Rattle.rnl_syntax.specs.declared.operands.Rnldef.{Rnldef}
+use Rattle.rnl_syntax.specs.Lines.{goes_on, with_line, is_rnldef_word}
+use Rattle.rnl_syntax.specs.Operands.{no_operands, rnldef_at, is_bad, entry_of}
+use Rattle.rnl_syntax.specs.Spelled.{Operand, Of, As, First, Second, operand, IsFree, set, IsRnldef}
+use Rattle.rnl_syntax.specs.Reading.{◌>>=◌, refused, first_from, first_statement, or_bad, by_word, by_first, rnldef_on, sized, entry_on, reading, MakesEntry, ends_closed, IsFront, SpellsEntry, Answers, IsOkUnlessMemory, same_which, same_form, same_rname, same_entry, is_entry, is_front, IsFewest, Found}
+use Rattle.rnl_syntax.proofs.Taken.{rnldef_taken}
+use Rattle.rnl_syntax.proofs.Again.{rnldef_again}
+use Rattle.rnl_syntax.proofs.Closed.{ends_closed-snoc, is_close, last_closes, line_closes, last_closes-append}
+use Rattle.rnl_syntax.proofs.Fronts.{front_spells}
+
+bind_ok : {A B : Type 0} (r : Result A DeckFault) (f : A → Result B DeckFault) (y : B) → (r >>= f) ≡ Ok y → (x : A) × (r ≡ Ok x) × (f x ≡ Ok y)
+bind_ok (Ok x) f y e = (x, refl, e)
+bind_ok (Err d) f y e = absurd cc
+
+abbrev read_as : RnlEntry → Result RnlEntry DeckFault
+read_as e = Ok e
+
+entry_is : (e f : RnlEntry) → read_as e ≡ read_as f → e ≡ f
+entry_is e f h = cc
+
+-- ---- texts
+
+-- a text without a fault of length or bytes
+record IsAllowed (text : List ℕ) : Type 0 where
+  short : length text ≤ 1048576
+  bytes : bad_line 1 text ≡ None
+
+bad_none : (o : Option ℕ) → bad_byte o ≡ None → o ≡ None
+bad_none None h = refl
+bad_none (Some n) h = absurd cc
+
+allowed_of : (text : List ℕ) → byte_fault text ≡ None → IsAllowed text
+allowed_of text h = go (ltb 1048576 (length text)) refl h
+  where
+    go : (b : Bool) → ltb 1048576 (length text) ≡ b → cond b (Some (record { line = 0; kind = TooLong })) (bad_byte (bad_line 1 text)) ≡ None → IsAllowed text
+    go true is k = absurd cc
+    go false is k = record { short = ltb-false 1048576 (length text) is; bytes = bad_none (bad_line 1 text) k }
+
+unless_ok : (o : Option DeckFault) (xs ys : List TokenLine) → unless_fault o xs ≡ Ok ys → (o ≡ None) × (xs ≡ ys)
+unless_ok None xs ys h = (refl, cc)
+unless_ok (Some f) xs ys h = absurd cc
+
+lines_read : (text : List ℕ) (lines : List TokenLine) → length text ≤ 1048576 → SpellsLines text lines → lines_or_fault text ≡ Ok lines
+unfolding lines_or_fault
+lines_read text lines short spelled = rw (le-ltb 1048576 (length text) short, spelled.allowed, spelled_is text lines spelled) refl
+
+-- ---- the first statement
+
+some_bad : (at : ℕ) (o : Option Rnldef) (d : Rnldef) → or_bad at o ≡ Ok d → o ≡ Some d
+some_bad at (Some x) d e = cc
+some_bad at None d e = absurd cc
+
+record Worded (ts : List Token) (d : Rnldef) : Type 0 where
+  behind : List Token
+  parts : ts ≡ Word (codes "RNLDEF") ∷ behind
+  says : IsRnldef behind d
+
+word_there : (at : ℕ) (w : List ℕ) (ts : List Token) (d : Rnldef) → by_word at w ts ≡ Ok d → Worded (Word w ∷ ts) d
+word_there at w ts d e = go (is_rnldef_word w) refl e
+  where
+    go : (b : Bool) → is_rnldef_word w ≡ b → cond b (or_bad at (rnldef_at ts)) (refused at UnknownStatement) ≡ Ok d → Worded (Word w ∷ ts) d
+    go true is k = record { behind = ts; parts = ap (λ (x : List ℕ). Word x ∷ ts) (same_bytes w (codes "RNLDEF") is); says = rnldef_taken ts d (some_bad at (rnldef_at ts) d k) }
+    go false is k = absurd cc
+
+first_there : (at : ℕ) (ts : List Token) (d : Rnldef) → by_first at ts ≡ Ok d → Worded ts d
+first_there at (Word w ∷ ts) d e = word_there at w ts d e
+first_there at (Unclosed ∷ ts) d e = absurd cc
+first_there at [] d e = absurd cc
+first_there at (_ ∷ ts) d e = absurd cc
+
+statement_there : (s : TokenLine) (d : Rnldef) → rnldef_on s ≡ Ok d → (s.joined ≡ false) × Worded s.tokens d
+unfolding rnldef_on
+statement_there s d e = go s.joined refl e
+  where
+    go : (b : Bool) → s.joined ≡ b → cond b (refused s.at UnknownStatement) (by_first s.at s.tokens) ≡ Ok d → (s.joined ≡ false) × Worded s.tokens d
+    go true is k = absurd cc
+    go false is k = (is, first_there s.at s.tokens d k)
+
+there_statement : (s : TokenLine) (ts : List Token) (d : Rnldef) → s.joined ≡ false → s.tokens ≡ Word (codes "RNLDEF") ∷ ts → IsRnldef ts d → rnldef_on s ≡ Ok d
+unfolding rnldef_on
+there_statement s ts d apart parts says = rw (apart, parts, rnldef_again ts d says) refl
+
+sized_ok : (at : ℕ) (d : Rnldef) (e : RnlEntry) → sized at d ≡ Ok e → (is_bad d ≡ false) × (entry_of d ≡ e)
+sized_ok at d e h = go (is_bad d) refl h
+  where
+    go : (b : Bool) → is_bad d ≡ b → cond b (refused at NameLength) (Ok (entry_of d)) ≡ Ok e → (is_bad d ≡ false) × (entry_of d ≡ e)
+    go true is k = absurd cc
+    go false is k = (is, entry_is (entry_of d) e k)
+
+-- the statement of a text that makes an entry
+record Statement (o : Option TokenLine) (e : RnlEntry) : Type 0 where
+  statement : TokenLine
+  first : o ≡ Some statement
+  apart : statement.joined ≡ false
+  rnldef : Rnldef
+  worded : Worded statement.tokens rnldef
+  names : is_bad rnldef ≡ false
+  makes : entry_of rnldef ≡ e
+
+entry_there : (o : Option TokenLine) (e : RnlEntry) → entry_on o ≡ Ok e → Statement o e
+entry_there None e h = absurd cc
+entry_there (Some s) e h =
+    let d = bind_ok (rnldef_on s) (λ d. sized s.at d) e h in
+    let k = sized_ok s.at d.0 e d.2 in
+    let there = statement_there s d.0 d.1 in
+    record { statement = s; first = refl; apart = there.0; rnldef = d.0; worded = there.1; names = k.0; makes = k.1 }
+
+-- What is read is made.
+reading_makes : (text : List ℕ) (e : RnlEntry) → reading text ≡ Ok e → MakesEntry text e
+unfolding reading lines_or_fault
+reading_makes text e h =
+    let b = bind_ok (lines_or_fault text) (λ ls. entry_on (first_statement ls)) e h in
+    let u = unless_ok (byte_fault text) (lines_of text) b.0 b.1 in
+    let a = allowed_of text u.0 in
+    let s = entry_there (first_statement b.0) e b.2 in
+    record {
+      short = a.short;
+      lines = b.0;
+      spelled = subst (λ (ls : List TokenLine). SpellsLines text ls) u.1 (spelled_found text a.bytes);
+      statement = s.statement;
+      first = s.first;
+      apart = s.apart;
+      behind = s.worded.behind;
+      parts = s.worded.parts;
+      rnldef = s.rnldef;
+      says = s.worded.says;
+      names = s.names;
+      makes = s.makes;
+    }
+
+-- What is made is read.
+pub makes_reading : (text : List ℕ) (e : RnlEntry) → MakesEntry text e → reading text ≡ Ok e
+unfolding reading
+makes_reading text e h = rw (lines_read text h.lines h.short h.spelled, h.first, there_statement h.statement h.behind h.rnldef h.apart h.parts h.says, h.names) (ap read_as h.makes)
+
+-- ---- the lines of a statement
+
+-- a statement that ends with a closing parenthesis is so of the lines up to that
+record Head (s : TokenLine) (ls : List TokenLine) : Type 0 where
+  own : List TokenLine
+  more : List TokenLine
+  parts : ls ≡ own ++ more
+  is : first_from s own ≡ first_from s ls
+  closes : line_closes (s ∷ own) ≡ true
+
+nothing_more : (s l : TokenLine) → l.tokens ≡ [] → with_line s l ≡ s
+nothing_more s l e = rw (e, append-nil s.tokens) refl
+
+-- the next line has tokens or has none
+head_next : (s l : TokenLine) (ls more : List TokenLine) (ts : List Token) → l.tokens ≡ ts → goes_on s l ≡ true → ls ≡ more → first_from (with_line s l) [] ≡ first_from (with_line s l) ls → last_closes (s.tokens ++ ts) ≡ true → Head s (l ∷ ls)
+unfolding first_from
+head_next s l ls more [] none e parts is closes = record {
+  own = [];
+  more = l ∷ ls;
+  parts = refl;
+  is = rw e (sym (nothing_more s l none) ∙ is);
+  closes = subst (λ (ts : List Token). last_closes ts ≡ true) (append-nil s.tokens) closes;
+}
+head_next s l ls more (t ∷ ts) some e parts is closes = record {
+  own = l ∷ [];
+  more = ls;
+  parts = refl;
+  is = rw e is;
+  closes = ap last_closes some ∙ sym (last_closes-append s.tokens ts t) ∙ closes;
+}
+
+head_more : (s l : TokenLine) (ls own more : List TokenLine) → goes_on s l ≡ true → ls ≡ own ++ more → first_from (with_line s l) own ≡ first_from (with_line s l) ls → line_closes (with_line s l ∷ own) ≡ true → Head s (l ∷ ls)
+unfolding first_from
+head_more s l ls [] more e parts is closes = head_next s l ls more l.tokens refl e parts is closes
+head_more s l ls (m ∷ ms) more e parts is closes = record {
+  own = l ∷ m ∷ ms;
+  more = more;
+  parts = ap (λ (x : List TokenLine). l ∷ x) parts;
+  is = rw e is;
+  closes = closes;
+}
+
+head_of : (ls : List TokenLine) (s : TokenLine) → last_closes (first_from s ls).tokens ≡ true → Head s ls
+unfolding first_from
+head_of [] s h = record { own = []; more = []; parts = refl; is = refl; closes = h }
+head_of (l ∷ ls) s h = go (goes_on s l) refl h (λ k. head_of ls (with_line s l) k)
+  where
+    go : (b : Bool) → goes_on s l ≡ b → last_closes (cond b (first_from (with_line s l) ls) s).tokens ≡ true → (last_closes (first_from (with_line s l) ls).tokens ≡ true → Head (with_line s l) ls) → Head s (l ∷ ls)
+    go true e k next = let n = next k in head_more s l ls n.own n.more e n.parts n.is n.closes
+    go false e k next = record { own = []; more = l ∷ ls; parts = refl; is = rw e refl; closes = k }
+
+-- ---- the last operand
+
+close_all : (xs : List Operand) (t : Token) → is_close t ≡ true → last_closes (t ∷ flat_map operand xs) ≡ true
+close_all [] t h = h
+close_all (Of which ∷ xs) t h = close_all xs Close refl
+close_all (As form ∷ xs) t h = close_all xs Close refl
+close_all (First u q ∷ xs) t h = close_all xs Close refl
+close_all (Second u r ∷ xs) t h = close_all xs Close refl
+
+given_close : (xs : List Operand) (t : Token) (d : Rnldef) → Sets IsFree set no_operands xs (record { which = Some d.which; form = Some d.form; q = Some d.q; r = d.r }) → last_closes (t ∷ flat_map operand xs) ≡ true
+given_close [] t d h = absurd (let z : Some d.which ≡ None = ap (λ (o : Operands). o.which) h in cc)
+given_close (Of which ∷ xs) t d h = close_all xs Close refl
+given_close (As form ∷ xs) t d h = close_all xs Close refl
+given_close (First u q ∷ xs) t d h = close_all xs Close refl
+given_close (Second u r ∷ xs) t d h = close_all xs Close refl
+
+statement_closes : (ts behind : List Token) (t : Token) (d : Rnldef) → ts ≡ t ∷ behind → IsRnldef behind d → last_closes ts ≡ true
+statement_closes ts behind t d parts h = rw (parts, h.spelled) (given_close h.given t d h.operands)
+
+-- ---- the front
+
+record MadeFront (text : List ℕ) (e : RnlEntry) : Type 0 where
+  front : List ℕ
+  back : List ℕ
+  parts : text ≡ front ++ 41 ∷ back
+  makes : MakesEntry (front ++ 41 ∷ []) e
+
+some_line : (s t : TokenLine) (o : Option TokenLine) → o ≡ Some s → o ≡ Some t → s ≡ t
+some_line s t o e f = cc
+
+makes_front : (text : List ℕ) (e : RnlEntry) (lines : List TokenLine) (h : MakesEntry text e) → h.lines ≡ lines → MadeFront text e
+makes_front text e [] h none = absurd (let z : None ≡ Some h.statement = sym (ap first_statement none) ∙ h.first in cc)
+makes_front text e (l ∷ ls) h is =
+    let first : Some (first_from l ls) ≡ Some h.statement = sym (ap first_statement is) ∙ h.first in
+    let same : first_from l ls ≡ h.statement = cc in
+    let closes : last_closes (first_from l ls).tokens ≡ true = ap (λ (s : TokenLine). last_closes s.tokens) same ∙ statement_closes h.statement.tokens h.behind (Word (codes "RNLDEF")) h.rnldef h.parts h.says in
+    let head = head_of ls l closes in
+    let all : h.lines ≡ (l ∷ head.own) ++ head.more = is ∙ ap (λ (x : List TokenLine). l ∷ x) head.parts in
+    let f = front_spells text (l ∷ head.own) head.more (subst (λ (x : List TokenLine). SpellsLines text x) all h.spelled) head.closes in
+    let long : length text ≡ length (f.front ++ 41 ∷ f.back) = ap length f.parts in
+    record {
+      front = f.front;
+      back = f.back;
+      parts = f.parts;
+      makes = record {
+        short = omega (arith, h.short, long, length-append f.front (41 ∷ f.back), length-append f.front (41 ∷ []));
+        lines = l ∷ head.own;
+        spelled = f.spells;
+        statement = h.statement;
+        first = ap (λ (s : TokenLine). Some s) (head.is ∙ same);
+        apart = h.apart;
+        behind = h.behind;
+        parts = h.parts;
+        rnldef = h.rnldef;
+        says = h.says;
+        names = h.names;
+        makes = h.makes;
+      };
+    }
+
+-- ---- equal entries
+
+which_same : (a b : Which) → same_which a b ≡ true → a ≡ b
+which_same Incl Incl h = refl
+which_same Excl Excl h = refl
+which_same Con Con h = refl
+which_same _ _ h = absurd cc
+
+form_same : (a b : Form) → same_form a b ≡ true → a ≡ b
+form_same Specific Specific h = refl
+form_same Generic Generic h = refl
+form_same Pattern Pattern h = refl
+form_same _ _ h = absurd cc
+
+rname_same : (a b : Option (List ℕ)) → same_rname a b ≡ true → a ≡ b
+rname_same None None h = refl
+rname_same (Some r) (Some s) h = ap (λ (x : List ℕ). Some x) (same_bytes r s h)
+rname_same _ _ h = absurd cc
+
+entry_same : (e f : RnlEntry) → same_entry e f ≡ true → e ≡ f
+entry_same e f h =
+    let a = and_parts (same_which e.which f.which) _ h in
+    let b = and_parts (same_form e.form f.form) _ a.1 in
+    let c = and_parts (bytes_eq e.q f.q) _ b.1 in
+    rw (which_same e.which f.which a.0, form_same e.form f.form b.0, same_bytes e.q f.q c.0, rname_same e.r f.r c.1) refl
+
+bytes_self : (bs : List ℕ) → bytes_eq bs bs ≡ true
+bytes_self bs = (bytes_eq-Decides bs bs).1 refl
+
+which_self : (a : Which) → same_which a a ≡ true
+which_self Incl = refl
+which_self Excl = refl
+which_self Con = refl
+
+form_self : (a : Form) → same_form a a ≡ true
+form_self Specific = refl
+form_self Generic = refl
+form_self Pattern = refl
+
+rname_self : (a : Option (List ℕ)) → same_rname a a ≡ true
+rname_self None = refl
+rname_self (Some r) = bytes_self r
+
+entry_self : (e : RnlEntry) → same_entry e e ≡ true
+entry_self e = rw (which_self e.which, form_self e.form, bytes_self e.q, rname_self e.r) refl
+
+-- ---- fronts as the reader tests them
+
+front_by : (front : List ℕ) (e : RnlEntry) → is_front front e ≡ true → (ends_closed front ≡ true) × MakesEntry front e
+unfolding is_front
+front_by front e h = go (ends_closed front) refl h
+  where
+    makes : (r : Result RnlEntry DeckFault) → reading front ≡ r → is_entry r e ≡ true → MakesEntry front e
+    makes (Ok f) is k = reading_makes front e (is ∙ ap read_as (entry_same f e k))
+    makes (Err d) is k = absurd cc
+
+    go : (b : Bool) → ends_closed front ≡ b → cond b (is_entry (reading front) e) false ≡ true → (ends_closed front ≡ true) × MakesEntry front e
+    go true is k = (is, makes (reading front) refl k)
+    go false is k = absurd cc
+
+by_front : (front : List ℕ) (e : RnlEntry) → ends_closed front ≡ true → MakesEntry front e → is_front front e ≡ true
+unfolding is_front
+by_front front e closed h = rw (closed, makes_reading front e h) (entry_self e)
+
+-- a text that makes an entry has a front that is found
+pub found_front : (text : List ℕ) (e : RnlEntry) → reading text ≡ Ok e → (n : ℕ) × (n ≤ length text) × (is_front (take n text) e ≡ true)
+found_front text e h =
+    let made = reading_makes text e h in
+    let f = makes_front text e made.lines made refl in
+    let whole : List ℕ = f.front ++ 41 ∷ [] in
+    let parts : text ≡ whole ++ f.back = f.parts ∙ sym (append_assoc f.front (41 ∷ []) f.back) in
+    let long : length text ≡ length (whole ++ f.back) = ap length parts in
+    let cut : take (length whole) text ≡ whole = ap (take (length whole)) parts ∙ take-append_seam whole f.back in
+    (length whole, omega (arith, long, length-append whole f.back), ap (λ (x : List ℕ). is_front x e) cut ∙ by_front whole e (ends_closed-snoc f.front 41) f.makes)
+
+empty_front : (text : List ℕ) (e : RnlEntry) → is_front (take 0 text) e ≡ false
+unfolding is_front
+empty_front text e = refl
+
+pub no_front_yet : (text : List ℕ) (e : RnlEntry) (k : ℕ) → k < 1 → is_front (take k text) e ≡ false
+no_front_yet text e k lt = let z : 0 ≡ k = omega (arith, lt) in subst (λ (n : ℕ). is_front (take n text) e ≡ false) z (empty_front text e)
+
+-- where no front up to the whole text is found, the text makes no entry
+pub none_found : (text : List ℕ) (e : RnlEntry) (n : ℕ) → length text ≤ n → ((k : ℕ) → k < n + 1 → is_front (take k text) e ≡ false) → reading text ≡ Ok e → ⊥
+none_found text e n long none h =
+    let f = found_front text e h in
+    let z : true ≡ false = sym f.2 ∙ none f.0 (omega (arith, f.1, long)) in cc
+
+-- ---- answers
+
+front_is : (text : List ℕ) (e : RnlEntry) (n : ℕ) → n ≤ length text → is_front (take n text) e ≡ true → IsFront text e n
+front_is text e n within h = let f = front_by (take n text) e h in (within, f.0, f.1)
+
+pub spells_by : (text : List ℕ) (e : RnlEntry) (n : ℕ) → reading text ≡ Ok e → IsFewest text e n → SpellsEntry text e n
+spells_by text e n read h = record {
+  makes = reading_makes text e read;
+  front = front_is text e n h.within h.is;
+  fewest = λ k lt f. let z : true ≡ false = sym (by_front (take k text) e f.1 f.2) ∙ h.fewest k lt in cc;
+}
+
+pub answers : (text : List ℕ) (r : Result (RnlEntry × ℕ) ReadError) → Found r text → Answers r text
+answers text (Ok x) h = spells_by text x.0 x.1 h.0 h.1
+answers text (Err read_errors.NoMemory) h = tt
+answers text (Err (read_errors.Fault f)) h = h
+
+-- two numbers of bytes that are the fewest
+same_used : (text : List ℕ) (e : RnlEntry) (n m : ℕ) → IsFewest text e n → SpellsEntry text e m → n ≡ m
+same_used text e n m a b = go (ltb n m) (ltb m n) refl refl
+  where
+    go : (x y : Bool) → ltb n m ≡ x → ltb m n ≡ y → n ≡ m
+    go true y is k = absurd (b.fewest n (ltb-true n m is) (front_is text e n a.within a.is))
+    go false true is k = absurd (let z : true ≡ false = sym (by_front (take m text) e b.front.1 b.front.2) ∙ a.fewest m (ltb-true m n k) in cc)
+    go false false is k = let low = ltb-false n m is in let high = ltb-false m n k in omega (arith, low, high)
+
+pub only : (text : List ℕ) (r : Result (RnlEntry × ℕ) ReadError) → Found r text → (e : RnlEntry) (used : ℕ) → SpellsEntry text e used → IsOkUnlessMemory r e used
+only text (Ok x) h e used s =
+    let same : x.0 ≡ e = entry_is x.0 e (sym h.0 ∙ makes_reading text e s.makes) in
+    (same, same_used text e x.1 used (subst (λ (y : RnlEntry). IsFewest text y x.1) same h.1) s)
+only text (Err read_errors.NoMemory) h e used s = tt
+only text (Err (read_errors.Fault f)) h e used s = absurd (let k : read_as e ≡ Err f = sym (makes_reading text e s.makes) ∙ h in cc)

@@ -1,0 +1,179 @@
+-- The entry that a text makes whose first statement is an RNLDEF, and how many bytes that statement uses; or
+-- the fault of the statement.
+use Rattle.std.specs.Prelude.{◌≡◌, ℕ, Bool, true, false, ◌&&◌, ◌==◌, ◌<◌, ◌≤◌, List, [], ◌∷◌, length, take, codes, Option, Some, None, Result, Ok, Err, if◌then◌else◌}
+use Rattle.std.specs.Str.{bytes_eq}
+use Rattle.grs_base.specs.declared.fault.DeckFault.{DeckFault}
+use Rattle.grs_base.specs.declared.fault.Kind.{Kind}
+use Rattle.grs_base.specs.declared.fault.Kind.TheVariants.{UnknownStatement, BadOperand, NameLength}
+use Rattle.grs_base.specs.declared.fault.ReadError.{ReadError}
+use Rattle.grs_base.specs.declared.fault.ReadError.TheVariants as read_errors
+use Rattle.grs_base.specs.declared.rnl.Which.{Which}
+use Rattle.grs_base.specs.declared.rnl.Which.TheVariants.{Incl, Excl, Con}
+use Rattle.grs_base.specs.declared.rnl.Form.{Form}
+use Rattle.grs_base.specs.declared.rnl.Form.TheVariants.{Specific, Generic, Pattern}
+use Rattle.grs_base.specs.declared.rnl.RnlEntry.{RnlEntry}
+use Rattle.deck_scan.specs.declared.token.Token.{Token}
+use Rattle.deck_scan.specs.declared.token.Token.TheVariants.{Word, Unclosed}
+use Rattle.deck_scan.specs.declared.token.TokenLine.{TokenLine}
+use Rattle.deck_scan.specs.Gives.{Fails}
+use Rattle.deck_scan.specs.Pieces.{SpellsLines}
+use Rattle.deck_scan.specs.Reading.{max_text, lines_or_fault}
+use Rattle.rnl_syntax.specs.declared.operands.Rnldef.{Rnldef}
+use Rattle.rnl_syntax.specs.declared.read.Front.{Front}
+use Rattle.rnl_syntax.specs.Lines.{is_rnldef_word, goes_on, with_line}
+use Rattle.rnl_syntax.specs.Operands.{rnldef_at, is_bad, entry_of}
+use Rattle.rnl_syntax.specs.Spelled.{IsRnldef}
+
+infixl 10 ◌>>=◌
+abbrev pub ◌>>=◌ : {A B : Type 0} → Result A DeckFault → (A → Result B DeckFault) → Result B DeckFault
+(Ok x) >>= f = f x
+(Err e) >>= f = Err e
+
+abbrev pub refused : {A : Type 0} → ℕ → Kind → Result A DeckFault
+refused at kind = Err (record { line = at; kind = kind })
+
+-- ---- the first statement
+
+-- The first statement of lines, where it is so far this one.
+unfoldable pub first_from : TokenLine → List TokenLine → TokenLine
+first_from s [] = s
+first_from s (l ∷ ls) = if goes_on s l then first_from (with_line s l) ls else s
+
+-- The first statement of lines: the first line, with those that an RNLDEF goes on over.
+abbrev pub first_statement : List TokenLine → Option TokenLine
+first_statement [] = None
+first_statement (l ∷ ls) = Some (first_from l ls)
+
+-- ---- the entry, or the fault
+
+abbrev pub or_bad : ℕ → Option Rnldef → Result Rnldef DeckFault
+or_bad at (Some d) = Ok d
+or_bad at None = refused at BadOperand
+
+abbrev pub by_word : ℕ → List ℕ → List Token → Result Rnldef DeckFault
+by_word at w ts = if is_rnldef_word w then or_bad at (rnldef_at ts) else refused at UnknownStatement
+
+-- A first word that isn't RNLDEF is no statement word here; an unclosed comment is wrong for itself.
+abbrev pub by_first : ℕ → List Token → Result Rnldef DeckFault
+by_first at (Word w ∷ ts) = by_word at w ts
+by_first at (Unclosed ∷ ts) = refused at BadOperand
+by_first at _ = refused at UnknownStatement
+
+-- Nothing but a parenthesis stands directly behind the first word.
+unfoldable pub rnldef_on : TokenLine → Result Rnldef DeckFault
+rnldef_on s = if s.joined then refused s.at UnknownStatement else by_first s.at s.tokens
+
+abbrev pub sized : ℕ → Rnldef → Result RnlEntry DeckFault
+sized at d = if is_bad d then refused at NameLength else Ok (entry_of d)
+
+-- A text without a statement is told as an unknown one on its first line.
+abbrev pub entry_on : Option TokenLine → Result RnlEntry DeckFault
+entry_on None = refused 1 UnknownStatement
+entry_on (Some s) = rnldef_on s >>= λ d. sized s.at d
+
+-- What is read of a text.
+unfoldable pub reading : List ℕ → Result RnlEntry DeckFault
+reading text = lines_or_fault text >>= λ ls. entry_on (first_statement ls)
+
+-- ---- which texts make which entry
+
+-- The first statement of a text, which is short enough, is an RNLDEF of this entry.
+pub record MakesEntry (text : List ℕ) (entry : RnlEntry) : Type 0 where
+  pub short : length text ≤ max_text
+  pub lines : List TokenLine
+  pub spelled : SpellsLines text lines
+  pub statement : TokenLine
+  pub first : first_statement lines ≡ Some statement
+  pub apart : statement.joined ≡ false
+  pub behind : List Token
+  pub parts : statement.tokens ≡ Word (codes "RNLDEF") ∷ behind
+  pub rnldef : Rnldef
+  pub says : IsRnldef behind rnldef
+  pub names : is_bad rnldef ≡ false
+  pub makes : entry_of rnldef ≡ entry
+
+-- A text ends with a closing parenthesis.
+abbrev pub ends_closed : List ℕ → Bool
+ends_closed [] = false
+ends_closed (b ∷ []) = b == 41
+ends_closed (b ∷ c ∷ bs) = ends_closed (c ∷ bs)
+
+-- So many bytes of a text end with a closing parenthesis, and make this entry.
+abbrev pub IsFront : List ℕ → RnlEntry → ℕ → Type 0
+IsFront text entry n = (n ≤ length text) × (ends_closed (take n text) ≡ true) × MakesEntry (take n text) entry
+
+-- A text makes this entry, and its statement uses so many bytes: the fewest that end with a closing
+-- parenthesis and make the same entry, which is that of its last operand.
+pub record SpellsEntry (text : List ℕ) (entry : RnlEntry) (used : ℕ) : Type 0 where
+  pub makes : MakesEntry text entry
+  pub front : IsFront text entry used
+  pub fewest : (n : ℕ) → n < used → IsFront text entry n → ⊥
+
+-- What is answered of a text: the entry and the bytes used that it spells, else its fault. Want of memory is
+-- the only other answer.
+abbrev pub Answers : Result (RnlEntry × ℕ) ReadError → List ℕ → Type 0
+Answers (Ok x) text = SpellsEntry text x.0 x.1
+Answers (Err read_errors.NoMemory) text = Unit {0}
+Answers (Err (read_errors.Fault f)) text = reading text ≡ Err f
+
+-- This entry and these bytes, unless memory ran out.
+abbrev pub IsOkUnlessMemory : Result (RnlEntry × ℕ) ReadError → RnlEntry → ℕ → Type 0
+IsOkUnlessMemory (Ok x) entry used = (x.0 ≡ entry) × (x.1 ≡ used)
+IsOkUnlessMemory (Err read_errors.NoMemory) entry used = Unit {0}
+IsOkUnlessMemory (Err (read_errors.Fault f)) entry used = ⊥
+
+-- ---- as the reader finds them
+
+-- A line more of a text whose first statement is sought.
+abbrev pub taken_behind : Option TokenLine → Front → TokenLine → Front
+taken_behind None g l = record { statement = Some l; ended = false }
+taken_behind (Some s) g l = if goes_on s l then record { statement = Some (with_line s l); ended = false } else record { statement = Some s; ended = true }
+
+unfoldable pub taken : Front → TokenLine → Front
+taken g l = if g.ended then g else taken_behind g.statement g l
+
+unfoldable pub take_all : Front → List TokenLine → Front
+take_all g [] = g
+take_all g (l ∷ ls) = take_all (taken g l) ls
+
+abbrev pub no_front : Front
+no_front = record { statement = None; ended = false }
+
+abbrev pub same_which : Which → Which → Bool
+same_which Incl Incl = true
+same_which Excl Excl = true
+same_which Con Con = true
+same_which _ _ = false
+
+abbrev pub same_form : Form → Form → Bool
+same_form Specific Specific = true
+same_form Generic Generic = true
+same_form Pattern Pattern = true
+same_form _ _ = false
+
+abbrev pub same_rname : Option (List ℕ) → Option (List ℕ) → Bool
+same_rname None None = true
+same_rname (Some r) (Some s) = bytes_eq r s
+same_rname _ _ = false
+
+abbrev pub same_entry : RnlEntry → RnlEntry → Bool
+same_entry e f = same_which e.which f.which && (same_form e.form f.form && (bytes_eq e.q f.q && same_rname e.r f.r))
+
+abbrev pub is_entry : Result RnlEntry DeckFault → RnlEntry → Bool
+is_entry (Ok e) entry = same_entry e entry
+is_entry (Err f) entry = false
+
+-- A text ends with a closing parenthesis and reads as this entry.
+unfoldable pub is_front : List ℕ → RnlEntry → Bool
+is_front front entry = if ends_closed front then is_entry (reading front) entry else false
+
+-- So many bytes are the fewest that do.
+pub record IsFewest (text : List ℕ) (entry : RnlEntry) (n : ℕ) : Type 0 where
+  pub within : n ≤ length text
+  pub is : is_front (take n text) entry ≡ true
+  pub fewest : (k : ℕ) → k < n → is_front (take k text) entry ≡ false
+
+-- An entry with the bytes used was found, or the fault, unless memory ran out.
+abbrev pub Found : Result (RnlEntry × ℕ) ReadError → List ℕ → Type 0
+Found (Ok x) text = (reading text ≡ Ok x.0) × IsFewest text x.0 x.1
+Found (Err e) text = Fails e (reading text)

@@ -1,0 +1,247 @@
+//! Reads an RNLDEF from the front of a text of its own.
+ghost use Rattle.std.specs.Prelude.{◌≡◌, ◌≤◌, ◌<◌, length, take, Option, Ok, OnOk, IfOk, ℕ};
+ghost use Rattle.grs_base.specs.declared.rnl.RnlEntry.{RnlEntry as EntryValue};
+ghost use Rattle.deck_scan.specs.Gives.{Gives};
+ghost use Rattle.deck_scan.specs.Next.{Reads};
+ghost use Rattle.rnl_syntax.specs.declared.operands.Rnldef.{Rnldef as RnldefValue};
+ghost use Rattle.rnl_syntax.specs.Reading.{first_statement, or_bad, by_word, by_first, rnldef_on, sized, entry_on, reading, SpellsEntry, Answers, IsOkUnlessMemory, taken_behind, taken, same_which, same_form, same_rname, same_entry, ends_closed, is_front, IsFewest, Found};
+
+use crate::lines::{goes_on, is_rnldef_word, with_line};
+use crate::operands::{Rnldef, entry_of, is_bad, rnldef_at};
+use deck_scan::{Miss, Token, TokenLine, lines};
+use grs_base::{DeckFault, Form, Kind, List, NoMemory, ReadError, Rname, RnlEntry, Which};
+use std::alloc::Global;
+use std::mem;
+
+/// The first statement so far.
+#[derive(Drop)]
+pub struct Front {
+    pub statement: Option<TokenLine>,
+    /// Whether no line can belong to it any more.
+    pub ended: bool,
+}
+
+impl Front {
+    /// Takes a line behind the statement so far.
+    fn take_behind(&mut self, so_far: TokenLine, line: TokenLine) -> Result<(), NoMemory>
+        ensures { OnOk result (self.new ≡ taken_behind (Option.Some so_far) self.old line) }
+    {
+        if goes_on(&so_far, &line) {
+            self.statement = Some(with_line(so_far, line)?);
+            self.ended = false;
+        } else {
+            self.statement = Some(so_far);
+            self.ended = true;
+        }
+        Ok(())
+    }
+
+    /// Takes the next line.
+    #[tactic(auto, unfolding(crate::specs::Reading::taken))]
+    fn take(&mut self, line: TokenLine) -> Result<(), NoMemory>
+        ensures { OnOk result (self.new ≡ taken self.old line) }
+    {
+        if self.ended {
+            return Ok(());
+        }
+        match mem::replace(&mut self.statement, None) {
+            None => {
+                self.statement = Some(line);
+                Ok(())
+            }
+            Some(so_far) => self.take_behind(so_far, line),
+        }
+    }
+}
+
+/// The first statement of lines.
+#[tactic(auto, using(crate::proofs::Gathered::gathers))]
+fn first_statement(all: List<TokenLine>) -> Result<Option<TokenLine>, NoMemory>
+    ensures { IfOk result (λ s. s ≡ first_statement all) }
+{
+    let mut front = Front {
+        statement: None,
+        ended: false,
+    };
+    for line in all.into_vec() {
+        front.take(line)?;
+    }
+    Ok(front.statement)
+}
+
+fn refused(line: u32, kind: Kind) -> ReadError
+    ensures { result ≡ ReadError.Fault (record { line = line; kind = kind }) }
+{
+    ReadError::Fault(DeckFault { line, kind })
+}
+
+/// What is read, or BadOperand.
+fn or_bad(at: u32, read: Result<Rnldef, Miss>) -> Result<Rnldef, ReadError>
+    ensures { (x : Option RnldefValue) → Reads (λ y. y) read x → Gives result (or_bad at x) }
+{
+    match read {
+        Ok(rnldef) => Ok(rnldef),
+        Err(Miss::Bad) => Err(refused(at, Kind::BadOperand)),
+        Err(Miss::NoMemory) => Err(ReadError::NoMemory),
+    }
+}
+
+fn by_word(alloc: Global, at: u32, w: &[u8], ts: &[Token]) -> Result<Rnldef, ReadError>
+    ensures { Gives result (by_word at w.now ts.now) }
+{
+    if is_rnldef_word(w) {
+        or_bad(at, rnldef_at(alloc, ts))
+    } else {
+        Err(refused(at, Kind::UnknownStatement))
+    }
+}
+
+/// What a statement says.
+#[tactic(auto, unfolding(crate::specs::Reading::rnldef_on))]
+fn rnldef_on(alloc: Global, statement: &TokenLine) -> Result<Rnldef, ReadError>
+    ensures { Gives result (rnldef_on statement.now) }
+{
+    if statement.joined {
+        return Err(refused(statement.at, Kind::UnknownStatement));
+    }
+    match statement.tokens.as_slice().split_first() {
+        Some((Token::Word(w), rest)) => by_word(alloc, statement.at, w.as_slice(), rest),
+        Some((Token::Unclosed, _)) => Err(refused(statement.at, Kind::BadOperand)),
+        _ => Err(refused(statement.at, Kind::UnknownStatement)),
+    }
+}
+
+/// The entry of a statement whose names have the right lengths.
+fn sized(alloc: Global, at: u32, rnldef: &Rnldef) -> Result<RnlEntry, ReadError>
+    ensures { Gives result (sized at rnldef.now) }
+{
+    if is_bad(rnldef) {
+        return Err(refused(at, Kind::NameLength));
+    }
+    Ok(entry_of(alloc, rnldef)?)
+}
+
+fn entry_on(alloc: Global, statement: Option<TokenLine>) -> Result<RnlEntry, ReadError>
+    ensures { Gives result (entry_on statement) }
+{
+    match statement {
+        None => Err(refused(1, Kind::UnknownStatement)),
+        Some(statement) => {
+            let rnldef = rnldef_on(alloc, &statement)?;
+            sized(alloc, statement.at, &rnldef)
+        }
+    }
+}
+
+/// What is read of a text.
+#[tactic(auto, unfolding(crate::specs::Reading::reading))]
+fn read_entry(alloc: Global, text: &[u8]) -> Result<RnlEntry, ReadError>
+    ensures { Gives result (reading text.now) }
+{
+    let all = lines(alloc, text)?;
+    let statement = first_statement(all)?;
+    entry_on(alloc, statement)
+}
+
+fn same_which(a: Which, b: Which) -> bool
+    ensures { result ≡ same_which a b }
+{
+    match (a, b) {
+        (Which::Incl, Which::Incl) => true,
+        (Which::Excl, Which::Excl) => true,
+        (Which::Con, Which::Con) => true,
+        _ => false,
+    }
+}
+
+fn same_form(a: Form, b: Form) -> bool
+    ensures { result ≡ same_form a b }
+{
+    match (a, b) {
+        (Form::Specific, Form::Specific) => true,
+        (Form::Generic, Form::Generic) => true,
+        (Form::Pattern, Form::Pattern) => true,
+        _ => false,
+    }
+}
+
+fn same_rname(a: &Option<Rname>, b: &Option<Rname>) -> bool
+    ensures { result ≡ same_rname a.now b.now }
+{
+    match (a, b) {
+        (None, None) => true,
+        (Some(a), Some(b)) => a.bytes() == b.bytes(),
+        _ => false,
+    }
+}
+
+fn same_entry(a: &RnlEntry, b: &RnlEntry) -> bool
+    ensures { result ≡ same_entry a.now b.now }
+{
+    same_which(a.which, b.which)
+        && same_form(a.form, b.form)
+        && a.q.bytes() == b.q.bytes()
+        && same_rname(&a.r, &b.r)
+}
+
+fn ends_closed(text: &[u8]) -> bool
+    ensures { result ≡ ends_closed text.now }
+{
+    match text.split_last() {
+        Some((b, _)) => *b == b')',
+        None => false,
+    }
+}
+
+/// Whether a text ends with a closing parenthesis and makes this entry.
+#[tactic(auto, unfolding(crate::specs::Reading::is_front))]
+fn is_front(alloc: Global, text: &[u8], entry: &RnlEntry) -> Result<bool, NoMemory>
+    ensures { IfOk result (λ is. is ≡ is_front text.now entry.now) }
+{
+    if !ends_closed(text) {
+        return Ok(false);
+    }
+    match read_entry(alloc, text) {
+        Ok(read) => Ok(same_entry(&read, entry)),
+        Err(ReadError::Fault(_)) => Ok(false),
+        Err(ReadError::NoMemory) => Err(NoMemory),
+    }
+}
+
+/// How many bytes the statement of an entry uses in the text that makes it.
+fn bytes_used(alloc: Global, text: &[u8], entry: &RnlEntry) -> Result<usize, NoMemory>
+    requires { reading text.now ≡ Ok entry.now }
+    ensures { IfOk result (λ used. IsFewest text.now entry.now used) }
+{
+    for i in 0..text.len() {
+        if is_front(alloc, &text[..i + 1], entry)? {
+            return Ok(i + 1);
+        }
+    }
+    unreachable!()
+}
+
+/// What is read of a text, and how many bytes of it.
+fn read_front(alloc: Global, text: &[u8]) -> Result<(RnlEntry, usize), ReadError>
+    ensures { Found result text.now }
+{
+    let entry = read_entry(alloc, text)?;
+    let used = bytes_used(alloc, text, &entry)?;
+    Ok((entry, used))
+}
+
+/// The entry that the RNLDEF at the front of a text makes, and how many bytes it uses: up to the closing
+/// parenthesis of its last operand. The statement goes on over lines as in a deck, and what follows it is
+/// not looked at; the lines of a fault count from 1.
+///
+/// `TooLong` and `BadByte` are told as of a deck, for the whole text. Else: `UnknownStatement` where the
+/// text has no statement (on line 1), or its first word isn't RNLDEF; `BadOperand` where its form is
+/// another; `NameLength` where a name is too short or too long.
+pub fn read_rnldef(alloc: Global, text: &[u8]) -> Result<(RnlEntry, usize), ReadError>
+    // What is read is spelled so; a fault is that of the text.
+    ensures exact { Answers result text.now }
+    // What is spelled so is read, unless memory runs out.
+    ensures only { (e : EntryValue) (used : ℕ) → SpellsEntry text.now e used → IsOkUnlessMemory result e used }
+{
+    read_front(alloc, text)
+}
