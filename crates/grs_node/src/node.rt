@@ -171,6 +171,13 @@ impl<'d> Node<'d> {
         }
     }
 
+    /// The number of the system.
+    pub fn system(&self) -> SysId
+        ensures { result.0 ≡ self.now.node.tasks.system }
+    {
+        self.system.tasks.system()
+    }
+
     /// The events so far.
     pub fn log(&self) -> &NodeLog
         ensures { result.now.steps ≡ self.now.log }

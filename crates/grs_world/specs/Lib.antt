@@ -1,5 +1,4 @@
-pub mod Node
 pub mod World
 pub mod Agree
 pub mod Running
-pub mod Units
+pub mod Done

@@ -1,5 +1,0 @@
-use Rattle.grs_world.proofs.Sound.{sound}
-use Rattle.grs_world.proofs.laws.runs_are_sound.Goals as goal
-
-pub returns : goal.returns
-returns c = sound
