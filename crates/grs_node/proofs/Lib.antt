@@ -1,0 +1,5 @@
+pub mod ScriptCounts
+pub mod UnitCounts
+pub mod Places
+pub mod Kept
+pub mod OfDeck

@@ -4,10 +4,9 @@ use Rattle.std.specs.Prelude.{ℕ, Bool, true, false, not, cond, ◌&&◌, ◌||
 use Rattle.std.specs.List.{list_any}
 use Rattle.grs_base.specs.State.{State}
 use Rattle.grs_base.specs.declared.resource.Res.{Res}
-use Rattle.grs_base.specs.declared.resource.SysId.{SysId}
 use Rattle.grs_base.specs.declared.resource.TaskId.{TaskId}
 use Rattle.grs_base.specs.declared.decision.Code.TheVariants.{C00, C08}
-use Rattle.grs_legal.specs.Asks.{lines_of}
+use Rattle.grs_legal.specs.Asks.{lines_of, scripts_of}
 use Rattle.grs_legal.specs.declared.meaning.Meaning.{Meaning}
 use Rattle.grs_legal.specs.declared.meaning.Meaning.TheVariants as lines
 use Rattle.grs_wire.specs.Wants.{answer_to, after_want, res_wanted, new_owners}
@@ -16,7 +15,6 @@ use Rattle.grs_wire.specs.declared.deck.Choice.TheVariants as choices
 use Rattle.grs_wire.specs.declared.deck.Deck.{Deck}
 use Rattle.grs_wire.specs.declared.deck.SystemDef.{SystemDef}
 use Rattle.grs_wire.specs.declared.medium.Act.TheVariants as acts
-use Rattle.grs_wire.specs.declared.medium.Call.{Call as CallOfMedium}
 use Rattle.grs_wire.specs.declared.medium.Reply.{Reply}
 use Rattle.grs_wire.specs.declared.medium.Reply.TheVariants as replies
 use Rattle.grs_wire.specs.declared.medium.RingBody.{RingBody}
@@ -34,10 +32,9 @@ use Rattle.grs_node.specs.declared.prepared.Prepared.TheVariants.{Quiet, Call, N
 use Rattle.ring_mode.specs.Ring.{Side, is_for_all, process_all}
 use Rattle.task_state.specs.Replies.{replied, tell_code, tell_new}
 use Rattle.task_state.specs.declared.state.Rec.{Rec}
-use Rattle.task_state.specs.declared.state.TaskState.{TaskState}
 use Rattle.task_state.specs.declared.state.Phase.{Phase}
 use Rattle.task_state.specs.declared.state.Phase.TheVariants as phases
-use Rattle.task_state.specs.View.{TasksView, is_task, state_of, record_of, with_line, with_phase, with_outstanding, telling}
+use Rattle.task_state.specs.View.{TasksView, new_tasks, is_task, state_of, record_of, with_line, with_phase, with_outstanding, telling}
 
 -- A system: its tasks; the lists of its own Step and System resources; its table of the Systems resources; the
 -- requests that wait to be put into the message, in order; the set of the systems that it knows to be removed;
@@ -49,6 +46,22 @@ pub record Node : Type 0 where
   pub outbox : List Req
   pub known : ℕ
   pub done : ℕ
+
+-- a system at the start: nothing is queued and no task has begun
+unfoldable pub first_node : Deck → ℕ → Node
+first_node deck s = record {
+  tasks = record { system = s; tasks = new_tasks (length (scripts_of deck s)); told = [] };
+  held = [];
+  shared = [];
+  outbox = [];
+  known = 0;
+  done = 0;
+}
+
+-- whether these requests are of tasks of the system of this number, which has so many
+abbrev pub are_of : ℕ → ℕ → List Req → Bool
+are_of s tasks [] = true
+are_of s tasks (q ∷ qs) = (s == q.task.system.0) && (nat_lt q.task.task tasks && are_of s tasks qs)
 
 -- a system after an event, and what the event fixed
 pub record Step : Type 0 where

@@ -2,6 +2,13 @@
 //! at most one call of the medium, and is finished with the reply.
 #![tactic(auto)]
 
+mod choices;
+mod lines;
+mod node;
 mod prepared;
+mod scripts;
+mod system;
+mod turn;
 
+pub use node::Node;
 pub use prepared::Prepared;

@@ -47,3 +47,6 @@ pub mod Messages
 pub mod Sound
 pub mod Fronts
 pub mod Complex
+pub mod Logged
+pub mod Calls
+pub mod Nodes

@@ -2,3 +2,5 @@ pub mod World
 pub mod Agree
 pub mod Laps
 pub mod Tables
+pub mod Running
+pub mod Done

@@ -1,10 +1,9 @@
 -- The run of a list of events: the medium, and the systems that share it. Each event is one system's.
-use Rattle.std.specs.Prelude.{ℕ, Bool, ◌+◌, List, [], ◌∷◌, ◌++◌, length, map, drop, cond, slice_get, set, Option, Some, None}
+use Rattle.std.specs.Prelude.{ℕ, ◌+◌, List, [], ◌∷◌, ◌++◌, length, map, drop, cond, slice_get, set, Option, Some, None}
 use Rattle.grs_base.specs.declared.resource.SysId.{SysId}
-use Rattle.grs_legal.specs.Asks.{scripts_of}
 use Rattle.grs_medium.specs.Apply.{reply_to, medium_after}
 use Rattle.grs_medium.specs.Medium.{MediumState, first_medium}
-use Rattle.grs_node.specs.Node.{Node, Step, prepare, finish}
+use Rattle.grs_node.specs.Node.{Node, Step, first_node, prepare, finish}
 use Rattle.grs_node.specs.declared.prepared.Prepared.{Prepared}
 use Rattle.grs_node.specs.declared.prepared.Prepared.TheVariants.{Quiet, Call, Nothing}
 use Rattle.grs_wire.specs.Masks.{has}
@@ -17,7 +16,6 @@ use Rattle.grs_wire.specs.declared.request.Fixed.{Fixed}
 use Rattle.grs_wire.specs.declared.told.Told.{Told}
 use Rattle.grs_wire.specs.declared.told.ToldLine.{ToldLine}
 use Rattle.grs_wire.specs.History.{answered}
-use Rattle.task_state.specs.View.{new_tasks}
 
 -- the medium, the systems by number, how many events there were, what they fixed and what was told
 pub record World : Type 0 where
@@ -26,17 +24,6 @@ pub record World : Type 0 where
   pub events : ℕ
   pub fixed : List (SysId × Fixed)
   pub told : List Told
-
--- a system at the start: nothing is queued and no task has begun
-unfoldable pub first_node : Deck → ℕ → Node
-first_node deck s = record {
-  tasks = record { system = s; tasks = new_tasks (length (scripts_of deck s)); told = [] };
-  held = [];
-  shared = [];
-  outbox = [];
-  known = 0;
-  done = 0;
-}
 
 -- these systems of a deck, of which the first has this number
 abbrev pub first_nodes : Deck → ℕ → List SystemDef → List Node

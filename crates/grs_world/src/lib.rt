@@ -1,2 +1,10 @@
-//! The world: the systems of a complex and the medium that they share, and the run of a list of events.
+//! The world: the medium and the systems that share it, and the run of a list of events, with what is fixed and
+//! told. It stands on what a deck says, and knows nothing of how decks are written or runs are printed.
 #![tactic(auto)]
+
+mod chosen;
+mod seen;
+
+
+
+

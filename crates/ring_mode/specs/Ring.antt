@@ -2,7 +2,7 @@
 -- and what its tasks are told.
 use Rattle.std.specs.Prelude.{ℕ, Bool, true, false, cond, ◌&&◌, ◌==◌, List, [], ◌∷◌, Option, Some, None}
 use Rattle.std.specs.Str.{bytes_eq}
-use Rattle.grs_base.specs.Same.{same_res, same_task}
+use Rattle.grs_base.specs.Same.{same_res}
 use Rattle.grs_base.specs.State.{State, is_systems}
 use Rattle.grs_base.specs.declared.look.Filter.{Filter}
 use Rattle.grs_base.specs.declared.look.Filter.TheVariants as filters
@@ -11,7 +11,6 @@ use Rattle.grs_base.specs.declared.resource.Ctl.TheVariants as controls
 use Rattle.grs_base.specs.declared.resource.Ret.{Ret}
 use Rattle.grs_base.specs.declared.resource.Ret.TheVariants as rets
 use Rattle.grs_base.specs.declared.resource.Res.{Res}
-use Rattle.grs_base.specs.declared.resource.SysId.{SysId}
 use Rattle.grs_wire.specs.Wants.{answer_to, after_want, res_wanted, new_owners}
 use Rattle.grs_wire.specs.declared.medium.RingBody.{RingBody}
 use Rattle.grs_wire.specs.declared.medium.RingBody.TheVariants.{Request, Remove}
@@ -30,6 +29,9 @@ use Rattle.task_state.specs.Replies.{settled, tell_new}
 pub record Side : Type 0 where
   pub tasks : TasksView
   pub shared : State
+
+abbrev pub side_of : TasksView → State → Side
+side_of tasks shared = record { tasks = tasks; shared = shared }
 
 -- whether a request is for the whole complex; looks at slices are
 abbrev pub is_for_all : Option Res → Bool

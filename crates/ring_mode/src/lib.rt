@@ -2,3 +2,8 @@
 //! of the Systems resources, and the tasks of the system are told what concerns them. It knows nothing of how
 //! entries come to the system, nor of a system's own resources.
 #![tactic(auto)]
+
+mod ring;
+mod same;
+
+pub use ring::{is_for_all, on_turn, res_of};

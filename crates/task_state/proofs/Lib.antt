@@ -1,3 +1,4 @@
 pub mod ViewLaws
 pub mod Stays
 pub mod UnitLaws
+pub mod Keeps

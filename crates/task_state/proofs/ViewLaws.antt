@@ -8,13 +8,14 @@ use Rattle.grs_base.specs.declared.resource.TaskId.{TaskId}
 use Rattle.grs_base.specs.declared.resource.Res.{Res}
 use Rattle.grs_wire.specs.declared.told.ToldLine.{ToldLine}
 use Rattle.task_state.specs.declared.state.Rec.{Rec}
+use Rattle.task_state.specs.declared.state.Phase.{Phase}
 use Rattle.task_state.specs.declared.state.TaskState.{TaskState}
 use Rattle.std.specs.Prelude.{remove, zero, suc, ◌≤◌}
 use Rattle.std.proofs.Common.{add-one, set, zero-add, suc-add, sum, take, sym, append_assoc}
 use Rattle.std.proofs.lemmas.Grind.{common_steps}
 use Rattle.std.proofs.lemmas.List.{length-map}
 use Rattle.std.proofs.lemmas.Bool.Decides.{nat_tests}
-use Rattle.task_state.specs.View.{TasksView, new_tasks, record_place, without_first, all_few, on_record, is_task, new_task, state_of, with_state, telling}
+use Rattle.task_state.specs.View.{TasksView, new_tasks, record_place, without_first, all_few, on_record, is_task, new_task, state_of, with_state, with_phase, telling}
 
 -- what stands at a place that is there doesn't depend on what stands for a missing one
 pub get_or-read : {A : Type 0} (xs : List A) (i : ℕ) (x d : A) → i < length xs → x ≡ get_or xs i x → x ≡ get_or xs i d
@@ -34,6 +35,10 @@ state_of-same v t f h = get_or-set_same v.tasks t.task _ new_task (is_task-place
 pub state_of-other : (v : TasksView) (t u : TaskId) (f : TaskState → TaskState) → u.task ≢ t.task → state_of (with_state v t f) u ≡ state_of v u
 unfolding state_of with_state
 state_of-other v t u f apart = get_or-set_other v.tasks t.task u.task _ new_task apart
+
+pub outstanding-phase : (v : TasksView) (t : TaskId) (p : Phase) → is_task v t ≡ true → (state_of (with_phase v t p) t).outstanding ≡ (state_of v t).outstanding
+unfolding with_phase
+outstanding-phase v t p h = ap (λ (s : TaskState). s.outstanding) (state_of-same v t _ h)
 
 pub told-state : (v : TasksView) (t : TaskId) (f : TaskState → TaskState) → (with_state v t f).told ≡ v.told
 unfolding with_state
@@ -111,3 +116,5 @@ length-on_record r f xs = length-map xs _
 pub ruleset places = (get_or-read, is_task-place, remove-record, without_first-absent, new_tasks-more)
 
 pub ruleset kept = (get_or-read, is_task-place, all_few-get, all_few-set, all_few-new, length-without_first, length-on_record)
+
+pub ruleset still_asked = (outstanding-phase)

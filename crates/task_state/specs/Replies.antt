@@ -121,6 +121,13 @@ tell_record v t r x =
     (telling (with_phase (with_told v t r) t phases.Ready) (told.Coded t x.line 0 verbs.Enq C00))
     (passes_wait (telling (with_told v t r) (told.Post t x.line)) t r)
 
+-- the same, for which its line of this number asked
+unfoldable pub tell_line : TasksView → TaskId → Res → ℕ → TasksView
+tell_line v t r k =
+    cond (is_held (state_of v t).phase && (k == (state_of v t).line))
+    (telling (with_phase (with_told v t r) t phases.Ready) (told.Coded t k 0 verbs.Enq C00))
+    (passes_wait (telling (with_told v t r) (told.Post t k)) t r)
+
 -- whether a request gives a resource up
 abbrev pub gives_up : Res → Want → Bool
 gives_up r (Enq q c ret full) = false
@@ -167,3 +174,8 @@ recalled v t w = with_outstanding (with_phase v t (phase_asking w (state_of v t)
 -- a task whose outstanding request was answered
 unfoldable pub settled : TasksView → TaskId → Asked → Answer → TasksView
 settled v t a answer = replied (recalled v t a.req.want) t a.req.want a.unit answer
+
+-- the same where a task has one
+unfoldable pub settled_any : TasksView → TaskId → Answer → Option Asked → TasksView
+settled_any v t answer None = v
+settled_any v t answer (Some a) = settled v t a answer

@@ -1,13 +1,17 @@
 //! The tasks of one system: how far each is in its lines, what it waits for, its requests on record, and
-//! what was told. It knows nothing of the lists that grant control.
+//! what was told; and what an answer, or control that another's request gave, does to a task. It knows
+//! nothing of the lists that grant control.
 #![tactic(auto)]
 
+mod codes;
 mod records;
+mod replies;
 mod state;
 mod tasks;
 #[cfg(test)]
 mod tests;
 mod units;
 
+pub use replies::{replied, settled, tell_code, tell_new};
 pub use state::{Asked, Phase, Rec, TaskState};
 pub use tasks::Tasks;

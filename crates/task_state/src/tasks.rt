@@ -1,5 +1,5 @@
 //! The tasks of a system. Each call changes one task, or tells one line.
-ghost use Rattle.std.specs.Prelude.{◌≡◌, ◌<◌, ◌≤◌, ◌+◌, ◌++◌, ◌∷◌, [], ℕ, true, length, map, sum, IsTrue, ◌↔◌, IfOk, OnOk, OnErr};
+ghost use Rattle.std.specs.Prelude.{◌≡◌, ◌<◌, ◌≤◌, ◌+◌, ◌++◌, ◌∷◌, [], ℕ, true, length, map, sum, None, IsTrue, ◌↔◌, IfOk, OnOk, OnErr};
 ghost use Rattle.std.specs.Option.{option_copied, option_map};
 ghost use Rattle.task_state.specs.Units.{is_count, count_at, reserves_of};
 ghost use Rattle.task_state.specs.View as view;
@@ -118,6 +118,20 @@ impl Tasks {
             told: List::new(alloc),
             alloc,
         })
+    }
+
+    /// The system.
+    pub fn system(&self) -> SysId
+        ensures { result.0 ≡ self.now.system }
+    {
+        self.system
+    }
+
+    /// How each task stands, in order.
+    pub fn all(&self) -> &[TaskState]
+        ensures { result.now ≡ self.now.tasks }
+    {
+        self.tasks.as_slice()
     }
 
     /// Whether a task is one of this system's.
@@ -258,6 +272,16 @@ impl Tasks {
     {
         let state = &mut self.tasks[task.task as usize];
         state.outstanding = asked;
+    }
+
+    /// Takes the request that isn't answered yet away from the task, if it has one.
+    pub fn take_outstanding(&mut self, task: TaskId) -> Option<Asked>
+        requires { is_task self.old task ≡ true }
+        ensures taken { result ≡ (state_of self.old task).outstanding }
+        ensures left { self.new ≡ with_outstanding self.old task None }
+    {
+        let state = &mut self.tasks[task.task as usize];
+        std::mem::replace(&mut state.outstanding, None)
     }
 
     /// Puts a record behind the others of its task. There is no memory for more than 4,294,967,295.

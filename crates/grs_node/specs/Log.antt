@@ -1,0 +1,69 @@
+-- A system with its deck and what it keeps of its own events.
+use Rattle.std.specs.Prelude.{◌≡◌, ℕ, Bool, true, false, cond, List, [], ◌∷◌, ◌++◌, length, drop, Option, Some, None}
+use Rattle.grs_wire.specs.declared.deck.Choice.{Choice}
+use Rattle.grs_wire.specs.declared.deck.Deck.{Deck}
+use Rattle.grs_wire.specs.declared.log.StepDone.{StepDone}
+use Rattle.grs_wire.specs.declared.medium.Reply.{Reply}
+use Rattle.grs_wire.specs.declared.request.Fixed.{Fixed}
+use Rattle.grs_wire.specs.declared.seen.TaskEnd.{TaskEnd}
+use Rattle.grs_wire.specs.declared.seen.TaskEnd.TheVariants as ends
+use Rattle.grs_node.specs.Node.{Node, Step, first_node, prepare, finish}
+use Rattle.grs_node.specs.declared.prepared.Prepared.TheVariants.{Quiet}
+use Rattle.task_state.specs.declared.state.Phase.{Phase}
+use Rattle.task_state.specs.declared.state.Phase.TheVariants as phases
+
+-- a system, the deck whose system it is, and its events so far
+pub record NodeView : Type 0 where
+  pub deck : Deck
+  pub node : Node
+  pub log : List StepDone
+
+-- the system of this number of a deck before its first event
+abbrev pub starting : Deck → ℕ → NodeView
+starting deck s = record { deck = deck; node = first_node deck s; log = [] }
+
+-- a system after a step that fixed this
+abbrev pub stepped : Node → List Fixed → Step
+stepped n fixed = record { node = n; fixed = fixed }
+
+-- an event as its system keeps it
+abbrev pub step_done : Node → Choice → Bool → Step → StepDone
+step_done n choice journalled s = record {
+  choice = choice;
+  journalled = journalled;
+  fixed = s.fixed;
+  told = drop (length n.tasks.told) s.node.tasks.told;
+}
+
+-- the same with this step behind its events
+abbrev pub logged : NodeView → Choice → Bool → Step → NodeView
+logged v choice journalled s = record { deck = v.deck; node = s.node; log = v.log ++ step_done v.node choice journalled s ∷ [] }
+
+-- the reply alone
+abbrev pub reply_in : Option (Reply × Bool) → Option Reply
+reply_in None = None
+reply_in (Some r) = Some r.0
+
+-- The system after a choice. What is done without a call goes into the log, and a call exactly where it has an
+-- entry in the journal.
+unfoldable pub finished : NodeView → Choice → Option (Reply × Bool) → NodeView
+finished v choice None = logged v choice false (finish v.deck v.node choice None)
+finished v choice (Some r) =
+    cond r.1
+    (logged v choice true (finish v.deck v.node choice (Some r.0)))
+    (record v { node = (finish v.deck v.node choice (Some r.0)).node })
+
+-- A choice is finished without a reply only where it is prepared to be done without a call.
+abbrev pub MayFinish : NodeView → Choice → Option (Reply × Bool) → Type 0
+MayFinish v choice None = prepare v.deck v.node choice ≡ Quiet
+MayFinish v choice (Some r) = Unit {0}
+
+-- the end of a task in this phase
+abbrev pub end_in : Phase → TaskEnd
+end_in phases.Ended = ends.Ended
+end_in phases.HeldAnswer = ends.Waits
+end_in (phases.HeldLine r) = ends.Waits
+end_in phases.Ready = ends.Open
+end_in phases.ToSend = ends.Open
+end_in phases.Sent = ends.Open
+end_in (phases.Ending c) = ends.Open

@@ -1,0 +1,219 @@
+//! A system with its deck and what it keeps of its own events. A choice is prepared; it makes at most one call
+//! of the medium, which somebody else carries out; and with the reply it is finished.
+ghost use Rattle.std.specs.Prelude.{◌≡◌, ◌<◌, ◌++◌, ◌∷◌, [], true, drop, length, IfOk, OnOk};
+ghost use Rattle.task_state.specs.View.{is_task, state_of};
+ghost use Rattle.grs_node.specs.Node as steps;
+ghost use Rattle.grs_node.specs.Units.{counted, reserved_of};
+ghost use Rattle.grs_node.specs.Log.{MayFinish, starting, stepped, finished, end_in};
+ghost use Rattle.grs_node.specs.declared.prepared.Prepared.TheVariants.{Quiet};
+
+use super::lines::end_by;
+use super::prepared::Prepared;
+use super::scripts::{Script, scripts_of_all, sizes_of};
+use super::system::System;
+use grs_base::{List, NoMemory, SysId, TaskId, copy_all};
+use grs_wire::{Choice, Deck, Fixed, NodeLog, Reply, StepDone, TaskEnd, ToldLine};
+use std::alloc::Global;
+use std::marker::Model;
+
+/// A system of a deck.
+#[derive(Drop)]
+pub struct Node<'d> {
+    deck: &'d Deck,
+    scripts: List<List<Script<'d>>>,
+    system: System,
+    log: NodeLog,
+    alloc: Global,
+}
+
+impl<'d> Model for Node<'d> {
+    ghost use Rattle.std.specs.Prelude.{◌≡◌};
+    ghost use Rattle.grs_node.specs.Scripts.{all_scripts};
+    ghost use Rattle.grs_node.specs.Log.{NodeView};
+
+    ghost Value = { NodeView };
+
+    ghost view = { λ a. record { deck = a.deck.now; node = a.system; log = a.log.steps } };
+
+    ghost invariant = { λ a. a.scripts ≡ all_scripts a.deck.now.systems };
+}
+
+/// The lines from a place on.
+fn lines_from(lines: &[ToldLine], place: usize) -> &[ToldLine]
+    ensures { result.now ≡ drop place lines.now }
+{
+    if place <= lines.len() {
+        &lines[place..]
+    } else {
+        &[]
+    }
+}
+
+/// An event as its system keeps it: what it fixed, and the lines from a place on, which it told.
+fn step_of(
+    alloc: Global,
+    choice: Choice,
+    journalled: bool,
+    fixed: List<Fixed>,
+    lines: &[ToldLine],
+    place: usize,
+) -> Result<StepDone, NoMemory>
+    ensures { IfOk result (λ step. step ≡ record { choice = choice; journalled = journalled; fixed = fixed; told = drop place lines.now }) }
+{
+    let told = copy_all(alloc, lines_from(lines, place))?;
+    Ok(StepDone {
+        choice,
+        journalled,
+        fixed,
+        told,
+    })
+}
+
+impl<'d> Node<'d> {
+    /// A system of a deck before its first event.
+    #[tactic(auto, unfolding(crate::specs::Node::first_node))]
+    pub fn new(alloc: Global, deck: &'d Deck, system: SysId) -> Result<Node<'d>, NoMemory>
+        requires { system.0 < length deck.now.systems }
+        ensures { IfOk result (λ n. n ≡ starting deck.now system.0) }
+    {
+        let scripts = scripts_of_all(alloc, deck.systems.as_slice())?;
+        let jobs = sizes_of(alloc, deck, system)?;
+        let system = System::new(alloc, system, jobs.as_slice())?;
+        Ok(Node {
+            deck,
+            scripts,
+            system,
+            log: NodeLog {
+                steps: List::new(alloc),
+            },
+            alloc,
+        })
+    }
+
+    /// What a choice comes to. Nothing changes.
+    pub fn prepare(&mut self, choice: &Choice) -> Result<Prepared, NoMemory>
+        ensures prepared { IfOk result (λ prepared. prepared ≡ steps.prepare self.old.deck self.old.node choice.now) }
+        ensures unchanged { self.new ≡ self.old }
+    {
+        self.system
+            .prepare(self.alloc, self.deck, self.scripts.as_slice(), *choice)
+    }
+
+    /// Puts an event behind the others, with the lines from a place on, which it told.
+    fn keep(
+        &mut self,
+        choice: Choice,
+        journalled: bool,
+        fixed: List<Fixed>,
+        place: usize,
+    ) -> Result<(), NoMemory>
+        ensures log { OnOk result (self.new.log ≡ self.old.log ++ record { choice = choice; journalled = journalled; fixed = fixed; told = drop place self.old.node.tasks.told } ∷ []) }
+        ensures node { self.new.node ≡ self.old.node }
+        ensures deck { self.new.deck ≡ self.old.deck }
+    {
+        let lines = self.system.tasks.told().as_slice();
+        let step = step_of(self.alloc, choice, journalled, fixed, lines, place)?;
+        self.log.steps.push(step)
+    }
+
+    /// A choice that is done without a call of the medium.
+    fn finish_quiet(&mut self, choice: Choice) -> Result<List<Fixed>, NoMemory>
+        requires { steps.prepare self.old.deck self.old.node choice ≡ Quiet }
+        ensures step { IfOk result (λ fixed. stepped self.new.node fixed ≡ steps.finish_quiet self.old.deck self.old.node choice) }
+        ensures log { self.new.log ≡ self.old.log }
+        ensures deck { self.new.deck ≡ self.old.deck }
+        ensures system { self.new.node.tasks.system ≡ self.old.node.tasks.system }
+    {
+        let alloc = self.alloc;
+        let deck = self.deck;
+        self.system
+            .finish_quiet(alloc, deck, self.scripts.as_slice(), choice)
+    }
+
+    /// What the reply to a call comes to.
+    fn finish_call(&mut self, reply: Reply) -> Result<List<Fixed>, NoMemory>
+        ensures step { IfOk result (λ fixed. stepped self.new.node fixed ≡ steps.finish_call self.old.deck self.old.node reply) }
+        ensures log { self.new.log ≡ self.old.log }
+        ensures deck { self.new.deck ≡ self.old.deck }
+        ensures system { self.new.node.tasks.system ≡ self.old.node.tasks.system }
+    {
+        let alloc = self.alloc;
+        let deck = self.deck;
+        self.system
+            .finish_call(alloc, deck, self.scripts.as_slice(), reply)
+    }
+
+    /// Finishes a choice: without a reply what was prepared to be done without a call, else with the reply to
+    /// the call that was prepared, and whether the call has an entry in the journal. An event goes into the
+    /// log where it made no call, or where its call has such an entry. After a refusal the system is to be
+    /// given up.
+    #[tactic(auto, unfolding(crate::specs::Log::finished, crate::specs::Node::finish))]
+    pub fn finish(&mut self, choice: &Choice, reply: Option<(Reply, bool)>) -> Result<(), NoMemory>
+        requires { MayFinish self.old choice.now reply }
+        ensures step { OnOk result (self.new ≡ finished self.old choice.now reply) }
+        ensures deck { self.new.deck ≡ self.old.deck }
+        ensures system { self.new.node.tasks.system ≡ self.old.node.tasks.system }
+    {
+        let place = self.system.tasks.told().len();
+        match reply {
+            None => {
+                let fixed = self.finish_quiet(*choice)?;
+                self.keep(*choice, false, fixed, place)
+            }
+            Some((reply, journalled)) => {
+                let fixed = self.finish_call(reply)?;
+                if journalled {
+                    self.keep(*choice, true, fixed, place)
+                } else {
+                    Ok(())
+                }
+            }
+        }
+    }
+
+    /// The number of the system.
+    pub fn system(&self) -> SysId
+        ensures { result.0 ≡ self.now.node.tasks.system }
+    {
+        self.system.tasks.system()
+    }
+
+    /// The events so far.
+    pub fn log(&self) -> &NodeLog
+        ensures { result.now.steps ≡ self.now.log }
+    {
+        &self.log
+    }
+
+    /// Whether something is pending: a task that has something to do by itself, a request in the outbox, or a
+    /// line of the desk.
+    pub fn pending(&self) -> bool
+        ensures { result ≡ steps.is_pending self.now.deck self.now.node }
+    {
+        self.system.is_pending(self.deck)
+    }
+
+    /// How often each unit is reserved in hardware, by unit, without those that aren't reserved.
+    #[tactic(auto, using(crate::proofs::UnitCounts::counted_units))]
+    pub fn units(&self) -> Result<List<(u16, u32)>, NoMemory>
+        ensures { IfOk result (λ counts. counts ≡ counted (reserved_of self.now.node.tasks.tasks)) }
+    {
+        let counts = self.system.tasks.units()?;
+        Ok(counts)
+    }
+
+    /// Whether a task is one of this system's.
+    pub fn has(&self, task: TaskId) -> bool
+        ensures { result ≡ is_task self.now.node.tasks task }
+    {
+        self.system.tasks.has(task)
+    }
+
+    /// How a task stands.
+    pub fn task_end(&self, task: TaskId) -> TaskEnd
+        requires { is_task self.now.node.tasks task ≡ true }
+        ensures { result ≡ end_in (state_of self.now.node.tasks task).phase }
+    {
+        end_by(self.system.tasks.phase(task))
+    }
+}

@@ -1,0 +1,131 @@
+//! Which task has which lines. The lines stay in the deck.
+ghost use Rattle.std.specs.Prelude.{◌≡◌, ◌++◌, map, length, slice_get, sum, option_copied, IfOk};
+ghost use Rattle.grs_node.specs.Scripts.{all_scripts, lines_within};
+ghost use Rattle.grs_legal.specs.Asks.{lines_in, scripts_in, scripts_from, scripts_at, scripts_of};
+
+use grs_base::{Line, List, NoMemory, SysId, TaskId};
+use grs_wire::{Deck, JobDef, SystemDef, TaskDef};
+use std::alloc::Global;
+use std::marker::Model;
+
+/// The lines of a task, with the place of its job.
+#[derive(Drop)]
+pub(crate) struct Script<'d> {
+    job: usize,
+    lines: &'d List<Line>,
+}
+
+impl<'d> Model for Script<'d> {
+    ghost use Rattle.grs_legal.specs.Asks as asks;
+
+    ghost Value = { asks.Script };
+
+    ghost view = { λ a. record { job = a.job; lines = a.lines.now } };
+}
+
+/// Puts the scripts of a job's tasks behind others.
+fn add_job<'d>(
+    mut scripts: Vec<Script<'d>>,
+    job: usize,
+    tasks: &'d [TaskDef],
+) -> Result<Vec<Script<'d>>, NoMemory>
+    ensures { IfOk result (λ all. all.items ≡ scripts.entry.items ++ scripts_in job tasks.now) }
+{
+    for task in tasks {
+        let script = Script {
+            job,
+            lines: &task.lines,
+        };
+        if scripts.push(script).is_err() {
+            return Err(NoMemory);
+        }
+    }
+    Ok(scripts)
+}
+
+/// The scripts of the tasks of these jobs.
+fn scripts_of_jobs(alloc: Global, jobs: &[JobDef]) -> Result<Vec<Script<'_>>, NoMemory>
+    ensures { IfOk result (λ all. all.items ≡ scripts_from 0 jobs.now) }
+{
+    let mut scripts = Vec::new(alloc);
+    for (place, job) in jobs.iter().enumerate() {
+        scripts = add_job(scripts, place, job.tasks.as_slice())?;
+    }
+    Ok(scripts)
+}
+
+/// The scripts of the tasks of all systems, in order.
+pub(crate) fn scripts_of_all(
+    alloc: Global,
+    systems: &[SystemDef],
+) -> Result<List<List<Script<'_>>>, NoMemory>
+    ensures { IfOk result (λ all. all ≡ all_scripts systems.now) }
+{
+    let mut all = List::new(alloc);
+    for system in systems {
+        all.push(List::from_vec(scripts_of_jobs(alloc, system.jobs.as_slice())?))?;
+    }
+    Ok(all)
+}
+
+/// The number of tasks of a job. There is no memory for more than 4,294,967,295.
+fn size_of(job: &JobDef) -> Result<u32, NoMemory>
+    ensures { IfOk result (λ size. size ≡ length job.now.tasks) }
+{
+    let tasks = job.tasks.len();
+    if tasks > u32::MAX as usize {
+        return Err(NoMemory);
+    }
+    Ok(tasks as u32)
+}
+
+/// The numbers of tasks of these jobs.
+fn sizes_of_jobs(alloc: Global, jobs: &[JobDef]) -> Result<Vec<u32>, NoMemory>
+    ensures { IfOk result (λ sizes. sizes.items ≡ map (λ j. length j.tasks) jobs.now) }
+{
+    let mut sizes = Vec::new(alloc);
+    for job in jobs {
+        if sizes.push(size_of(job)?).is_err() {
+            return Err(NoMemory);
+        }
+    }
+    Ok(sizes)
+}
+
+/// What the deck says of a system, if it has it.
+pub(crate) fn system_at(deck: &Deck, system: SysId) -> Option<&SystemDef>
+    ensures { option_copied result ≡ slice_get deck.now.systems system.0 }
+{
+    deck.systems.as_slice().get(system.0 as usize)
+}
+
+/// The numbers of tasks of the jobs of a system.
+#[tactic(auto, using(crate::proofs::ScriptCounts::counts))]
+pub(crate) fn sizes_of(alloc: Global, deck: &Deck, system: SysId) -> Result<Vec<u32>, NoMemory>
+    ensures { IfOk result (λ sizes. sum sizes.items ≡ length (scripts_of deck.now system.0)) }
+{
+    match system_at(deck, system) {
+        None => Ok(Vec::new(alloc)),
+        Some(def) => sizes_of_jobs(alloc, def.jobs.as_slice()),
+    }
+}
+
+/// The lines of a task among the scripts of its system.
+fn lines_among<'d>(scripts: &[Script<'d>], task: TaskId) -> Option<&'d List<Line>>
+    ensures { option_copied result ≡ lines_in scripts.now task }
+{
+    let script = scripts.get(task.task as usize)?;
+    if script.job == task.job as usize {
+        Some(script.lines)
+    } else {
+        None
+    }
+}
+
+/// The lines of a task among the scripts of all systems.
+pub(crate) fn lines_within<'d>(all: &[List<Script<'d>>], task: TaskId) -> Option<&'d List<Line>>
+    ensures { option_copied result ≡ lines_within all.now task }
+{
+    let scripts = all.get(task.system.0 as usize)?;
+    lines_among(scripts.as_slice(), task)
+}

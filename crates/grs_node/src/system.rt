@@ -1,0 +1,334 @@
+//! A system without its deck: its tasks, its lists and its outbox, and what each event does to them. Each step
+//! gives what it fixed.
+ghost use Rattle.std.specs.Prelude.{◌≡◌, ◌∷◌, [], true, map, length, sum, option_copied, IfOk, OnOk};
+ghost use Rattle.task_state.specs.View.{new_tasks, is_task, state_of, record_of};
+ghost use Rattle.grs_legal.specs.Asks.{meaning_of, meanings};
+ghost use Rattle.grs_node.specs.Scripts.{all_scripts};
+ghost use Rattle.grs_node.specs.declared.prepared.Prepared.TheVariants.{Quiet};
+ghost use Rattle.grs_wire.specs.declared.request.Fixed.TheVariants as fixes;
+ghost use Rattle.grs_node.specs.Node as steps;
+ghost use Rattle.grs_node.specs.Node.{are_of};
+ghost use Rattle.grs_node.specs.Log.{stepped};
+
+use super::lines::meaning_at;
+use super::scripts::{Script, lines_within};
+use grs_base::{Code, Line, List, Lists, NoMemory, Res, SysId, TaskId};
+use grs_legal::Meaning;
+use grs_wire::{Choice, Deck, Fixed, Req, ToldLine, Verb, Want};
+use local_queue::Local;
+use queue_table::Table;
+use ring_mode::{is_for_all, res_of};
+use serial_queue::PlainQueues;
+use std::alloc::Global;
+use std::marker::Model;
+use task_state::{Asked, Phase, Tasks, replied, tell_code, tell_new};
+
+/// A system.
+#[derive(Drop)]
+pub(crate) struct System {
+    pub(crate) tasks: Tasks,
+    pub(crate) held: Local,
+    pub(crate) shared: Table<PlainQueues>,
+    pub(crate) outbox: List<Req>,
+    pub(crate) known: u32,
+    pub(crate) done: u32,
+}
+
+impl Model for System {
+    ghost use Rattle.std.specs.Prelude.{◌≡◌, true, length};
+    ghost use Rattle.grs_node.specs.Node.{are_of};
+    ghost use Rattle.grs_node.specs.Node as steps;
+
+    ghost Value = { steps.Node };
+
+    ghost view = { λ a. record { tasks = a.tasks; held = a.held.held; shared = a.shared.held; outbox = a.outbox; known = a.known; done = a.done } };
+
+    ghost invariant = { λ a. are_of a.tasks.system (length a.tasks.tasks) a.outbox ≡ true };
+}
+
+/// A request that was fixed.
+fn asked(alloc: Global, req: Req) -> Result<List<Fixed>, NoMemory>
+    ensures { IfOk result (λ fixed. fixed ≡ fixes.Asked req ∷ []) }
+{
+    let mut fixed = List::new(alloc);
+    fixed.push(Fixed::Asked(req))?;
+    Ok(fixed)
+}
+
+/// A WAIT line: 00 where control was told, 08 where there is no request on record, else the task is held.
+#[tactic(auto, using(crate::proofs::Kept::kept), unfolding(crate::specs::Node::wait))]
+fn wait(tasks: &mut Tasks, task: TaskId, res: Res) -> Result<(), NoMemory>
+    requires { is_task tasks.old task ≡ true }
+    ensures step { OnOk result (tasks.new ≡ steps.wait tasks.old task res (record_of (state_of tasks.old task).records res)) }
+    ensures system { tasks.new.system ≡ tasks.old.system }
+    ensures count { length tasks.new.tasks ≡ length tasks.old.tasks }
+{
+    match tasks.record(task, &res) {
+        None => tell_code(tasks, task, Verb::Wait, Code::C08),
+        Some(rec) if rec.told => tell_code(tasks, task, Verb::Wait, Code::C00),
+        Some(_) => {
+            tasks.set_phase(task, Phase::HeldLine(res));
+            Ok(())
+        }
+    }
+}
+
+impl System {
+    /// A system at the start, and nothing queued. `jobs` has the number of tasks of each of its jobs.
+    pub(crate) fn new(alloc: Global, system: SysId, jobs: &[u32]) -> Result<System, NoMemory>
+        ensures { IfOk result (λ n. n ≡ record { tasks = record { system = system.0; tasks = new_tasks (sum jobs.now); told = [] }; held = []; shared = []; outbox = []; known = 0; done = 0 }) }
+    {
+        Ok(System {
+            tasks: Tasks::new(alloc, system, jobs)?,
+            held: Local::new(alloc, system),
+            shared: Table::new(alloc, PlainQueues::new(alloc)),
+            outbox: List::new(alloc),
+            known: 0,
+            done: 0,
+        })
+    }
+
+    /// A request that the system's own lists decide: the asker's answer first, then control for the tasks that
+    /// became owners.
+    #[tactic(auto, using(crate::proofs::Kept::kept), unfolding(crate::specs::Node::decide))]
+    fn decide(
+        &mut self,
+        alloc: Global,
+        task: TaskId,
+        want: Want,
+        unit: Option<u16>,
+    ) -> Result<List<Fixed>, NoMemory>
+        requires { is_task self.old.tasks task ≡ true }
+        ensures step { IfOk result (λ fixed. stepped self.new fixed ≡ steps.decide self.old task want unit) }
+        ensures system { self.new.tasks.system ≡ self.old.tasks.system }
+    {
+        let req = Req { task, want };
+        let outcome = self.held.request(&req)?;
+        replied(
+            alloc,
+            &mut self.tasks,
+            task,
+            &req.want,
+            unit,
+            &outcome.answer,
+        )?;
+        tell_new(
+            &mut self.tasks,
+            res_of(&req.want),
+            outcome.owners.as_slice(),
+        )?;
+        asked(alloc, req)
+    }
+
+    /// A request that waits to be put into the message.
+    #[tactic(auto, using(crate::proofs::Kept::kept), unfolding(crate::specs::Node::post))]
+    fn post(
+        &mut self,
+        alloc: Global,
+        task: TaskId,
+        want: Want,
+        unit: Option<u16>,
+    ) -> Result<List<Fixed>, NoMemory>
+        requires { is_task self.old.tasks task ≡ true }
+        ensures step { IfOk result (λ fixed. stepped self.new fixed ≡ steps.post self.old task want unit) }
+        ensures system { self.new.tasks.system ≡ self.old.tasks.system }
+    {
+        let req = Req { task, want };
+        let waiting = req.copy(alloc)?;
+        self.tasks.set_phase(task, Phase::ToSend);
+        self.tasks.set_outstanding(task, Some(Asked { req, unit }));
+        self.outbox.push(waiting)?;
+        Ok(List::new(alloc))
+    }
+
+    /// A request: decided at once, or, for a resource of the whole complex, kept until it can be put in.
+    #[tactic(auto, unfolding(crate::specs::Node::ask))]
+    fn ask(
+        &mut self,
+        alloc: Global,
+        task: TaskId,
+        want: Want,
+        unit: Option<u16>,
+    ) -> Result<List<Fixed>, NoMemory>
+        requires { is_task self.old.tasks task ≡ true }
+        ensures step { IfOk result (λ fixed. stepped self.new fixed ≡ steps.ask self.old task want unit) }
+        ensures system { self.new.tasks.system ≡ self.old.tasks.system }
+    {
+        if is_for_all(res_of(&want)) {
+            self.post(alloc, task, want, unit)
+        } else {
+            self.decide(alloc, task, want, unit)
+        }
+    }
+
+    /// Whether a task has as many requests on record as it may.
+    fn has_most(&self, task: TaskId, limit: u32) -> bool
+        requires { is_task self.now.tasks task ≡ true }
+        ensures { result ≡ steps.has_most limit self.now.tasks task }
+    {
+        limit as usize <= self.tasks.state(task).records.len()
+    }
+
+    /// A line that was taken, by what it means.
+    #[tactic(auto, using(crate::proofs::Kept::kept), unfolding(crate::specs::Node::take_line))]
+    fn take_line(
+        &mut self,
+        alloc: Global,
+        task: TaskId,
+        line: Meaning,
+        limit: u32,
+    ) -> Result<List<Fixed>, NoMemory>
+        requires { is_task self.old.tasks task ≡ true }
+        ensures step { IfOk result (λ fixed. stepped self.new fixed ≡ steps.take_line limit self.old task line) }
+        ensures system { self.new.tasks.system ≡ self.old.tasks.system }
+    {
+        match line {
+            Meaning::Enq {
+                res,
+                ctl,
+                ret,
+                unit,
+            } => {
+                let full = self.has_most(task, limit);
+                let want = Want::Enq {
+                    res,
+                    ctl,
+                    ret,
+                    full,
+                };
+                self.ask(alloc, task, want, unit)
+            }
+            Meaning::Deq { res, have } => self.ask(alloc, task, Want::Deq { res, have }, None),
+            Meaning::Wait { res } => {
+                wait(&mut self.tasks, task, res)?;
+                Ok(List::new(alloc))
+            }
+            Meaning::Nothing => Ok(List::new(alloc)),
+        }
+    }
+
+    /// A task that is ending: it releases the first request on record, or has ended.
+    #[tactic(auto, using(crate::proofs::Kept::kept), unfolding(crate::specs::Node::end_step))]
+    fn end_step(&mut self, alloc: Global, task: TaskId, code: u16) -> Result<List<Fixed>, NoMemory>
+        requires { is_task self.old.tasks task ≡ true }
+        ensures step { IfOk result (λ fixed. stepped self.new fixed ≡ steps.end_step self.old task code (state_of self.old.tasks task).records) }
+        ensures system { self.new.tasks.system ≡ self.old.tasks.system }
+    {
+        match self.tasks.state(task).records.as_slice().split_first() {
+            None => {
+                self.tasks.set_phase(task, Phase::Ended);
+                self.tasks.tell(ToldLine::Ended { task, code })?;
+                Ok(List::new(alloc))
+            }
+            Some((rec, _)) => {
+                let res = rec.res.copy(alloc)?;
+                self.ask(alloc, task, Want::Release { res }, None)
+            }
+        }
+    }
+
+    /// A task that is ready: it takes its next line, or begins to end. There is no memory for more than
+    /// 4,294,967,295 lines.
+    #[tactic(auto, using(crate::proofs::Kept::kept), unfolding(crate::specs::Node::ready_step))]
+    fn ready_step(
+        &mut self,
+        alloc: Global,
+        task: TaskId,
+        line: Option<Meaning>,
+        limit: u32,
+    ) -> Result<List<Fixed>, NoMemory>
+        requires { is_task self.old.tasks task ≡ true }
+        ensures step { IfOk result (λ fixed. stepped self.new fixed ≡ steps.ready_step limit self.old task line) }
+        ensures system { self.new.tasks.system ≡ self.old.tasks.system }
+    {
+        let Some(line) = line else {
+            self.tasks.set_phase(task, Phase::Ending(0));
+            return self.end_step(alloc, task, 0);
+        };
+        if self.tasks.state(task).line == u32::MAX {
+            return Err(NoMemory);
+        }
+        self.tasks.next_line(task);
+        self.take_line(alloc, task, line, limit)
+    }
+
+    /// What a task of the system does by its phase.
+    #[tactic(auto, using(crate::proofs::Kept::kept), unfolding(crate::specs::Node::phase_step))]
+    pub(crate) fn phase_step(
+        &mut self,
+        alloc: Global,
+        lists: &Lists,
+        task: TaskId,
+        lines: &List<Line>,
+        limit: u32,
+    ) -> Result<List<Fixed>, NoMemory>
+        requires { is_task self.old.tasks task ≡ true }
+        ensures step { IfOk result (λ fixed. stepped self.new fixed ≡ steps.phase_step limit self.old task (map (meaning_of lists.now task) lines.now) (state_of self.old.tasks task).phase) }
+        ensures system { self.new.tasks.system ≡ self.old.tasks.system }
+    {
+        let state = self.tasks.state(task);
+        match &state.phase {
+            Phase::Ready => {
+                let line = meaning_at(alloc, lists, task, lines, state.line)?;
+                self.ready_step(alloc, task, line, limit)
+            }
+            Phase::Ending(code) => {
+                let code = *code;
+                self.end_step(alloc, task, code)
+            }
+            Phase::ToSend | Phase::Sent | Phase::HeldAnswer | Phase::HeldLine(_) | Phase::Ended =>
+                Ok(List::new(alloc)),
+        }
+    }
+
+    /// A task of the system goes on, if it has lines.
+    #[tactic(auto, unfolding(crate::specs::Node::task_step))]
+    fn task_step(
+        &mut self,
+        alloc: Global,
+        lists: &Lists,
+        task: TaskId,
+        lines: Option<&List<Line>>,
+        limit: u32,
+    ) -> Result<List<Fixed>, NoMemory>
+        requires { is_task self.old.tasks task ≡ true }
+        ensures step { IfOk result (λ fixed. stepped self.new fixed ≡ steps.task_step limit self.old task (meanings lists.now task (option_copied lines.entry))) }
+        ensures system { self.new.tasks.system ≡ self.old.tasks.system }
+    {
+        match lines {
+            None => Ok(List::new(alloc)),
+            Some(lines) => self.phase_step(alloc, lists, task, lines, limit),
+        }
+    }
+
+    /// A choice that is done without a call of the medium.
+    #[tactic(auto, using(crate::proofs::OfDeck::of_deck), unfolding(crate::specs::Node::finish_quiet))]
+    pub(crate) fn finish_quiet(
+        &mut self,
+        alloc: Global,
+        deck: &Deck,
+        scripts: &[List<Script<'_>>],
+        choice: Choice,
+    ) -> Result<List<Fixed>, NoMemory>
+        requires scripts { scripts.now ≡ all_scripts deck.now.systems }
+        requires quiet { steps.prepare deck.now self.old choice ≡ Quiet }
+        ensures step { IfOk result (λ fixed. stepped self.new fixed ≡ steps.finish_quiet deck.now self.old choice) }
+        ensures system { self.new.tasks.system ≡ self.old.tasks.system }
+    {
+        match choice {
+            Choice::Task(task) => {
+                let lines = lines_within(scripts, task);
+                self.task_step(alloc, &deck.lists, task, lines, deck.limit)
+            }
+            Choice::Turn
+            | Choice::Send(_)
+            | Choice::Take
+            | Choice::Settle
+            | Choice::Tell(_)
+            | Choice::Leave(_)
+            | Choice::Switch
+            | Choice::Purge(_)
+            | Choice::Rest => Ok(List::new(alloc)),
+        }
+    }
+}

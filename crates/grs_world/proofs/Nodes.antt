@@ -1,0 +1,48 @@
+-- The systems of a run by their places.
+use Rattle.std.proofs.Common.{◌≡◌, ◌<◌, ℕ, zero, suc, Bool, true, false, List, [], ◌∷◌, ◌++◌, length, map, set, get_or, Option, Some, None, refl, ap, sym, ◌∙◌, arith, length-set}
+use Rattle.std.specs.Prelude.{◌+◌, not, ◌&&◌, ◌||◌, slice_get}
+use Rattle.std.specs.Option.{option_map}
+use Rattle.grs_wire.specs.Masks.{has}
+use Rattle.grs_wire.specs.declared.deck.Deck.{Deck}
+use Rattle.grs_node.specs.Log.{NodeView}
+use Rattle.grs_node.specs.Node.{Node, is_pending}
+use Rattle.grs_world.specs.Running.{AreOf, nodes_of, none_pending_at, none_pending}
+
+pub AreOf-get : (deck : Deck) (vs : List NodeView) (i : ℕ) (d : NodeView) → i < length vs → AreOf deck vs → (get_or vs i d).deck ≡ deck
+AreOf-get deck [] i d h a = absurd (omega arith)
+AreOf-get deck (v ∷ vs) zero d h a = a.0
+AreOf-get deck (v ∷ vs) (suc i) d h a = AreOf-get deck vs i d (omega arith) a.1
+
+pub AreOf-set : (deck : Deck) (vs : List NodeView) (i : ℕ) (v : NodeView) → AreOf deck vs → v.deck ≡ deck → AreOf deck (set vs i v)
+AreOf-set deck [] i v a h = tt
+AreOf-set deck (w ∷ vs) zero v a h = (h, a.1)
+AreOf-set deck (w ∷ vs) (suc i) v a h = (a.0, AreOf-set deck vs i v a.1 h)
+
+pub AreOf-push : (deck : Deck) (vs : List NodeView) (v : NodeView) → AreOf deck vs → v.deck ≡ deck → AreOf deck (vs ++ v ∷ [])
+AreOf-push deck [] v a h = (h, tt)
+AreOf-push deck (w ∷ vs) v a h = (a.0, AreOf-push deck vs v a.1 h)
+
+pub nodes_of-get : (vs : List NodeView) (i : ℕ) (d : NodeView) (e : Node) → i < length vs → get_or (nodes_of vs) i e ≡ (get_or vs i d).node
+nodes_of-get [] i d e h = absurd (omega arith)
+nodes_of-get (v ∷ vs) zero d e h = refl
+nodes_of-get (v ∷ vs) (suc i) d e h = nodes_of-get vs i d e (omega arith)
+
+pub nodes_of-set : (vs : List NodeView) (i : ℕ) (v : NodeView) → nodes_of (set vs i v) ≡ set (nodes_of vs) i v.node
+nodes_of-set [] i v = refl
+nodes_of-set (w ∷ vs) zero v = refl
+nodes_of-set (w ∷ vs) (suc i) v = ap (λ ns. w.node ∷ ns) (nodes_of-set vs i v)
+
+-- the system at a place of those without their decks and logs
+pub slice_get-nodes_of : (vs : List NodeView) (i : ℕ) → slice_get (nodes_of vs) i ≡ option_map (λ (v : NodeView). v.node) (slice_get vs i)
+slice_get-nodes_of [] i = refl
+slice_get-nodes_of (v ∷ vs) zero = refl
+slice_get-nodes_of (v ∷ vs) (suc i) = slice_get-nodes_of vs i
+
+-- systems of a deck have it
+pub none_pending-of : (deck : Deck) (removed s : ℕ) (vs : List NodeView) → AreOf deck vs → none_pending_at removed s vs ≡ none_pending deck removed s (nodes_of vs)
+none_pending-of deck removed s [] a = refl
+none_pending-of deck removed s (v ∷ vs) a =
+    ap (λ (d : Deck). (has removed s || not (is_pending d v.node)) && none_pending_at removed (s + 1) vs) a.0
+    ∙ ap (λ b. (has removed s || not (is_pending deck v.node)) && b) (none_pending-of deck removed (s + 1) vs a.1)
+
+pub ruleset nodes = (AreOf-get, AreOf-set, AreOf-push, nodes_of-get, nodes_of-set, slice_get-nodes_of, none_pending-of, length-set)

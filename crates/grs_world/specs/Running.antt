@@ -1,0 +1,81 @@
+-- A run as the code keeps it, and what is seen of it.
+use Rattle.std.specs.Prelude.{◌≡◌, ℕ, Bool, true, not, cond, ◌&&◌, ◌||◌, nat_lt, ◌+◌, List, [], ◌∷◌, ◌++◌, length, map, get_or, slice_get, Option, Some, None}
+use Rattle.grs_base.specs.declared.resource.SysId.{SysId}
+use Rattle.grs_base.specs.declared.resource.TaskId.{TaskId}
+use Rattle.grs_medium.specs.Medium.{medium_at_end}
+use Rattle.grs_node.specs.Log.{NodeView, end_in}
+use Rattle.grs_node.specs.Node.{Node, first_node, is_pending}
+use Rattle.grs_node.specs.Units.{units_at}
+use Rattle.grs_wire.specs.Masks.{has}
+use Rattle.grs_wire.specs.declared.deck.Deck.{Deck}
+use Rattle.grs_wire.specs.declared.deck.Event.{Event}
+use Rattle.grs_wire.specs.declared.seen.TaskEnd.{TaskEnd}
+use Rattle.grs_wire.specs.declared.seen.TaskEnd.TheVariants as ends
+use Rattle.task_state.specs.View.{TasksView, is_task, state_of}
+use Rattle.grs_world.specs.World.{World, first_world, happens, run}
+
+-- the world of a run, and the deck whose run it is
+pub record Running : Type 0 where
+  pub deck : Deck
+  pub world : World
+
+-- a deck before its first event
+abbrev pub starting : Deck → Running
+starting deck = record { deck = deck; world = first_world deck }
+
+-- a run after one more event
+abbrev pub after : Running → Event → Running
+after w e = record { deck = w.deck; world = happens w.deck w.world e }
+
+-- a deck after these events
+abbrev pub ran : Deck → List Event → Running
+ran deck es = record { deck = deck; world = run deck es }
+
+-- the systems without their decks and logs
+abbrev pub nodes_of : List NodeView → List Node
+nodes_of vs = map (λ v. v.node) vs
+
+-- all of them are systems of this deck
+abbrev pub AreOf : Deck → List NodeView → Type 0
+AreOf deck [] = Unit {0}
+AreOf deck (v ∷ vs) = (v.deck ≡ deck) × AreOf deck vs
+
+-- whether a system is there and wasn't removed
+abbrev pub is_live : World → SysId → Bool
+is_live w s = nat_lt s.0 (length w.nodes) && not (has w.medium.removed s.0)
+
+-- a system that is there
+abbrev pub node_at : Deck → List Node → SysId → Node
+node_at deck ns s = get_or ns s.0 (first_node deck s.0)
+
+-- whether nothing is pending at these systems, of which the first has this number, but at removed ones
+abbrev pub none_pending : Deck → ℕ → ℕ → List Node → Bool
+none_pending deck removed s [] = true
+none_pending deck removed s (n ∷ ns) = (has removed s || not (is_pending deck n)) && none_pending deck removed (s + 1) ns
+
+-- the same, each system of its own deck
+abbrev pub none_pending_at : ℕ → ℕ → List NodeView → Bool
+none_pending_at removed s [] = true
+none_pending_at removed s (v ∷ vs) = (has removed s || not (is_pending v.deck v.node)) && none_pending_at removed (s + 1) vs
+
+-- A world is at rest where nothing is pending at a system that wasn't removed, and nothing is left to do with the
+-- medium.
+unfoldable pub at_rest : Deck → World → Bool
+at_rest deck w = none_pending deck w.medium.removed 0 w.nodes && medium_at_end w.medium
+
+-- the units that the tasks of these systems reserve, each with its count, by system and unit
+abbrev pub units_of : List Node → List (SysId × ℕ × ℕ)
+units_of [] = []
+units_of (n ∷ ns) = units_at (record { 0 = n.tasks.system }) n.tasks.tasks ++ units_of ns
+
+-- the end of a task; one that isn't there hasn't ended
+abbrev pub end_of : TasksView → TaskId → TaskEnd
+end_of v t = cond (is_task v t) (end_in (state_of v t).phase) ends.Open
+
+-- the end of a task at its system, if that one is there
+abbrev pub end_at : TaskId → Option Node → TaskEnd
+end_at t None = ends.Open
+end_at t (Some n) = end_of n.tasks t
+
+abbrev pub end_among : List Node → TaskId → TaskEnd
+end_among ns t = end_at t (slice_get ns t.system.0)

@@ -1,0 +1,134 @@
+//! One choice of one system: it is prepared, makes at most one call of the medium, and is finished.
+ghost use Rattle.std.specs.Prelude.{◌≡◌, ◌<◌, length, set, slice_get, Some, IfOk, OnOk};
+ghost use Rattle.grs_medium.specs.Apply.{reply_to, medium_after};
+ghost use Rattle.grs_medium.specs.Medium.{systems_of};
+ghost use Rattle.grs_node.specs.Log.{MayFinish};
+ghost use Rattle.grs_node.specs.Node as steps;
+ghost use Rattle.grs_node.specs.declared.prepared.Prepared.TheVariants.{Call as Calls};
+ghost use Rattle.grs_world.specs.World.{chosen};
+ghost use Rattle.grs_world.specs.Done.{done_in, done_by, journalled};
+ghost use Rattle.grs_world.specs.Running.{AreOf, nodes_of, node_at};
+
+use grs_base::{List, NoMemory, SysId, copy_all};
+use grs_medium::Medium;
+use grs_node::{Node, Prepared};
+use grs_wire::{Call, Choice, Deck, Fixed, Reply, StepDone, ToldLine};
+use std::alloc::Global;
+
+/// What a choice fixed and told.
+#[derive(Drop)]
+pub(crate) struct Done {
+    pub(crate) fixed: List<Fixed>,
+    pub(crate) told: List<ToldLine>,
+}
+
+/// What the event at a place fixed and told, if it is there.
+fn done_at(alloc: Global, steps: &[StepDone], place: usize) -> Result<Done, NoMemory>
+    ensures { IfOk result (λ done. done ≡ done_in (slice_get steps.now place)) }
+{
+    match steps.get(place) {
+        None => Ok(Done {
+            fixed: List::new(alloc),
+            told: List::new(alloc),
+        }),
+        Some(step) => {
+            let fixed = copy_all(alloc, step.fixed.as_slice())?;
+            let told = copy_all(alloc, step.told.as_slice())?;
+            Ok(Done { fixed, told })
+        }
+    }
+}
+
+/// A prepared choice is finished, with the reply if a call was made.
+#[tactic(auto, using(crate::proofs::Logged::logged_steps))]
+fn finished(
+    alloc: Global,
+    node: &mut Node<'_>,
+    choice: &Choice,
+    reply: Option<Reply>,
+) -> Result<Done, NoMemory>
+    requires { MayFinish node.old choice.now (journalled reply) }
+    ensures node { OnOk result (node.new.node ≡ (steps.finish node.old.deck node.old.node choice.now reply).node) }
+    ensures done { IfOk result (λ done. done ≡ done_by node.old.node (steps.finish node.old.deck node.old.node choice.now reply)) }
+    ensures deck { node.new.deck ≡ node.old.deck }
+{
+    let place = node.log().steps.len();
+    let reply = match reply {
+        None => None,
+        Some(reply) => Some((reply, true)),
+    };
+    node.finish(choice, reply)?;
+    done_at(alloc, node.log().steps.as_slice(), place)
+}
+
+/// A call that was prepared, and its reply.
+#[tactic(auto, using(crate::proofs::Calls::calls))]
+fn called(
+    alloc: Global,
+    medium: &mut Medium,
+    system: SysId,
+    node: &mut Node<'_>,
+    choice: &Choice,
+    call: Call,
+) -> Result<Done, NoMemory>
+    requires caller { system.0 < systems_of medium.old.state }
+    requires prepared { steps.prepare node.old.deck node.old.node choice.now ≡ Calls call }
+    ensures medium { OnOk result (medium.new.state ≡ medium_after medium.old.state system call) }
+    ensures node { OnOk result (node.new.node ≡ (steps.finish node.old.deck node.old.node choice.now (Some (reply_to medium.old.state system call))).node) }
+    ensures done { IfOk result (λ done. done ≡ done_by node.old.node (steps.finish node.old.deck node.old.node choice.now (Some (reply_to medium.old.state system call)))) }
+    ensures deck { node.new.deck ≡ node.old.deck }
+    ensures systems { systems_of medium.new.state ≡ systems_of medium.old.state }
+{
+    medium.reserve(system, &call)?;
+    let reply = medium.apply(system, call);
+    finished(alloc, node, choice, Some(reply))
+}
+
+/// A choice of a system: it is prepared, makes at most one call of the medium, and is finished.
+#[tactic(auto, using(crate::proofs::Logged::logged_steps), unfolding(crate::specs::World::chosen, crate::specs::World::carry_out))]
+fn choose(
+    alloc: Global,
+    medium: &mut Medium,
+    system: SysId,
+    node: &mut Node<'_>,
+    choice: &Choice,
+) -> Result<Done, NoMemory>
+    requires { system.0 < systems_of medium.old.state }
+    ensures medium { OnOk result (medium.new.state ≡ (chosen node.old.deck medium.old.state system node.old.node choice.now).medium) }
+    ensures node { OnOk result (node.new.node ≡ (chosen node.old.deck medium.old.state system node.old.node choice.now).step.node) }
+    ensures done { IfOk result (λ done. done ≡ done_by node.old.node (chosen node.old.deck medium.old.state system node.old.node choice.now).step) }
+    ensures deck { node.new.deck ≡ node.old.deck }
+    ensures systems { systems_of medium.new.state ≡ systems_of medium.old.state }
+{
+    match node.prepare(choice)? {
+        Prepared::Nothing => Ok(Done {
+            fixed: List::new(alloc),
+            told: List::new(alloc),
+        }),
+        Prepared::Quiet => finished(alloc, node, choice, None),
+        Prepared::Call(call) => called(alloc, medium, system, node, choice, call),
+    }
+}
+
+/// A choice of the system at its place.
+#[tactic(auto, using(crate::proofs::Nodes::nodes))]
+pub(crate) fn choose_at(
+    alloc: Global,
+    deck: &Deck,
+    medium: &mut Medium,
+    nodes: &mut Vec<Node<'_>>,
+    system: SysId,
+    choice: &Choice,
+) -> Result<Done, NoMemory>
+    requires place { system.0 < length nodes.old.items }
+    requires nodes { AreOf deck.now nodes.old.items }
+    requires systems { systems_of medium.old.state ≡ length nodes.old.items }
+    ensures medium { OnOk result (medium.new.state ≡ (chosen deck.now medium.old.state system (node_at deck.now (nodes_of nodes.old.items) system) choice.now).medium) }
+    ensures node { OnOk result (nodes_of nodes.new.items ≡ set (nodes_of nodes.old.items) system.0 (chosen deck.now medium.old.state system (node_at deck.now (nodes_of nodes.old.items) system) choice.now).step.node) }
+    ensures done { IfOk result (λ done. done ≡ done_by (node_at deck.now (nodes_of nodes.old.items) system) (chosen deck.now medium.old.state system (node_at deck.now (nodes_of nodes.old.items) system) choice.now).step) }
+    ensures deck { AreOf deck.now nodes.new.items }
+    ensures count { length nodes.new.items ≡ length nodes.old.items }
+    ensures systems { systems_of medium.new.state ≡ systems_of medium.old.state }
+{
+    choose(alloc, medium, system, &mut nodes[system.0 as usize], choice)
+}

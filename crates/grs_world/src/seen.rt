@@ -1,0 +1,81 @@
+//! What is seen of the systems of a run. Nothing here changes anything.
+ghost use Rattle.std.specs.Prelude.{◌≡◌, ◌≤◌, ◌++◌, map, length, IfOk, OnOk};
+ghost use Rattle.grs_node.specs.Units.{units_at};
+ghost use Rattle.grs_world.specs.Running.{nodes_of, none_pending_at, units_of, end_of, end_among};
+
+use grs_base::{List, NoMemory, SysId, TaskId};
+use grs_node::Node;
+use grs_wire::TaskEnd;
+use grs_wire::masks::has_system;
+use std::alloc::Global;
+
+/// Whether nothing is pending at these systems, but at removed ones.
+pub(crate) fn none_pending(removed: u32, nodes: &[Node<'_>]) -> bool
+    requires { length nodes.now ≤ 8 }
+    ensures { result ≡ none_pending_at removed 0 nodes.now }
+{
+    for (place, node) in nodes.iter().enumerate() {
+        if !has_system(removed, SysId(place as u8)) && node.pending() {
+            return false;
+        }
+    }
+    true
+}
+
+/// Adds the counts of units of a system.
+fn add_counts(
+    units: &mut List<(SysId, u16, u32)>,
+    system: SysId,
+    counts: &[(u16, u32)],
+) -> Result<(), NoMemory>
+    ensures { OnOk result (units.new ≡ units.old ++ map (λ c. (system, c.0, c.1)) counts.now) }
+{
+    for (unit, count) in counts {
+        units.push((system, *unit, *count))?;
+    }
+    Ok(())
+}
+
+/// Adds the units that the tasks of a system reserve.
+fn add_units(units: &mut List<(SysId, u16, u32)>, node: &Node<'_>) -> Result<(), NoMemory>
+    ensures { OnOk result (units.new ≡ units.old ++ units_at (record { 0 = node.now.node.tasks.system }) node.now.node.tasks.tasks) }
+{
+    let counts = node.units()?;
+    add_counts(units, node.system(), counts.as_slice())
+}
+
+/// The units that the tasks of these systems reserve, each with its count.
+pub(crate) fn units_of(
+    alloc: Global,
+    nodes: &[Node<'_>],
+) -> Result<List<(SysId, u16, u32)>, NoMemory>
+    ensures { IfOk result (λ units. units ≡ units_of (nodes_of nodes.now)) }
+{
+    let mut units = List::new(alloc);
+    for node in nodes {
+        add_units(&mut units, node)?;
+    }
+    Ok(units)
+}
+
+/// The end of a task at its system.
+fn end_at(node: &Node<'_>, task: TaskId) -> TaskEnd
+    ensures { result ≡ end_of node.now.node.tasks task }
+{
+    if node.has(task) {
+        node.task_end(task)
+    } else {
+        TaskEnd::Open
+    }
+}
+
+/// The end of a task. One that isn't there is open.
+#[tactic(auto, using(crate::proofs::Nodes::nodes))]
+pub(crate) fn end_among(nodes: &[Node<'_>], task: TaskId) -> TaskEnd
+    ensures { result ≡ end_among (nodes_of nodes.now) task }
+{
+    match nodes.get(task.system.0 as usize) {
+        None => TaskEnd::Open,
+        Some(node) => end_at(node, task),
+    }
+}

@@ -1,0 +1,113 @@
+//! The entries of the authority message, at one system.
+ghost use Rattle.std.specs.Prelude.{◌≡◌, ◌&&◌, length, OnOk};
+ghost use Rattle.std.specs.Option.{option_copied};
+ghost use Rattle.grs_wire.specs.Wants.{res_wanted};
+ghost use Rattle.task_state.specs.View.{is_task, state_of};
+ghost use Rattle.ring_mode.specs.Ring as ring;
+ghost use Rattle.ring_mode.specs.Ring.{side_of};
+
+use super::same::{is_asked, is_sent};
+use grs_base::{List, NoMemory, Queues, Res};
+use grs_wire::{Answer, Req, RingBody, RingEntry, Want};
+use queue_table::Table;
+use std::alloc::Global;
+use task_state::{Tasks, settled, tell_new};
+
+/// The resource that is spoken of, if one is.
+pub fn res_of(want: &Want) -> Option<&Res>
+    ensures { option_copied result ≡ res_wanted want.now }
+{
+    match want {
+        Want::Enq { res, .. } | Want::Deq { res, .. } | Want::Release { res } => Some(res),
+        Want::Look { .. } => None,
+    }
+}
+
+/// Whether a request is for the whole complex. Looks at slices are.
+pub fn is_for_all(res: Option<&Res>) -> bool
+    ensures { result ≡ ring.is_for_all (option_copied res.entry) }
+{
+    matches!(res, None | Some(Res::Systems { .. }))
+}
+
+/// Whether a request is that of a task of this system which isn't answered yet.
+fn is_awaited(tasks: &Tasks, req: &Req) -> bool
+    ensures { result ≡ (is_task tasks.now req.now.task && (ring.is_sent (state_of tasks.now req.now.task).phase && ring.is_asked req.now.want (state_of tasks.now req.now.task).outstanding)) }
+{
+    tasks.has(req.task)
+        && is_sent(tasks.phase(req.task))
+        && is_asked(&req.want, tasks.asked(req.task))
+}
+
+/// Answers an own task that sent this request.
+#[tactic(auto, using(crate::proofs::Settled::settling), unfolding(crate::specs::Ring::answer_own))]
+fn answer_own(alloc: Global, tasks: &mut Tasks, req: &Req, answer: &Answer) -> Result<(), NoMemory>
+    ensures step { OnOk result (tasks.new ≡ ring.answer_own tasks.old req.now answer.now) }
+    ensures system { tasks.new.system ≡ tasks.old.system }
+    ensures count { length tasks.new.tasks ≡ length tasks.old.tasks }
+{
+    if is_awaited(tasks, req) {
+        settled(alloc, tasks, req.task, answer)
+    } else {
+        Ok(())
+    }
+}
+
+/// Processes a request.
+#[tactic(auto, unfolding(crate::specs::Ring::process))]
+fn process<Q: Queues>(
+    alloc: Global,
+    table: &mut Table<Q>,
+    tasks: &mut Tasks,
+    req: &Req,
+) -> Result<(), NoMemory>
+    ensures step { OnOk result (side_of tasks.new table.new.held ≡ ring.process (side_of tasks.old table.old.held) req.now) }
+    ensures system { tasks.new.system ≡ tasks.old.system }
+    ensures count { length tasks.new.tasks ≡ length tasks.old.tasks }
+{
+    let outcome = local_queue::settle(alloc, table, req)?;
+    answer_own(alloc, tasks, req, &outcome.answer)?;
+    tell_new(tasks, res_of(&req.want), outcome.owners.as_slice())
+}
+
+/// Processes an entry. One for a resource of one system alone is passed over, and so is one that removes a
+/// system.
+#[tactic(auto, unfolding(crate::specs::Ring::process_entry))]
+fn process_entry<Q: Queues>(
+    alloc: Global,
+    table: &mut Table<Q>,
+    tasks: &mut Tasks,
+    body: &RingBody,
+) -> Result<(), NoMemory>
+    ensures step { OnOk result (side_of tasks.new table.new.held ≡ ring.process_entry (side_of tasks.old table.old.held) body.now) }
+    ensures system { tasks.new.system ≡ tasks.old.system }
+    ensures count { length tasks.new.tasks ≡ length tasks.old.tasks }
+{
+    match body {
+        RingBody::Request(req) if is_for_all(res_of(&req.want)) => process(
+            alloc, table, tasks, req,
+        ),
+        RingBody::Request(_) | RingBody::Remove(_) => Ok(()),
+    }
+}
+
+/// Processes these entries in order on the table of the Systems resources, and tells the tasks of the system
+/// what concerns them. After a refusal the system is to be given up.
+#[tactic(auto, unfolding(crate::specs::Ring::process_all))]
+pub fn on_turn<Q: Queues>(
+    alloc: Global,
+    table: &mut Table<Q>,
+    tasks: &mut Tasks,
+    entries: List<RingEntry>,
+) -> Result<(), NoMemory>
+    ensures step { OnOk result (side_of tasks.new table.new.held ≡ ring.process_all (side_of tasks.old table.old.held) entries) }
+    ensures system { tasks.new.system ≡ tasks.old.system }
+    ensures count { length tasks.new.tasks ≡ length tasks.old.tasks }
+{
+    let mut rest = entries.as_slice();
+    while let Some((entry, tail)) = rest.split_first() {
+        process_entry(alloc, table, tasks, &entry.body)?;
+        rest = tail;
+    }
+    Ok(())
+}

@@ -1,0 +1,284 @@
+//! What the tasks of a system are told: the answers to their own requests, and control that another's
+//! request gave them. Only the tasks change here, never the lists.
+ghost use Rattle.std.specs.Prelude.{◌≡◌, true, cond, length, option_copied, OnOk};
+ghost use Rattle.task_state.specs.View.{is_task, state_of, without_record, with_told};
+ghost use Rattle.task_state.specs.Replies as steps;
+ghost use Rattle.task_state.specs.Replies.{tell_line};
+
+use super::codes::{
+    is_changed, is_granted, is_held, is_held_for, is_leaving, is_queued, phase_after, phase_asking,
+};
+use super::state::{Asked, Phase, Rec};
+use super::tasks::Tasks;
+use grs_base::{Code, Ctl, NoMemory, Res, Ret, TaskId};
+use grs_wire::{Answer, ToldLine, Verb, Want};
+use std::alloc::Global;
+
+/// Tells the code of a task's last line; WAIT isn't told.
+#[tactic(auto, using(crate::proofs::Keeps::keeps), unfolding(crate::specs::Replies::tell_code))]
+pub fn tell_code(tasks: &mut Tasks, task: TaskId, verb: Verb, code: Code) -> Result<(), NoMemory>
+    requires { is_task tasks.old task ≡ true }
+    ensures step { OnOk result (tasks.new ≡ steps.tell_code tasks.old task verb code) }
+    ensures system { tasks.new.system ≡ tasks.old.system }
+    ensures count { length tasks.new.tasks ≡ length tasks.old.tasks }
+{
+    match code {
+        Code::Wait => Ok(()),
+        Code::C00 | Code::C04 | Code::C08 | Code::C14 | Code::C18 | Code::End(_) => {
+            let k = tasks.state(task).line;
+            tasks.tell(ToldLine::Coded {
+                task,
+                k,
+                part: 0,
+                verb,
+                code,
+            })
+        }
+    }
+}
+
+/// Keeps the records of a task whose ENQ was answered; `unit` is the unit that it reserves.
+#[tactic(auto, using(crate::proofs::Keeps::keeps), unfolding(crate::specs::Replies::record_enq))]
+fn record_enq(
+    alloc: Global,
+    tasks: &mut Tasks,
+    task: TaskId,
+    res: &Res,
+    ctl: Ctl,
+    unit: Option<u16>,
+    ret: Ret,
+    code: Code,
+) -> Result<(), NoMemory>
+    requires { is_task tasks.old task ≡ true }
+    ensures step { OnOk result (tasks.new ≡ steps.record_enq tasks.old task res.now ctl unit ret code) }
+    ensures system { tasks.new.system ≡ tasks.old.system }
+    ensures count { length tasks.new.tasks ≡ length tasks.old.tasks }
+{
+    if is_queued(ret, code) {
+        let rec = Rec {
+            res: res.copy(alloc)?,
+            ctl,
+            rank: 0,
+            told: is_granted(code),
+            unit,
+            line: tasks.state(task).line,
+        };
+        tasks.add_record(task, rec)
+    } else {
+        if is_changed(ret, code) {
+            tasks.make_exclusive(task, res);
+        }
+        Ok(())
+    }
+}
+
+/// Drops the record of a task whose DEQ was granted.
+#[tactic(auto, using(crate::proofs::Keeps::keeps))]
+fn record_deq(tasks: &mut Tasks, task: TaskId, res: &Res, code: Code)
+    requires { is_task tasks.old task ≡ true }
+    ensures step { tasks.new ≡ cond (steps.is_granted code) (without_record tasks.old task res.now) tasks.old }
+    ensures system { tasks.new.system ≡ tasks.old.system }
+    ensures count { length tasks.new.tasks ≡ length tasks.old.tasks }
+{
+    if is_granted(code) {
+        let _ = tasks.take_record(task, res);
+    }
+}
+
+/// Answers a task's own request; a record that it makes has this unit.
+#[tactic(auto, using(crate::proofs::Keeps::keeps), unfolding(crate::specs::Replies::answered))]
+fn answered(
+    alloc: Global,
+    tasks: &mut Tasks,
+    task: TaskId,
+    want: &Want,
+    unit: Option<u16>,
+    code: Code,
+) -> Result<(), NoMemory>
+    requires { is_task tasks.old task ≡ true }
+    ensures step { OnOk result (tasks.new ≡ steps.answered tasks.old task want.now unit code) }
+    ensures system { tasks.new.system ≡ tasks.old.system }
+    ensures count { length tasks.new.tasks ≡ length tasks.old.tasks }
+{
+    match want {
+        Want::Enq { res, ctl, ret, .. } => {
+            record_enq(alloc, tasks, task, res, *ctl, unit, *ret, code)?;
+            tasks.set_phase(task, phase_after(code));
+            tell_code(tasks, task, Verb::Enq, code)
+        }
+        Want::Deq { res, .. } => {
+            record_deq(tasks, task, res, code);
+            tasks.set_phase(task, phase_after(code));
+            tell_code(tasks, task, Verb::Deq, code)
+        }
+        Want::Release { res } => {
+            let _ = tasks.take_record(task, res);
+            Ok(())
+        }
+        Want::Look { .. } => Ok(()),
+    }
+}
+
+/// The same by the whole answer. No task asks for looks yet.
+#[tactic(auto, using(crate::proofs::Keeps::keeps), unfolding(crate::specs::Replies::replied))]
+pub fn replied(
+    alloc: Global,
+    tasks: &mut Tasks,
+    task: TaskId,
+    want: &Want,
+    unit: Option<u16>,
+    answer: &Answer,
+) -> Result<(), NoMemory>
+    requires { is_task tasks.old task ≡ true }
+    ensures step { OnOk result (tasks.new ≡ steps.replied tasks.old task want.now unit answer.now) }
+    ensures system { tasks.new.system ≡ tasks.old.system }
+    ensures count { length tasks.new.tasks ≡ length tasks.old.tasks }
+{
+    match answer {
+        Answer::Coded(code) => answered(alloc, tasks, task, want, unit, *code),
+        Answer::Rows(_) => Ok(()),
+    }
+}
+
+/// A task that was held at a WAIT line for this resource goes on.
+#[tactic(auto, using(crate::proofs::Keeps::keeps), unfolding(crate::specs::Replies::passes_wait))]
+fn passes_wait(tasks: &mut Tasks, task: TaskId, res: &Res) -> Result<(), NoMemory>
+    requires { is_task tasks.old task ≡ true }
+    ensures step { OnOk result (tasks.new ≡ steps.passes_wait tasks.old task res.now) }
+    ensures system { tasks.new.system ≡ tasks.old.system }
+    ensures count { length tasks.new.tasks ≡ length tasks.old.tasks }
+{
+    let state = tasks.state(task);
+    if !is_held_for(res, &state.phase) {
+        return Ok(());
+    }
+    let k = state.line;
+    tasks.set_phase(task, Phase::Ready);
+    tasks.tell(ToldLine::Coded {
+        task,
+        k,
+        part: 0,
+        verb: Verb::Wait,
+        code: Code::C00,
+    })
+}
+
+/// Tells a task control for which its line of this number asked: by that line's code if it waited, else
+/// by posting its event control block.
+#[tactic(auto, using(crate::proofs::Keeps::keeps), unfolding(crate::specs::Replies::tell_line))]
+fn tell_waiter(tasks: &mut Tasks, task: TaskId, res: &Res, line: u32) -> Result<(), NoMemory>
+    requires { is_task tasks.old task ≡ true }
+    ensures step { OnOk result (tasks.new ≡ tell_line tasks.old task res.now line) }
+    ensures system { tasks.new.system ≡ tasks.old.system }
+    ensures count { length tasks.new.tasks ≡ length tasks.old.tasks }
+{
+    let state = tasks.state(task);
+    let is_waiting = is_held(&state.phase) && line == state.line;
+    tasks.mark_told(task, res);
+    if is_waiting {
+        tasks.set_phase(task, Phase::Ready);
+        tasks.tell(ToldLine::Coded {
+            task,
+            k: line,
+            part: 0,
+            verb: Verb::Enq,
+            code: Code::C00,
+        })
+    } else {
+        tasks.tell(ToldLine::Post { task, k: line })?;
+        passes_wait(tasks, task, res)
+    }
+}
+
+/// The same, unless the task is about to give the resource up: then it is told nothing.
+#[tactic(auto, using(crate::proofs::Keeps::keeps))]
+fn tell_unless_leaving(
+    tasks: &mut Tasks,
+    task: TaskId,
+    res: &Res,
+    line: u32,
+) -> Result<(), NoMemory>
+    requires { is_task tasks.old task ≡ true }
+    ensures step { OnOk result (tasks.new ≡ cond (steps.is_leaving res.now (state_of tasks.old task).outstanding) (with_told tasks.old task res.now) (tell_line tasks.old task res.now line)) }
+    ensures system { tasks.new.system ≡ tasks.old.system }
+    ensures count { length tasks.new.tasks ≡ length tasks.old.tasks }
+{
+    if is_leaving(res, tasks.asked(task)) {
+        tasks.mark_told(task, res);
+        Ok(())
+    } else {
+        tell_waiter(tasks, task, res, line)
+    }
+}
+
+/// Tells a task control that it got by another's request; one that isn't of this system is passed over.
+#[tactic(auto, using(crate::proofs::Keeps::keeps, crate::proofs::Keeps::tell_record_line), unfolding(crate::specs::Replies::tell_control, crate::specs::Replies::tell_untold))]
+fn tell_control(tasks: &mut Tasks, res: &Res, task: TaskId) -> Result<(), NoMemory>
+    ensures step { OnOk result (tasks.new ≡ steps.tell_control tasks.old res.now task) }
+    ensures system { tasks.new.system ≡ tasks.old.system }
+    ensures count { length tasks.new.tasks ≡ length tasks.old.tasks }
+{
+    if !tasks.has(task) {
+        return Ok(());
+    }
+    match tasks.record(task, res) {
+        Some(rec) if !rec.told => {
+            let line = rec.line;
+            tell_unless_leaving(tasks, task, res, line)
+        }
+        _ => Ok(()),
+    }
+}
+
+/// Tells these tasks control in order.
+#[tactic(auto, using(crate::proofs::Keeps::keeps), unfolding(crate::specs::Replies::tell_all))]
+fn tell_all(tasks: &mut Tasks, res: &Res, owners: &[TaskId]) -> Result<(), NoMemory>
+    ensures step { OnOk result (tasks.new ≡ steps.tell_all tasks.old res.now owners.now) }
+    ensures system { tasks.new.system ≡ tasks.old.system }
+    ensures count { length tasks.new.tasks ≡ length tasks.old.tasks }
+{
+    let mut rest = owners;
+    while let Some((task, tail)) = rest.split_first() {
+        tell_control(tasks, res, *task)?;
+        rest = tail;
+    }
+    Ok(())
+}
+
+/// Tells control to the tasks that became owners of this resource, if it is one.
+#[tactic(auto, using(crate::proofs::Keeps::keeps), unfolding(crate::specs::Replies::tell_new))]
+pub fn tell_new(tasks: &mut Tasks, res: Option<&Res>, owners: &[TaskId]) -> Result<(), NoMemory>
+    ensures step { OnOk result (tasks.new ≡ steps.tell_new tasks.old (option_copied res.entry) owners.now) }
+    ensures system { tasks.new.system ≡ tasks.old.system }
+    ensures count { length tasks.new.tasks ≡ length tasks.old.tasks }
+{
+    match res {
+        None => Ok(()),
+        Some(res) => tell_all(tasks, res, owners),
+    }
+}
+
+/// Answers the request of a task that isn't answered yet, if it has one.
+#[tactic(auto, using(crate::proofs::Keeps::keeps, crate::proofs::ViewLaws::still_asked), unfolding(crate::specs::Replies::settled_any, crate::specs::Replies::settled, crate::specs::Replies::recalled))]
+pub fn settled(
+    alloc: Global,
+    tasks: &mut Tasks,
+    task: TaskId,
+    answer: &Answer,
+) -> Result<(), NoMemory>
+    requires { is_task tasks.old task ≡ true }
+    ensures step { OnOk result (tasks.new ≡ steps.settled_any tasks.old task answer.now (state_of tasks.old task).outstanding) }
+    ensures system { tasks.new.system ≡ tasks.old.system }
+    ensures count { length tasks.new.tasks ≡ length tasks.old.tasks }
+{
+    let Some(asked) = tasks.asked(task) else {
+        return Ok(());
+    };
+    let phase = phase_asking(&asked.req.want, tasks.ending(task));
+    tasks.set_phase(task, phase);
+    let Some(asked) = tasks.take_outstanding(task) else {
+        return Ok(());
+    };
+    let Asked { req, unit } = asked;
+    replied(alloc, tasks, task, &req.want, unit, answer)
+}
