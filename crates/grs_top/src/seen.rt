@@ -1,56 +1,54 @@
 //! What the report of a deck shows: the run of the deck's events, its history, and where that leaves the
 //! lists and the tasks.
-ghost use Rattle.std.specs.Prelude.{◌≡◌, IfOk};
+ghost use Rattle.std.specs.Prelude.{◌≡◌, ◌<◌, ◌≤◌, length, IfOk};
 ghost use Rattle.grs_world.specs.World.{run, hist, told};
-ghost use Rattle.grs_world.specs.Units.{units_at};
+ghost use Rattle.grs_world.specs.Running.{units_of};
 ghost use Rattle.grs_top.specs.Tasks.{tasks_of, ends_at};
 ghost use Rattle.grs_top.specs.Seen.{seen_of_run};
 
 use super::ends::ends_of;
 use grs_base::{List, NoMemory, SysId, TaskId, copy_all};
 use grs_history::{answers, queues_after};
-use grs_wire::{Deck, Event, HistEntry, Seen, TaskEnd, Told};
+use grs_wire::{Deck, HistEntry, Seen, TaskEnd, Told};
 use grs_world::replay;
 use std::alloc::Global;
 
-fn events_of(alloc: Global, events: &[Event]) -> Result<List<Event>, NoMemory>
-    ensures { IfOk result (λ list. list ≡ events.now) }
-{
-    let mut list = List::new(alloc);
-    for event in events {
-        list.push(*event)?;
-    }
-    Ok(list)
-}
-
-/// What is seen of a run itself: its history, what was told, the units that are reserved, and the end of each
-/// task.
+/// What is seen of a run itself: its history, what was told, the units that are reserved, the lock words and the
+/// mode, and the end of each task.
 #[derive(Drop)]
 struct Run {
     hist: List<HistEntry>,
     told: List<Told>,
     units: List<(SysId, u16, u32)>,
+    words: List<u32>,
+    star: bool,
     ended: List<(TaskId, TaskEnd)>,
 }
 
 /// The run of a deck's events.
 fn run_of(alloc: Global, deck: &Deck) -> Result<Run, NoMemory>
+    requires some { 0 < length deck.now.systems }
+    requires few { length deck.now.systems ≤ 8 }
     ensures hist { IfOk result (λ seen. seen.hist ≡ hist deck.now deck.now.events) }
     ensures told { IfOk result (λ seen. seen.told ≡ told deck.now deck.now.events) }
-    ensures units { IfOk result (λ seen.
-        seen.units ≡ units_at (record { 0 = 0 }) (run deck.now deck.now.events).node.tasks.tasks) }
-    ensures ended { IfOk result (λ seen.
-        seen.ended ≡ ends_at (run deck.now deck.now.events).node.tasks (tasks_of deck.now)) }
+    ensures units { IfOk result (λ seen. seen.units ≡ units_of (run deck.now deck.now.events).nodes) }
+    ensures words { IfOk result (λ seen. seen.words ≡ (run deck.now deck.now.events).medium.words) }
+    ensures star { IfOk result (λ seen. seen.star ≡ (run deck.now deck.now.events).medium.star) }
+    ensures ended { IfOk result (λ seen. seen.ended ≡ ends_at (run deck.now deck.now.events).nodes (tasks_of deck.now)) }
 {
     let world = replay(alloc, deck, deck.events.as_slice())?;
     let hist = answers(alloc, world.fixed().as_slice())?;
     let told = copy_all(alloc, world.told().as_slice())?;
     let units = world.units()?;
+    let words = world.medium().words().copy(alloc)?;
+    let star = world.medium().star();
     let ended = ends_of(alloc, deck, &world)?;
     Ok(Run {
         hist,
         told,
         units,
+        words,
+        star,
         ended,
     })
 }
@@ -62,19 +60,21 @@ fn run_of(alloc: Global, deck: &Deck) -> Result<Run, NoMemory>
 /// `NoMemory` where there was no memory for the run or for what it shows.
 #[tactic(auto, unfolding(crate::specs::Seen::seen_of_run))]
 pub fn seen_of(alloc: Global, deck: &Deck) -> Result<Seen, NoMemory>
+    requires some { 0 < length deck.now.systems }
+    requires few { length deck.now.systems ≤ 8 }
     ensures { IfOk result (λ seen. seen ≡ seen_of_run deck.now deck.now.events) }
 {
     let run = run_of(alloc, deck)?;
     let queues = queues_after(alloc, run.hist.as_slice(), deck.limit)?;
-    let events = events_of(alloc, deck.events.as_slice())?;
+    let events = deck.events.copy(alloc)?;
     Ok(Seen {
         events,
         hist: run.hist,
         told: run.told,
         queues,
         units: run.units,
-        words: List::new(alloc),
-        star: deck.star,
+        words: run.words,
+        star: run.star,
         ended: run.ended,
     })
 }

@@ -50,3 +50,5 @@ pub mod Complex
 pub mod Logged
 pub mod Calls
 pub mod Nodes
+pub mod First
+pub mod Happens

@@ -3,8 +3,8 @@
 #![tactic(auto)]
 
 mod chosen;
+pub mod laws;
 mod seen;
+mod world;
 
-
-
-
+pub use world::{World, replay};

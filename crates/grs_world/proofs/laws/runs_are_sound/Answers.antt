@@ -1,0 +1,5 @@
+use Rattle.grs_world.proofs.Complex.{runs_sound}
+use Rattle.grs_world.proofs.laws.runs_are_sound.Goals as goal
+
+pub returns : goal.returns
+returns c = runs_sound

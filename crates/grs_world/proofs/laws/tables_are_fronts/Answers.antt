@@ -1,0 +1,5 @@
+use Rattle.grs_world.proofs.Complex.{tables_fronts}
+use Rattle.grs_world.proofs.laws.tables_are_fronts.Goals as goal
+
+pub returns : goal.returns
+returns c = tables_fronts
