@@ -4,3 +4,5 @@ pub mod Entries
 pub mod Logged
 pub mod Calls
 pub mod Nodes
+pub mod First
+pub mod Happens

@@ -4,7 +4,6 @@
 
 mod chosen;
 mod seen;
+mod world;
 
-
-
-
+pub use world::{World, replay};

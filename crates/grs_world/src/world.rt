@@ -1,0 +1,242 @@
+//! The world of a run: the medium, the systems that share it, what the events fixed and what was told. Each event
+//! is one system's; one of a system that isn't there, or was removed, does nothing.
+ghost use Rattle.std.specs.Prelude.{◌≡◌, ◌<◌, ◌≤◌, ◌^◌, ◌+◌, ◌++◌, ◌∷◌, [], true, length, IfOk, OnOk};
+ghost use Rattle.grs_node.specs.Node.{first_node};
+ghost use Rattle.grs_world.specs.World as runs;
+ghost use Rattle.grs_world.specs.World.{chosen, placed};
+ghost use Rattle.grs_world.specs.Running.{starting, after, ran, nodes_of, AreOf, is_live, node_at, none_pending, at_rest, units_of, end_among};
+
+use super::chosen::{Done, choose_at};
+use super::seen;
+use grs_base::{List, NoMemory, SysId, TaskId};
+use grs_medium::Medium;
+use grs_node::Node;
+use grs_wire::masks::has_system;
+use grs_wire::{Deck, Event, Fixed, TaskEnd, Told, ToldLine};
+use std::alloc::Global;
+use std::marker::Model;
+
+/// The most events of a run.
+const MOST_EVENTS: u64 = 1 << 57;
+
+/// A run as far as it has come: its deck, and the world after its events.
+#[derive(Drop)]
+pub struct World<'d> {
+    deck: &'d Deck,
+    medium: Medium,
+    nodes: Vec<Node<'d>>,
+    events: u64,
+    fixed: List<(SysId, Fixed)>,
+    told: List<Told>,
+    alloc: Global,
+}
+
+impl<'d> Model for World<'d> {
+    ghost use Rattle.std.specs.Prelude.{◌≡◌, ◌≤◌, length};
+    ghost use Rattle.grs_medium.specs.Medium.{systems_of};
+    ghost use Rattle.grs_world.specs.Running.{Running, AreOf, nodes_of};
+
+    ghost Value = { Running };
+
+    ghost view = { λ a. record { deck = a.deck.now; world = record { medium = a.medium.state; nodes = nodes_of a.nodes.items; events = a.events; fixed = a.fixed; told = a.told } } };
+
+    ghost invariant = { λ a. AreOf a.deck.now a.nodes.items × (systems_of a.medium.state ≡ length a.nodes.items) × (length a.nodes.items ≤ 8) };
+}
+
+/// Adds a system of a deck before its first event.
+#[tactic(auto, using(crate::proofs::Nodes::nodes, crate::proofs::First::first))]
+fn add_node<'d>(
+    alloc: Global,
+    deck: &'d Deck,
+    nodes: &mut List<Node<'d>>,
+    system: SysId,
+) -> Result<(), NoMemory>
+    requires system { system.0 < length deck.now.systems }
+    requires deck { AreOf deck.now nodes.old }
+    ensures nodes { OnOk result (nodes_of nodes.new ≡ nodes_of nodes.old ++ first_node deck.now system.0 ∷ []) }
+    ensures deck { OnOk result (AreOf deck.now nodes.new) }
+    ensures count { OnOk result (length nodes.new ≡ length nodes.old + 1) }
+{
+    let node = Node::new(alloc, deck, system)?;
+    nodes.push(node)
+}
+
+/// The systems of a deck before their first events.
+#[tactic(auto, using(crate::proofs::First::first))]
+fn first_nodes<'d>(alloc: Global, deck: &'d Deck) -> Result<Vec<Node<'d>>, NoMemory>
+    requires { length deck.now.systems ≤ 8 }
+    ensures nodes { IfOk result (λ nodes. nodes_of nodes.items ≡ runs.first_nodes deck.now 0 deck.now.systems) }
+    ensures deck { IfOk result (λ nodes. AreOf deck.now nodes.items) }
+    ensures count { IfOk result (λ nodes. length nodes.items ≡ length deck.now.systems) }
+{
+    let mut nodes = List::new(alloc);
+    for place in 0..deck.systems.len() {
+        add_node(alloc, deck, &mut nodes, SysId(place as u8))?;
+    }
+    Ok(nodes.into_vec())
+}
+
+/// Adds what an event of a system fixed.
+fn add_fixed(
+    all: &mut List<(SysId, Fixed)>,
+    system: SysId,
+    fixed: List<Fixed>,
+) -> Result<(), NoMemory>
+    ensures { OnOk result (all.new ≡ all.old ++ runs.fixed_by system fixed) }
+{
+    for one in fixed.into_vec() {
+        all.push((system, one))?;
+    }
+    Ok(())
+}
+
+/// Adds what a system told in an event.
+fn add_told(
+    all: &mut List<Told>,
+    event: u64,
+    system: SysId,
+    lines: List<ToldLine>,
+) -> Result<(), NoMemory>
+    ensures { OnOk result (all.new ≡ all.old ++ runs.told_by event system lines) }
+{
+    for line in lines.into_vec() {
+        all.push(Told {
+            event,
+            system,
+            line,
+        })?;
+    }
+    Ok(())
+}
+
+impl<'d> World<'d> {
+    /// A deck before its first event: nothing is queued and no task has begun.
+    #[tactic(auto, using(crate::proofs::First::first), unfolding(crate::specs::World::first_world))]
+    pub fn new(alloc: Global, deck: &'d Deck) -> Result<World<'d>, NoMemory>
+        requires some { 0 < length deck.now.systems }
+        requires few { length deck.now.systems ≤ 8 }
+        ensures { IfOk result (λ w. w ≡ starting deck.now) }
+    {
+        let systems = deck.systems.len() as u32;
+        let medium = Medium::new(alloc, systems, deck.entries, deck.star)?;
+        let nodes = first_nodes(alloc, deck)?;
+        Ok(World {
+            deck,
+            medium,
+            nodes,
+            events: 0,
+            fixed: List::new(alloc),
+            told: List::new(alloc),
+            alloc,
+        })
+    }
+
+    /// Whether a system is there and wasn't removed.
+    fn is_live(&self, system: SysId) -> bool
+        ensures { result ≡ is_live self.now.world system }
+    {
+        (system.0 as usize) < self.nodes.len() && !has_system(self.medium.removed(), system)
+    }
+
+    /// An event of a system that is there and wasn't removed.
+    #[tactic(auto, using(crate::proofs::Happens::happening), unfolding(crate::specs::World::placed))]
+    fn place(&mut self, event: &Event) -> Result<(), NoMemory>
+        requires live { is_live self.old.world event.now.system ≡ true }
+        requires more { self.old.world.events < 2 ^ 57 }
+        ensures { OnOk result (self.new ≡ after self.old event.now) }
+    {
+        let done = choose_at(
+            self.alloc,
+            self.deck,
+            &mut self.medium,
+            &mut self.nodes,
+            event.system,
+            &event.choice,
+        )?;
+        let Done { fixed, told } = done;
+        self.events += 1;
+        add_fixed(&mut self.fixed, event.system, fixed)?;
+        add_told(&mut self.told, self.events, event.system, told)
+    }
+
+    /// One event happens. A run to which memory was not given, or of 2^57 events, is to be given up.
+    #[tactic(auto, using(crate::proofs::Happens::happening))]
+    pub fn step(&mut self, event: &Event) -> Result<(), NoMemory>
+        ensures { OnOk result (self.new ≡ after self.old event.now) }
+    {
+        if self.events >= MOST_EVENTS {
+            return Err(NoMemory);
+        }
+        if self.is_live(event.system) {
+            self.place(event)
+        } else {
+            self.events += 1;
+            Ok(())
+        }
+    }
+
+    /// Whether nothing is left to do: nothing is pending at a system that wasn't removed, and nothing is left to
+    /// do with the medium.
+    #[tactic(auto, using(crate::proofs::Nodes::nodes), unfolding(crate::specs::Running::at_rest))]
+    pub fn at_rest(&self) -> bool
+        ensures { result ≡ at_rest self.now.deck self.now.world }
+    {
+        seen::none_pending(self.medium.removed(), self.nodes.as_slice()) && self.medium.at_end()
+    }
+
+    /// What the events fixed, each with its system, in order.
+    pub fn fixed(&self) -> &List<(SysId, Fixed)>
+        ensures { result.now ≡ self.now.world.fixed }
+    {
+        &self.fixed
+    }
+
+    /// What was told, in order.
+    pub fn told(&self) -> &List<Told>
+        ensures { result.now ≡ self.now.world.told }
+    {
+        &self.told
+    }
+
+    /// The medium.
+    pub fn medium(&self) -> &Medium
+        ensures { result.now.state ≡ self.now.world.medium }
+    {
+        &self.medium
+    }
+
+    /// The systems, by their numbers.
+    pub fn nodes(&self) -> &[Node<'d>]
+        ensures { nodes_of result.now ≡ self.now.world.nodes }
+    {
+        self.nodes.as_slice()
+    }
+
+    /// The units that the tasks reserve in hardware, each with its count, by system and unit.
+    pub fn units(&self) -> Result<List<(SysId, u16, u32)>, NoMemory>
+        ensures { IfOk result (λ units. units ≡ units_of self.now.world.nodes) }
+    {
+        seen::units_of(self.alloc, self.nodes.as_slice())
+    }
+
+    /// How a task stands. One that isn't there is open.
+    pub fn ended(&self, task: TaskId) -> TaskEnd
+        ensures { result ≡ end_among self.now.world.nodes task }
+    {
+        seen::end_among(self.nodes.as_slice(), task)
+    }
+}
+
+/// The run of a list of events.
+#[tactic(auto, using(crate::proofs::Happens::runs))]
+pub fn replay<'d>(alloc: Global, deck: &'d Deck, events: &[Event]) -> Result<World<'d>, NoMemory>
+    requires some { 0 < length deck.now.systems }
+    requires few { length deck.now.systems ≤ 8 }
+    ensures { IfOk result (λ w. w ≡ ran deck.now events.now) }
+{
+    let mut world = World::new(alloc, deck)?;
+    for event in events {
+        world.step(event)?;
+    }
+    Ok(world)
+}
