@@ -5,6 +5,8 @@
 mod chosen;
 pub mod laws;
 mod seen;
+#[cfg(test)]
+mod tests;
 mod world;
 
 pub use world::{World, replay};
