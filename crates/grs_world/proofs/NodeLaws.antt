@@ -9,7 +9,7 @@ use Rattle.grs_legal.specs.declared.meaning.Meaning.{Meaning}
 use Rattle.grs_wire.specs.declared.deck.Deck.{Deck}
 use Rattle.grs_wire.specs.declared.request.Req.{Req}
 use Rattle.task_state.specs.View.{is_task, state_of, new_task, new_tasks}
-use Rattle.grs_world.specs.World.{first_node}
+use Rattle.grs_node.specs.Node.{first_node}
 use Rattle.grs_world.proofs.Lines.{slice_get-within}
 use Rattle.grs_world.proofs.Seen.{is_home_at, askers, stand_apart, NodeLaws}
 use Rattle.grs_world.proofs.Ours.{IsHere, script_at}

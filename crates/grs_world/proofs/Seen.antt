@@ -11,7 +11,7 @@ use Rattle.grs_base.specs.declared.resource.TaskId.{TaskId}
 use Rattle.grs_legal.specs.Asks.{Ask, AsksEnq, AsksDeq, AsksRelease, lines_of}
 use Rattle.grs_legal.specs.Legal.{MayStand, HasControl, line_entries, entries_of, last_entry, next_ask, passed_lines, lets_pass}
 use Rattle.grs_legal.specs.declared.meaning.Meaning.{Meaning}
-use Rattle.grs_node.specs.Node.{Node, Step, may_go, put_in, finish_quiet}
+use Rattle.grs_node.specs.Node.{Node, Step, may_go, put_in, finish_quiet, first_node}
 use Rattle.grs_wire.specs.History.{replay, entries_for}
 use Rattle.grs_wire.specs.Wants.{res_wanted}
 use Rattle.grs_wire.specs.declared.deck.Deck.{Deck}
@@ -27,7 +27,6 @@ use Rattle.grs_wire.specs.declared.told.ToldLine.TheVariants as told
 use Rattle.ring_mode.specs.Ring.{Side, process}
 use Rattle.task_state.specs.Replies.{gives_up}
 use Rattle.grs_world.specs.Agree.{Agrees, entry_of_line}
-use Rattle.grs_world.specs.World.{first_node}
 use Rattle.grs_world.proofs.Owners.{is_among}
 
 -- the elements on resources that pass

@@ -6,7 +6,7 @@ use Rattle.grs_base.specs.declared.resource.TaskId.{TaskId}
 use Rattle.grs_legal.specs.Legal.{Legal}
 use Rattle.grs_medium.specs.Apply.{apply, row, turn_row, rest_row, resting}
 use Rattle.grs_medium.specs.Medium.{MediumState, live, first_medium, all_rest, medium_at_end}
-use Rattle.grs_node.specs.Node.{Node, Step, prepare, finish, finish_quiet, finish_call, read_entries, put_in, may_go, is_pending, most_additions}
+use Rattle.grs_node.specs.Node.{Node, Step, prepare, finish, finish_quiet, finish_call, read_entries, put_in, may_go, is_pending, most_additions, first_node}
 use Rattle.grs_node.specs.declared.prepared.Prepared.TheVariants.{Quiet, Call, Nothing}
 use Rattle.grs_wire.specs.Masks.{has, others}
 use Rattle.grs_wire.specs.declared.deck.Deck.{Deck}
@@ -23,7 +23,7 @@ use Rattle.grs_wire.specs.declared.request.Req.{Req}
 use Rattle.grs_wire.proofs.WantLaws.{by_test}
 use Rattle.rsa_message.specs.Message.{Message, is_at, unseen, turn_reply, turned, turned_open, turned_closed, rest_after_turn, opened, never_opened}
 use Rattle.grs_world.specs.Agree.{Sound}
-use Rattle.grs_world.specs.World.{World, Turnout, idle, carry_out, chosen, placed, counted, happens_at, happens, run, first_node, first_nodes, first_world}
+use Rattle.grs_world.specs.World.{World, Turnout, idle, carry_out, chosen, placed, counted, happens_at, happens, run, first_nodes, first_world}
 use Rattle.grs_world.proofs.Messages.{message-same, message-turned, given-rest}
 use Rattle.grs_world.proofs.Outcomes.{Outcome, quiet_outcome, still_outcome, turn_outcome}
 use Rattle.grs_world.proofs.Replied.{Replied, replied_none}

@@ -4,7 +4,7 @@
 
 mod chosen;
 pub mod laws;
-mod seen;
+mod summary;
 #[cfg(test)]
 mod tests;
 mod world;

@@ -7,7 +7,7 @@ ghost use Rattle.grs_world.specs.World.{chosen, placed};
 ghost use Rattle.grs_world.specs.Running.{starting, after, ran, nodes_of, AreOf, is_live, node_at, none_pending, at_rest, units_of, end_among};
 
 use super::chosen::{Done, choose_at};
-use super::seen;
+use super::summary;
 use grs_base::{List, NoMemory, SysId, TaskId};
 use grs_medium::Medium;
 use grs_node::Node;
@@ -181,7 +181,7 @@ impl<'d> World<'d> {
     pub fn at_rest(&self) -> bool
         ensures { result ≡ at_rest self.now.deck self.now.world }
     {
-        seen::none_pending(self.medium.removed(), self.nodes.as_slice()) && self.medium.at_end()
+        summary::none_pending(self.medium.removed(), self.nodes.as_slice()) && self.medium.at_end()
     }
 
     /// What the events fixed, each with its system, in order.
@@ -216,14 +216,14 @@ impl<'d> World<'d> {
     pub fn units(&self) -> Result<List<(SysId, u16, u32)>, NoMemory>
         ensures { IfOk result (λ units. units ≡ units_of self.now.world.nodes) }
     {
-        seen::units_of(self.alloc, self.nodes.as_slice())
+        summary::units_of(self.alloc, self.nodes.as_slice())
     }
 
     /// How a task stands. One that isn't there is open.
     pub fn ended(&self, task: TaskId) -> TaskEnd
         ensures { result ≡ end_among self.now.world.nodes task }
     {
-        seen::end_among(self.nodes.as_slice(), task)
+        summary::end_among(self.nodes.as_slice(), task)
     }
 }
 
