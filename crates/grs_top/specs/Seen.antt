@@ -6,7 +6,7 @@ use Rattle.grs_wire.specs.declared.deck.Deck.{Deck as DeckValue}
 use Rattle.grs_wire.specs.declared.seen.Seen.{Seen}
 use Rattle.grs_wire.specs.History.{replay}
 use Rattle.grs_world.specs.World.{run, hist, told}
-use Rattle.grs_world.specs.Units.{units_at}
+use Rattle.grs_world.specs.Running.{units_of}
 use Rattle.grs_report.specs.Report.{report}
 use Rattle.grs_report.specs.Ends.{all_ended}
 use Rattle.grs_top.specs.declared.status.Status.{Status}
@@ -14,18 +14,17 @@ use Rattle.grs_top.specs.declared.status.Status.TheVariants.{Done, Waits}
 use Rattle.grs_top.specs.Tasks.{tasks_of, ends_at}
 
 -- What a run of a deck shows: its events and history, what was told, the lists that the history leaves,
--- the units that are reserved in hardware, and the end of each task. No lock word is used, and the mode
--- stays.
+-- the units that are reserved in hardware, the lock words and the mode of the medium, and the end of each task.
 unfoldable pub seen_of_run : DeckValue → List Event → Seen
 seen_of_run deck es = record {
   events = es;
   hist = hist deck es;
   told = told deck es;
   queues = rows_of (replay deck.limit (hist deck es));
-  units = units_at (record { 0 = 0 }) (run deck es).node.tasks.tasks;
-  words = [];
-  star = deck.star;
-  ended = ends_at (run deck es).node.tasks (tasks_of deck);
+  units = units_of (run deck es).nodes;
+  words = (run deck es).medium.words;
+  star = (run deck es).medium.star;
+  ended = ends_at (run deck es).nodes (tasks_of deck);
 }
 
 -- the report of the run of a deck's own events

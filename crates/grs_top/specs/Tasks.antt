@@ -7,8 +7,8 @@ use Rattle.grs_wire.specs.declared.deck.JobDef.{JobDef}
 use Rattle.grs_wire.specs.declared.deck.SystemDef.{SystemDef}
 use Rattle.grs_wire.specs.declared.deck.Deck.{Deck}
 use Rattle.grs_wire.specs.declared.seen.TaskEnd.{TaskEnd}
-use Rattle.task_state.specs.View.{TasksView}
-use Rattle.grs_world.specs.Running.{end_of}
+use Rattle.grs_node.specs.Node.{Node}
+use Rattle.grs_world.specs.Running.{end_among}
 
 -- so many tasks of one job, of which the first has this place in its system
 abbrev pub tasks_in : SysId → ℕ → ℕ → List TaskDef → List TaskId
@@ -29,6 +29,6 @@ tasks_of_systems place (s ∷ ss) = tasks_from (record { 0 = place }) 0 0 s.jobs
 abbrev pub tasks_of : Deck → List TaskId
 tasks_of deck = tasks_of_systems 0 deck.systems
 
--- each of these tasks with its end
-abbrev pub ends_at : TasksView → List TaskId → List (TaskId × TaskEnd)
-ends_at v ts = map (λ t. (t, end_of v t)) ts
+-- each of these tasks with its end at its system
+abbrev pub ends_at : List Node → List TaskId → List (TaskId × TaskEnd)
+ends_at ns ts = map (λ t. (t, end_among ns t)) ts

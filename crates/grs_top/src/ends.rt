@@ -87,7 +87,7 @@ fn ends_at(
     world: &World<'_>,
     tasks: &[TaskId],
 ) -> Result<List<(TaskId, TaskEnd)>, NoMemory>
-    ensures { IfOk result (λ ends. ends ≡ ends_at world.now.world.node.tasks tasks.now) }
+    ensures { IfOk result (λ ends. ends ≡ ends_at world.now.world.nodes tasks.now) }
 {
     let mut ends = List::new(alloc);
     for task in tasks {
@@ -102,7 +102,7 @@ pub(crate) fn ends_of(
     deck: &Deck,
     world: &World<'_>,
 ) -> Result<List<(TaskId, TaskEnd)>, NoMemory>
-    ensures { IfOk result (λ ends. ends ≡ ends_at world.now.world.node.tasks (tasks_of deck.now)) }
+    ensures { IfOk result (λ ends. ends ≡ ends_at world.now.world.nodes (tasks_of deck.now)) }
 {
     let tasks = tasks_of(alloc, deck.systems.as_slice())?;
     ends_at(alloc, world, tasks.as_slice())

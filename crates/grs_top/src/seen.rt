@@ -1,8 +1,8 @@
 //! What the report of a deck shows: the run of the deck's events, its history, and where that leaves the
 //! lists and the tasks.
-ghost use Rattle.std.specs.Prelude.{◌≡◌, IfOk};
+ghost use Rattle.std.specs.Prelude.{◌≡◌, ◌<◌, ◌≤◌, length, IfOk};
 ghost use Rattle.grs_world.specs.World.{run, hist, told};
-ghost use Rattle.grs_world.specs.Units.{units_at};
+ghost use Rattle.grs_world.specs.Running.{units_of};
 ghost use Rattle.grs_top.specs.Tasks.{tasks_of, ends_at};
 ghost use Rattle.grs_top.specs.Seen.{seen_of_run};
 
@@ -23,34 +23,43 @@ fn events_of(alloc: Global, events: &[Event]) -> Result<List<Event>, NoMemory>
     Ok(list)
 }
 
-/// What is seen of a run itself: its history, what was told, the units that are reserved, and the end of each
-/// task.
+/// What is seen of a run itself: its history, what was told, the units that are reserved, the lock words and the
+/// mode of the medium, and the end of each task.
 #[derive(Drop)]
 struct Run {
     hist: List<HistEntry>,
     told: List<Told>,
     units: List<(SysId, u16, u32)>,
+    words: List<u32>,
+    star: bool,
     ended: List<(TaskId, TaskEnd)>,
 }
 
 /// The run of a deck's events.
 fn run_of(alloc: Global, deck: &Deck) -> Result<Run, NoMemory>
+    requires some { 0 < length deck.now.systems }
+    requires few { length deck.now.systems ≤ 8 }
     ensures hist { IfOk result (λ seen. seen.hist ≡ hist deck.now deck.now.events) }
     ensures told { IfOk result (λ seen. seen.told ≡ told deck.now deck.now.events) }
-    ensures units { IfOk result (λ seen.
-        seen.units ≡ units_at (record { 0 = 0 }) (run deck.now deck.now.events).node.tasks.tasks) }
+    ensures units { IfOk result (λ seen. seen.units ≡ units_of (run deck.now deck.now.events).nodes) }
+    ensures words { IfOk result (λ seen. seen.words ≡ (run deck.now deck.now.events).medium.words) }
+    ensures star { IfOk result (λ seen. seen.star ≡ (run deck.now deck.now.events).medium.star) }
     ensures ended { IfOk result (λ seen.
-        seen.ended ≡ ends_at (run deck.now deck.now.events).node.tasks (tasks_of deck.now)) }
+        seen.ended ≡ ends_at (run deck.now deck.now.events).nodes (tasks_of deck.now)) }
 {
     let world = replay(alloc, deck, deck.events.as_slice())?;
     let hist = answers(alloc, world.fixed().as_slice())?;
     let told = copy_all(alloc, world.told().as_slice())?;
     let units = world.units()?;
+    let words = world.medium().words().copy(alloc)?;
+    let star = world.medium().star();
     let ended = ends_of(alloc, deck, &world)?;
     Ok(Run {
         hist,
         told,
         units,
+        words,
+        star,
         ended,
     })
 }
@@ -62,6 +71,8 @@ fn run_of(alloc: Global, deck: &Deck) -> Result<Run, NoMemory>
 /// `NoMemory` where there was no memory for the run or for what it shows.
 #[tactic(auto, unfolding(crate::specs::Seen::seen_of_run))]
 pub fn seen_of(alloc: Global, deck: &Deck) -> Result<Seen, NoMemory>
+    requires some { 0 < length deck.now.systems }
+    requires few { length deck.now.systems ≤ 8 }
     ensures { IfOk result (λ seen. seen ≡ seen_of_run deck.now deck.now.events) }
 {
     let run = run_of(alloc, deck)?;
@@ -73,8 +84,8 @@ pub fn seen_of(alloc: Global, deck: &Deck) -> Result<Seen, NoMemory>
         told: run.told,
         queues,
         units: run.units,
-        words: List::new(alloc),
-        star: deck.star,
+        words: run.words,
+        star: run.star,
         ended: run.ended,
     })
 }

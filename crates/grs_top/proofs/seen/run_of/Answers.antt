@@ -14,3 +14,9 @@ returns-clause-ended c = rw (c.in_ok-ended.ensures, c.in_ok-world.ensures, c.as_
 
 pub returns-clause-units : goal.returns-clause-units
 returns-clause-units c = rw (c.in_ok-units.ensures, c.in_ok-world.ensures, c.as_slice.ensures) refl
+
+pub returns-clause-words : goal.returns-clause-words
+returns-clause-words c = rw (c.in_ok-words.ensures, c.words.ensures, c.medium.ensures, c.in_ok-world.ensures, c.as_slice.ensures) refl
+
+pub returns-clause-star : goal.returns-clause-star
+returns-clause-star c = rw (c.star-star.ensures, c.medium-2.ensures, c.in_ok-world.ensures, c.as_slice.ensures) refl
