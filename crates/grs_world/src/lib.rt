@@ -4,6 +4,8 @@
 
 mod chosen;
 mod seen;
+#[cfg(test)]
+mod tests;
 mod world;
 
 pub use world::{World, replay};
