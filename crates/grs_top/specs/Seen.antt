@@ -14,8 +14,7 @@ use Rattle.grs_top.specs.declared.status.Status.TheVariants.{Done, Waits}
 use Rattle.grs_top.specs.Tasks.{tasks_of, ends_at}
 
 -- What a run of a deck shows: its events and history, what was told, the lists that the history leaves,
--- the units that each system reserves in hardware, the lock words and the mode of the medium, and the end of
--- each task.
+-- the units that are reserved in hardware, the lock words and the mode of the medium, and the end of each task.
 unfoldable pub seen_of_run : DeckValue → List Event → Seen
 seen_of_run deck es = record {
   events = es;

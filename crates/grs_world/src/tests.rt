@@ -1,27 +1,25 @@
-//! A ring of two systems, of which one has a task.
-ghost use Rattle.std.specs.Prelude.{◌≡◌, length, IfOk};
-
-use super::replay;
+//! Two tasks that want one resource: of one system, and of two systems of a ring.
+use super::{World, replay};
 use grs_base::{Ctl, Item, Line, List, Lists, Qname, Ret, Rname, Scope, SysId, TaskId};
 use grs_wire::{Choice, Deck, Event, JobDef, SystemDef, TaskDef, TaskEnd};
 use std::alloc::Global;
 use std::test::Fail;
 
-fn item(alloc: Global) -> Result<Item, Fail> {
+fn item(alloc: Global, scope: Scope) -> Result<Item, Fail> {
     let q = Qname::new(alloc, b"Q")?;
     let r = Rname::new(alloc, b"R")?;
     Ok(Item {
         q,
         r,
         ctl: Ctl::E,
-        scope: Scope::Systems,
+        scope,
     })
 }
 
 /// The lines of a task that asks for the resource and leaves it to its end.
-fn lines(alloc: Global) -> Result<List<Line>, Fail> {
+fn lines(alloc: Global, scope: Scope) -> Result<List<Line>, Fail> {
     let mut items = List::new(alloc);
-    items.push(item(alloc)?)?;
+    items.push(item(alloc, scope)?)?;
     let mut lines = List::new(alloc);
     lines.push(Line::Enq {
         items,
@@ -31,47 +29,59 @@ fn lines(alloc: Global) -> Result<List<Line>, Fail> {
     Ok(lines)
 }
 
-fn jobs(alloc: Global) -> Result<List<JobDef>, Fail> {
+fn tasks(alloc: Global, scope: Scope, count: usize) -> Result<List<TaskDef>, Fail> {
     let mut tasks = List::new(alloc);
-    tasks.push(TaskDef {
-        name: List::new(alloc),
-        lines: lines(alloc)?,
-    })?;
+    for _ in 0..count {
+        tasks.push(TaskDef {
+            name: List::new(alloc),
+            lines: lines(alloc, scope)?,
+        })?;
+    }
+    Ok(tasks)
+}
+
+fn system(alloc: Global, scope: Scope, count: usize) -> Result<SystemDef, Fail> {
     let mut jobs = List::new(alloc);
     jobs.push(JobDef {
         name: List::new(alloc),
-        tasks,
+        tasks: tasks(alloc, scope, count)?,
     })?;
-    Ok(jobs)
-}
-
-fn system(alloc: Global, jobs: List<JobDef>) -> SystemDef {
-    SystemDef {
+    Ok(SystemDef {
         name: List::new(alloc),
         desk: List::new(alloc),
         jobs,
+    })
+}
+
+/// A deck of so many systems, each with so many tasks.
+fn deck(alloc: Global, scope: Scope, systems: usize, count: usize) -> Result<Deck, Fail> {
+    let mut defs = List::new(alloc);
+    for _ in 0..systems {
+        defs.push(system(alloc, scope, count)?)?;
+    }
+    Ok(Deck {
+        star: false,
+        entries: 1,
+        limit: 16,
+        lists: Lists::new(alloc),
+        systems: defs,
+        events: List::new(alloc),
+    })
+}
+
+fn task(system: u8, number: u16) -> TaskId {
+    TaskId {
+        system: SysId(system),
+        job: 0,
+        task: number,
     }
 }
 
-fn systems(alloc: Global) -> Result<List<SystemDef>, Fail>
-    ensures { IfOk result (λ systems. length systems ≡ 2) }
-{
-    let mut systems = List::new(alloc);
-    systems.push(system(alloc, jobs(alloc)?))?;
-    systems.push(system(alloc, List::new(alloc)))?;
-    Ok(systems)
-}
-
-const TASK: TaskId = TaskId {
-    system: SysId(0),
-    job: 0,
-    task: 0,
-};
-
-fn task() -> Event {
+/// A task of a system goes on.
+fn go(system: u8, number: u16) -> Event {
     Event {
-        system: SysId(0),
-        choice: Choice::Task(TASK),
+        system: SysId(system),
+        choice: Choice::Task(task(system, number)),
     }
 }
 
@@ -82,44 +92,62 @@ fn turn(system: u8) -> Event {
     }
 }
 
-/// The counts of requests that were fixed and of lines that were told, the task's end, and whether the world is at
-/// rest, after these events.
-fn run(
-    alloc: Global,
-    events: &[Event],
-    more: &[Event],
-) -> Result<(usize, usize, TaskEnd, bool), Fail> {
-    let deck = Deck {
-        star: false,
-        entries: 1,
-        limit: 16,
-        lists: Lists::new(alloc),
-        systems: systems(alloc)?,
-        events: List::new(alloc),
-    };
-    let mut world = replay(alloc, &deck, events)?;
-    for event in more {
-        world.step(event)?;
-    }
-    let units = world.units()?;
-    Ok((
+/// The counts of requests that were fixed and of lines that were told, and the ends of two tasks.
+fn seen(world: &World<'_>, first: TaskId, second: TaskId) -> (usize, usize, TaskEnd, TaskEnd) {
+    (
         world.fixed().len(),
-        world.told().len() + units.len(),
-        world.ended(TASK),
-        world.at_rest(),
-    ))
+        world.told().len(),
+        world.ended(first),
+        world.ended(second),
+    )
 }
 
 #[test]
-fn tells_the_answer_a_lap_later(rt: HostRuntime) -> Result<(), Fail> {
+fn gives_control_and_ends(rt: HostRuntime) -> Result<(), Fail> {
     let alloc = rt.alloc();
-    let asked = [task(), turn(0), turn(1)];
-    let put_in = run(alloc, &asked, &[])?;
-    assert_eq!(rt; put_in, (1, 0, TaskEnd::Open, false));
-    let answered = run(alloc, &asked, &[turn(0)])?;
-    assert_eq!(rt; answered, (1, 1, TaskEnd::Open, false));
-    let released = [turn(0), task(), turn(1), turn(0), turn(1), turn(0), task()];
-    let ended = run(alloc, &asked, &released)?;
-    assert_eq!(rt; ended, (2, 2, TaskEnd::Ended, true));
+    let deck = deck(alloc, Scope::System, 1, 2)?;
+    let mut world = replay(alloc, &deck, &[go(0, 0), go(0, 1)])?;
+    let held = seen(&world, task(0, 0), task(0, 1));
+    assert_eq!(rt; held, (2, 1, TaskEnd::Open, TaskEnd::Waits));
+    for number in [0, 0, 1, 1] {
+        world.step(&go(0, number))?;
+    }
+    let ended = seen(&world, task(0, 0), task(0, 1));
+    assert_eq!(rt; ended, (4, 4, TaskEnd::Ended, TaskEnd::Ended));
+    assert_eq!(rt; world.units()?.len(), 0);
+    assert!(rt; world.at_rest());
+    Ok(())
+}
+
+#[test]
+fn sends_the_message_round(rt: HostRuntime) -> Result<(), Fail> {
+    let alloc = rt.alloc();
+    let deck = deck(alloc, Scope::Systems, 2, 1)?;
+    let events = [go(0, 0), go(1, 0), turn(0), turn(1), turn(0), turn(1)];
+    let mut world = replay(alloc, &deck, &events)?;
+    let held = seen(&world, task(0, 0), task(1, 0));
+    assert_eq!(rt; held, (2, 1, TaskEnd::Open, TaskEnd::Waits));
+    assert!(rt; !world.at_rest());
+    for event in [
+        go(0, 0),
+        turn(0),
+        turn(1),
+        turn(0),
+        go(0, 0),
+        go(1, 0),
+        turn(1),
+        turn(0),
+        turn(1),
+        go(1, 0),
+        turn(0),
+        turn(1),
+    ] {
+        world.step(&event)?;
+    }
+    let ended = seen(&world, task(0, 0), task(1, 0));
+    assert_eq!(rt; ended, (4, 4, TaskEnd::Ended, TaskEnd::Ended));
+    assert!(rt; world.at_rest());
+    assert_eq!(rt; world.nodes().len(), 2);
+    assert!(rt; !world.medium().star());
     Ok(())
 }

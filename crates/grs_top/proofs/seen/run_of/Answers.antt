@@ -19,4 +19,4 @@ pub returns-clause-words : goal.returns-clause-words
 returns-clause-words c = rw (c.in_ok-words.ensures, c.words.ensures, c.medium.ensures, c.in_ok-world.ensures, c.as_slice.ensures) refl
 
 pub returns-clause-star : goal.returns-clause-star
-returns-clause-star c = rw (c.star.ensures, c.medium-2.ensures, c.in_ok-world.ensures, c.as_slice.ensures) refl
+returns-clause-star c = rw (c.star-star.ensures, c.medium-2.ensures, c.in_ok-world.ensures, c.as_slice.ensures) refl
