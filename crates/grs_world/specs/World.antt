@@ -1,5 +1,5 @@
 -- The run of a list of events: the medium, and the systems that share it. Each event is one system's.
-use Rattle.std.specs.Prelude.{ℕ, Bool, ◌+◌, List, [], ◌∷◌, ◌++◌, length, map, drop, cond, slice_get, set, Option, Some, None}
+use Rattle.std.specs.Prelude.{ℕ, ◌+◌, List, [], ◌∷◌, ◌++◌, length, map, drop, cond, slice_get, set, Option, Some, None}
 use Rattle.grs_base.specs.declared.resource.SysId.{SysId}
 use Rattle.grs_legal.specs.Asks.{scripts_of}
 use Rattle.grs_medium.specs.Apply.{reply_to, medium_after}
