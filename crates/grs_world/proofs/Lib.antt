@@ -45,3 +45,4 @@ pub mod Puts
 pub mod Quiet
 pub mod Fronts
 pub mod NodeLaws
+pub mod Samples
