@@ -52,3 +52,4 @@ pub mod Calls
 pub mod Nodes
 pub mod First
 pub mod Happens
+pub mod Samples
