@@ -39,7 +39,8 @@ use Rattle.rsa_message.specs.Message.{first_after, unseen, any_unseen, cleared, 
 use Rattle.task_state.specs.declared.state.Rec.{Rec}
 use Rattle.task_state.specs.Replies.{tell_code, record_enq, answered, replied, passes_wait, tell_record, tell_untold, tell_control, tell_all, tell_new, recalled, settled}
 use Rattle.task_state.specs.View.{state_of, with_state, with_line, with_phase, with_outstanding, with_record, without_record, with_told, with_exclusive, telling}
-use Rattle.grs_world.specs.World.{World, first_node, first_world, carry_out, chosen, placed, happens_at, happens, run, hist, told}
+use Rattle.grs_node.specs.Node.{first_node}
+use Rattle.grs_world.specs.World.{World, first_world, carry_out, chosen, placed, happens_at, happens, run, hist, told}
 
 abbrev system : ℕ → SysId
 system s = record { 0 = s }
