@@ -5,5 +5,7 @@
 
 mod ring;
 mod same;
+#[cfg(test)]
+mod tests;
 
 pub use ring::{is_for_all, on_turn, res_of};
