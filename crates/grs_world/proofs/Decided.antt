@@ -1,6 +1,6 @@
 -- A task after its own request was decided by the lists.
-use Rattle.std.proofs.Common.{◌≡◌, ℕ, suc, Bool, true, false, cond, not, List, [], ◌∷◌, ◌++◌, map, Option, Some, refl, ap, sym, ◌∙◌, subst, arith, inl, inr}
-use Rattle.std.specs.Prelude.{filter, ◌⊎◌}
+use Rattle.std.proofs.Common.{◌≡◌, ℕ, suc, Bool, true, false, cond, not, List, [], ◌∷◌, ◌++◌, map, Option, Some, None, ◌||◌, refl, ap, sym, ◌∙◌, subst, arith, inl, inr}
+use Rattle.std.specs.Prelude.{filter, ◌⊎◌, slice_get}
 use Rattle.std.specs.List.{list_any, list_all}
 use Rattle.std.proofs.lemmas.Bool.{cases_Bool, eq-eqb}
 use Rattle.std.proofs.lemmas.Bool.Decides.{nat_tests}
@@ -35,7 +35,7 @@ use Rattle.grs_wire.proofs.WantLaws.{by_res}
 use Rattle.grs_legal.specs.Asks.{AsksEnq, AsksDeq}
 use Rattle.task_state.specs.declared.state.Rec.{Rec}
 use Rattle.task_state.specs.declared.state.Phase.TheVariants as phases
-use Rattle.task_state.specs.View.{on_record, without_first, code_in}
+use Rattle.task_state.specs.View.{on_record, record_of, record_place, with_last_by, with_last, without_first, code_in}
 use Rattle.task_state.specs.Replies.{is_held, is_queued, is_changed, is_granted, phase_after}
 use Rattle.grs_world.specs.Agree.{tells_control, is_control_of, gets_control, is_code_of, is_post_of}
 use Rattle.grs_world.proofs.Own.{own, exclusive_on, own-push, own-without, own-exclusive}
@@ -59,10 +59,19 @@ unposted-new t k (Ended u code ∷ T) h = unposted-new t k T h
 unposted-new t k (Shown u j verb code rows ∷ T) h = unposted-new t k T h
 unposted-new t k (Desk j said ∷ T) h = unposted-new t k T h
 
+-- a task without a record of a resource gets one
+unrecorded : (xs : List Rec) (r : Res) → has_res r xs ≡ false → record_of xs r ≡ None
+unrecorded [] r e = refl
+unrecorded (y ∷ ys) r e = go (same_res r y.res) e (unrecorded ys r)
+  where
+    go : (b : Bool) → (b || has_res r ys) ≡ false → (has_res r ys ≡ false → record_of ys r ≡ None) → slice_get (y ∷ ys) (cond b 0 (suc (record_place ys r))) ≡ None
+    go true f k = absurd (cc)
+    go false f k = k f
+
 -- the records of a task after an ENQ was answered
 abbrev pub enq_records : Res → Ctl → Option ℕ → Ret → Code → ℕ → List Rec → List Rec
 enq_records r c unit ret code line xs =
-    cond (is_queued ret code) (xs ++ record { res = r; ctl = c; rank = 0; told = is_granted code; unit = unit; line = line } ∷ [])
+    cond (is_queued ret code) (with_last xs (record { res = r; ctl = c; rank = 0; told = is_granted code; unit = unit; line = line }))
     (cond (is_changed ret code) (on_record r (λ z. record z { ctl = ctls.E }) xs) xs)
 
 -- told of this, and by a line
@@ -122,7 +131,9 @@ module _ (ls : List Meaning) (p : Past) (T : List ToldLine) (t : TaskId) (n code
       let task = task-asked ls p T (by_lists p.lists t) t n code0 xs o ws l (AsksEnq r c ret) k s' h verbs.Enq code (by_lists s' t) (xs ++ y ∷ []) refl (keys_pushed y refl) (distinct-push xs y k.before.distinct (absent_record absent))
       (each-push (IsRec ls (p.asked ++ h ∷ []) (told_after T t (suc n) verbs.Enq code) (by_lists s' t) t (suc n) (phase_after code)) xs y (recs-asked ls p.asked h t T (by_lists p.lists t) (by_lists s' t) n (suc n) verbs.Enq code (phase_after code) xs (other-push absent) k.before.records) rec) in (
         subst (λ b. IsTask ls (record { lists = s'; asked = p.asked ++ h ∷ []; last = Some h }) (told_after T t (suc n) verbs.Enq code) (by_lists s' t) t
-            (record { line = suc n; phase = phase_after code; code = code_in (phase_after code) code0; records = cond b (xs ++ y ∷ []) (cond (is_changed ret code) (on_record r (λ z. record z { ctl = ctls.E }) xs) xs); outstanding = o; rows = ws })) (sym queued) task,
+            (record { line = suc n; phase = phase_after code; code = code_in (phase_after code) code0; records = cond b (with_last xs y) (cond (is_changed ret code) (on_record r (λ z. record z { ctl = ctls.E }) xs) xs); outstanding = o; rows = ws })) (sym queued)
+            (subst (λ f. IsTask ls (record { lists = s'; asked = p.asked ++ h ∷ []; last = Some h }) (told_after T t (suc n) verbs.Enq code) (by_lists s' t) t
+            (record { line = suc n; phase = phase_after code; code = code_in (phase_after code) code0; records = with_last_by f xs y; outstanding = o; rows = ws })) (sym (unrecorded xs r (absent_record absent))) task),
         λ g. own_new ∙ gets g,
       )
 

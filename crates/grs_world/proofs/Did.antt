@@ -16,7 +16,7 @@ use Rattle.grs_wire.specs.declared.told.ToldLine.TheVariants.{Coded}
 use Rattle.task_state.specs.declared.state.Rec.{Rec}
 use Rattle.task_state.specs.declared.state.Phase.{Phase}
 use Rattle.task_state.specs.declared.state.TaskState.{TaskState}
-use Rattle.task_state.specs.View.{TasksView, is_task, state_of, with_state, with_line, with_phase, with_outstanding, with_record, without_record, with_exclusive, telling, on_record, without_first, code_in}
+use Rattle.task_state.specs.View.{TasksView, is_task, state_of, with_state, with_line, with_phase, with_outstanding, with_record, without_record, with_exclusive, telling, on_record, with_last, without_first, code_in}
 use Rattle.task_state.proofs.ViewLaws.{state_of-same, told-state, state_of-telling, told-telling}
 use Rattle.task_state.specs.Replies.{is_queued, is_changed, is_granted, phase_after, tell_code, record_enq, answered, new_record}
 use Rattle.grs_world.proofs.Ours.{IsChanged, changed-state, changed-telling, changed-then, changed-none}
@@ -59,9 +59,9 @@ module _ (v w : TasksView) (t : TaskId) (x : TaskState) (T : List ToldLine) (her
   unfolding with_outstanding
   did-outstanding q = did-state v w t x T (λ y. record y { outstanding = q }) here d
 
-  pub did-record : (new : Rec) → Did v (with_record w t new) t (record x { records = x.records ++ new ∷ [] }) T
+  pub did-record : (new : Rec) → Did v (with_record w t new) t (record x { records = with_last x.records new }) T
   unfolding with_record
-  did-record new = did-state v w t x T (λ y. record y { records = y.records ++ new ∷ [] }) here d
+  did-record new = did-state v w t x T (λ y. record y { records = with_last y.records new }) here d
 
   pub did-without : (r : Res) → Did v (without_record w t r) t (record x { records = without_first x.records r }) T
   unfolding without_record
@@ -82,8 +82,8 @@ module _ (v w : TasksView) (t : TaskId) (x : TaskState) (T : List ToldLine) (her
   did-code verb C18 = subst (λ n. Did v (telling w (Coded t (state_of w t).line 0 verb C18)) t x (T ++ Coded t n 0 verb C18 ∷ [])) (ap (λ (y : TaskState). y.line) d.state) (did-telling v w t x T _ d)
   did-code verb (End m) = subst (λ n. Did v (telling w (Coded t (state_of w t).line 0 verb (End m))) t x (T ++ Coded t n 0 verb (End m) ∷ [])) (ap (λ (y : TaskState). y.line) d.state) (did-telling v w t x T _ d)
 
-  did-new : (r : Res) (c : Ctl) (unit : Option ℕ) (code : Code) → Did v (with_record w t (new_record w t r c unit code)) t (record x { records = x.records ++ record { res = r; ctl = c; rank = 0; told = is_granted code; unit = unit; line = x.line } ∷ [] }) T
-  did-new r c unit code = subst (λ n. Did v (with_record w t (new_record w t r c unit code)) t (record x { records = x.records ++ record { res = r; ctl = c; rank = 0; told = is_granted code; unit = unit; line = n } ∷ [] }) T) (ap (λ (y : TaskState). y.line) d.state) (did-record (new_record w t r c unit code))
+  did-new : (r : Res) (c : Ctl) (unit : Option ℕ) (code : Code) → Did v (with_record w t (new_record w t r c unit code)) t (record x { records = with_last x.records (record { res = r; ctl = c; rank = 0; told = is_granted code; unit = unit; line = x.line }) }) T
+  did-new r c unit code = subst (λ n. Did v (with_record w t (new_record w t r c unit code)) t (record x { records = with_last x.records (record { res = r; ctl = c; rank = 0; told = is_granted code; unit = unit; line = n }) }) T) (ap (λ (y : TaskState). y.line) d.state) (did-record (new_record w t r c unit code))
 
   -- the records after an ENQ
   pub did-enq : (r : Res) (c : Ctl) (unit : Option ℕ) (ret : Ret) (code : Code) → Did v (record_enq w t r c unit ret code) t (record x { records = enq_records r c unit ret code x.line x.records }) T
@@ -91,7 +91,7 @@ module _ (v w : TasksView) (t : TaskId) (x : TaskState) (T : List ToldLine) (her
   did-enq r c unit ret code = go (is_queued ret code) (is_changed ret code)
     where
       go : (a b : Bool) → Did v (cond a (with_record w t (new_record w t r c unit code)) (cond b (with_exclusive w t r) w)) t
-          (record x { records = cond a (x.records ++ record { res = r; ctl = c; rank = 0; told = is_granted code; unit = unit; line = x.line } ∷ []) (cond b (on_record r (λ z. record z { ctl = ctls.E }) x.records) x.records) }) T
+          (record x { records = cond a (with_last x.records (record { res = r; ctl = c; rank = 0; told = is_granted code; unit = unit; line = x.line })) (cond b (on_record r (λ z. record z { ctl = ctls.E }) x.records) x.records) }) T
       go true b = did-new r c unit code
       go false true = did-exclusive r
       go false false = d

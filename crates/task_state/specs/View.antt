@@ -1,5 +1,5 @@
 -- What callers see of the tasks of a system, and the words for what changes.
-use Rattle.std.specs.Prelude.{ℕ, suc, zero, Bool, true, ◌&&◌, ◌==◌, nat_lt, nat_le, List, [], ◌∷◌, ◌++◌, length, map, cond, Option, None, slice_get, ◌+◌, get_or, set}
+use Rattle.std.specs.Prelude.{ℕ, suc, zero, Bool, true, ◌&&◌, ◌==◌, nat_lt, nat_le, List, [], ◌∷◌, ◌++◌, length, map, cond, Option, None, Some, slice_get, ◌+◌, get_or, set}
 use Rattle.grs_base.specs.Same.{same_res}
 use Rattle.grs_base.specs.declared.resource.Ctl.TheVariants.{E}
 use Rattle.grs_base.specs.declared.resource.Res.{Res}
@@ -53,6 +53,14 @@ record_place (x ∷ xs) r = cond (same_res r x.res) 0 (suc (record_place xs r))
 abbrev pub record_of : List Rec → Res → Option Rec
 record_of xs r = slice_get xs (record_place xs r)
 
+-- with one more record behind the others, where there is none of its resource
+abbrev pub with_last_by : Option Rec → List Rec → Rec → List Rec
+with_last_by None xs new = xs ++ new ∷ []
+with_last_by (Some x) xs new = xs
+
+abbrev pub with_last : List Rec → Rec → List Rec
+with_last xs new = with_last_by (record_of xs new.res) xs new
+
 -- without the first record of a resource
 abbrev pub without_first : List Rec → Res → List Rec
 without_first [] r = []
@@ -84,9 +92,9 @@ with_phase v t p = with_state v t (λ x. record x { phase = p; code = code_in p 
 unfoldable pub with_outstanding : TasksView → TaskId → Option Asked → TasksView
 with_outstanding v t q = with_state v t (λ x. record x { outstanding = q })
 
--- a task with one more record, behind the others
+-- a task with one more record, behind the others; none is made of a resource of which it has one
 unfoldable pub with_record : TasksView → TaskId → Rec → TasksView
-with_record v t new = with_state v t (λ x. record x { records = x.records ++ new ∷ [] })
+with_record v t new = with_state v t (λ x. record x { records = with_last x.records new })
 
 -- a task without its record of a resource
 unfoldable pub without_record : TasksView → TaskId → Res → TasksView

@@ -2,7 +2,7 @@
 ghost use Rattle.std.specs.Prelude.{◌≡◌, ◌≤◌, ◌++◌, ◌∷◌, [], true, length, OnOk, OnErr};
 ghost use Rattle.std.specs.Option.{option_copied};
 ghost use Rattle.grs_base.specs.declared.resource.Ctl.TheVariants.{E};
-ghost use Rattle.task_state.specs.View.{record_of, record_place, on_record, without_first};
+ghost use Rattle.task_state.specs.View.{record_of, record_place, on_record, with_last, without_first};
 
 use super::state::Rec;
 use grs_base::{Ctl, List, NoMemory, Res, is_same_res};
@@ -32,7 +32,7 @@ pub(crate) fn find<'a>(records: &'a [Rec], res: &Res) -> Option<&'a Rec>
 }
 
 /// Puts a record behind the others, of which there may be 4,294,967,295.
-pub(crate) fn push_last(records: &mut List<Rec>, rec: Rec) -> Result<(), NoMemory>
+fn push_new(records: &mut List<Rec>, rec: Rec) -> Result<(), NoMemory>
     requires { length records.old ≤ u32.MAX }
     ensures ok { OnOk result (records.new ≡ records.old ++ rec ∷ []) }
     ensures err { OnErr result (records.new ≡ records.old) }
@@ -44,6 +44,19 @@ pub(crate) fn push_last(records: &mut List<Rec>, rec: Rec) -> Result<(), NoMemor
     match records.push(rec) {
         Ok(()) => Ok(()),
         Err(NoMemory) => Err(NoMemory),
+    }
+}
+
+/// Puts a record behind the others, unless there is one of its resource.
+pub(crate) fn push_last(records: &mut List<Rec>, rec: Rec) -> Result<(), NoMemory>
+    requires { length records.old ≤ u32.MAX }
+    ensures ok { OnOk result (records.new ≡ with_last records.old rec) }
+    ensures err { OnErr result (records.new ≡ records.old) }
+    ensures few { length records.new ≤ u32.MAX }
+{
+    match find(records.as_slice(), &rec.res) {
+        Some(_) => Ok(()),
+        None => push_new(records, rec),
     }
 }
 

@@ -284,7 +284,8 @@ impl Tasks {
         std::mem::replace(&mut state.outstanding, None)
     }
 
-    /// Puts a record behind the others of its task. There is no memory for more than 4,294,967,295.
+    /// Puts a record behind the others of its task, unless the task has one of that resource. There is no memory
+    /// for more than 4,294,967,295.
     pub fn add_record(&mut self, task: TaskId, rec: Rec) -> Result<(), NoMemory>
         requires { is_task self.old task ≡ true }
         ensures ok { OnOk result (self.new ≡ with_record self.old task rec) }
