@@ -1,4 +1,6 @@
 //! Two tasks that want one resource: of one system, and of two systems of a ring.
+ghost use Rattle.std.specs.Prelude.{◌≡◌, length, IfOk};
+
 use super::{World, replay};
 use grs_base::{Ctl, Item, Line, List, Lists, Qname, Ret, Rname, Scope, SysId, TaskId};
 use grs_wire::{Choice, Deck, Event, JobDef, SystemDef, TaskDef, TaskEnd};
@@ -53,20 +55,40 @@ fn system(alloc: Global, scope: Scope, count: usize) -> Result<SystemDef, Fail> 
     })
 }
 
-/// A deck of so many systems, each with so many tasks.
-fn deck(alloc: Global, scope: Scope, systems: usize, count: usize) -> Result<Deck, Fail> {
-    let mut defs = List::new(alloc);
-    for _ in 0..systems {
-        defs.push(system(alloc, scope, count)?)?;
-    }
-    Ok(Deck {
+/// One system with two tasks.
+fn one_system(alloc: Global) -> Result<List<SystemDef>, Fail>
+    ensures { IfOk result (λ systems. length systems ≡ 1) }
+{
+    let mut systems = List::new(alloc);
+    let first = system(alloc, Scope::System, 2)?;
+    systems.push(first)?;
+    Ok(systems)
+}
+
+/// Two systems with a task each.
+fn two_systems(alloc: Global) -> Result<List<SystemDef>, Fail>
+    ensures { IfOk result (λ systems. length systems ≡ 2) }
+{
+    let mut systems = List::new(alloc);
+    let first = system(alloc, Scope::Systems, 1)?;
+    systems.push(first)?;
+    let second = system(alloc, Scope::Systems, 1)?;
+    systems.push(second)?;
+    Ok(systems)
+}
+
+/// A deck of these systems.
+fn deck(alloc: Global, systems: List<SystemDef>) -> Deck
+    ensures { result.systems ≡ systems }
+{
+    Deck {
         star: false,
         entries: 1,
         limit: 16,
         lists: Lists::new(alloc),
-        systems: defs,
+        systems,
         events: List::new(alloc),
-    })
+    }
 }
 
 fn task(system: u8, number: u16) -> TaskId {
@@ -105,7 +127,7 @@ fn seen(world: &World<'_>, first: TaskId, second: TaskId) -> (usize, usize, Task
 #[test]
 fn gives_control_and_ends(rt: HostRuntime) -> Result<(), Fail> {
     let alloc = rt.alloc();
-    let deck = deck(alloc, Scope::System, 1, 2)?;
+    let deck = deck(alloc, one_system(alloc)?);
     let mut world = replay(alloc, &deck, &[go(0, 0), go(0, 1)])?;
     let held = seen(&world, task(0, 0), task(0, 1));
     assert_eq!(rt; held, (2, 1, TaskEnd::Open, TaskEnd::Waits));
@@ -122,7 +144,7 @@ fn gives_control_and_ends(rt: HostRuntime) -> Result<(), Fail> {
 #[test]
 fn sends_the_message_round(rt: HostRuntime) -> Result<(), Fail> {
     let alloc = rt.alloc();
-    let deck = deck(alloc, Scope::Systems, 2, 1)?;
+    let deck = deck(alloc, two_systems(alloc)?);
     let events = [go(0, 0), go(1, 0), turn(0), turn(1), turn(0), turn(1)];
     let mut world = replay(alloc, &deck, &events)?;
     let held = seen(&world, task(0, 0), task(1, 0));
