@@ -1,14 +1,9 @@
-//! Requests that are answered at once, with the tasks that got control by them: on any table of resources, and on
-//! the lists of the Step and System resources of one system, which can be looked at. Nothing here knows of other
-//! systems.
+//! The lists of the Step and System resources of one system: its requests for them are answered at once. Nothing
+//! here knows of other systems.
 #![tactic(auto)]
 
 mod local;
-mod owners;
-mod request;
-mod slices;
 #[cfg(test)]
 mod tests;
 
 pub use local::Local;
-pub use request::{Outcome, settle};

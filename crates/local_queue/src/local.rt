@@ -4,10 +4,9 @@ ghost use Rattle.grs_base.specs.Looks.{look as looked};
 ghost use Rattle.grs_base.specs.declared.look.Place.TheVariants.{Local as LocalPlace};
 ghost use Rattle.grs_wire.specs.Wants.{answer_to, after_want, new_owners};
 
-use super::request::{Outcome, settle};
 use grs_base::{Filter, List, NoMemory, Place, Row, SysId};
 use grs_wire::Req;
-use queue_table::Table;
+use queue_table::{Outcome, Table};
 use serial_queue::PlainQueues;
 use std::alloc::Global;
 use std::marker::Model;
@@ -50,7 +49,7 @@ impl Local {
         ensures after { OnOk result (self.new.held ≡ after_want self.old.held req.now.task req.now.want) }
         ensures unchanged { OnErr result (self.new ≡ self.old) }
     {
-        settle(self.alloc, &mut self.table, req)
+        self.table.settle(self.alloc, req)
     }
 
     /// The lists of the system's own resources that pass a filter, in the order in which resources are shown.

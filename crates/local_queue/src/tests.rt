@@ -1,8 +1,8 @@
-//! A short life of one list, and of a table of the whole complex.
-use super::{Local, Outcome, settle};
+//! A short life of one list of a system, and of a table of the whole complex.
+use super::Local;
 use grs_base::{Code, Ctl, Filter, List, Qname, Res, Ret, Rname, SysId, TaskId};
 use grs_wire::{Answer, Req, Want};
-use queue_table::Table;
+use queue_table::{Outcome, Table};
 use serial_queue::PlainQueues;
 use std::alloc::Global;
 use std::test::Fail;
@@ -82,7 +82,7 @@ fn enqueued(
         full: false,
     };
     let task = task(number);
-    let (code, _) = told(settle(alloc, table, &Req { task, want })?);
+    let (code, _) = told(table.settle(alloc, &Req { task, want })?);
     Ok(code)
 }
 
@@ -102,7 +102,7 @@ fn shown(alloc: Global, table: &mut Table<PlainQueues>, first: u32) -> Result<Op
         filter: Filter::All,
     };
     let task = task(0);
-    Ok(count_rows(&settle(alloc, table, &Req { task, want })?))
+    Ok(count_rows(&table.settle(alloc, &Req { task, want })?))
 }
 
 #[test]

@@ -1,7 +1,7 @@
 use Rattle.std.proofs.Common.{◌∙◌, ◌++◌, ◌+◌, List, min, refl, ap, arith}
 use Rattle.grs_base.specs.declared.resource.Row.{Row}
-use Rattle.local_queue.proofs.SliceLemmas.{looks-more, looks-end}
-use Rattle.local_queue.proofs.slices.look_slices.Goals as goal
+use Rattle.queue_table.proofs.SliceLemmas.{looks-more, looks-end}
+use Rattle.queue_table.proofs.slices.look_slices.Goals as goal
 
 pub loop-slice-preserved : goal.loop-slice-preserved
 loop-slice-preserved g c =

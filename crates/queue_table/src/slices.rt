@@ -2,8 +2,8 @@
 ghost use Rattle.std.specs.Prelude.{◌≡◌, ◌++◌, ◌+◌, min, IfOk};
 ghost use Rattle.grs_wire.specs.Wants.{looks};
 
+use super::table::Table;
 use grs_base::{Filter, List, NoMemory, Place, Queues, Row, SLICES};
-use queue_table::Table;
 use std::alloc::Global;
 
 /// Rows with more behind them.

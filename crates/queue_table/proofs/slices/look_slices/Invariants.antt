@@ -1,6 +1,6 @@
 use Rattle.std.proofs.Common.{◌≡◌, ◌++◌, ◌+◌, ◌-◌, min}
 use Rattle.grs_wire.specs.Wants.{looks}
-use Rattle.local_queue.proofs.slices.look_slices.Given as goal
+use Rattle.queue_table.proofs.slices.look_slices.Given as goal
 
 abbrev pub invariant-loop-slice : goal.invariant-loop-slice
 invariant-loop-slice g l =

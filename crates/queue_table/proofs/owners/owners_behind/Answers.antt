@@ -4,8 +4,8 @@ use Rattle.std.proofs.Common.{subst}
 use Rattle.grs_base.specs.Lists.{list_without}
 use Rattle.grs_base.specs.declared.resource.Elem.{Elem}
 use Rattle.grs_base.specs.declared.resource.TaskId.{TaskId}
-use Rattle.local_queue.proofs.OwnerLemmas.{owners-behind, owners-none}
-use Rattle.local_queue.proofs.owners.owners_behind.Goals as goal
+use Rattle.queue_table.proofs.OwnerLemmas.{owners-behind, owners-none}
+use Rattle.queue_table.proofs.owners.owners_behind.Goals as goal
 
 pub returns-then-owned-own : goal.returns-then-owned-own
 returns-then-owned-own c =
