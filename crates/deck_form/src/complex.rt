@@ -6,11 +6,14 @@ ghost use Rattle.deck_form.specs.Complex.{mode_of, is_entries, entries_of, limit
 use crate::words::number_of;
 use deck_scan::{Miss, Token, any_word_at, close_at, end_at, open_at};
 
-/// The operands that stand in a COMPLEX: MODE (true for STAR), ENTRIES and LIMIT.
+/// The operands that stand in a COMPLEX.
 #[derive(Clone, Copy, Debug, PartialEq, Eq)]
 pub struct Setup {
+    /// MODE: true for STAR, false for RING.
     pub star: Option<bool>,
+    /// ENTRIES, how many lock entries there are: 1, 2, 4, 8, 16, 32 or 64.
     pub entries: Option<u32>,
+    /// LIMIT, how many requests a task may have: 1 to 4,096.
     pub limit: Option<u32>,
 }
 

@@ -8,11 +8,14 @@ use crate::unit::unit_of;
 use deck_scan::{Miss, Token, any_word_at, comma_at, end_at, value_at};
 use grs_base::Ret;
 
-/// The options that stand in a line: RET or ECB, RNL (true for YES) and UCB.
+/// The options that stand in a line.
 #[derive(Clone, Copy, Debug, PartialEq, Eq)]
 pub struct Opts {
+    /// RET, or ECB, which stands in its place.
     pub ret: Option<Ret>,
+    /// RNL: true for YES, which looks at the name lists, false for NO, which passes them by.
     pub rnl: Option<bool>,
+    /// The number of the device that UCB gives.
     pub unit: Option<u16>,
 }
 
