@@ -1,19 +1,19 @@
 //! Reads a deck, statement by statement, up to its first fault.
 ghost use Rattle.std.specs.Prelude.{◌≡◌, ◌||◌, OnOk, IfOk, Some, None};
-ghost use Rattle.deck_scan.specs.Gives.{Gives};
+ghost use Rattle.deck_scan.specs.Gives.{Gives, IsOkUnlessMemory};
 ghost use Rattle.grs_deck.specs.Places.{Fits};
 ghost use Rattle.grs_deck.specs.Judge.{verdict};
 ghost use Rattle.grs_deck.specs.Grow.{is_schedule, line_count, grow};
 ghost use Rattle.grs_wire.specs.declared.deck.Deck.{Deck as DeckValue};
 ghost use Rattle.grs_deck.specs.Whole.{AreLists, IsDeck};
-ghost use Rattle.grs_deck.specs.Spells.{SpellsDeck, Answers, IsOkUnlessMemory};
+ghost use Rattle.grs_deck.specs.Spells.{SpellsDeck, Answers};
 ghost use Rattle.grs_deck.specs.Reading.{judge_statement, judge, judge_all, ended, reading, Took, no_draft};
 
 use crate::grow::grow_deck;
 use crate::judge::{Draft, verdict};
 use deck_form::{FormError, Stmt, statement, statements};
-use deck_scan::{TokenLine, lines};
-use grs_base::{DeckFault, Kind, List, Lists, NoMemory, ReadError};
+use deck_scan::{TokenLine, lines, refused};
+use grs_base::{Kind, List, Lists, NoMemory, ReadError};
 use grs_wire::Deck;
 use std::alloc::Global;
 
@@ -56,7 +56,7 @@ fn take_statement(draft: &mut Draft, alloc: Global, at: u32, st: Stmt) -> Result
     ensures { Took result draft.new (judge_statement draft.old at st) }
 {
     match verdict(draft, &st) {
-        Some(kind) => Err(ReadError::Fault(DeckFault { line: at, kind })),
+        Some(kind) => Err(refused(at, kind)),
         None => {
             grow(draft, alloc, st)?;
             Ok(())
@@ -73,10 +73,7 @@ fn take_line(draft: &mut Draft, alloc: Global, line: &TokenLine) -> Result<(), R
 {
     match statement(alloc, draft.scheduled, draft.deck.entries, line) {
         Err(FormError::NoMemory) => Err(ReadError::NoMemory),
-        Err(FormError::Kind(kind)) => Err(ReadError::Fault(DeckFault {
-            line: line.at,
-            kind,
-        })),
+        Err(FormError::Kind(kind)) => Err(refused(line.at, kind)),
         Ok(st) => take_statement(draft, alloc, line.at, st),
     }
 }
@@ -118,10 +115,7 @@ fn end(draft: Draft) -> Result<Deck, ReadError>
     ensures { Gives result (ended draft) }
 {
     if draft.deck.systems.len() == 0 {
-        Err(ReadError::Fault(DeckFault {
-            line: 0,
-            kind: Kind::NoSystem,
-        }))
+        Err(refused(0, Kind::NoSystem))
     } else {
         Ok(draft.deck)
     }
