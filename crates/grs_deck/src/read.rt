@@ -11,6 +11,7 @@ ghost use Rattle.grs_deck.specs.Reading.{judge_statement, judge, judge_all, ende
 
 use crate::grow::grow_deck;
 use crate::judge::{Draft, verdict};
+use crate::limits::MOST_LINES;
 use deck_form::{FormError, Stmt, statement, statements};
 use deck_scan::{TokenLine, lines, refused};
 use grs_base::{Kind, List, Lists, NoMemory, ReadError};
@@ -93,7 +94,7 @@ fn start(alloc: Global) -> Draft
         },
         begun: false,
         scheduled: false,
-        room: 16384,
+        room: MOST_LINES,
     }
 }
 
@@ -132,11 +133,22 @@ fn read_all(alloc: Global, text: &[u8]) -> Result<Deck, ReadError>
     end(draft)
 }
 
-/// The deck that a text spells, or its first fault.
+/// The deck that a text spells, or its first fault. Of
+///
+///     SYSTEM SYA
+///     JOB PAYROLL
+///     TASK MAKE
+///     ENQ (PAYROLL,MASTER,E,SYSTEM)
+///     SCHEDULE
+///     SYA TASK PAYROLL.MAKE
+///
+/// it makes a deck of one system with one job, whose task has one line, and of one event, in which that
+/// task goes on. Without its third line the fault is `OutOfPlace` on line 3: no task stands that the ENQ
+/// could belong to. What COMPLEX doesn't say is ring mode, 64 lock entries and 4,096 requests a task.
 ///
 /// `TooLong` and `NoSystem` are told with line 0, `BadByte` with the line of the first such byte,
 /// and any other kind with the line on which the first faulty statement begins: it is the least
-/// kind that applies to that statement.
+/// kind that applies to that statement, in the order of `grs_base::Kind`. Want of memory is `NoMemory`.
 pub fn read_deck(alloc: Global, text: &[u8]) -> Result<Deck, ReadError>
     // What is read is spelled so, and has no fault; the fault is the text's first one.
     ensures exact { Answers result text.now }
