@@ -1,16 +1,15 @@
 -- What is read is spelled so.
-use Rattle.std.proofs.Common.{◌≡◌, ℕ, ◌+◌, ◌<◌, Bool, true, false, cond, eqb, ltb, List, [], ◌∷◌, ◌++◌, length, get_or, take, drop, Option, Some, None, Ok, refl, sym, ap, subst, ◌∙◌, arith, drop-cons, add-one}
+use Rattle.std.proofs.Common.{◌≡◌, ℕ, ◌+◌, ◌<◌, Bool, true, false, cond, eqb, ltb, List, [], ◌∷◌, ◌++◌, length, get_or, take, drop, Option, Some, None, Ok, refl, sym, ap, subst, ◌∙◌, drop-cons, add-one}
 use Rattle.std.specs.Prelude.{codes, position, ◌&&◌}
-use Rattle.std.specs.List.{flat_map}
 use Rattle.std.specs.Str.{bytes_eq}
 use Rattle.std.proofs.lemmas.Bool.{and_parts, eqb-true, ltb-true}
 use Rattle.std.proofs.lemmas.List.{take-append-drop}
 use Rattle.std.proofs.lemmas.List.Quantifiers.{position-Some}
 use Rattle.deck_scan.specs.declared.token.Token.{Token}
-use Rattle.deck_scan.specs.declared.token.Token.TheVariants.{Word, Open, Close, Unclosed}
+use Rattle.deck_scan.specs.declared.token.Token.TheVariants.{Word, Open, Unclosed}
 use Rattle.deck_scan.specs.declared.token.TokenLine.{TokenLine}
-use Rattle.deck_scan.specs.Next.{◌>>=◌, open_at, close_at, end_at, any_word_at, up_to, Sets}
-use Rattle.deck_scan.proofs.Taking.{bind_some, guard_some, some_is, same_bytes, once_some, open_taken, close_taken, end_taken, any_word_taken, TookOne, all_taken}
+use Rattle.deck_scan.specs.Next.{◌>>=◌, open_at, close_at, end_at, any_word_at}
+use Rattle.deck_scan.proofs.Taking.{bind_some, guard_some, some_is, same_bytes, IsWordOf, row, once_some, open_taken, close_taken, end_taken, any_word_taken, TookOne, all_taken}
 use Rattle.job_syntax.specs.declared.said.Verb.{Verb as LineVerb}
 use Rattle.job_syntax.specs.Said.{verb as line_verb, said_at}
 use Rattle.job_syntax.specs.Spelled.{IsWord, IsSaid}
@@ -53,22 +52,9 @@ named_taken ts n e =
 
 -- ---- COMPLEX
 
-abbrev ModeWord : List ℕ → Option Bool → Type 0
-ModeWord w None = Unit {0}
-ModeWord w (Some b) = w ≡ mode_word b
-
-mode_by : (w : List ℕ) (b : Bool) (x y : Option Bool) → (b ≡ true → ModeWord w x) → ModeWord w y → ModeWord w (cond b x y)
-mode_by w true x y p q = p refl
-mode_by w false x y p q = q
-
-mode_says : (w : List ℕ) → ModeWord w (mode_of w)
-unfolding mode_of
-mode_says w =
-    mode_by w (bytes_eq w (codes "RING")) (Some false) _ (same_bytes w _)
-    (mode_by w (bytes_eq w (codes "STAR")) (Some true) None (same_bytes w _) tt)
-
 mode_taken : (w : List ℕ) (b : Bool) → mode_of w ≡ Some b → w ≡ mode_word b
-mode_taken w b e = subst (ModeWord w) e (mode_says w)
+unfolding mode_of
+mode_taken w b e = subst (IsWordOf mode_word w) e (row mode_word w false _ (row mode_word w true None tt))
 
 entries_taken : (w : List ℕ) (n : ℕ) → entries_of w ≡ Some n → (number_of w ≡ Some n) × (is_entries n ≡ true)
 unfolding entries_of

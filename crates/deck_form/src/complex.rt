@@ -1,22 +1,26 @@
 //! The operands of COMPLEX, in any order, each at most once.
-ghost use Rattle.std.specs.Prelude.{◌≡◌};
+ghost use Rattle.std.specs.Prelude.{◌≡◌, IfErr};
 ghost use Rattle.deck_scan.specs.Next.{Reads, maybe};
 ghost use Rattle.deck_form.specs.Complex.{mode_of, is_entries, entries_of, limit_of, with_star, with_entries, with_limit, with_operand, operand_at, complex_at};
 
 use crate::words::number_of;
 use deck_scan::{Miss, Token, any_word_at, close_at, end_at, open_at};
 
-/// The operands that stand in a COMPLEX: MODE (true for STAR), ENTRIES and LIMIT.
+/// The operands that stand in a COMPLEX.
 #[derive(Clone, Copy, Debug, PartialEq, Eq)]
 pub struct Setup {
+    /// MODE: true for STAR, false for RING.
     pub star: Option<bool>,
+    /// ENTRIES, how many lock entries there are: 1, 2, 4, 8, 16, 32 or 64.
     pub entries: Option<u32>,
+    /// LIMIT, how many requests a task may have: 1 to 4,096.
     pub limit: Option<u32>,
 }
 
 #[tactic(auto, unfolding(crate::specs::Complex::mode_of))]
 fn mode_of(w: &[u8]) -> Result<bool, Miss>
-    ensures { Reads (λ x. x) result (mode_of w.now) }
+    ensures reads { Reads (λ x. x) result (mode_of w.now) }
+    ensures bad { IfErr result (λ e. e ≡ Miss.Bad) }
 {
     if w == b"RING".as_slice() {
         Ok(false)
@@ -35,7 +39,8 @@ fn is_entries(n: u32) -> bool
 
 #[tactic(auto, unfolding(crate::specs::Complex::entries_of))]
 fn entries_of(w: &[u8]) -> Result<u32, Miss>
-    ensures { Reads (λ x. x) result (entries_of w.now) }
+    ensures reads { Reads (λ x. x) result (entries_of w.now) }
+    ensures bad { IfErr result (λ e. e ≡ Miss.Bad) }
 {
     let n = number_of(w)?;
     if is_entries(n) { Ok(n) } else { Err(Miss::Bad) }
@@ -43,7 +48,8 @@ fn entries_of(w: &[u8]) -> Result<u32, Miss>
 
 #[tactic(auto, unfolding(crate::specs::Complex::limit_of))]
 fn limit_of(w: &[u8]) -> Result<u32, Miss>
-    ensures { Reads (λ x. x) result (limit_of w.now) }
+    ensures reads { Reads (λ x. x) result (limit_of w.now) }
+    ensures bad { IfErr result (λ e. e ≡ Miss.Bad) }
 {
     let n = number_of(w)?;
     if 1 <= n && n <= 4096 {
@@ -54,7 +60,8 @@ fn limit_of(w: &[u8]) -> Result<u32, Miss>
 }
 
 fn with_star(setup: Setup, star: bool) -> Result<Setup, Miss>
-    ensures { Reads (λ x. x) result (with_star setup star) }
+    ensures reads { Reads (λ x. x) result (with_star setup star) }
+    ensures bad { IfErr result (λ e. e ≡ Miss.Bad) }
 {
     match setup.star {
         Some(_) => Err(Miss::Bad),
@@ -66,7 +73,8 @@ fn with_star(setup: Setup, star: bool) -> Result<Setup, Miss>
 }
 
 fn with_entries(setup: Setup, entries: u32) -> Result<Setup, Miss>
-    ensures { Reads (λ x. x) result (with_entries setup entries) }
+    ensures reads { Reads (λ x. x) result (with_entries setup entries) }
+    ensures bad { IfErr result (λ e. e ≡ Miss.Bad) }
 {
     match setup.entries {
         Some(_) => Err(Miss::Bad),
@@ -78,7 +86,8 @@ fn with_entries(setup: Setup, entries: u32) -> Result<Setup, Miss>
 }
 
 fn with_limit(setup: Setup, limit: u32) -> Result<Setup, Miss>
-    ensures { Reads (λ x. x) result (with_limit setup limit) }
+    ensures reads { Reads (λ x. x) result (with_limit setup limit) }
+    ensures bad { IfErr result (λ e. e ≡ Miss.Bad) }
 {
     match setup.limit {
         Some(_) => Err(Miss::Bad),
@@ -92,7 +101,8 @@ fn with_limit(setup: Setup, limit: u32) -> Result<Setup, Miss>
 /// Takes the value of an operand.
 #[tactic(auto, unfolding(crate::specs::Complex::with_operand))]
 fn with_operand(setup: Setup, word: &[u8], value: &[u8]) -> Result<Setup, Miss>
-    ensures { Reads (λ x. x) result (with_operand setup word.now value.now) }
+    ensures reads { Reads (λ x. x) result (with_operand setup word.now value.now) }
+    ensures bad { IfErr result (λ e. e ≡ Miss.Bad) }
 {
     if word == b"MODE".as_slice() {
         with_star(setup, mode_of(value)?)
@@ -108,7 +118,8 @@ fn with_operand(setup: Setup, word: &[u8], value: &[u8]) -> Result<Setup, Miss>
 /// One more operand.
 #[tactic(auto, unfolding(crate::specs::Complex::operand_at))]
 fn operand_at(setup: Setup, ts: &[Token]) -> Result<(Setup, &[Token]), Miss>
-    ensures { Reads (λ x. (x.0, x.1.now)) result (operand_at setup ts.now) }
+    ensures reads { Reads (λ x. (x.0, x.1.now)) result (operand_at setup ts.now) }
+    ensures bad { IfErr result (λ e. e ≡ Miss.Bad) }
 {
     let (word, ts) = any_word_at(ts)?;
     let ts = open_at(ts)?;
@@ -119,7 +130,8 @@ fn operand_at(setup: Setup, ts: &[Token]) -> Result<(Setup, &[Token]), Miss>
 }
 
 fn maybe_operand(setup: Setup, ts: &[Token]) -> Result<(Setup, &[Token]), Miss>
-    ensures { Reads (λ x. (x.0, x.1.now)) result (maybe operand_at setup ts.now) }
+    ensures reads { Reads (λ x. (x.0, x.1.now)) result (maybe operand_at setup ts.now) }
+    ensures bad { IfErr result (λ e. e ≡ Miss.Bad) }
 {
     if ts.len() == 0 {
         return Ok((setup, ts));
@@ -130,7 +142,8 @@ fn maybe_operand(setup: Setup, ts: &[Token]) -> Result<(Setup, &[Token]), Miss>
 /// At most as many operands as there are kinds of them, and nothing after them.
 #[tactic(auto, unfolding(crate::specs::Complex::complex_at))]
 pub fn complex_at(ts: &[Token]) -> Result<Setup, Miss>
-    ensures { Reads (λ x. x) result (complex_at ts.now) }
+    ensures reads { Reads (λ x. x) result (complex_at ts.now) }
+    ensures bad { IfErr result (λ e. e ≡ Miss.Bad) }
 {
     let none = Setup {
         star: None,

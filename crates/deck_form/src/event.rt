@@ -11,18 +11,22 @@ use std::alloc::Global;
 /// What a system does at an event, with names of any length.
 #[derive(Drop)]
 pub enum Act {
+    /// A task of it goes on.
     Task { job: List<u8>, task: List<u8> },
+    /// It takes its turn at the message.
     Turn,
+    /// Read and not carried out, like all below but `Rest`.
     Send { job: List<u8>, task: List<u8> },
     Take,
     Settle,
-    /// An entry below the number of entries.
+    /// A lock entry, below the deck's number of them.
     Tell(u32),
-    /// An entry below the number of entries.
+    /// A lock entry, below the deck's number of them.
     Leave(u32),
     Switch,
     /// The system that is removed.
     Purge(List<u8>),
+    /// It comes to rest.
     Rest,
 }
 

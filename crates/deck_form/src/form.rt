@@ -1,4 +1,4 @@
-//! The statements of a deck.
+//! The statement of a line: by its first word before SCHEDULE, an event behind it.
 ghost use Rattle.std.specs.Prelude.{◌≡◌, Option};
 ghost use Rattle.deck_scan.specs.Next.{Reads};
 ghost use Rattle.deck_form.specs.Form.{named_at, plain_form, first_form, event_form, form, line_key, key, or_bad, Forms};
@@ -18,24 +18,33 @@ use std::alloc::Global;
 /// A statement, with names of any length.
 #[derive(Drop)]
 pub enum Stmt {
-    /// Its word is not built; nothing more of it was read.
+    /// A statement with the word AT, GQSCAN, DISPLAY or D, which this program doesn't carry out. Nothing
+    /// more of it was read.
     Unbuilt,
+    /// The settings of the complex.
     Complex(Setup),
+    /// An entry of a name list.
     Rnldef(Rnldef),
+    /// The name of a system.
     System(List<u8>),
+    /// The name of a job.
     Job(List<u8>),
+    /// The name of a task.
     Task(List<u8>),
-    /// A task line that is built.
+    /// What a task is to ask or to wait for.
     Line(Said),
+    /// Every line behind it is an event.
     Schedule,
+    /// What a system does next.
     Event { system: List<u8>, act: Act },
 }
 
 /// Why a line is no statement.
 #[derive(Clone, Copy, Debug, PartialEq, Eq)]
 pub enum FormError {
-    /// UnknownStatement or BadOperand.
+    /// `UnknownStatement` or `BadOperand`.
     Kind(Kind),
+    /// Memory was wanting for the names.
     NoMemory,
 }
 
@@ -172,8 +181,10 @@ fn read_form(
     }
 }
 
-/// The statement that a line spells, before SCHEDULE or behind it, in a deck with this many lock
-/// entries.
+/// The statement that a line spells, before SCHEDULE or behind it (`scheduled`), in a deck with so many
+/// lock `entries`, which bound the entry that an event names. Before SCHEDULE the line
+/// `ENQ (PAYROLL,MASTER,E,SYSTEM)` is a [`Stmt::Line`], and behind it the line `SYA TASK J1.T1` is a
+/// [`Stmt::Event`]; no line is both.
 ///
 /// A line before SCHEDULE whose first word is no statement word is `UnknownStatement`; any other
 /// line that spells no statement is `BadOperand`.

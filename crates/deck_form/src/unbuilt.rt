@@ -6,7 +6,7 @@ ghost use Rattle.deck_form.specs.Unbuilt.{is_star, is_unbuilt_act, is_unbuilt};
 use crate::event::Act;
 use crate::form::Stmt;
 
-/// A first word of statements of which nothing more is read.
+/// Whether a first word is AT, GQSCAN, DISPLAY or D. Of their statements nothing more is read.
 #[tactic(auto, unfolding(crate::specs::UnbuiltWord::is_unbuilt_word))]
 pub fn is_unbuilt_word(w: &[u8]) -> bool
     ensures { result ≡ is_unbuilt_word w.now }
@@ -43,7 +43,8 @@ fn is_unbuilt_act(act: &Act) -> bool
     }
 }
 
-/// Whether a statement has a form that is not built.
+/// Whether a statement has a form that is not built: one of those words, MODE(STAR), or an event other than
+/// TASK, TURN and REST.
 pub fn is_unbuilt(st: &Stmt) -> bool
     ensures { result ≡ is_unbuilt st.now }
 {

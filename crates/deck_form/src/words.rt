@@ -1,5 +1,5 @@
 //! Names of systems, jobs and tasks, and numbers, as the bytes of a word.
-ghost use Rattle.std.specs.Prelude.{◌≡◌, ◌<◌, ◌==◌, length, position, IfOk, IfSome};
+ghost use Rattle.std.specs.Prelude.{◌≡◌, ◌<◌, ◌==◌, length, position, IfOk, IfErr, IfSome};
 ghost use Rattle.deck_scan.specs.Next.{Reads};
 ghost use Rattle.deck_form.specs.Words.{is_digit, is_name_byte, is_name, all_name, short_at, dotted_at, parted, digits, number_of};
 
@@ -101,7 +101,8 @@ pub fn dotted_at(alloc: Global, ts: &[Token]) -> Result<(List<u8>, List<u8>, &[T
 /// The number that 1 to 9 decimal digits write.
 #[tactic(auto, unfolding(crate::specs::Words::number_of, crate::specs::Words::digits))]
 pub fn number_of(w: &[u8]) -> Result<u32, Miss>
-    ensures { Reads (λ x. x) result (number_of w.now) }
+    ensures reads { Reads (λ x. x) result (number_of w.now) }
+    ensures bad { IfErr result (λ e. e ≡ Miss.Bad) }
 {
     if w.is_empty() || w.len() > 9 {
         return Err(Miss::Bad);

@@ -3,6 +3,7 @@ pub mod Loop
 pub mod Said
 pub mod Found
 pub mod Pieced
+pub mod Texts
 pub mod Names
 pub mod Print
 pub mod Bits

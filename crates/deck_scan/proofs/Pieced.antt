@@ -73,7 +73,7 @@ spelled_found text allowed =
 pub one_spelled : (text : List ℕ) (a b : List TokenLine) → SpellsLines text a → SpellsLines text b → a ≡ b
 one_spelled text a b h k = sym (spelled_is text a h) ∙ spelled_is text b k
 
-no_bad : (text : List ℕ) → byte_fault text ≡ None → bad_line 1 text ≡ None
+pub no_bad : (text : List ℕ) → byte_fault text ≡ None → bad_line 1 text ≡ None
 no_bad text e = go (ltb max_text (length text)) (bad_line 1 text) e
   where
     go : (x : Bool) (o : Option ℕ) → cond x (Some (record { line = 0; kind = TooLong })) (bad_byte o) ≡ None → o ≡ None

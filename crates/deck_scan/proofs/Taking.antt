@@ -32,6 +32,24 @@ pub once_some : {A O : Type 0} (o : Option A) (p q : O) → once o p ≡ Some q 
 once_some None p q e = (refl, sym (some_is p q e))
 once_some (Some a) p q e = absurd cc
 
+-- ---- the rows of a table of words
+
+-- what holds of what a row gives for its word, and of what the rows behind it give
+pub by_row : {A : Type 0} (P : Option A → Type 0) (w word : List ℕ) (x : A) (rows : Option A) → (w ≡ word → P (Some x)) → P rows → P (cond (bytes_eq w word) (Some x) rows)
+by_row P w word x rows here behind = go (bytes_eq w word) (same_bytes w word)
+  where
+    go : (b : Bool) → (b ≡ true → w ≡ word) → P (cond b (Some x) rows)
+    go true is = here (is refl)
+    go false is = behind
+
+-- a word is that of what a table gives for it
+abbrev pub IsWordOf : {A : Type 0} → (A → List ℕ) → List ℕ → Option A → Type 0
+IsWordOf word w None = Unit {0}
+IsWordOf word w (Some x) = w ≡ word x
+
+pub row : {A : Type 0} (word : A → List ℕ) (w : List ℕ) (x : A) (rows : Option A) → IsWordOf word w rows → IsWordOf word w (cond (bytes_eq w (word x)) (Some x) rows)
+row word w x rows behind = by_row (IsWordOf word w) w (word x) x rows (λ h. h) behind
+
 -- ---- tokens
 
 pub open_taken : (ts rest : List Token) → open_at ts ≡ Some rest → ts ≡ Open ∷ rest

@@ -4,4 +4,5 @@ pub mod Pieces
 pub mod Scan
 pub mod Reading
 pub mod Named
+pub mod Lengths
 pub mod Next

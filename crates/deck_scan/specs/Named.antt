@@ -1,6 +1,7 @@
--- The piece of a printed name.
-use Rattle.std.specs.Prelude.{ℕ, Bool, false, nat_lt, List, [], ◌∷◌, if◌then◌else◌}
+-- Names that can be printed, and the piece that a printed name is.
+use Rattle.std.specs.Prelude.{◌≡◌, ℕ, Bool, true, false, nat_lt, List, [], ◌∷◌, Option, Some, None, if◌then◌else◌}
 use Rattle.std.specs.List.{list_all}
+use Rattle.grs_base.specs.Names.{is_rname, IsQname}
 use Rattle.grs_base.specs.Printed.{is_plain_byte, is_printable, hex_digits}
 use Rattle.deck_scan.specs.declared.token.Token.{Token}
 use Rattle.deck_scan.specs.declared.token.Token.TheVariants.{Word, Name}
@@ -10,6 +11,16 @@ use Rattle.deck_scan.specs.Pieces.{Piece, Plain, Quoted, Hexed, Place, with_toke
 -- These numbers are bytes.
 abbrev pub are_bytes : List ℕ → Bool
 are_bytes bs = list_all (λ b. nat_lt b 256) bs
+
+-- A qname of a resource, which may be left out.
+abbrev pub IsMaybeQname : Option (List ℕ) → Type 0
+IsMaybeQname None = Unit {0}
+IsMaybeQname (Some q) = IsQname q × (are_bytes q ≡ true)
+
+-- An rname of a resource, which may be left out.
+abbrev pub IsMaybeRname : Option (List ℕ) → Type 0
+IsMaybeRname None = Unit {0}
+IsMaybeRname (Some r) = (is_rname r ≡ true) × (are_bytes r ≡ true)
 
 -- The piece by which the name of these bytes is printed.
 abbrev pub name_piece : List ℕ → Piece

@@ -1,4 +1,4 @@
-//! Kinds of bytes.
+//! Kinds of bytes: of plain names, of hexadecimal digits, and those that a deck may have.
 ghost use Rattle.std.specs.Prelude.{◌≡◌, ◌<◌};
 ghost use Rattle.deck_scan.specs.Bytes.{is_word, is_hex, digit, is_allowed};
 

@@ -4,13 +4,15 @@
 
 mod bytes;
 mod laws;
+mod lengths;
 mod miss;
 mod next;
 mod scan;
 mod token;
 
 pub use laws::{bad_bytes, printed_names, spelled_lines};
-pub use miss::Miss;
+pub use lengths::{is_bad_q, is_bad_r, maybe_qname, maybe_rname, qname_of, rname_of};
+pub use miss::{Miss, or_bad, refused};
 pub use next::{
     any_word_at, close_at, comma_at, end_at, equals_at, name_at, open_at, value_at, word_at,
 };

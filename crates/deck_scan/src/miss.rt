@@ -1,13 +1,18 @@
-//! Why tokens are not read. Every reader of tokens answers so, in this crate and in those above.
-ghost use Rattle.std.specs.Prelude.{◌≡◌};
+//! Why tokens are not read, and the fault that a reader tells of it. Every reader of tokens answers so,
+//! in this crate and in those above.
+ghost use Rattle.std.specs.Prelude.{◌≡◌, Option};
 ghost use Rattle.deck_scan.specs.declared.miss.Miss.TheVariants as misses;
+ghost use Rattle.deck_scan.specs.Gives.{Gives, or_bad};
+ghost use Rattle.deck_scan.specs.Next.{Reads};
 
-use grs_base::NoMemory;
+use grs_base::{DeckFault, Kind, NoMemory, ReadError};
 
+/// Why tokens are not read.
 #[derive(Clone, Copy, Debug, PartialEq, Eq)]
 pub enum Miss {
-    /// The form is another.
+    /// The tokens are of another form.
     Bad,
+    /// Memory was wanting for the names that stand there.
     NoMemory,
 }
 
@@ -16,5 +21,23 @@ impl From<NoMemory> for Miss {
 
     fn from(_e: NoMemory) -> Miss {
         Miss::NoMemory
+    }
+}
+
+/// A fault of this kind on this line, which counts from 1; 0 is the text as a whole.
+pub fn refused(line: u32, kind: Kind) -> ReadError
+    ensures { result ≡ ReadError.Fault (record { line = line; kind = kind }) }
+{
+    ReadError::Fault(DeckFault { line, kind })
+}
+
+/// What was read of the tokens of a statement on this line; `BadOperand` where they are of another form.
+pub fn or_bad<T>(line: u32, read: Result<T, Miss>) -> Result<T, ReadError>
+    ensures { (x : Option T) → Reads (λ y. y) read x → Gives result (or_bad line x) }
+{
+    match read {
+        Ok(value) => Ok(value),
+        Err(Miss::Bad) => Err(refused(line, Kind::BadOperand)),
+        Err(Miss::NoMemory) => Err(ReadError::NoMemory),
     }
 }

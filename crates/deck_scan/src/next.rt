@@ -1,5 +1,6 @@
-//! The next token. Each reader takes tokens from the front and hands on the rest.
-ghost use Rattle.std.specs.Prelude.{◌≡◌, length, codes};
+//! The next token. Each reader takes what it reads from the front of the tokens and hands on the rest;
+//! it is `Bad` where something else stands there, and `NoMemory` only where it copies a name.
+ghost use Rattle.std.specs.Prelude.{◌≡◌, IfErr};
 ghost use Rattle.std.specs.Str.{bytes_eq};
 ghost use Rattle.deck_scan.specs.Next.{Reads, open_at, close_at, comma_at, equals_at, end_at, word_at, any_word_at, value_at, name_at};
 
@@ -8,8 +9,10 @@ use crate::token::Token;
 use grs_base::List;
 use std::alloc::Global;
 
+/// Takes `(`.
 pub fn open_at(ts: &[Token]) -> Result<&[Token], Miss>
-    ensures { Reads (λ x. x.now) result (open_at ts.now) }
+    ensures reads { Reads (λ x. x.now) result (open_at ts.now) }
+    ensures bad { IfErr result (λ e. e ≡ Miss.Bad) }
 {
     match ts.split_first() {
         Some((Token::Open, rest)) => Ok(rest),
@@ -17,8 +20,10 @@ pub fn open_at(ts: &[Token]) -> Result<&[Token], Miss>
     }
 }
 
+/// Takes `)`.
 pub fn close_at(ts: &[Token]) -> Result<&[Token], Miss>
-    ensures { Reads (λ x. x.now) result (close_at ts.now) }
+    ensures reads { Reads (λ x. x.now) result (close_at ts.now) }
+    ensures bad { IfErr result (λ e. e ≡ Miss.Bad) }
 {
     match ts.split_first() {
         Some((Token::Close, rest)) => Ok(rest),
@@ -26,8 +31,10 @@ pub fn close_at(ts: &[Token]) -> Result<&[Token], Miss>
     }
 }
 
+/// Takes `,`.
 pub fn comma_at(ts: &[Token]) -> Result<&[Token], Miss>
-    ensures { Reads (λ x. x.now) result (comma_at ts.now) }
+    ensures reads { Reads (λ x. x.now) result (comma_at ts.now) }
+    ensures bad { IfErr result (λ e. e ≡ Miss.Bad) }
 {
     match ts.split_first() {
         Some((Token::Comma, rest)) => Ok(rest),
@@ -35,8 +42,10 @@ pub fn comma_at(ts: &[Token]) -> Result<&[Token], Miss>
     }
 }
 
+/// Takes `=`.
 pub fn equals_at(ts: &[Token]) -> Result<&[Token], Miss>
-    ensures { Reads (λ x. x.now) result (equals_at ts.now) }
+    ensures reads { Reads (λ x. x.now) result (equals_at ts.now) }
+    ensures bad { IfErr result (λ e. e ≡ Miss.Bad) }
 {
     match ts.split_first() {
         Some((Token::Equals, rest)) => Ok(rest),
@@ -44,8 +53,10 @@ pub fn equals_at(ts: &[Token]) -> Result<&[Token], Miss>
     }
 }
 
+/// Nothing stands there any more.
 pub fn end_at(ts: &[Token]) -> Result<(), Miss>
-    ensures { Reads (λ x. x) result (end_at ts.now) }
+    ensures reads { Reads (λ x. x) result (end_at ts.now) }
+    ensures bad { IfErr result (λ e. e ≡ Miss.Bad) }
 {
     match ts.split_first() {
         Some(_) => Err(Miss::Bad),
@@ -53,9 +64,10 @@ pub fn end_at(ts: &[Token]) -> Result<(), Miss>
     }
 }
 
-/// Any word.
+/// Takes a word, and gives its bytes.
 pub fn any_word_at(ts: &[Token]) -> Result<(&[u8], &[Token]), Miss>
-    ensures { Reads (λ x. (x.0.now, x.1.now)) result (any_word_at ts.now) }
+    ensures reads { Reads (λ x. (x.0.now, x.1.now)) result (any_word_at ts.now) }
+    ensures bad { IfErr result (λ e. e ≡ Miss.Bad) }
 {
     match ts.split_first() {
         Some((Token::Word(w), rest)) => Ok((w.as_slice(), rest)),
@@ -63,23 +75,25 @@ pub fn any_word_at(ts: &[Token]) -> Result<(&[u8], &[Token]), Miss>
     }
 }
 
-/// This word.
+/// Takes this word.
 pub fn word_at<'a>(word: &[u8], ts: &'a [Token]) -> Result<&'a [Token], Miss>
-    ensures { Reads (λ x. x.now) result (word_at word.now ts.now) }
+    ensures reads { Reads (λ x. x.now) result (word_at word.now ts.now) }
+    ensures bad { IfErr result (λ e. e ≡ Miss.Bad) }
 {
     let (w, rest) = any_word_at(ts)?;
     if w == word { Ok(rest) } else { Err(Miss::Bad) }
 }
 
-/// An equals sign and a word.
+/// Takes `=` and a word, and gives the bytes of the word.
 pub fn value_at(ts: &[Token]) -> Result<(&[u8], &[Token]), Miss>
-    ensures { Reads (λ x. (x.0.now, x.1.now)) result (value_at ts.now) }
+    ensures reads { Reads (λ x. (x.0.now, x.1.now)) result (value_at ts.now) }
+    ensures bad { IfErr result (λ e. e ≡ Miss.Bad) }
 {
     let ts = equals_at(ts)?;
     any_word_at(ts)
 }
 
-/// The name of a resource, plain or not.
+/// Takes the name of a resource, plain, quoted or hexadecimal, and gives its bytes, of any length.
 pub fn name_at(alloc: Global, ts: &[Token]) -> Result<(List<u8>, &[Token]), Miss>
     ensures { Reads (λ x. (x.0, x.1.now)) result (name_at ts.now) }
 {

@@ -6,8 +6,9 @@ ghost use Rattle.deck_scan.specs.Gives.{Gives};
 ghost use Rattle.deck_scan.specs.Scan.{put, put_word, put_open, end_line, break_off, begin_word, begin, step_in, step, finish_in, start};
 
 use crate::bytes::{digit_of, is_allowed_byte, is_hex_byte, is_word_byte};
+use crate::miss::refused;
 use crate::token::{Token, TokenLine};
-use grs_base::{DeckFault, Kind, List, NoMemory, ReadError};
+use grs_base::{Kind, List, NoMemory, ReadError};
 use std::alloc::Global;
 use std::mem;
 
@@ -17,15 +18,22 @@ const MAX_TEXT: usize = 1_048_576;
 /// What stands open.
 #[derive(Clone, Copy)]
 pub enum Mode {
+    /// Nothing.
     InBlank,
+    /// A slash, which begins a comment or is stray.
     AfterSlash,
     InWord,
     InQuote,
+    /// A quote in a quoted name, which ends it or is the first of two.
     AfterQuote,
+    /// A hexadecimal name, of which the digits so far are pairs.
     InHex,
+    /// A hexadecimal name behind the first digit of a pair.
     InHexLow,
+    /// A hexadecimal name with a byte that is no digit.
     InBadHex,
     InComment,
+    /// A star in a comment, which a slash would end.
     AfterStar,
 }
 
@@ -384,10 +392,7 @@ fn scan_lines(alloc: Global, text: &[u8]) -> Result<List<TokenLine>, ReadError>
     let mut rest = text;
     while let Some((b, tail)) = rest.split_first() {
         if !is_allowed_byte(*b, tail) {
-            return Err(ReadError::Fault(DeckFault {
-                line: scan.line,
-                kind: Kind::BadByte,
-            }));
+            return Err(refused(scan.line, Kind::BadByte));
         }
         scan.step(alloc, *b)?;
         rest = tail;
@@ -397,23 +402,28 @@ fn scan_lines(alloc: Global, text: &[u8]) -> Result<List<TokenLine>, ReadError>
     Ok(scan.lines)
 }
 
-/// The lines of a deck that have a token, in order, with a line of its own at the end for a comment
-/// that is not closed. The clause `exact` says by the grammar which lines these are, and `read` says
-/// it by the function on lists on which the layers above are built.
+/// The lines of a deck that have a token, in order. Blanks and comments separate tokens and are gone,
+/// and a comment that is not closed is a line of its own at the end. Of the deck
 ///
-/// A deck of more than 1,048,576 bytes is `TooLong`, with line 0. A byte that no deck may have,
-/// which is each but blank to `~`, LF and a CR directly before an LF, is `BadByte`, with the line
-/// of the first one. Want of memory is `NoMemory`.
+///     JOB J1    /* nightly */
+///
+///     ENQ (PAYROLL,'it''s',E,SYSTEM)
+///
+/// the lines are 1 with the words `JOB` and `J1`, and 3 with the word `ENQ`, `(`, the word `PAYROLL`,
+/// a comma, the name `it's`, a comma, and so on.
+///
+/// A deck of more than 1,048,576 bytes is `TooLong`, with line 0. A byte that no deck may have, which
+/// is each but blank to `~`, LF and a CR directly before an LF, is `BadByte`, with the line of the
+/// first one. Want of memory is `NoMemory`.
 #[tactic(auto, unfolding(crate::specs::Reading::lines_or_fault))]
 pub fn lines(alloc: Global, text: &[u8]) -> Result<List<TokenLine>, ReadError>
+    // By the grammar of pieces.
     ensures exact { Answers result text.now }
+    // By the function on lists that the readers above this one are built on.
     ensures read { Gives result (lines_or_fault text.now) }
 {
     if text.len() > MAX_TEXT {
-        return Err(ReadError::Fault(DeckFault {
-            line: 0,
-            kind: Kind::TooLong,
-        }));
+        return Err(refused(0, Kind::TooLong));
     }
     scan_lines(alloc, text)
 }

@@ -28,6 +28,7 @@ pub enum Token {
 pub struct TokenLine {
     /// The number of the line in the text, from 1.
     pub at: u32,
+    /// At least one.
     pub tokens: List<Token>,
     /// Whether the line begins with a word and another token but `(` stands directly behind it, so
     /// that its text up to the next blank, `(` or end of the line is more than that word.

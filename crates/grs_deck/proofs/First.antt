@@ -9,13 +9,15 @@ use Rattle.deck_scan.specs.declared.token.TokenLine.{TokenLine}
 use Rattle.deck_scan.specs.Scan.{lines_of}
 use Rattle.deck_scan.specs.Pieces.{SpellsLines}
 use Rattle.deck_scan.specs.Reading.{lines_or_fault, unless_fault, byte_fault}
+use Rattle.deck_scan.specs.Gives.{◌>>=◌}
+use Rattle.deck_scan.proofs.Texts.{text_of, text_read}
 use Rattle.grs_deck.specs.declared.judge.Draft.{Draft}
 use Rattle.grs_deck.specs.Grow.{grow}
-use Rattle.grs_deck.specs.Reading.{◌>>=◌, judge, judge_all, no_draft, ended, reading, fault, fault_of}
+use Rattle.grs_deck.specs.Reading.{judge, judge_all, no_draft, ended, reading, fault, fault_of}
 use Rattle.grs_deck.specs.Spells.{Says}
 use Rattle.grs_deck.specs.Faults.{FaultyLine, NoSystemSaid, IsFault}
 use Rattle.grs_deck.proofs.FitsLaws.{judged}
-use Rattle.grs_deck.proofs.SpellsLaws.{right_of, says, says_again, judged_again, allowed_of, text_spells, lines_read}
+use Rattle.grs_deck.proofs.SpellsLaws.{right_of, says, says_again, judged_again}
 use Rattle.grs_deck.proofs.Least.{refused, judged_err, judged_so}
 use Rattle.deck_form.specs.Statements.{statements}
 use Rattle.deck_form.proofs.Taken.{form_taken}
@@ -75,7 +77,7 @@ is_fault text f h = go (byte_fault text) refl (fault_some _ f h)
     go None is m = by (judge_all no_draft (statements (lines_of text))) refl m
       where
         spelled : SpellsLines text (lines_of text)
-        spelled = text_spells text (allowed_of text is)
+        spelled = (text_of text is).spelled
 
         by : (r : Result Draft DeckFault) → judge_all no_draft (statements (lines_of text)) ≡ r → (r >>= ended) ≡ deck_err f → IsFault text f
         by (Err g) e k =
@@ -111,4 +113,4 @@ lines_so ls f (inr y) = none_so ls f y
 pub only_fault : (text : List ℕ) (f : DeckFault) → IsFault text f → fault text ≡ Some f
 unfolding fault reading lines_or_fault
 only_fault text f (inl h) = rw h refl
-only_fault text f (inr h) = let read : (lines_or_fault text >>= λ ls. judge_all no_draft (statements ls) >>= ended) ≡ deck_err f = rw (lines_read text h.lines h.allowed h.spelled) (lines_so (statements h.lines) f h.fault) in ap fault_of read
+only_fault text f (inr h) = let read : (lines_or_fault text >>= λ ls. judge_all no_draft (statements ls) >>= ended) ≡ deck_err f = rw (text_read text h.lines (text_of text h.allowed).short h.spelled) (lines_so (statements h.lines) f h.fault) in ap fault_of read

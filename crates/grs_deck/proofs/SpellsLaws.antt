@@ -3,24 +3,22 @@ use Rattle.std.proofs.Common.{◌≡◌, ℕ, ◌<◌, ◌≤◌, Bool, true, fa
 use Rattle.std.specs.Prelude.{◌||◌, is_some, is_none}
 use Rattle.std.proofs.lemmas.Bool.{ltb-false, le-ltb, lt-leb, eqb-false, eqb-true, ne_eqb, leb-true, le-leb, leb-false, and_parts}
 use Rattle.grs_base.specs.declared.fault.DeckFault.{DeckFault}
-use Rattle.grs_base.specs.declared.fault.Kind.TheVariants.{NoSystem, TooLong}
+use Rattle.grs_base.specs.declared.fault.Kind.TheVariants.{NoSystem}
 use Rattle.grs_base.specs.declared.fault.ReadError.{ReadError}
 use Rattle.grs_base.specs.declared.fault.ReadError.TheVariants as read_errors
 use Rattle.grs_base.specs.Names.{trim_blanks, is_qname, is_rname}
 use Rattle.grs_wire.specs.declared.deck.Deck.{Deck}
 use Rattle.deck_scan.specs.declared.token.TokenLine.{TokenLine}
-use Rattle.deck_scan.specs.Bytes.{bad_line}
-use Rattle.deck_scan.specs.Scan.{lines_of}
-use Rattle.deck_scan.specs.Pieces.{SpellsLines}
-use Rattle.deck_scan.specs.Gives.{Gives}
-use Rattle.deck_scan.specs.Reading.{lines_or_fault, unless_fault, byte_fault, bad_byte}
-use Rattle.deck_scan.proofs.Pieced.{spelled_is, spelled_found}
+use Rattle.deck_scan.specs.Gives.{◌>>=◌, Gives, IsOkUnlessMemory, refused}
+use Rattle.deck_scan.specs.Lengths.{is_bad_q, is_bad_r}
+use Rattle.deck_scan.specs.Reading.{lines_or_fault}
+use Rattle.deck_scan.proofs.Texts.{bind_ok, read_text, text_read}
 use Rattle.job_syntax.specs.declared.display.Shown.TheVariants as shown
 use Rattle.job_syntax.specs.declared.said.Said.{Said}
 use Rattle.job_syntax.specs.declared.said.Said.TheVariants as said
-use Rattle.job_syntax.specs.Lines.{are_bad, is_bad_q, is_bad_r, is_bad}
+use Rattle.job_syntax.specs.Lines.{are_bad, is_bad}
 use Rattle.rnl_syntax.specs.declared.operands.Rnldef.{Rnldef}
-use Rattle.rnl_syntax.specs.Operands.{is_bad_r as is_bad_rnl, is_bad as is_bad_rnldef}
+use Rattle.rnl_syntax.specs.Operands.{is_bad as is_bad_rnldef}
 use Rattle.deck_form.specs.declared.event.Act.{Act}
 use Rattle.deck_form.specs.declared.event.Act.TheVariants as acts
 use Rattle.deck_form.specs.declared.form.Stmt.{Stmt}
@@ -34,8 +32,8 @@ use Rattle.grs_deck.specs.declared.judge.Draft.{Draft}
 use Rattle.grs_deck.specs.Places.{jobs_now, tasks_now, task_count, system_place, job_place, task_place, event_of}
 use Rattle.grs_deck.specs.Judge.{is_over, list_of, is_long_act, is_long, is_repeated, is_misplaced, is_full, is_unknown, verdict}
 use Rattle.grs_deck.specs.Grow.{grow}
-use Rattle.grs_deck.specs.Reading.{◌>>=◌, judge, judge_all, no_draft, ended, reading, fault, fault_of}
-use Rattle.grs_deck.specs.Spells.{IsShort, IsShortAct, IsQname, IsRname, IsMaybeQname, IsMaybeRname, AreNames, MaySay, MayDefine, MayStand, IsRight, Says, SpellsDeck, Answers, IsOkUnlessMemory}
+use Rattle.grs_deck.specs.Reading.{judge, judge_all, no_draft, ended, reading, fault, fault_of}
+use Rattle.grs_deck.specs.Spells.{IsShort, IsShortAct, IsQname, IsRname, IsMaybeQname, IsMaybeRname, AreNames, MaySay, MayDefine, MayStand, IsRight, Says, SpellsDeck, Answers}
 use Rattle.grs_deck.proofs.FitsLaws.{NoFault, tests_of, judged}
 
 -- ---- tests and facts
@@ -152,19 +150,15 @@ names_by (said.Display (shown.Resource q r)) h = both_names q r h
 say_by : (d : Draft) (s : Said) → is_bad s ≡ false → eqb (length (tasks_now (jobs_now d.deck.systems))) 0 ≡ false → eqb d.room 0 ≡ false → MaySay d s
 say_by d s long idle full = (names_by s long, there (length (tasks_now (jobs_now d.deck.systems))) idle, there d.room full)
 
-rnl_rname : (r : Option (List ℕ)) → is_bad_rnl r ≡ false → IsMaybeRname r
-rnl_rname None h = tt
-rnl_rname (Some r) h = rname_of r (passed (is_rname r) h)
-
 none_yet : {A : Type 0} (xs : List A) → length xs ≡ 0 → xs ≡ []
 none_yet [] h = refl
 none_yet (x ∷ xs) h = absurd (omega (arith, h))
 
 define_by : (d : Draft) (r : Rnldef) → is_bad_rnldef r ≡ false → not (eqb (length d.deck.systems) 0) ≡ false → leb 4096 (length (list_of r.which d.deck.lists).entries) ≡ false → MayDefine d r
 define_by d r long misplaced full =
-    let k = neither (not (is_qname r.q)) (is_bad_rnl r.r) long in
+    let k = neither (not (is_qname r.q)) (is_bad_r r.r) long in
     let none = eqb-true (length d.deck.systems) 0 (passed (eqb (length d.deck.systems) 0) misplaced) in
-    (qname_of r.q (passed (is_qname r.q) k.0), rnl_rname r.r k.1, none_yet d.deck.systems none, fewer 4096 (length (list_of r.which d.deck.lists).entries) full)
+    (qname_of r.q (passed (is_qname r.q) k.0), maybe_rname r.r k.1, none_yet d.deck.systems none, fewer 4096 (length (list_of r.which d.deck.lists).entries) full)
 
 may_by : (d : Draft) (st : Stmt) → NoFault (is_long st) (is_repeated d st) (is_misplaced d st) (is_full d st) (is_unknown d st) (is_unbuilt st) → MayStand d st
 may_by d stmts.Unbuilt h = tt
@@ -191,10 +185,6 @@ rname_fail : (r : Option (List ℕ)) → IsMaybeRname r → is_bad_r r ≡ false
 rname_fail None h = refl
 rname_fail (Some r) h = rw (of_rname r h) refl
 
-rnl_fail : (r : Option (List ℕ)) → IsMaybeRname r → is_bad_rnl r ≡ false
-rnl_fail None h = refl
-rnl_fail (Some r) h = rw (of_rname r h) refl
-
 no_bad : (s : Said) → AreNames s → is_bad s ≡ false
 no_bad (said.Enq e) h = names_fail e.ask.q e.ask.r h
 no_bad (said.Reserve e) h = names_fail e.ask.q e.ask.r h
@@ -212,7 +202,7 @@ record DefineTests (d : Draft) (r : Rnldef) : Type 0 where
 
 of_define : (d : Draft) (r : Rnldef) → MayDefine d r → DefineTests d r
 of_define d r h = record {
-  long = rw (of_qname r.q h.0) (rnl_fail r.r h.1);
+  long = rw (of_qname r.q h.0) (rname_fail r.r h.1);
   misplaced = rw h.2 refl;
   full = fewer_not 4096 (length (list_of r.which d.deck.lists).entries) h.3;
 }
@@ -237,10 +227,6 @@ of_right d st h = let t = no_test d st h in rw (t.long, t.repeated, t.misplaced,
 pub judged_again : (d : Draft) (l : TokenLine) (st : Stmt) → Spells d.scheduled d.deck.entries l st → IsRight d st → judge d l ≡ Ok (grow d st)
 unfolding judge
 judged_again d l st h k = rw (form_again d.scheduled d.deck.entries l st h, of_right d st k) refl
-
-pub bind_ok : {A B : Type 0} (r : Result A DeckFault) (f : A → Result B DeckFault) (y : B) → (r >>= f) ≡ Ok y → (x : A) × (r ≡ Ok x) × (f x ≡ Ok y)
-bind_ok (Ok x) f y e = (x, refl, e)
-bind_ok (Err d) f y e = absurd cc
 
 abbrev ok_draft : Draft → Result Draft DeckFault
 ok_draft d = Ok d
@@ -269,57 +255,25 @@ says_again (l ∷ ls) d e h = rw (judged_again d l h.0 h.1 h.2) (says_again ls (
 
 -- ---- texts
 
-unless_ok : (o : Option DeckFault) (xs ys : List TokenLine) → unless_fault o xs ≡ Ok ys → (o ≡ None) × (xs ≡ ys)
-unless_ok None xs ys h = (refl, cc)
-unless_ok (Some f) xs ys h = absurd cc
-
 ended_there : (d : Draft) (e : Deck) → ended d ≡ Ok e → (0 < length d.deck.systems) × (d.deck ≡ e)
 ended_there d e h = go (eqb (length d.deck.systems) 0) refl h
   where
-    go : (b : Bool) → eqb (length d.deck.systems) 0 ≡ b → cond b (Err (record { line = 0; kind = NoSystem })) (no_error d.deck) ≡ no_error e → (0 < length d.deck.systems) × (d.deck ≡ e)
+    go : (b : Bool) → eqb (length d.deck.systems) 0 ≡ b → cond b (refused 0 NoSystem) (no_error d.deck) ≡ no_error e → (0 < length d.deck.systems) × (d.deck ≡ e)
     go true is k = absurd cc
     go false is k = (there (length d.deck.systems) is, deck_is d.deck e k)
 
--- a text without a fault of length or bytes
-pub record IsAllowed (text : List ℕ) : Type 0 where
-  pub short : length text ≤ 1048576
-  pub bytes : bad_line 1 text ≡ None
-
-bad_none : (o : Option ℕ) → bad_byte o ≡ None → o ≡ None
-bad_none None h = refl
-bad_none (Some n) h = absurd cc
-
-pub allowed_of : (text : List ℕ) → byte_fault text ≡ None → IsAllowed text
-allowed_of text h = go (ltb 1048576 (length text)) refl h
-  where
-    go : (b : Bool) → ltb 1048576 (length text) ≡ b → cond b (Some (record { line = 0; kind = TooLong })) (bad_byte (bad_line 1 text)) ≡ None → IsAllowed text
-    go true is k = absurd cc
-    go false is k = record { short = ltb-false 1048576 (length text) is; bytes = bad_none (bad_line 1 text) k }
-
-pub no_byte_fault : (text : List ℕ) → IsAllowed text → byte_fault text ≡ None
-no_byte_fault text h = rw (le-ltb 1048576 (length text) h.short, h.bytes) refl
-
-pub text_spells : (text : List ℕ) → IsAllowed text → SpellsLines text (lines_of text)
-text_spells text h = spelled_found text h.bytes
-
--- what is read of lines that a text spells
-pub lines_read : (text : List ℕ) (lines : List TokenLine) → byte_fault text ≡ None → SpellsLines text lines → lines_or_fault text ≡ Ok lines
-unfolding lines_or_fault
-lines_read text lines none h = rw (none, spelled_is text lines h) refl
-
 -- What is read is spelled.
 pub reading_spells : (text : List ℕ) (deck : Deck) → reading text ≡ Ok deck → SpellsDeck text deck
-unfolding reading lines_or_fault
+unfolding reading
 reading_spells text deck h =
     let b = bind_ok (lines_or_fault text) (λ ls. judge_all no_draft (statements ls) >>= ended) deck h in
-    let u = unless_ok (byte_fault text) (lines_of text) b.0 b.1 in
+    let t = read_text text b.0 b.1 in
     let j = bind_ok (judge_all no_draft (statements b.0)) ended deck b.2 in
     let e = ended_there j.0 deck j.2 in
-    let a = allowed_of text u.0 in
     record {
-      short = a.short;
+      short = t.short;
       lines = b.0;
-      spelled = subst (λ (ls : List TokenLine). SpellsLines text ls) u.1 (text_spells text a);
+      spelled = t.spelled;
       draft = j.0;
       says = says (statements b.0) no_draft j.0 j.1;
       is = e.1;
@@ -330,9 +284,8 @@ reading_spells text deck h =
 pub spells_reading : (text : List ℕ) (deck : Deck) → SpellsDeck text deck → reading text ≡ Ok deck
 unfolding reading
 spells_reading text deck h =
-    let none = no_byte_fault text (record { short = h.short; bytes = h.spelled.allowed }) in
     let some : 0 < length h.draft.deck.systems = subst (λ (x : Deck). 0 < length x.systems) (sym h.is) h.system in
-    rw (lines_read text h.lines none h.spelled, says_again (statements h.lines) no_draft h.draft h.says, there_not (length h.draft.deck.systems) some) (ap no_error h.is)
+    rw (text_read text h.lines h.short h.spelled, says_again (statements h.lines) no_draft h.draft h.says, there_not (length h.draft.deck.systems) some) (ap no_error h.is)
 
 -- ---- the answers of the reader
 

@@ -9,7 +9,7 @@ use Rattle.grs_base.specs.declared.rnl.Which.TheVariants.{Incl, Excl, Con}
 use Rattle.grs_base.specs.declared.rnl.Lists.{Lists}
 use Rattle.grs_wire.specs.declared.deck.Deck.{Deck}
 use Rattle.deck_scan.specs.declared.token.TokenLine.{TokenLine}
-use Rattle.deck_scan.specs.Gives.{Fails}
+use Rattle.deck_scan.specs.Gives.{◌>>=◌, refused, Fails}
 use Rattle.deck_scan.specs.Reading.{lines_or_fault}
 use Rattle.deck_form.specs.declared.form.Stmt.{Stmt}
 use Rattle.deck_form.specs.Form.{form}
@@ -17,11 +17,6 @@ use Rattle.deck_form.specs.Statements.{statements}
 use Rattle.grs_deck.specs.declared.judge.Draft.{Draft}
 use Rattle.grs_deck.specs.Judge.{verdict}
 use Rattle.grs_deck.specs.Grow.{grow}
-
-infixl 10 ◌>>=◌
-abbrev pub ◌>>=◌ : {A B : Type 0} → Result A DeckFault → (A → Result B DeckFault) → Result B DeckFault
-(Ok x) >>= f = f x
-(Err e) >>= f = Err e
 
 -- A function changed the deck to what reading gives, or returned its fault, unless memory ran out.
 abbrev pub Took : Result (Unit {0}) ReadError → Draft → Result Draft DeckFault → Type 0
@@ -41,14 +36,14 @@ no_draft = record { deck = no_deck; begun = false; scheduled = false; room = 163
 
 abbrev pub unless : ℕ → Option Kind → Draft → Result Draft DeckFault
 unless at None d = Ok d
-unless at (Some k) d = Err (record { line = at; kind = k })
+unless at (Some k) d = refused at k
 
 abbrev pub judge_statement : Draft → ℕ → Stmt → Result Draft DeckFault
 judge_statement d at st = unless at (verdict d st) (grow d st)
 
 abbrev pub judge_form : Draft → ℕ → Result Stmt Kind → Result Draft DeckFault
 judge_form d at (Ok st) = judge_statement d at st
-judge_form d at (Err k) = Err (record { line = at; kind = k })
+judge_form d at (Err k) = refused at k
 
 unfoldable pub judge : Draft → TokenLine → Result Draft DeckFault
 judge d line = judge_form d line.at (form d.scheduled d.deck.entries line)
@@ -58,7 +53,7 @@ judge_all d [] = Ok d
 judge_all d (l ∷ ls) = judge d l >>= λ new. judge_all new ls
 
 abbrev pub ended : Draft → Result Deck DeckFault
-ended d = if length d.deck.systems == 0 then Err (record { line = 0; kind = NoSystem }) else Ok d.deck
+ended d = if length d.deck.systems == 0 then refused 0 NoSystem else Ok d.deck
 
 unfoldable pub reading : List ℕ → Result Deck DeckFault
 reading text = lines_or_fault text >>= λ ls. judge_all no_draft (statements ls) >>= ended

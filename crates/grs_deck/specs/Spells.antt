@@ -117,9 +117,3 @@ abbrev pub Answers : Result Deck ReadError → List ℕ → Type 0
 Answers (Ok d) text = SpellsDeck text d × (fault text ≡ None)
 Answers (Err read_errors.NoMemory) text = Unit {0}
 Answers (Err (read_errors.Fault f)) text = fault text ≡ Some f
-
--- This deck, unless memory ran out.
-abbrev pub IsOkUnlessMemory : Result Deck ReadError → Deck → Type 0
-IsOkUnlessMemory (Ok d) e = d ≡ e
-IsOkUnlessMemory (Err read_errors.NoMemory) e = Unit {0}
-IsOkUnlessMemory (Err (read_errors.Fault f)) e = ⊥

@@ -3,11 +3,12 @@ ghost use Rattle.std.specs.Prelude.{◌≡◌, is_some};
 ghost use Rattle.grs_deck.specs.Places.{Fits};
 ghost use Rattle.grs_deck.specs.Judge.{is_over, is_long_act, is_long, is_repeated, is_idle, is_misplaced, is_list_full, is_full, is_unknown, verdict};
 
+use crate::limits::{MOST_JOBS, MOST_NAME, MOST_SYSTEMS, MOST_TASKS};
 use crate::places::{
     event_of, job_place, jobs_now, system_place, task_count, task_place, tasks_now,
 };
 use deck_form::{Act, Stmt, is_unbuilt};
-use grs_base::{Kind, Lists, Which};
+use grs_base::{Kind, Lists, MOST_ENTRIES, Which};
 use grs_wire::{Deck, SystemDef};
 
 /// A deck so far.
@@ -25,7 +26,7 @@ pub struct Draft {
 fn is_over(name: &[u8]) -> bool
     ensures { result ≡ is_over name.now }
 {
-    name.len() > 8
+    name.len() > MOST_NAME
 }
 
 fn is_long_act(act: &Act) -> bool
@@ -107,7 +108,7 @@ fn is_list_full(lists: &Lists, which: Which) -> bool
         Which::Excl => lists.excl.len(),
         Which::Con => lists.con.len(),
     };
-    4096 <= entries
+    MOST_ENTRIES <= entries
 }
 
 fn is_full(draft: &Draft, st: &Stmt) -> bool
@@ -117,9 +118,9 @@ fn is_full(draft: &Draft, st: &Stmt) -> bool
     let systems = draft.deck.systems.as_slice();
     match st {
         Stmt::Rnldef(rnldef) => is_list_full(&draft.deck.lists, rnldef.which),
-        Stmt::System(_) => 8 <= systems.len(),
-        Stmt::Job(_) => 64 <= jobs_now(systems).len(),
-        Stmt::Task(_) => 64 <= task_count(jobs_now(systems)),
+        Stmt::System(_) => MOST_SYSTEMS <= systems.len(),
+        Stmt::Job(_) => MOST_JOBS <= jobs_now(systems).len(),
+        Stmt::Task(_) => MOST_TASKS <= task_count(jobs_now(systems)),
         Stmt::Line(_) => draft.room == 0,
         _ => false,
     }

@@ -5,6 +5,7 @@
 mod grow;
 mod judge;
 mod laws;
+mod limits;
 mod places;
 mod read;
 

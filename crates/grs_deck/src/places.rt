@@ -7,6 +7,7 @@ use deck_form::Act;
 use grs_base::{SysId, TaskId};
 use grs_wire::{Choice, Event, JobDef, SystemDef, TaskDef};
 
+/// Where the first system of this name stands.
 #[tactic(auto, unfolding(crate::specs::Places::system_place))]
 pub fn system_place(systems: &[SystemDef], name: &[u8]) -> Option<usize>
     ensures at { result ≡ system_place systems.now name.now }
@@ -15,6 +16,7 @@ pub fn system_place(systems: &[SystemDef], name: &[u8]) -> Option<usize>
     systems.iter().position(|s| s.name.as_slice() == name)
 }
 
+/// Where the first job of this name stands among the jobs of a system.
 #[tactic(auto, unfolding(crate::specs::Places::job_place))]
 pub fn job_place(jobs: &[JobDef], name: &[u8]) -> Option<usize>
     ensures at { result ≡ job_place jobs.now name.now }
@@ -23,6 +25,7 @@ pub fn job_place(jobs: &[JobDef], name: &[u8]) -> Option<usize>
     jobs.iter().position(|j| j.name.as_slice() == name)
 }
 
+/// Where the first task of this name stands among the tasks of a job.
 #[tactic(auto, unfolding(crate::specs::Places::task_place))]
 pub fn task_place(tasks: &[TaskDef], name: &[u8]) -> Option<usize>
     ensures at { result ≡ task_place tasks.now name.now }

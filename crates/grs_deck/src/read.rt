@@ -1,19 +1,20 @@
 //! Reads a deck, statement by statement, up to its first fault.
 ghost use Rattle.std.specs.Prelude.{◌≡◌, ◌||◌, OnOk, IfOk, Some, None};
-ghost use Rattle.deck_scan.specs.Gives.{Gives};
+ghost use Rattle.deck_scan.specs.Gives.{Gives, IsOkUnlessMemory};
 ghost use Rattle.grs_deck.specs.Places.{Fits};
 ghost use Rattle.grs_deck.specs.Judge.{verdict};
 ghost use Rattle.grs_deck.specs.Grow.{is_schedule, line_count, grow};
 ghost use Rattle.grs_wire.specs.declared.deck.Deck.{Deck as DeckValue};
 ghost use Rattle.grs_deck.specs.Whole.{AreLists, IsDeck};
-ghost use Rattle.grs_deck.specs.Spells.{SpellsDeck, Answers, IsOkUnlessMemory};
+ghost use Rattle.grs_deck.specs.Spells.{SpellsDeck, Answers};
 ghost use Rattle.grs_deck.specs.Reading.{judge_statement, judge, judge_all, ended, reading, Took, no_draft};
 
 use crate::grow::grow_deck;
 use crate::judge::{Draft, verdict};
+use crate::limits::MOST_LINES;
 use deck_form::{FormError, Stmt, statement, statements};
-use deck_scan::{TokenLine, lines};
-use grs_base::{DeckFault, Kind, List, Lists, NoMemory, ReadError};
+use deck_scan::{TokenLine, lines, refused};
+use grs_base::{Kind, List, Lists, NoMemory, ReadError};
 use grs_wire::Deck;
 use std::alloc::Global;
 
@@ -56,7 +57,7 @@ fn take_statement(draft: &mut Draft, alloc: Global, at: u32, st: Stmt) -> Result
     ensures { Took result draft.new (judge_statement draft.old at st) }
 {
     match verdict(draft, &st) {
-        Some(kind) => Err(ReadError::Fault(DeckFault { line: at, kind })),
+        Some(kind) => Err(refused(at, kind)),
         None => {
             grow(draft, alloc, st)?;
             Ok(())
@@ -73,10 +74,7 @@ fn take_line(draft: &mut Draft, alloc: Global, line: &TokenLine) -> Result<(), R
 {
     match statement(alloc, draft.scheduled, draft.deck.entries, line) {
         Err(FormError::NoMemory) => Err(ReadError::NoMemory),
-        Err(FormError::Kind(kind)) => Err(ReadError::Fault(DeckFault {
-            line: line.at,
-            kind,
-        })),
+        Err(FormError::Kind(kind)) => Err(refused(line.at, kind)),
         Ok(st) => take_statement(draft, alloc, line.at, st),
     }
 }
@@ -96,7 +94,7 @@ fn start(alloc: Global) -> Draft
         },
         begun: false,
         scheduled: false,
-        room: 16384,
+        room: MOST_LINES,
     }
 }
 
@@ -118,10 +116,7 @@ fn end(draft: Draft) -> Result<Deck, ReadError>
     ensures { Gives result (ended draft) }
 {
     if draft.deck.systems.len() == 0 {
-        Err(ReadError::Fault(DeckFault {
-            line: 0,
-            kind: Kind::NoSystem,
-        }))
+        Err(refused(0, Kind::NoSystem))
     } else {
         Ok(draft.deck)
     }
@@ -138,11 +133,22 @@ fn read_all(alloc: Global, text: &[u8]) -> Result<Deck, ReadError>
     end(draft)
 }
 
-/// The deck that a text spells, or its first fault.
+/// The deck that a text spells, or its first fault. Of
+///
+///     SYSTEM SYA
+///     JOB PAYROLL
+///     TASK MAKE
+///     ENQ (PAYROLL,MASTER,E,SYSTEM)
+///     SCHEDULE
+///     SYA TASK PAYROLL.MAKE
+///
+/// it makes a deck of one system with one job, whose task has one line, and of one event, in which that
+/// task goes on. Without its third line the fault is `OutOfPlace` on line 3: no task stands that the ENQ
+/// could belong to. What COMPLEX doesn't say is ring mode, 64 lock entries and 4,096 requests a task.
 ///
 /// `TooLong` and `NoSystem` are told with line 0, `BadByte` with the line of the first such byte,
 /// and any other kind with the line on which the first faulty statement begins: it is the least
-/// kind that applies to that statement.
+/// kind that applies to that statement, in the order of `grs_base::Kind`. Want of memory is `NoMemory`.
 pub fn read_deck(alloc: Global, text: &[u8]) -> Result<Deck, ReadError>
     // What is read is spelled so, and has no fault; the fault is the text's first one.
     ensures exact { Answers result text.now }

@@ -69,7 +69,7 @@ fn all_tasks(alloc: Global, systems: &[SystemDef]) -> Result<List<List<Name>>, N
     Ok(names)
 }
 
-/// The names of a deck.
+/// The names of the systems of a deck, of their jobs, and of their tasks, each where its number finds it.
 #[tactic(auto, unfolding(crate::specs::Names::names_of))]
 pub fn names_of(alloc: Global, deck: &Deck) -> Result<Names, NoMemory>
     ensures { IfOk result (λ names. names ≡ names_of deck.now) }

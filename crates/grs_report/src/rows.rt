@@ -97,7 +97,9 @@ fn put_elems(
 }
 
 /// Puts a row behind a text as a line: a letter, the resource, and its elements in order, the owners with
-/// a star. Where a system, job or task has no name in `names`, nothing is written for it.
+/// a star, as in `Q SYSTEM(SYA,A,B) SYA.J1.T1:E* SYA.J1.T2:S`. Where a system, job or task has no name in
+/// `names`, nothing is written for it. Where memory is wanting, a part of the line may stand behind the
+/// text.
 #[tactic(auto, unfolding(crate::specs::Rows::row_line, crate::specs::Lines::line))]
 pub fn print_row(
     alloc: Global,

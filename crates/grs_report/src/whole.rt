@@ -29,12 +29,28 @@ fn put_head(out: &mut List<u8>) -> Result<(), NoMemory>
     put_line(out, &[b"GRS".as_slice(), b"REPORT", b"1"])
 }
 
-/// The report of what a run of a deck shows. Nothing is written for the name of a system, job or task that
-/// the deck does not have, and a task without an entry in `ended` counts as open.
+/// The report of what a run of a deck shows. Of a run of one event, in which the only task asks for a
+/// resource and gets it, the text is
 ///
-/// # Errors
+///     GRS REPORT 1
+///     SCHEDULE 1
+///     SYA TASK J1.T1
+///     HISTORY 1
+///     H 1 SYA.J1.T1 ENQ SYSTEM(SYA,PAYROLL,MASTER) E NONE 00
+///     TOLD
+///     SYSTEM SYA
+///     TASK J1.T1
+///     T 1 ENQ 00 @1
+///     S OPEN
+///     QUEUES
+///     Q SYSTEM(SYA,PAYROLL,MASTER) SYA.J1.T1:E*
+///     UNITS
+///     WORDS
+///     MODE RING
+///     END WAITS
 ///
-/// `NoMemory` where there was no memory for the text.
+/// Each line ends with LF. Nothing is written for the name of a system, job or task that the deck does not
+/// have, and a task without an entry in `ended` counts as open. Want of memory is `NoMemory`.
 #[tactic(auto, unfolding(crate::specs::Report::report))]
 pub fn report(alloc: Global, deck: &Deck, seen: &Seen) -> Result<List<u8>, NoMemory>
     ensures { IfOk result (λ text. text ≡ report deck.now seen.now) }

@@ -19,7 +19,8 @@ use Rattle.grs_base.specs.declared.line.Line.{Line}
 use Rattle.grs_base.specs.declared.line.Line.TheVariants as lines
 use Rattle.deck_scan.specs.declared.token.Token.TheVariants.{Word, Open, Close, Comma, Equals}
 use Rattle.deck_scan.specs.Bytes.{is_word}
-use Rattle.deck_scan.specs.Named.{are_bytes, name_token}
+use Rattle.deck_scan.specs.Lengths.{is_bad_q, is_bad_r}
+use Rattle.deck_scan.specs.Named.{IsMaybeQname, IsMaybeRname, are_bytes, name_token}
 use Rattle.deck_scan.specs.Next.{Sets}
 use Rattle.deck_scan.specs.Pieces.{Plain, is_piece, is_nonempty, SpellsLines}
 use Rattle.deck_scan.specs.Reading.{max_text}
@@ -33,10 +34,10 @@ use Rattle.job_syntax.specs.Unit.{hex_of, unit_of}
 use Rattle.job_syntax.specs.Options.{no_opts}
 use Rattle.job_syntax.specs.Ask.{is_deq_ret}
 use Rattle.job_syntax.specs.Spelled.{ctl_word, scope_word, reach_word, Opt, Given, Lists, On, option, IsFree, set, IsAsk, Want, First, Second, IsScan, IsResource, IsBehind, verb_for, IsWord}
-use Rattle.job_syntax.specs.Lines.{are_bad, is_bad_q, is_bad_r, is_bad, ret_or_none, rnl_or_yes, is_have, filter_of, line_of}
+use Rattle.job_syntax.specs.Lines.{are_bad, is_bad, ret_or_none, rnl_or_yes, is_have, filter_of, line_of}
 use Rattle.job_syntax.specs.Printed.{printed_ret, printed_have, printed_rnl, printed_unit, maybe_unit, printed_line}
 use Rattle.job_syntax.specs.Reading.{SpellsLine}
-use Rattle.job_syntax.specs.Laws.{AreNames, IsMaybeQname, IsMaybeRname, IsFilter, IsMaybeUnit, IsDeckLine}
+use Rattle.job_syntax.specs.Laws.{AreNames, IsFilter, IsMaybeUnit, IsDeckLine}
 
 -- ---- units
 

@@ -1,64 +1,31 @@
 -- The reader of one task line answers what its text spells.
-use Rattle.std.proofs.Common.{◌≡◌, ℕ, ◌≤◌, Bool, true, false, cond, ltb, List, [], ◌∷◌, length, Option, Some, None, Result, Ok, Err, refl, sym, ap, subst, ◌∙◌}
-use Rattle.std.proofs.lemmas.Bool.{ltb-false, le-ltb}
+use Rattle.std.proofs.Common.{◌≡◌, ℕ, Bool, true, false, cond, List, [], ◌∷◌, Option, Some, None, Result, Ok, Err, refl, sym, ap, subst, ◌∙◌}
 use Rattle.grs_base.specs.declared.fault.DeckFault.{DeckFault}
-use Rattle.grs_base.specs.declared.fault.Kind.TheVariants.{TooLong, UnknownStatement, NameLength}
+use Rattle.grs_base.specs.declared.fault.Kind.TheVariants.{UnknownStatement, NameLength}
 use Rattle.grs_base.specs.declared.fault.ReadError.{ReadError}
 use Rattle.grs_base.specs.declared.fault.ReadError.TheVariants as read_errors
 use Rattle.grs_base.specs.declared.line.Line.{Line}
 use Rattle.deck_scan.specs.declared.token.Token.{Token}
 use Rattle.deck_scan.specs.declared.token.Token.TheVariants.{Word, Unclosed}
 use Rattle.deck_scan.specs.declared.token.TokenLine.{TokenLine}
-use Rattle.deck_scan.specs.Bytes.{bad_line}
-use Rattle.deck_scan.specs.Scan.{lines_of}
 use Rattle.deck_scan.specs.Pieces.{SpellsLines}
-use Rattle.deck_scan.specs.Gives.{Gives}
-use Rattle.deck_scan.specs.Reading.{lines_or_fault, unless_fault, byte_fault, bad_byte}
-use Rattle.deck_scan.proofs.Pieced.{spelled_is, spelled_found}
+use Rattle.deck_scan.specs.Gives.{Gives, IsOkUnlessMemory, refused, or_bad}
+use Rattle.deck_scan.specs.Reading.{lines_or_fault}
+use Rattle.deck_scan.proofs.Texts.{bind_ok, read_text, text_read}
 use Rattle.job_syntax.specs.declared.said.Said.{Said}
 use Rattle.job_syntax.specs.declared.said.Verb.{Verb}
 use Rattle.job_syntax.specs.Said.{verb, said_at}
 use Rattle.job_syntax.specs.Spelled.{verb_for, IsSaid}
 use Rattle.job_syntax.specs.Lines.{is_bad, line_of}
-use Rattle.job_syntax.specs.Reading.{◌>>=◌, refused, or_bad, said_by, said_first, said_on, sized, alone, sized_alone, one_line, reading, SpellsLine, Answers, IsOkUnlessMemory}
+use Rattle.job_syntax.specs.Reading.{said_by, said_first, said_on, sized, alone, sized_alone, one_line, reading, SpellsLine, Answers}
 use Rattle.job_syntax.proofs.Taken.{line_taken}
 use Rattle.job_syntax.proofs.Again.{said_again, verb_again}
-
-bind_ok : {A B : Type 0} (r : Result A DeckFault) (f : A → Result B DeckFault) (y : B) → (r >>= f) ≡ Ok y → (x : A) × (r ≡ Ok x) × (f x ≡ Ok y)
-bind_ok (Ok x) f y e = (x, refl, e)
-bind_ok (Err d) f y e = absurd cc
 
 abbrev read_as : Line → Result Line DeckFault
 read_as l = Ok l
 
 line_is : (l m : Line) → read_as l ≡ read_as m → l ≡ m
 line_is l m h = cc
-
--- ---- texts
-
--- a text without a fault of length or bytes
-record IsAllowed (text : List ℕ) : Type 0 where
-  short : length text ≤ 1048576
-  bytes : bad_line 1 text ≡ None
-
-bad_none : (o : Option ℕ) → bad_byte o ≡ None → o ≡ None
-bad_none None h = refl
-bad_none (Some n) h = absurd cc
-
-allowed_of : (text : List ℕ) → byte_fault text ≡ None → IsAllowed text
-allowed_of text h = go (ltb 1048576 (length text)) refl h
-  where
-    go : (b : Bool) → ltb 1048576 (length text) ≡ b → cond b (Some (record { line = 0; kind = TooLong })) (bad_byte (bad_line 1 text)) ≡ None → IsAllowed text
-    go true is k = absurd cc
-    go false is k = record { short = ltb-false 1048576 (length text) is; bytes = bad_none (bad_line 1 text) k }
-
-unless_ok : (o : Option DeckFault) (xs ys : List TokenLine) → unless_fault o xs ≡ Ok ys → (o ≡ None) × (xs ≡ ys)
-unless_ok None xs ys h = (refl, cc)
-unless_ok (Some f) xs ys h = absurd cc
-
-lines_read : (text : List ℕ) (lines : List TokenLine) → length text ≤ 1048576 → SpellsLines text lines → lines_or_fault text ≡ Ok lines
-unfolding lines_or_fault
-lines_read text lines short spelled = rw (le-ltb 1048576 (length text) short, spelled.allowed, spelled_is text lines spelled) refl
 
 -- ---- one line
 
@@ -122,17 +89,15 @@ one_there (l ∷ ls) line e =
 
 -- What is read is spelled.
 reading_spells : (text : List ℕ) (line : Line) → reading text ≡ Ok line → SpellsLine text line
-unfolding reading lines_or_fault
+unfolding reading
 reading_spells text line h =
     let b = bind_ok (lines_or_fault text) (λ ls. one_line ls) line h in
-    let u = unless_ok (byte_fault text) (lines_of text) b.0 b.1 in
-    let a = allowed_of text u.0 in
+    let t = read_text text b.0 b.1 in
     let o = one_there b.0 line b.2 in
-    let spelled = spelled_found text a.bytes in
     record {
-      short = a.short;
+      short = t.short;
       tokens = o.tokens;
-      spelled = subst (λ (ls : List TokenLine). SpellsLines text ls) (u.1 ∙ o.all) spelled;
+      spelled = subst (λ (ls : List TokenLine). SpellsLines text ls) o.all t.spelled;
       apart = o.apart;
       said = o.said;
       says = o.says;
@@ -143,7 +108,7 @@ reading_spells text line h =
 -- What is spelled is read.
 pub spells_reading : (text : List ℕ) (line : Line) → SpellsLine text line → reading text ≡ Ok line
 unfolding reading one_line
-spells_reading text line h = rw (lines_read text (h.tokens ∷ []) h.short h.spelled, there_said h.tokens h.said h.apart h.says, h.names) (ap read_as h.makes)
+spells_reading text line h = rw (text_read text (h.tokens ∷ []) h.short h.spelled, there_said h.tokens h.said h.apart h.says, h.names) (ap read_as h.makes)
 
 pub answers : (text : List ℕ) (r : Result Line ReadError) → Gives r (reading text) → Answers r text
 answers text (Ok l) h = reading_spells text l h

@@ -12,7 +12,7 @@ use Rattle.grs_base.specs.declared.resource.Ret.TheVariants.{RetNone, RetUse, Re
 use Rattle.deck_scan.specs.declared.token.Token.{Token}
 use Rattle.deck_scan.specs.declared.token.Token.TheVariants.{Word, Open, Close, Comma, Equals}
 use Rattle.deck_scan.specs.Next.{◌>>=◌, open_at, close_at, comma_at, equals_at, end_at, any_word_at, word_at, value_at, name_at, up_to, Names, Sets}
-use Rattle.deck_scan.proofs.Taking.{bind_some, guard_some, some_is, same_bytes, once_some, open_taken, close_taken, comma_taken, equals_taken, end_taken, any_word_taken, value_taken, name_taken, TookOne, all_taken}
+use Rattle.deck_scan.proofs.Taking.{bind_some, guard_some, some_is, same_bytes, by_row, IsWordOf, row, once_some, open_taken, close_taken, comma_taken, equals_taken, end_taken, any_word_taken, value_taken, name_taken, TookOne, all_taken}
 use Rattle.job_syntax.specs.declared.options.Opts.{Opts}
 use Rattle.job_syntax.specs.declared.ask.Ask.{Ask}
 use Rattle.job_syntax.specs.declared.ask.EnqAsk.{EnqAsk}
@@ -46,38 +46,21 @@ abbrev RetWord : List ℕ → Option Ret → Type 0
 RetWord w None = Unit {0}
 RetWord w (Some r) = valued (codes "RET") w ≡ option (Given r)
 
-ret_by : (w : List ℕ) (b : Bool) (x y : Option Ret) → (b ≡ true → RetWord w x) → RetWord w y → RetWord w (cond b x y)
-ret_by w true x y p q = p refl
-ret_by w false x y p q = q
-
 ret_word : (w : List ℕ) → RetWord w (ret_of w)
 unfolding ret_of
 ret_word w =
-    ret_by w (bytes_eq w (codes "NONE")) (Some RetNone) _ (λ h. ap (valued (codes "RET")) (same_bytes w _ h))
-    (ret_by w (bytes_eq w (codes "USE")) (Some RetUse) _ (λ h. ap (valued (codes "RET")) (same_bytes w _ h))
-    (ret_by w (bytes_eq w (codes "HAVE")) (Some RetHave) _ (λ h. ap (valued (codes "RET")) (same_bytes w _ h))
-    (ret_by w (bytes_eq w (codes "TEST")) (Some RetTest) _ (λ h. ap (valued (codes "RET")) (same_bytes w _ h))
-    (ret_by w (bytes_eq w (codes "CHNG")) (Some RetChng) None (λ h. ap (valued (codes "RET")) (same_bytes w _ h)) tt))))
+    by_row (RetWord w) w (codes "NONE") RetNone _ (λ h. ap (valued (codes "RET")) h)
+    (by_row (RetWord w) w (codes "USE") RetUse _ (λ h. ap (valued (codes "RET")) h)
+    (by_row (RetWord w) w (codes "HAVE") RetHave _ (λ h. ap (valued (codes "RET")) h)
+    (by_row (RetWord w) w (codes "TEST") RetTest _ (λ h. ap (valued (codes "RET")) h)
+    (by_row (RetWord w) w (codes "CHNG") RetChng None (λ h. ap (valued (codes "RET")) h) tt))))
 
 ret_taken : (w : List ℕ) (r : Ret) → ret_of w ≡ Some r → valued (codes "RET") w ≡ option (Given r)
 ret_taken w r e = subst (RetWord w) e (ret_word w)
 
-abbrev RnlWord : List ℕ → Option Bool → Type 0
-RnlWord w None = Unit {0}
-RnlWord w (Some b) = w ≡ rnl_word b
-
-rnl_by : (w : List ℕ) (b : Bool) (x y : Option Bool) → (b ≡ true → RnlWord w x) → RnlWord w y → RnlWord w (cond b x y)
-rnl_by w true x y p q = p refl
-rnl_by w false x y p q = q
-
-rnl_says : (w : List ℕ) → RnlWord w (rnl_of w)
-unfolding rnl_of
-rnl_says w =
-    rnl_by w (bytes_eq w (codes "YES")) (Some true) _ (same_bytes w _)
-    (rnl_by w (bytes_eq w (codes "NO")) (Some false) None (same_bytes w _) tt)
-
 rnl_taken : (w : List ℕ) (b : Bool) → rnl_of w ≡ Some b → w ≡ rnl_word b
-rnl_taken w b e = subst (RnlWord w) e (rnl_says w)
+unfolding rnl_of
+rnl_taken w b e = subst (IsWordOf rnl_word w) e (row rnl_word w true _ (row rnl_word w false None tt))
 
 abbrev OptTook : Opts → List Token → Opts → List Token → Type 0
 OptTook o ts p rest = TookOne IsFree set option o ts p rest
@@ -159,34 +142,26 @@ abbrev CtlWord : List ℕ → List Token → Option (Ctl × List Token) → Type
 CtlWord w rest None = Unit {0}
 CtlWord w rest (Some x) = Word w ∷ rest ≡ Word (ctl_word x.0) ∷ x.1
 
-ctl_by : (w : List ℕ) (rest : List Token) (b : Bool) (x y : Option (Ctl × List Token)) → (b ≡ true → CtlWord w rest x) → CtlWord w rest y → CtlWord w rest (cond b x y)
-ctl_by w rest true x y p q = p refl
-ctl_by w rest false x y p q = q
-
 ctl_taken : (ts : List Token) (x : Ctl × List Token) → ctl_at ts ≡ Some x → ts ≡ Word (ctl_word x.0) ∷ x.1
 unfolding ctl_at
 ctl_taken ts x e =
     let b = bind_some (any_word_at ts) (λ w. cond (bytes_eq w.0 (codes "E")) (Some (E, w.1)) (cond (bytes_eq w.0 (codes "S")) (Some (S, w.1)) None)) x e in
     any_word_taken ts b.0 b.1 ∙ subst (CtlWord b.0.0 b.0.1) b.2
-    (ctl_by b.0.0 b.0.1 (bytes_eq b.0.0 (codes "E")) (Some (E, b.0.1)) _ (λ h. ap (λ (z : List ℕ). Word z ∷ b.0.1) (same_bytes b.0.0 _ h))
-    (ctl_by b.0.0 b.0.1 (bytes_eq b.0.0 (codes "S")) (Some (S, b.0.1)) None (λ h. ap (λ (z : List ℕ). Word z ∷ b.0.1) (same_bytes b.0.0 _ h)) tt))
+    (by_row (CtlWord b.0.0 b.0.1) b.0.0 (codes "E") (E, b.0.1) _ (λ h. ap (λ (z : List ℕ). Word z ∷ b.0.1) h)
+    (by_row (CtlWord b.0.0 b.0.1) b.0.0 (codes "S") (S, b.0.1) None (λ h. ap (λ (z : List ℕ). Word z ∷ b.0.1) h) tt))
 
 abbrev ScopeWord : List ℕ → List Token → Option (Scope × List Token) → Type 0
 ScopeWord w rest None = Unit {0}
 ScopeWord w rest (Some x) = Word w ∷ rest ≡ Word (scope_word x.0) ∷ x.1
-
-scope_by : (w : List ℕ) (rest : List Token) (b : Bool) (x y : Option (Scope × List Token)) → (b ≡ true → ScopeWord w rest x) → ScopeWord w rest y → ScopeWord w rest (cond b x y)
-scope_by w rest true x y p q = p refl
-scope_by w rest false x y p q = q
 
 scope_taken : (ts : List Token) (x : Scope × List Token) → scope_at ts ≡ Some x → ts ≡ Word (scope_word x.0) ∷ x.1
 unfolding scope_at
 scope_taken ts x e =
     let b = bind_some (any_word_at ts) (λ w. cond (bytes_eq w.0 (codes "STEP")) (Some (scopes.Step, w.1)) (cond (bytes_eq w.0 (codes "SYSTEM")) (Some (scopes.System, w.1)) (cond (bytes_eq w.0 (codes "SYSTEMS")) (Some (scopes.Systems, w.1)) None))) x e in
     any_word_taken ts b.0 b.1 ∙ subst (ScopeWord b.0.0 b.0.1) b.2
-    (scope_by b.0.0 b.0.1 (bytes_eq b.0.0 (codes "STEP")) (Some (scopes.Step, b.0.1)) _ (λ h. ap (λ (z : List ℕ). Word z ∷ b.0.1) (same_bytes b.0.0 _ h))
-    (scope_by b.0.0 b.0.1 (bytes_eq b.0.0 (codes "SYSTEM")) (Some (scopes.System, b.0.1)) _ (λ h. ap (λ (z : List ℕ). Word z ∷ b.0.1) (same_bytes b.0.0 _ h))
-    (scope_by b.0.0 b.0.1 (bytes_eq b.0.0 (codes "SYSTEMS")) (Some (scopes.Systems, b.0.1)) None (λ h. ap (λ (z : List ℕ). Word z ∷ b.0.1) (same_bytes b.0.0 _ h)) tt)))
+    (by_row (ScopeWord b.0.0 b.0.1) b.0.0 (codes "STEP") (scopes.Step, b.0.1) _ (λ h. ap (λ (z : List ℕ). Word z ∷ b.0.1) h)
+    (by_row (ScopeWord b.0.0 b.0.1) b.0.0 (codes "SYSTEM") (scopes.System, b.0.1) _ (λ h. ap (λ (z : List ℕ). Word z ∷ b.0.1) h)
+    (by_row (ScopeWord b.0.0 b.0.1) b.0.0 (codes "SYSTEMS") (scopes.Systems, b.0.1) None (λ h. ap (λ (z : List ℕ). Word z ∷ b.0.1) h) tt)))
 
 pub record Front (ts : List Token) (qname rname : List ℕ) (rest : List Token) : Type 0 where
   pub q : Token
@@ -285,19 +260,9 @@ wait_taken ts x e = let t = tested (uncontrolled_at ts) wait_may x e in (uncontr
 
 -- ---- GQSCAN
 
-abbrev ReachWord : List ℕ → Option Bool → Type 0
-ReachWord w None = Unit {0}
-ReachWord w (Some b) = w ≡ reach_word b
-
-reach_by : (w : List ℕ) (b : Bool) (x y : Option Bool) → (b ≡ true → ReachWord w x) → ReachWord w y → ReachWord w (cond b x y)
-reach_by w true x y p q = p refl
-reach_by w false x y p q = q
-
 reach_taken : (w : List ℕ) (b : Bool) → reach_of w ≡ Some b → w ≡ reach_word b
 unfolding reach_of
-reach_taken w b e = subst (ReachWord w) e
-    (reach_by w (bytes_eq w (codes "GLOBAL")) (Some true) _ (same_bytes w _)
-    (reach_by w (bytes_eq w (codes "LOCAL")) (Some false) None (same_bytes w _) tt))
+reach_taken w b e = subst (IsWordOf reach_word w) e (row reach_word w true _ (row reach_word w false None tt))
 
 word_taken : (word : List ℕ) (ts rest : List Token) → word_at word ts ≡ Some rest → ts ≡ Word word ∷ rest
 word_taken word ts rest e =
@@ -470,20 +435,16 @@ abbrev Worded : List ℕ → Option Verb → Type 0
 Worded w None = Unit {0}
 Worded w (Some v) = IsWord v w
 
-verb_by : (w : List ℕ) (b : Bool) (x y : Option Verb) → (b ≡ true → Worded w x) → Worded w y → Worded w (cond b x y)
-verb_by w true x y p q = p refl
-verb_by w false x y p q = q
-
 pub verb_taken : (w : List ℕ) (v : Verb) → verb w ≡ Some v → IsWord v w
 unfolding verb
 verb_taken w v e = subst (Worded w) e
-    (verb_by w (bytes_eq w (codes "ENQ")) (Some verbs.Enq) _ (same_bytes w _)
-    (verb_by w (bytes_eq w (codes "RESERVE")) (Some verbs.Reserve) _ (same_bytes w _)
-    (verb_by w (bytes_eq w (codes "DEQ")) (Some verbs.Deq) _ (same_bytes w _)
-    (verb_by w (bytes_eq w (codes "WAIT")) (Some verbs.Wait) _ (same_bytes w _)
-    (verb_by w (bytes_eq w (codes "GQSCAN")) (Some verbs.Gqscan) _ (same_bytes w _)
-    (verb_by w (bytes_eq w (codes "DISPLAY")) (Some verbs.Display) _ (λ h. inl (same_bytes w _ h))
-    (verb_by w (bytes_eq w (codes "D")) (Some verbs.Display) None (λ h. inr (same_bytes w _ h)) tt)))))))
+    (by_row (Worded w) w (codes "ENQ") verbs.Enq _ (λ h. h)
+    (by_row (Worded w) w (codes "RESERVE") verbs.Reserve _ (λ h. h)
+    (by_row (Worded w) w (codes "DEQ") verbs.Deq _ (λ h. h)
+    (by_row (Worded w) w (codes "WAIT") verbs.Wait _ (λ h. h)
+    (by_row (Worded w) w (codes "GQSCAN") verbs.Gqscan _ (λ h. h)
+    (by_row (Worded w) w (codes "DISPLAY") verbs.Display _ (λ h. inl h)
+    (by_row (Worded w) w (codes "D") verbs.Display None (λ h. inr h) tt)))))))
 
 -- What is read behind a word is spelled so.
 pub line_taken : (w : List ℕ) (ts : List Token) (v : Verb) (s : Said) → verb w ≡ Some v → said_at v ts ≡ Some s → IsSaid (Word w ∷ ts) s

@@ -6,7 +6,7 @@ use Rattle.grs_base.specs.declared.look.Filter.TheVariants as filters
 use Rattle.grs_base.specs.declared.line.Item.{Item}
 use Rattle.grs_base.specs.declared.line.Line.{Line}
 use Rattle.grs_base.specs.declared.line.Line.TheVariants as lines
-use Rattle.deck_scan.specs.Named.{are_bytes}
+use Rattle.deck_scan.specs.Named.{are_bytes, IsMaybeQname, IsMaybeRname}
 
 -- The names of a resource: numbers below 256, as many as there may be.
 pub record AreNames (q r : List ℕ) : Type 0 where
@@ -14,14 +14,6 @@ pub record AreNames (q r : List ℕ) : Type 0 where
   pub q_bytes : are_bytes q ≡ true
   pub rname : is_rname r ≡ true
   pub r_bytes : are_bytes r ≡ true
-
-abbrev pub IsMaybeQname : Option (List ℕ) → Type 0
-IsMaybeQname None = Unit {0}
-IsMaybeQname (Some q) = IsQname q × (are_bytes q ≡ true)
-
-abbrev pub IsMaybeRname : Option (List ℕ) → Type 0
-IsMaybeRname None = Unit {0}
-IsMaybeRname (Some r) = (is_rname r ≡ true) × (are_bytes r ≡ true)
 
 -- A filter of a GQSCAN: all lists, or those of a qname, of an rname or of both.
 abbrev pub IsFilter : Filter → Type 0

@@ -7,6 +7,7 @@ use Rattle.grs_base.specs.declared.look.Filter.{Filter}
 use Rattle.grs_base.specs.declared.look.Filter.TheVariants as filters
 use Rattle.grs_base.specs.declared.line.Line.{Line}
 use Rattle.grs_base.specs.declared.line.Line.TheVariants as lines
+use Rattle.deck_scan.specs.Lengths.{is_bad_q, is_bad_r, trimmed}
 use Rattle.job_syntax.specs.declared.ask.Ask.{Ask}
 use Rattle.job_syntax.specs.declared.ask.EnqAsk.{EnqAsk}
 use Rattle.job_syntax.specs.declared.display.Wanted.{Wanted}
@@ -18,14 +19,6 @@ use Rattle.job_syntax.specs.declared.said.Said.TheVariants as said
 -- Names of wrong lengths.
 abbrev pub are_bad : List ℕ → List ℕ → Bool
 are_bad q r = not (is_qname q) || not (is_rname r)
-
-abbrev pub is_bad_q : Option (List ℕ) → Bool
-is_bad_q None = false
-is_bad_q (Some q) = not (is_qname q)
-
-abbrev pub is_bad_r : Option (List ℕ) → Bool
-is_bad_r None = false
-is_bad_r (Some r) = not (is_rname r)
 
 abbrev pub is_bad_shown : Shown → Bool
 is_bad_shown shown.Contended = false
@@ -57,11 +50,6 @@ is_have (Some RetHave) = true
 is_have (Some RetTest) = false
 is_have (Some RetChng) = false
 is_have (Some RetEcb) = false
-
--- A qname loses its trailing blanks.
-abbrev pub trimmed : Option (List ℕ) → Option (List ℕ)
-trimmed None = None
-trimmed (Some q) = Some (trim_blanks q)
 
 -- Without names every list is shown.
 abbrev pub filter_of : Wanted → Filter

@@ -1,7 +1,6 @@
 -- The line that a text of one task line spells, or its fault.
 use Rattle.std.specs.Prelude.{◌≡◌, ℕ, false, ◌≤◌, List, [], ◌∷◌, length, Option, Some, None, Result, Ok, Err, if◌then◌else◌}
 use Rattle.grs_base.specs.declared.fault.DeckFault.{DeckFault}
-use Rattle.grs_base.specs.declared.fault.Kind.{Kind}
 use Rattle.grs_base.specs.declared.fault.Kind.TheVariants.{UnknownStatement, BadOperand, NameLength}
 use Rattle.grs_base.specs.declared.fault.ReadError.{ReadError}
 use Rattle.grs_base.specs.declared.fault.ReadError.TheVariants as read_errors
@@ -9,6 +8,7 @@ use Rattle.grs_base.specs.declared.line.Line.{Line}
 use Rattle.deck_scan.specs.declared.token.Token.{Token}
 use Rattle.deck_scan.specs.declared.token.Token.TheVariants.{Word, Unclosed}
 use Rattle.deck_scan.specs.declared.token.TokenLine.{TokenLine}
+use Rattle.deck_scan.specs.Gives.{◌>>=◌, refused, or_bad}
 use Rattle.deck_scan.specs.Pieces.{SpellsLines}
 use Rattle.deck_scan.specs.Reading.{max_text, lines_or_fault}
 use Rattle.job_syntax.specs.declared.said.Said.{Said}
@@ -16,18 +16,6 @@ use Rattle.job_syntax.specs.declared.said.Verb.{Verb}
 use Rattle.job_syntax.specs.Said.{verb, said_at}
 use Rattle.job_syntax.specs.Spelled.{IsSaid}
 use Rattle.job_syntax.specs.Lines.{is_bad, line_of}
-
-infixl 10 ◌>>=◌
-abbrev pub ◌>>=◌ : {A B : Type 0} → Result A DeckFault → (A → Result B DeckFault) → Result B DeckFault
-(Ok x) >>= f = f x
-(Err e) >>= f = Err e
-
-abbrev pub refused : {A : Type 0} → ℕ → Kind → Result A DeckFault
-refused at kind = Err (record { line = at; kind = kind })
-
-abbrev pub or_bad : ℕ → Option Said → Result Said DeckFault
-or_bad at (Some s) = Ok s
-or_bad at None = refused at BadOperand
 
 abbrev pub said_by : ℕ → Option Verb → List Token → Result Said DeckFault
 said_by at (Some v) ts = or_bad at (said_at v ts)
@@ -81,9 +69,3 @@ abbrev pub Answers : Result Line ReadError → List ℕ → Type 0
 Answers (Ok line) text = SpellsLine text line
 Answers (Err read_errors.NoMemory) text = Unit {0}
 Answers (Err (read_errors.Fault f)) text = reading text ≡ Err f
-
--- This line, unless memory ran out.
-abbrev pub IsOkUnlessMemory : Result Line ReadError → Line → Type 0
-IsOkUnlessMemory (Ok l) line = l ≡ line
-IsOkUnlessMemory (Err read_errors.NoMemory) line = Unit {0}
-IsOkUnlessMemory (Err (read_errors.Fault f)) line = ⊥

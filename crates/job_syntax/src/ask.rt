@@ -11,7 +11,9 @@ use std::alloc::Global;
 /// What a task line names, with names of any length, and the options that stand in it.
 #[derive(Drop)]
 pub struct Ask {
+    /// The bytes of the qname as they are written, trailing blanks too.
     pub q: List<u8>,
+    /// The bytes of the rname.
     pub r: List<u8>,
     pub scope: Scope,
     pub opts: Opts,
@@ -140,6 +142,7 @@ fn uncontrolled_at(alloc: Global, ts: &[Token]) -> Result<Ask, Miss>
     Ok(Ask { q, r, scope, opts })
 }
 
+/// What stands behind ENQ: no UCB.
 #[tactic(auto, unfolding(crate::specs::Ask::enq_at))]
 pub fn enq_at(alloc: Global, ts: &[Token]) -> Result<EnqAsk, Miss>
     ensures { Reads (λ x. x) result (enq_at ts.now) }
@@ -152,6 +155,7 @@ pub fn enq_at(alloc: Global, ts: &[Token]) -> Result<EnqAsk, Miss>
     }
 }
 
+/// What stands behind RESERVE: the scope SYSTEMS, and UCB.
 #[tactic(auto, unfolding(crate::specs::Ask::reserve_at))]
 pub fn reserve_at(alloc: Global, ts: &[Token]) -> Result<EnqAsk, Miss>
     ensures { Reads (λ x. x) result (reserve_at ts.now) }
@@ -164,6 +168,7 @@ pub fn reserve_at(alloc: Global, ts: &[Token]) -> Result<EnqAsk, Miss>
     }
 }
 
+/// What stands behind DEQ: of RET only NONE and HAVE, and no ECB.
 #[tactic(auto, unfolding(crate::specs::Ask::deq_at))]
 pub fn deq_at(alloc: Global, ts: &[Token]) -> Result<Ask, Miss>
     ensures { Reads (λ x. x) result (deq_at ts.now) }
@@ -176,6 +181,7 @@ pub fn deq_at(alloc: Global, ts: &[Token]) -> Result<Ask, Miss>
     }
 }
 
+/// What stands behind WAIT: no option but RNL.
 #[tactic(auto, unfolding(crate::specs::Ask::wait_at))]
 pub fn wait_at(alloc: Global, ts: &[Token]) -> Result<Ask, Miss>
     ensures { Reads (λ x. x) result (wait_at ts.now) }

@@ -17,9 +17,10 @@ pub struct Wanted {
     pub r: Option<List<u8>>,
 }
 
-/// What a GQSCAN says: SCOPE=GLOBAL or not, and the names.
+/// What a GQSCAN says.
 #[derive(Drop)]
 pub struct ScanAsk {
+    /// True for SCOPE=GLOBAL, false for SCOPE=LOCAL.
     pub global: bool,
     pub names: Wanted,
 }
@@ -28,7 +29,9 @@ pub struct ScanAsk {
 /// any length.
 #[derive(Drop)]
 pub enum Shown {
+    /// `GRS,C`
     Contended,
+    /// `GRS,RES=(q,r)`
     Resource { q: List<u8>, r: List<u8> },
 }
 

@@ -1,5 +1,7 @@
 //! Task lines: from the tokens of a line to what it says, and from a line back to its text. It knows
-//! the forms of single lines, and nothing of systems, jobs and tasks.
+//! the forms of single lines, and nothing of systems, jobs and tasks. (The words and operands are those of
+//! z/OS MVS Programming: Assembler Services Reference, "ENQ" and "DEQ"; Authorized Assembler Services
+//! Reference, "GQSCAN" and "RESERVE"; and z/OS MVS System Commands, "DISPLAY GRS".)
 #![tactic(auto)]
 
 mod ask;

@@ -1,38 +1,20 @@
 //! The line that a task line makes. What is read without options has their plain values here.
 ghost use Rattle.std.specs.Prelude.{◌≡◌, true, false, IfOk};
-ghost use Rattle.grs_base.specs.Names.{trim_blanks, is_qname, is_rname};
-ghost use Rattle.job_syntax.specs.Lines.{are_bad, is_bad_q, is_bad_r, is_bad_shown, is_bad, ret_or_none, rnl_or_yes, is_have, trimmed, filter_of, enq_line, reserve_line, deq_line, wait_line, display_line, line_of};
+ghost use Rattle.grs_base.specs.Names.{trim_blanks};
+ghost use Rattle.deck_scan.specs.Lengths.{is_bad_q, is_bad_r};
+ghost use Rattle.job_syntax.specs.Lines.{are_bad, is_bad_shown, is_bad, ret_or_none, rnl_or_yes, is_have, filter_of, enq_line, reserve_line, deq_line, wait_line, display_line, line_of};
 
 use crate::ask::{Ask, EnqAsk};
 use crate::display::{Shown, Wanted};
 use crate::said::Said;
-use grs_base::{
-    Filter, Item, Line, List, NameFault, NoMemory, Qname, Ret, Rname, is_qname, is_rname,
-};
+use deck_scan::{is_bad_q, is_bad_r, maybe_qname, maybe_rname, qname_of, rname_of};
+use grs_base::{Filter, Item, Line, List, NoMemory, Qname, Ret, Rname, is_qname, is_rname};
 use std::alloc::Global;
 
 fn are_bad(q: &[u8], r: &[u8]) -> bool
     ensures { result ≡ are_bad q.now r.now }
 {
     !is_qname(q) || !is_rname(r)
-}
-
-fn is_bad_q(q: &Option<List<u8>>) -> bool
-    ensures { result ≡ is_bad_q q.now }
-{
-    match q {
-        None => false,
-        Some(q) => !is_qname(q.as_slice()),
-    }
-}
-
-fn is_bad_r(r: &Option<List<u8>>) -> bool
-    ensures { result ≡ is_bad_r r.now }
-{
-    match r {
-        None => false,
-        Some(r) => !is_rname(r.as_slice()),
-    }
 }
 
 fn is_bad_shown(shown: &Shown) -> bool
@@ -44,7 +26,8 @@ fn is_bad_shown(shown: &Shown) -> bool
     }
 }
 
-/// Whether a name has a length that it may not have.
+/// Whether a name has a length that it may not have: a qname of blanks alone or over 8 bytes, an rname of
+/// no byte or over 255.
 pub fn is_bad(said: &Said) -> bool
     ensures { result ≡ is_bad said.now }
 {
@@ -82,28 +65,6 @@ fn is_have(ret: Option<Ret>) -> bool
     match ret {
         Some(Ret::RetHave) => true,
         _ => false,
-    }
-}
-
-fn qname_of(alloc: Global, bytes: &[u8]) -> Result<Qname, NoMemory>
-    requires { is_qname bytes.now ≡ true }
-    ensures { IfOk result (λ q. q ≡ trim_blanks bytes.now) }
-{
-    match Qname::new(alloc, bytes) {
-        Ok(q) => Ok(q),
-        Err(NameFault::BadLength) => unreachable!(),
-        Err(NameFault::NoMemory) => Err(NoMemory),
-    }
-}
-
-fn rname_of(alloc: Global, bytes: &[u8]) -> Result<Rname, NoMemory>
-    requires { is_rname bytes.now ≡ true }
-    ensures { IfOk result (λ r. r ≡ bytes.now) }
-{
-    match Rname::new(alloc, bytes) {
-        Ok(r) => Ok(r),
-        Err(NameFault::BadLength) => unreachable!(),
-        Err(NameFault::NoMemory) => Err(NoMemory),
     }
 }
 
@@ -179,26 +140,6 @@ fn wait_line(alloc: Global, ask: &Ask) -> Result<Line, NoMemory>
         scope: ask.scope,
         rnl: rnl_or_yes(ask.opts.rnl),
     })
-}
-
-fn maybe_qname(alloc: Global, q: &Option<List<u8>>) -> Result<Option<Qname>, NoMemory>
-    requires { is_bad_q q.now ≡ false }
-    ensures { IfOk result (λ x. x ≡ trimmed q.now) }
-{
-    match q {
-        None => Ok(None),
-        Some(q) => Ok(Some(qname_of(alloc, q.as_slice())?)),
-    }
-}
-
-fn maybe_rname(alloc: Global, r: &Option<List<u8>>) -> Result<Option<Rname>, NoMemory>
-    requires { is_bad_r r.now ≡ false }
-    ensures { IfOk result (λ x. x ≡ r.now) }
-{
-    match r {
-        None => Ok(None),
-        Some(r) => Ok(Some(rname_of(alloc, r.as_slice())?)),
-    }
 }
 
 fn filter_of(alloc: Global, names: &Wanted) -> Result<Filter, NoMemory>

@@ -1,6 +1,6 @@
 //! The options behind the parentheses of a task line, in any order, each at most once. Which of
 //! them a line may have is not said here.
-ghost use Rattle.std.specs.Prelude.{◌≡◌};
+ghost use Rattle.std.specs.Prelude.{◌≡◌, IfErr};
 ghost use Rattle.deck_scan.specs.Next.{Reads, maybe};
 ghost use Rattle.job_syntax.specs.Options.{with_ret, with_rnl, with_unit, ret_of, rnl_of, chosen, option_at, options_at};
 
@@ -8,17 +8,21 @@ use crate::unit::unit_of;
 use deck_scan::{Miss, Token, any_word_at, comma_at, end_at, value_at};
 use grs_base::Ret;
 
-/// The options that stand in a line: RET or ECB, RNL (true for YES) and UCB.
+/// The options that stand in a line.
 #[derive(Clone, Copy, Debug, PartialEq, Eq)]
 pub struct Opts {
+    /// RET, or ECB, which stands in its place.
     pub ret: Option<Ret>,
+    /// RNL: true for YES, which looks at the name lists, false for NO, which passes them by.
     pub rnl: Option<bool>,
+    /// The number of the device that UCB gives.
     pub unit: Option<u16>,
 }
 
 #[tactic(auto, unfolding(crate::specs::Options::ret_of))]
 fn ret_of(w: &[u8]) -> Result<Ret, Miss>
-    ensures { Reads (λ x. x) result (ret_of w.now) }
+    ensures reads { Reads (λ x. x) result (ret_of w.now) }
+    ensures bad { IfErr result (λ e. e ≡ Miss.Bad) }
 {
     if w == b"NONE".as_slice() {
         Ok(Ret::RetNone)
@@ -37,7 +41,8 @@ fn ret_of(w: &[u8]) -> Result<Ret, Miss>
 
 #[tactic(auto, unfolding(crate::specs::Options::rnl_of))]
 fn rnl_of(w: &[u8]) -> Result<bool, Miss>
-    ensures { Reads (λ x. x) result (rnl_of w.now) }
+    ensures reads { Reads (λ x. x) result (rnl_of w.now) }
+    ensures bad { IfErr result (λ e. e ≡ Miss.Bad) }
 {
     if w == b"YES".as_slice() {
         Ok(true)
@@ -49,7 +54,8 @@ fn rnl_of(w: &[u8]) -> Result<bool, Miss>
 }
 
 fn with_ret(opts: Opts, ret: Ret) -> Result<Opts, Miss>
-    ensures { Reads (λ x. x) result (with_ret opts ret) }
+    ensures reads { Reads (λ x. x) result (with_ret opts ret) }
+    ensures bad { IfErr result (λ e. e ≡ Miss.Bad) }
 {
     match opts.ret {
         Some(_) => Err(Miss::Bad),
@@ -61,7 +67,8 @@ fn with_ret(opts: Opts, ret: Ret) -> Result<Opts, Miss>
 }
 
 fn with_rnl(opts: Opts, rnl: bool) -> Result<Opts, Miss>
-    ensures { Reads (λ x. x) result (with_rnl opts rnl) }
+    ensures reads { Reads (λ x. x) result (with_rnl opts rnl) }
+    ensures bad { IfErr result (λ e. e ≡ Miss.Bad) }
 {
     match opts.rnl {
         Some(_) => Err(Miss::Bad),
@@ -73,7 +80,8 @@ fn with_rnl(opts: Opts, rnl: bool) -> Result<Opts, Miss>
 }
 
 fn with_unit(opts: Opts, unit: u16) -> Result<Opts, Miss>
-    ensures { Reads (λ x. x) result (with_unit opts unit) }
+    ensures reads { Reads (λ x. x) result (with_unit opts unit) }
+    ensures bad { IfErr result (λ e. e ≡ Miss.Bad) }
 {
     match opts.unit {
         Some(_) => Err(Miss::Bad),
@@ -87,7 +95,8 @@ fn with_unit(opts: Opts, unit: u16) -> Result<Opts, Miss>
 /// What stands behind the first word of an option.
 #[tactic(auto, unfolding(crate::specs::Options::chosen))]
 fn chosen<'a>(opts: Opts, w: &[u8], ts: &'a [Token]) -> Result<(Opts, &'a [Token]), Miss>
-    ensures { Reads (λ x. (x.0, x.1.now)) result (chosen opts w.now ts.now) }
+    ensures reads { Reads (λ x. (x.0, x.1.now)) result (chosen opts w.now ts.now) }
+    ensures bad { IfErr result (λ e. e ≡ Miss.Bad) }
 {
     if w == b"ECB".as_slice() {
         Ok((with_ret(opts, Ret::RetEcb)?, ts))
@@ -111,7 +120,8 @@ fn chosen<'a>(opts: Opts, w: &[u8], ts: &'a [Token]) -> Result<(Opts, &'a [Token
 /// One more option.
 #[tactic(auto, unfolding(crate::specs::Options::option_at))]
 fn option_at(opts: Opts, ts: &[Token]) -> Result<(Opts, &[Token]), Miss>
-    ensures { Reads (λ x. (x.0, x.1.now)) result (option_at opts ts.now) }
+    ensures reads { Reads (λ x. (x.0, x.1.now)) result (option_at opts ts.now) }
+    ensures bad { IfErr result (λ e. e ≡ Miss.Bad) }
 {
     let ts = comma_at(ts)?;
     let (w, ts) = any_word_at(ts)?;
@@ -119,7 +129,8 @@ fn option_at(opts: Opts, ts: &[Token]) -> Result<(Opts, &[Token]), Miss>
 }
 
 fn maybe_option(opts: Opts, ts: &[Token]) -> Result<(Opts, &[Token]), Miss>
-    ensures { Reads (λ x. (x.0, x.1.now)) result (maybe option_at opts ts.now) }
+    ensures reads { Reads (λ x. (x.0, x.1.now)) result (maybe option_at opts ts.now) }
+    ensures bad { IfErr result (λ e. e ≡ Miss.Bad) }
 {
     if ts.len() == 0 {
         return Ok((opts, ts));
@@ -130,7 +141,8 @@ fn maybe_option(opts: Opts, ts: &[Token]) -> Result<(Opts, &[Token]), Miss>
 /// At most as many options as there are kinds of them, and nothing after them.
 #[tactic(auto, unfolding(crate::specs::Options::options_at))]
 pub fn options_at(ts: &[Token]) -> Result<Opts, Miss>
-    ensures { Reads (λ x. x) result (options_at ts.now) }
+    ensures reads { Reads (λ x. x) result (options_at ts.now) }
+    ensures bad { IfErr result (λ e. e ≡ Miss.Bad) }
 {
     let none = Opts {
         ret: None,

@@ -277,7 +277,13 @@ fn line_text(alloc: Global, line: &Line) -> Result<List<u8>, NoMemory>
 }
 
 /// Puts the printed form of a line behind a text, without a line end: one blank behind its first word,
-/// UCB before RET or ECB before RNL=NO, and no option that says what holds without it.
+/// UCB before RET or ECB before RNL=NO, and no option that says what holds without it. What is read of
+/// `DEQ ( A , X'42', STEP ),RNL=NO,RET=HAVE,UCB=00ff` is printed as
+///
+///     DEQ (A,B,STEP),UCB=00FF,RET=HAVE,RNL=NO
+///
+/// Each line that a deck can have is read back from its printed form as the same line
+/// ([`printed_lines`](crate::printed_lines)). Where memory is wanting, the text is as it was.
 pub fn print_line(alloc: Global, line: &Line, out: &mut List<u8>) -> Result<(), NoMemory>
     ensures ok { OnOk result (out.new ≡ out.old ++ printed_line line.now) }
     ensures err { OnErr result (out.new ≡ out.old) }

@@ -1,33 +1,13 @@
 //! Reads the line of a task from a text of its own.
-ghost use Rattle.std.specs.Prelude.{◌≡◌, Option, Ok};
 ghost use Rattle.grs_base.specs.declared.line.Line.{Line as LineValue};
-ghost use Rattle.deck_scan.specs.Gives.{Gives};
-ghost use Rattle.deck_scan.specs.Next.{Reads};
-ghost use Rattle.job_syntax.specs.declared.said.Said.{Said as SaidValue};
-ghost use Rattle.job_syntax.specs.Reading.{or_bad, said_by, said_first, said_on, sized_alone, one_line, reading, SpellsLine, Answers, IsOkUnlessMemory};
+ghost use Rattle.deck_scan.specs.Gives.{Gives, IsOkUnlessMemory};
+ghost use Rattle.job_syntax.specs.Reading.{said_by, said_first, said_on, sized_alone, one_line, reading, SpellsLine, Answers};
 
 use crate::line::{is_bad, line_of};
 use crate::said::{Said, Verb, said_at, verb_of};
-use deck_scan::{Miss, Token, TokenLine, lines};
-use grs_base::{DeckFault, Kind, Line, ReadError};
+use deck_scan::{Token, TokenLine, lines, or_bad, refused};
+use grs_base::{Kind, Line, ReadError};
 use std::alloc::Global;
-
-fn refused(line: u32, kind: Kind) -> ReadError
-    ensures { result ≡ ReadError.Fault (record { line = line; kind = kind }) }
-{
-    ReadError::Fault(DeckFault { line, kind })
-}
-
-/// What is read, or BadOperand.
-fn or_bad(at: u32, read: Result<Said, Miss>) -> Result<Said, ReadError>
-    ensures { (x : Option SaidValue) → Reads (λ y. y) read x → Gives result (or_bad at x) }
-{
-    match read {
-        Ok(said) => Ok(said),
-        Err(Miss::Bad) => Err(refused(at, Kind::BadOperand)),
-        Err(Miss::NoMemory) => Err(ReadError::NoMemory),
-    }
-}
 
 fn said_by(alloc: Global, at: u32, verb: Option<Verb>, ts: &[Token]) -> Result<Said, ReadError>
     ensures { Gives result (said_by at verb ts.now) }
@@ -88,12 +68,17 @@ fn read_all(alloc: Global, text: &[u8]) -> Result<Line, ReadError>
     one_line(alloc, all.as_slice())
 }
 
-/// The line of a task that a text spells, or the fault of the text, whose lines count from 1.
+/// The line of a task that a text spells, or the fault of the text, whose lines count from 1. Of
+///
+///     ENQ (PAYROLL,'it''s',E,SYSTEM),RNL=NO,RET=USE     /* options in any order */
+///
+/// it makes an ENQ of one resource, with the qname `PAYROLL` and the rname `it's`, exclusive, of scope
+/// SYSTEM, with RET=USE, past the name lists.
 ///
 /// `TooLong` and `BadByte` are told as of a deck. Else: `UnknownStatement` where the text has no
 /// statement (on line 1), or its first word begins no task line; `BadOperand` where its form is another,
 /// and for a further statement behind a first one without fault, on the line where that begins;
-/// `NameLength` where a name is too short or too long.
+/// `NameLength` where a name is too short or too long. Want of memory is `NoMemory`.
 pub fn read_line(alloc: Global, text: &[u8]) -> Result<Line, ReadError>
     // What is read is spelled so; a fault is that of the text.
     ensures exact { Answers result text.now }

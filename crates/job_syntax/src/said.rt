@@ -11,6 +11,7 @@ use std::alloc::Global;
 /// What a task line says, with names of any length.
 #[derive(Drop)]
 pub enum Said {
+    /// No unit stands.
     Enq(EnqAsk),
     /// The scope is SYSTEMS, and a unit stands.
     Reserve(EnqAsk),
@@ -20,7 +21,7 @@ pub enum Said {
     Display(Shown),
 }
 
-/// The words with which task lines begin.
+/// The words with which task lines begin. `D` is `Display` too.
 #[derive(Clone, Copy, Debug, PartialEq, Eq)]
 pub enum Verb {
     Enq,
@@ -31,7 +32,7 @@ pub enum Verb {
     Display,
 }
 
-/// The word of a task line, or none: ENQ, RESERVE, DEQ, WAIT, GQSCAN, DISPLAY or D.
+/// Which word of a task line this is, or none.
 #[tactic(auto, unfolding(crate::specs::Said::verb))]
 pub fn verb_of(w: &[u8]) -> Option<Verb>
     ensures { result ≡ verb w.now }
@@ -55,7 +56,7 @@ pub fn verb_of(w: &[u8]) -> Option<Verb>
     }
 }
 
-/// What stands behind the first word of a task line.
+/// What stands behind the first word of a task line. It is `Bad` where its form is another.
 #[tactic(auto, unfolding(crate::specs::Said::said_at))]
 pub fn said_at(alloc: Global, verb: Verb, ts: &[Token]) -> Result<Said, Miss>
     ensures { Reads (λ x. x) result (said_at verb ts.now) }

@@ -4,11 +4,11 @@ use Rattle.std.specs.Prelude.{codes}
 use Rattle.std.specs.List.{flat_map}
 use Rattle.std.specs.Str.{bytes_eq}
 use Rattle.std.proofs.Math.Seq.{take-append_seam}
-use Rattle.std.proofs.lemmas.Bool.{ltb-false, ltb-true, le-ltb, and_parts}
+use Rattle.std.proofs.lemmas.Bool.{ltb-false, ltb-true, and_parts}
 use Rattle.std.proofs.lemmas.List.{append-nil}
 use Rattle.std.proofs.lemmas.Slice.Eq.{bytes_eq-Decides}
 use Rattle.grs_base.specs.declared.fault.DeckFault.{DeckFault}
-use Rattle.grs_base.specs.declared.fault.Kind.TheVariants.{TooLong, UnknownStatement, NameLength}
+use Rattle.grs_base.specs.declared.fault.Kind.TheVariants.{UnknownStatement, NameLength}
 use Rattle.grs_base.specs.declared.fault.ReadError.{ReadError}
 use Rattle.grs_base.specs.declared.fault.ReadError.TheVariants as read_errors
 use Rattle.grs_base.specs.declared.rnl.Which.{Which}
@@ -19,59 +19,28 @@ use Rattle.grs_base.specs.declared.rnl.RnlEntry.{RnlEntry}
 use Rattle.deck_scan.specs.declared.token.Token.{Token}
 use Rattle.deck_scan.specs.declared.token.Token.TheVariants.{Word, Close, Unclosed}
 use Rattle.deck_scan.specs.declared.token.TokenLine.{TokenLine}
-use Rattle.deck_scan.specs.Bytes.{bad_line}
-use Rattle.deck_scan.specs.Scan.{lines_of}
 use Rattle.deck_scan.specs.Next.{Sets}
 use Rattle.deck_scan.specs.Pieces.{SpellsLines}
-use Rattle.deck_scan.specs.Reading.{lines_or_fault, unless_fault, byte_fault, bad_byte}
-use Rattle.deck_scan.proofs.Pieced.{spelled_is, spelled_found}
+use Rattle.deck_scan.specs.Gives.{IsOkUnlessMemory, refused, or_bad}
+use Rattle.deck_scan.specs.Reading.{lines_or_fault}
 use Rattle.deck_scan.proofs.Taking.{same_bytes}
+use Rattle.deck_scan.proofs.Texts.{bind_ok, read_text, text_read}
 use Rattle.rnl_syntax.specs.declared.operands.Operands.{Operands}
 use Rattle.rnl_syntax.specs.declared.operands.Rnldef.{Rnldef}
 use Rattle.rnl_syntax.specs.Lines.{goes_on, with_line, is_rnldef_word}
 use Rattle.rnl_syntax.specs.Operands.{no_operands, rnldef_at, is_bad, entry_of}
 use Rattle.rnl_syntax.specs.Spelled.{Operand, Of, As, First, Second, operand, IsFree, set, IsRnldef}
-use Rattle.rnl_syntax.specs.Reading.{◌>>=◌, refused, first_from, first_statement, or_bad, by_word, by_first, rnldef_on, sized, entry_on, reading, MakesEntry, ends_closed, IsFront, SpellsEntry, Answers, IsOkUnlessMemory, same_which, same_form, same_rname, same_entry, is_entry, is_front, IsFewest, Found}
+use Rattle.rnl_syntax.specs.Reading.{first_from, first_statement, by_word, by_first, rnldef_on, sized, entry_on, reading, MakesEntry, ends_closed, IsFront, SpellsEntry, Answers, same_which, same_form, same_rname, same_entry, is_entry, is_front, IsFewest, Found}
 use Rattle.rnl_syntax.proofs.Taken.{rnldef_taken}
 use Rattle.rnl_syntax.proofs.Again.{rnldef_again}
 use Rattle.rnl_syntax.proofs.Closed.{ends_closed-snoc, is_close, last_closes, line_closes, last_closes-append}
 use Rattle.rnl_syntax.proofs.Fronts.{front_spells}
-
-bind_ok : {A B : Type 0} (r : Result A DeckFault) (f : A → Result B DeckFault) (y : B) → (r >>= f) ≡ Ok y → (x : A) × (r ≡ Ok x) × (f x ≡ Ok y)
-bind_ok (Ok x) f y e = (x, refl, e)
-bind_ok (Err d) f y e = absurd cc
 
 abbrev read_as : RnlEntry → Result RnlEntry DeckFault
 read_as e = Ok e
 
 entry_is : (e f : RnlEntry) → read_as e ≡ read_as f → e ≡ f
 entry_is e f h = cc
-
--- ---- texts
-
--- a text without a fault of length or bytes
-record IsAllowed (text : List ℕ) : Type 0 where
-  short : length text ≤ 1048576
-  bytes : bad_line 1 text ≡ None
-
-bad_none : (o : Option ℕ) → bad_byte o ≡ None → o ≡ None
-bad_none None h = refl
-bad_none (Some n) h = absurd cc
-
-allowed_of : (text : List ℕ) → byte_fault text ≡ None → IsAllowed text
-allowed_of text h = go (ltb 1048576 (length text)) refl h
-  where
-    go : (b : Bool) → ltb 1048576 (length text) ≡ b → cond b (Some (record { line = 0; kind = TooLong })) (bad_byte (bad_line 1 text)) ≡ None → IsAllowed text
-    go true is k = absurd cc
-    go false is k = record { short = ltb-false 1048576 (length text) is; bytes = bad_none (bad_line 1 text) k }
-
-unless_ok : (o : Option DeckFault) (xs ys : List TokenLine) → unless_fault o xs ≡ Ok ys → (o ≡ None) × (xs ≡ ys)
-unless_ok None xs ys h = (refl, cc)
-unless_ok (Some f) xs ys h = absurd cc
-
-lines_read : (text : List ℕ) (lines : List TokenLine) → length text ≤ 1048576 → SpellsLines text lines → lines_or_fault text ≡ Ok lines
-unfolding lines_or_fault
-lines_read text lines short spelled = rw (le-ltb 1048576 (length text) short, spelled.allowed, spelled_is text lines spelled) refl
 
 -- ---- the first statement
 
@@ -136,16 +105,15 @@ entry_there (Some s) e h =
 
 -- What is read is made.
 reading_makes : (text : List ℕ) (e : RnlEntry) → reading text ≡ Ok e → MakesEntry text e
-unfolding reading lines_or_fault
+unfolding reading
 reading_makes text e h =
     let b = bind_ok (lines_or_fault text) (λ ls. entry_on (first_statement ls)) e h in
-    let u = unless_ok (byte_fault text) (lines_of text) b.0 b.1 in
-    let a = allowed_of text u.0 in
+    let t = read_text text b.0 b.1 in
     let s = entry_there (first_statement b.0) e b.2 in
     record {
-      short = a.short;
+      short = t.short;
       lines = b.0;
-      spelled = subst (λ (ls : List TokenLine). SpellsLines text ls) u.1 (spelled_found text a.bytes);
+      spelled = t.spelled;
       statement = s.statement;
       first = s.first;
       apart = s.apart;
@@ -160,7 +128,7 @@ reading_makes text e h =
 -- What is made is read.
 pub makes_reading : (text : List ℕ) (e : RnlEntry) → MakesEntry text e → reading text ≡ Ok e
 unfolding reading
-makes_reading text e h = rw (lines_read text h.lines h.short h.spelled, h.first, there_statement h.statement h.behind h.rnldef h.apart h.parts h.says, h.names) (ap read_as h.makes)
+makes_reading text e h = rw (text_read text h.lines h.short h.spelled, h.first, there_statement h.statement h.behind h.rnldef h.apart h.parts h.says, h.names) (ap read_as h.makes)
 
 -- ---- the lines of a statement
 
@@ -397,9 +365,9 @@ same_used text e n m a b = go (ltb n m) (ltb m n) refl refl
     go false true is k = absurd (let z : true ≡ false = sym (by_front (take m text) e b.front.1 b.front.2) ∙ a.fewest m (ltb-true m n k) in cc)
     go false false is k = let low = ltb-false n m is in let high = ltb-false m n k in omega (arith, low, high)
 
-pub only : (text : List ℕ) (r : Result (RnlEntry × ℕ) ReadError) → Found r text → (e : RnlEntry) (used : ℕ) → SpellsEntry text e used → IsOkUnlessMemory r e used
+pub only : (text : List ℕ) (r : Result (RnlEntry × ℕ) ReadError) → Found r text → (e : RnlEntry) (used : ℕ) → SpellsEntry text e used → IsOkUnlessMemory r (e, used)
 only text (Ok x) h e used s =
     let same : x.0 ≡ e = entry_is x.0 e (sym h.0 ∙ makes_reading text e s.makes) in
-    (same, same_used text e x.1 used (subst (λ (y : RnlEntry). IsFewest text y x.1) same h.1) s)
+    rw (same, same_used text e x.1 used (subst (λ (y : RnlEntry). IsFewest text y x.1) same h.1) s) refl
 only text (Err read_errors.NoMemory) h e used s = tt
 only text (Err (read_errors.Fault f)) h e used s = absurd (let k : read_as e ≡ Err f = sym (makes_reading text e s.makes) ∙ h in cc)

@@ -1,5 +1,5 @@
 -- What is read of an RNLDEF is spelled so.
-use Rattle.std.proofs.Common.{◌≡◌, ℕ, Bool, true, false, cond, List, ◌∷◌, ◌++◌, Option, Some, None, refl, ap, subst, ◌∙◌}
+use Rattle.std.proofs.Common.{◌≡◌, ℕ, Bool, true, false, cond, List, ◌∷◌, ◌++◌, Some, None, refl, ap, subst, ◌∙◌}
 use Rattle.std.specs.Prelude.{codes, ◌&&◌, is_none}
 use Rattle.std.specs.Str.{bytes_eq}
 use Rattle.grs_base.specs.declared.rnl.Which.{Which}
@@ -9,7 +9,7 @@ use Rattle.grs_base.specs.declared.rnl.Form.TheVariants.{Specific, Generic, Patt
 use Rattle.deck_scan.specs.declared.token.Token.{Token}
 use Rattle.deck_scan.specs.declared.token.Token.TheVariants.{Word, Open, Close}
 use Rattle.deck_scan.specs.Next.{◌>>=◌, open_at, close_at, any_word_at, name_at, up_to, Sets}
-use Rattle.deck_scan.proofs.Taking.{bind_some, some_is, same_bytes, once_some, open_taken, close_taken, any_word_taken, name_taken, TookOne, all_taken}
+use Rattle.deck_scan.proofs.Taking.{bind_some, some_is, same_bytes, IsWordOf, row, once_some, open_taken, close_taken, any_word_taken, name_taken, TookOne, all_taken}
 use Rattle.rnl_syntax.specs.declared.operands.Operands.{Operands}
 use Rattle.rnl_syntax.specs.declared.operands.Rnldef.{Rnldef}
 use Rattle.rnl_syntax.specs.Operands.{no_operands, which_of, form_of, with_which, with_form, with_q, with_r, value_of, operand_at, is_specific, whole, rnldef_at}
@@ -17,35 +17,13 @@ use Rattle.rnl_syntax.specs.Spelled.{which_word, form_word, Operand, Of, As, Fir
 
 -- ---- words
 
-abbrev WhichWord : List ℕ → Option Which → Type 0
-WhichWord w None = Unit {0}
-WhichWord w (Some x) = w ≡ which_word x
-
-which_by : (w : List ℕ) (b : Bool) (x y : Option Which) → (b ≡ true → WhichWord w x) → WhichWord w y → WhichWord w (cond b x y)
-which_by w true x y p q = p refl
-which_by w false x y p q = q
-
 which_taken : (w : List ℕ) (x : Which) → which_of w ≡ Some x → w ≡ which_word x
 unfolding which_of
-which_taken w x e = subst (WhichWord w) e
-    (which_by w (bytes_eq w (codes "INCL")) (Some Incl) _ (same_bytes w _)
-    (which_by w (bytes_eq w (codes "EXCL")) (Some Excl) _ (same_bytes w _)
-    (which_by w (bytes_eq w (codes "CON")) (Some Con) None (same_bytes w _) tt)))
-
-abbrev FormWord : List ℕ → Option Form → Type 0
-FormWord w None = Unit {0}
-FormWord w (Some x) = w ≡ form_word x
-
-form_by : (w : List ℕ) (b : Bool) (x y : Option Form) → (b ≡ true → FormWord w x) → FormWord w y → FormWord w (cond b x y)
-form_by w true x y p q = p refl
-form_by w false x y p q = q
+which_taken w x e = subst (IsWordOf which_word w) e (row which_word w Incl _ (row which_word w Excl _ (row which_word w Con None tt)))
 
 form_taken : (w : List ℕ) (x : Form) → form_of w ≡ Some x → w ≡ form_word x
 unfolding form_of
-form_taken w x e = subst (FormWord w) e
-    (form_by w (bytes_eq w (codes "SPECIFIC")) (Some Specific) _ (same_bytes w _)
-    (form_by w (bytes_eq w (codes "GENERIC")) (Some Generic) _ (same_bytes w _)
-    (form_by w (bytes_eq w (codes "PATTERN")) (Some Pattern) None (same_bytes w _) tt)))
+form_taken w x e = subst (IsWordOf form_word w) e (row form_word w Specific _ (row form_word w Generic _ (row form_word w Pattern None tt)))
 
 enclosed_is : (word v w : List ℕ) (x : List ℕ) → w ≡ word → v ≡ x → enclosed w (Word v) ≡ enclosed word (Word x)
 enclosed_is word v w x h k = rw (h, k) refl

@@ -1,18 +1,14 @@
 -- Which entries are printed so that they are read again, and what may follow the printed form.
-use Rattle.std.specs.Prelude.{◌≡◌, ℕ, Bool, true, false, ◌&&◌, ◌⊎◌, List, [], ◌∷◌, ◌++◌, Option, Some, None, is_none, take}
+use Rattle.std.specs.Prelude.{◌≡◌, ℕ, Bool, true, false, ◌&&◌, ◌⊎◌, List, [], ◌∷◌, ◌++◌, Some, is_none, take}
 use Rattle.std.specs.List.{flat_map}
-use Rattle.grs_base.specs.Names.{is_rname, IsQname}
+use Rattle.grs_base.specs.Names.{IsQname}
 use Rattle.grs_base.specs.declared.rnl.RnlEntry.{RnlEntry}
 use Rattle.deck_scan.specs.declared.token.TokenLine.{TokenLine}
-use Rattle.deck_scan.specs.Named.{are_bytes}
+use Rattle.deck_scan.specs.Named.{are_bytes, IsMaybeRname}
 use Rattle.deck_scan.specs.Pieces.{SpellsLines}
 use Rattle.rnl_syntax.specs.Lines.{begins_operand}
 use Rattle.rnl_syntax.specs.Reading.{first_statement, ends_closed}
 use Rattle.rnl_syntax.specs.Operands.{is_specific}
-
-abbrev pub IsMaybeRname : Option (List ℕ) → Type 0
-IsMaybeRname None = Unit {0}
-IsMaybeRname (Some r) = (is_rname r ≡ true) × (are_bytes r ≡ true)
 
 -- An entry that an RNLDEF can make: its names have their lengths, and a SPECIFIC entry has an rname.
 pub record IsEntry (e : RnlEntry) : Type 0 where

@@ -1,7 +1,7 @@
 -- The operands of RNLDEF, in any order, each at most once.
 use Rattle.std.specs.Prelude.{ℕ, Bool, true, false, not, ◌&&◌, ◌||◌, List, codes, Option, Some, None, is_none, if◌then◌else◌}
 use Rattle.std.specs.Str.{bytes_eq}
-use Rattle.grs_base.specs.Names.{trim_blanks, is_qname, is_rname}
+use Rattle.grs_base.specs.Names.{trim_blanks, is_qname}
 use Rattle.grs_base.specs.declared.rnl.Which.{Which}
 use Rattle.grs_base.specs.declared.rnl.Which.TheVariants.{Incl, Excl, Con}
 use Rattle.grs_base.specs.declared.rnl.Form.{Form}
@@ -9,6 +9,7 @@ use Rattle.grs_base.specs.declared.rnl.Form.TheVariants.{Specific, Generic, Patt
 use Rattle.grs_base.specs.declared.rnl.RnlEntry.{RnlEntry}
 use Rattle.deck_scan.specs.declared.token.Token.{Token}
 use Rattle.deck_scan.specs.Next.{◌>>=◌, open_at, close_at, any_word_at, name_at, up_to, once}
+use Rattle.deck_scan.specs.Lengths.{is_bad_r}
 use Rattle.rnl_syntax.specs.declared.operands.Operands.{Operands}
 use Rattle.rnl_syntax.specs.declared.operands.Rnldef.{Rnldef}
 
@@ -81,10 +82,6 @@ unfoldable pub rnldef_at : List Token → Option Rnldef
 rnldef_at ts = up_to 4 operand_at no_operands ts >>= λ o. whole o
 
 -- Names of wrong lengths.
-abbrev pub is_bad_r : Option (List ℕ) → Bool
-is_bad_r None = false
-is_bad_r (Some r) = not (is_rname r)
-
 abbrev pub is_bad : Rnldef → Bool
 is_bad d = not (is_qname d.q) || is_bad_r d.r
 

@@ -3,7 +3,6 @@
 use Rattle.std.specs.Prelude.{◌≡◌, ℕ, Bool, true, false, ◌&&◌, ◌==◌, ◌<◌, ◌≤◌, List, [], ◌∷◌, length, take, codes, Option, Some, None, Result, Ok, Err, if◌then◌else◌}
 use Rattle.std.specs.Str.{bytes_eq}
 use Rattle.grs_base.specs.declared.fault.DeckFault.{DeckFault}
-use Rattle.grs_base.specs.declared.fault.Kind.{Kind}
 use Rattle.grs_base.specs.declared.fault.Kind.TheVariants.{UnknownStatement, BadOperand, NameLength}
 use Rattle.grs_base.specs.declared.fault.ReadError.{ReadError}
 use Rattle.grs_base.specs.declared.fault.ReadError.TheVariants as read_errors
@@ -15,7 +14,7 @@ use Rattle.grs_base.specs.declared.rnl.RnlEntry.{RnlEntry}
 use Rattle.deck_scan.specs.declared.token.Token.{Token}
 use Rattle.deck_scan.specs.declared.token.Token.TheVariants.{Word, Unclosed}
 use Rattle.deck_scan.specs.declared.token.TokenLine.{TokenLine}
-use Rattle.deck_scan.specs.Gives.{Fails}
+use Rattle.deck_scan.specs.Gives.{◌>>=◌, refused, or_bad, Fails}
 use Rattle.deck_scan.specs.Pieces.{SpellsLines}
 use Rattle.deck_scan.specs.Reading.{max_text, lines_or_fault}
 use Rattle.rnl_syntax.specs.declared.operands.Rnldef.{Rnldef}
@@ -23,14 +22,6 @@ use Rattle.rnl_syntax.specs.declared.read.Front.{Front}
 use Rattle.rnl_syntax.specs.Lines.{is_rnldef_word, goes_on, with_line}
 use Rattle.rnl_syntax.specs.Operands.{rnldef_at, is_bad, entry_of}
 use Rattle.rnl_syntax.specs.Spelled.{IsRnldef}
-
-infixl 10 ◌>>=◌
-abbrev pub ◌>>=◌ : {A B : Type 0} → Result A DeckFault → (A → Result B DeckFault) → Result B DeckFault
-(Ok x) >>= f = f x
-(Err e) >>= f = Err e
-
-abbrev pub refused : {A : Type 0} → ℕ → Kind → Result A DeckFault
-refused at kind = Err (record { line = at; kind = kind })
 
 -- ---- the first statement
 
@@ -45,10 +36,6 @@ first_statement [] = None
 first_statement (l ∷ ls) = Some (first_from l ls)
 
 -- ---- the entry, or the fault
-
-abbrev pub or_bad : ℕ → Option Rnldef → Result Rnldef DeckFault
-or_bad at (Some d) = Ok d
-or_bad at None = refused at BadOperand
 
 abbrev pub by_word : ℕ → List ℕ → List Token → Result Rnldef DeckFault
 by_word at w ts = if is_rnldef_word w then or_bad at (rnldef_at ts) else refused at UnknownStatement
@@ -115,12 +102,6 @@ abbrev pub Answers : Result (RnlEntry × ℕ) ReadError → List ℕ → Type 0
 Answers (Ok x) text = SpellsEntry text x.0 x.1
 Answers (Err read_errors.NoMemory) text = Unit {0}
 Answers (Err (read_errors.Fault f)) text = reading text ≡ Err f
-
--- This entry and these bytes, unless memory ran out.
-abbrev pub IsOkUnlessMemory : Result (RnlEntry × ℕ) ReadError → RnlEntry → ℕ → Type 0
-IsOkUnlessMemory (Ok x) entry used = (x.0 ≡ entry) × (x.1 ≡ used)
-IsOkUnlessMemory (Err read_errors.NoMemory) entry used = Unit {0}
-IsOkUnlessMemory (Err (read_errors.Fault f)) entry used = ⊥
 
 -- ---- as the reader finds them
 

@@ -1,13 +1,12 @@
 //! The operands of RNLDEF, in any order, each at most once.
 ghost use Rattle.std.specs.Prelude.{◌≡◌, true, false, IfOk};
-ghost use Rattle.grs_base.specs.Names.{is_qname, is_rname, trim_blanks};
 ghost use Rattle.deck_scan.specs.Next.{Reads, maybe};
-ghost use Rattle.rnl_syntax.specs.Operands.{no_operands, which_of, form_of, with_which, with_form, with_q, with_r, value_of, operand_at, is_specific, whole, rnldef_at, is_bad_r, is_bad, entry_of};
+ghost use Rattle.rnl_syntax.specs.Operands.{no_operands, which_of, form_of, with_which, with_form, with_q, with_r, value_of, operand_at, is_specific, whole, rnldef_at, is_bad, entry_of};
 
-use deck_scan::{Miss, Token, any_word_at, close_at, end_at, name_at, open_at};
-use grs_base::{
-    Form, List, NameFault, NoMemory, Qname, Rname, RnlEntry, Which, is_qname, is_rname,
+use deck_scan::{
+    Miss, Token, any_word_at, close_at, end_at, is_bad_r, maybe_rname, name_at, open_at, qname_of,
 };
+use grs_base::{Form, List, NoMemory, RnlEntry, Which, is_qname};
 use std::alloc::Global;
 
 /// The operands that stand in an RNLDEF: RNL, TYPE, QNAME and RNAME, with names of any length.
@@ -213,45 +212,11 @@ pub fn rnldef_at(alloc: Global, ts: &[Token]) -> Result<Rnldef, Miss>
     whole(fourth)
 }
 
-fn is_bad_r(r: &Option<List<u8>>) -> bool
-    ensures { result ≡ is_bad_r r.now }
-{
-    match r {
-        None => false,
-        Some(r) => !is_rname(r.as_slice()),
-    }
-}
-
 /// Whether a name has a length that it may not have.
 pub fn is_bad(d: &Rnldef) -> bool
     ensures { result ≡ is_bad d.now }
 {
     !is_qname(d.q.as_slice()) || is_bad_r(&d.r)
-}
-
-fn qname_of(alloc: Global, bytes: &[u8]) -> Result<Qname, NoMemory>
-    requires { is_qname bytes.now ≡ true }
-    ensures { IfOk result (λ q. q ≡ trim_blanks bytes.now) }
-{
-    match Qname::new(alloc, bytes) {
-        Ok(q) => Ok(q),
-        Err(NameFault::BadLength) => unreachable!(),
-        Err(NameFault::NoMemory) => Err(NoMemory),
-    }
-}
-
-fn rname_of(alloc: Global, r: &Option<List<u8>>) -> Result<Option<Rname>, NoMemory>
-    requires { is_bad_r r.now ≡ false }
-    ensures { IfOk result (λ x. x ≡ r.now) }
-{
-    match r {
-        None => Ok(None),
-        Some(r) => match Rname::new(alloc, r.as_slice()) {
-            Ok(r) => Ok(Some(r)),
-            Err(NameFault::BadLength) => unreachable!(),
-            Err(NameFault::NoMemory) => Err(NoMemory),
-        },
-    }
 }
 
 /// The entry that a statement makes whose names have the right lengths.
@@ -260,7 +225,7 @@ pub fn entry_of(alloc: Global, d: &Rnldef) -> Result<RnlEntry, NoMemory>
     ensures { IfOk result (λ e. e ≡ entry_of d.now) }
 {
     let q = qname_of(alloc, d.q.as_slice())?;
-    let r = rname_of(alloc, &d.r)?;
+    let r = maybe_rname(alloc, &d.r)?;
     Ok(RnlEntry {
         which: d.which,
         form: d.form,

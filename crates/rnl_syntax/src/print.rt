@@ -54,9 +54,14 @@ fn rnldef_text(alloc: Global, entry: &RnlEntry) -> Result<List<u8>, NoMemory>
     Ok(text)
 }
 
-/// Puts the printed RNLDEF of an entry behind a text: one line without its end.
+/// Puts the printed RNLDEF of an entry behind a text, without a line end: RNL, TYPE, QNAME and, where the
+/// entry has one, RNAME, with one blank before each. An entry of the exclusion list for all names of
+/// `SYSDSN` that begin with `SYS1` is printed as
 ///
-/// z/OS MVS Planning: Global Resource Serialization, "Defining RNLs" (RNLDEF).
+///     RNLDEF RNL(EXCL) TYPE(GENERIC) QNAME(SYSDSN) RNAME(SYS1)
+///
+/// Each entry that a deck can have is read back from its printed form as the same entry
+/// ([`printed_entries`](crate::printed_entries)). Where memory is wanting, the text is as it was.
 pub fn print_rnldef(alloc: Global, entry: &RnlEntry, out: &mut List<u8>) -> Result<(), NoMemory>
     ensures ok { OnOk result (out.new ≡ out.old ++ printed_rnldef entry.now) }
     ensures err { OnErr result (out.new ≡ out.old) }

@@ -1,15 +1,13 @@
 //! Reads an RNLDEF from the front of a text of its own.
 ghost use Rattle.std.specs.Prelude.{◌≡◌, ◌≤◌, ◌<◌, length, take, Option, Ok, OnOk, IfOk, ℕ};
 ghost use Rattle.grs_base.specs.declared.rnl.RnlEntry.{RnlEntry as EntryValue};
-ghost use Rattle.deck_scan.specs.Gives.{Gives};
-ghost use Rattle.deck_scan.specs.Next.{Reads};
-ghost use Rattle.rnl_syntax.specs.declared.operands.Rnldef.{Rnldef as RnldefValue};
-ghost use Rattle.rnl_syntax.specs.Reading.{first_statement, or_bad, by_word, by_first, rnldef_on, sized, entry_on, reading, SpellsEntry, Answers, IsOkUnlessMemory, taken_behind, taken, same_which, same_form, same_rname, same_entry, ends_closed, is_front, IsFewest, Found};
+ghost use Rattle.deck_scan.specs.Gives.{Gives, IsOkUnlessMemory};
+ghost use Rattle.rnl_syntax.specs.Reading.{first_statement, by_word, by_first, rnldef_on, sized, entry_on, reading, SpellsEntry, Answers, taken_behind, taken, same_which, same_form, same_rname, same_entry, ends_closed, is_front, IsFewest, Found};
 
 use crate::lines::{goes_on, is_rnldef_word, with_line};
 use crate::operands::{Rnldef, entry_of, is_bad, rnldef_at};
-use deck_scan::{Miss, Token, TokenLine, lines};
-use grs_base::{DeckFault, Form, Kind, List, NoMemory, ReadError, Rname, RnlEntry, Which};
+use deck_scan::{Token, TokenLine, lines, or_bad, refused};
+use grs_base::{Form, Kind, List, NoMemory, ReadError, Rname, RnlEntry, Which};
 use std::alloc::Global;
 use std::mem;
 
@@ -67,23 +65,6 @@ fn first_statement(all: List<TokenLine>) -> Result<Option<TokenLine>, NoMemory>
         front.take(line)?;
     }
     Ok(front.statement)
-}
-
-fn refused(line: u32, kind: Kind) -> ReadError
-    ensures { result ≡ ReadError.Fault (record { line = line; kind = kind }) }
-{
-    ReadError::Fault(DeckFault { line, kind })
-}
-
-/// What is read, or BadOperand.
-fn or_bad(at: u32, read: Result<Rnldef, Miss>) -> Result<Rnldef, ReadError>
-    ensures { (x : Option RnldefValue) → Reads (λ y. y) read x → Gives result (or_bad at x) }
-{
-    match read {
-        Ok(rnldef) => Ok(rnldef),
-        Err(Miss::Bad) => Err(refused(at, Kind::BadOperand)),
-        Err(Miss::NoMemory) => Err(ReadError::NoMemory),
-    }
 }
 
 fn by_word(alloc: Global, at: u32, w: &[u8], ts: &[Token]) -> Result<Rnldef, ReadError>
@@ -232,16 +213,22 @@ fn read_front(alloc: Global, text: &[u8]) -> Result<(RnlEntry, usize), ReadError
 
 /// The entry that the RNLDEF at the front of a text makes, and how many bytes it uses: up to the closing
 /// parenthesis of its last operand. The statement goes on over lines as in a deck, and what follows it is
-/// not looked at; the lines of a fault count from 1.
+/// not looked at, so a caller reads the next one from there on. Of
 ///
-/// `TooLong` and `BadByte` are told as of a deck, for the whole text. Else: `UnknownStatement` where the
+///     RNLDEF TYPE(GENERIC) QNAME(SYSDSN)
+///            RNL(EXCL)
+///     SYSTEM SYA
+///
+/// it makes an entry of the exclusion list for all names of `SYSDSN`, of the first 51 bytes.
+///
+/// The lines of a fault count from 1. `TooLong` and `BadByte` are told as of a deck, for the whole text. Else: `UnknownStatement` where the
 /// text has no statement (on line 1), or its first word isn't RNLDEF; `BadOperand` where its form is
-/// another; `NameLength` where a name is too short or too long.
+/// another; `NameLength` where a name is too short or too long. Want of memory is `NoMemory`.
 pub fn read_rnldef(alloc: Global, text: &[u8]) -> Result<(RnlEntry, usize), ReadError>
     // What is read is spelled so; a fault is that of the text.
     ensures exact { Answers result text.now }
     // What is spelled so is read, unless memory runs out.
-    ensures only { (e : EntryValue) (used : ℕ) → SpellsEntry text.now e used → IsOkUnlessMemory result e used }
+    ensures only { (e : EntryValue) (used : ℕ) → SpellsEntry text.now e used → IsOkUnlessMemory result (e, used) }
 {
     read_front(alloc, text)
 }

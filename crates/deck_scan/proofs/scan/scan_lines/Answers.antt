@@ -7,7 +7,7 @@ pub loop-b-init : goal.loop-b-init
 loop-b-init c = rw c.new-scan.ensures (begins c.args.text.now (omega arith))
 
 pub returns-then-not-is_allowed_byte : goal.returns-then-not-is_allowed_byte
-returns-then-not-is_allowed_byte c = stops c.args.text.now c.loop-b.scan c.loop-b.rest.now c.in-Some.b.now c.in-Some.tail.now (omega arith) c.in-Some.ensures.cases.0 (search rules) c.loop-b.invariant
+returns-then-not-is_allowed_byte c = rw c.refused.ensures (stops c.args.text.now c.loop-b.scan c.loop-b.rest.now c.in-Some.b.now c.in-Some.tail.now (omega arith) c.in-Some.ensures.cases.0 (search rules) c.loop-b.invariant)
 
 pub loop-b-preserved : goal.loop-b-preserved
 loop-b-preserved c = goes_on c.args.text.now c.loop-b.scan c.loop-b.rest.now c.in-Some.b.now c.in-Some.tail.now c.step.new.self c.in-Some.ensures.cases.0 (search rules) c.in_ok-step.ensures c.loop-b.invariant
