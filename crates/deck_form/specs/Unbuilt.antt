@@ -9,14 +9,8 @@ use Rattle.deck_form.specs.declared.form.Stmt.TheVariants as stmts
 abbrev pub is_unbuilt_act : Act → Bool
 is_unbuilt_act (acts.Task j t) = false
 is_unbuilt_act acts.Turn = false
-is_unbuilt_act (acts.Send j t) = true
-is_unbuilt_act acts.Take = true
-is_unbuilt_act acts.Settle = true
-is_unbuilt_act (acts.Tell e) = true
-is_unbuilt_act (acts.Leave e) = true
-is_unbuilt_act acts.Switch = true
-is_unbuilt_act (acts.Purge s) = true
 is_unbuilt_act acts.Rest = false
+is_unbuilt_act _ = true
 
 -- MODE(STAR).
 abbrev pub is_star : Option Bool → Bool
@@ -27,10 +21,5 @@ is_star (Some star) = star
 abbrev pub is_unbuilt : Stmt → Bool
 is_unbuilt stmts.Unbuilt = true
 is_unbuilt (stmts.Complex c) = is_star c.star
-is_unbuilt (stmts.Rnldef d) = false
-is_unbuilt (stmts.System n) = false
-is_unbuilt (stmts.Job n) = false
-is_unbuilt (stmts.Task n) = false
-is_unbuilt (stmts.Line s) = false
-is_unbuilt stmts.Schedule = false
 is_unbuilt (stmts.Event s a) = is_unbuilt_act a
+is_unbuilt _ = false

@@ -83,27 +83,13 @@ grow_deck deck stmts.Schedule = deck
 grow_deck deck (stmts.Event s a) = with_event (event_of deck.systems s a) deck
 
 abbrev pub is_schedule : Stmt → Bool
-is_schedule stmts.Unbuilt = false
-is_schedule (stmts.Complex c) = false
-is_schedule (stmts.Rnldef r) = false
-is_schedule (stmts.System n) = false
-is_schedule (stmts.Job n) = false
-is_schedule (stmts.Task n) = false
-is_schedule (stmts.Line s) = false
 is_schedule stmts.Schedule = true
-is_schedule (stmts.Event s a) = false
+is_schedule _ = false
 
 -- How many task lines a statement is.
 abbrev pub line_count : Stmt → ℕ
-line_count stmts.Unbuilt = 0
-line_count (stmts.Complex c) = 0
-line_count (stmts.Rnldef r) = 0
-line_count (stmts.System n) = 0
-line_count (stmts.Job n) = 0
-line_count (stmts.Task n) = 0
 line_count (stmts.Line s) = 1
-line_count stmts.Schedule = 0
-line_count (stmts.Event s a) = 0
+line_count _ = 0
 
 -- A deck so far with a statement more.
 abbrev pub grow : Draft → Stmt → Draft

@@ -23,15 +23,9 @@ is_over name = nat_lt 8 (length name)
 
 abbrev pub is_long_act : Act → Bool
 is_long_act (acts.Task j t) = is_over j || is_over t
-is_long_act acts.Turn = false
 is_long_act (acts.Send j t) = is_over j || is_over t
-is_long_act acts.Take = false
-is_long_act acts.Settle = false
-is_long_act (acts.Tell e) = false
-is_long_act (acts.Leave e) = false
-is_long_act acts.Switch = false
 is_long_act (acts.Purge n) = is_over n
-is_long_act acts.Rest = false
+is_long_act _ = false
 
 -- A name that is too short or too long.
 abbrev pub is_long : Stmt → Bool
@@ -47,15 +41,10 @@ is_long (stmts.Event s a) = is_over s || is_long_act a
 
 -- A name that was given before.
 abbrev pub is_repeated : Draft → Stmt → Bool
-is_repeated d stmts.Unbuilt = false
-is_repeated d (stmts.Complex c) = false
-is_repeated d (stmts.Rnldef r) = false
 is_repeated d (stmts.System n) = is_some (system_place d.deck.systems n)
 is_repeated d (stmts.Job n) = is_some (job_place (jobs_now d.deck.systems) n)
 is_repeated d (stmts.Task n) = is_some (task_place (tasks_now (jobs_now d.deck.systems)) n)
-is_repeated d (stmts.Line s) = false
-is_repeated d stmts.Schedule = false
-is_repeated d (stmts.Event s a) = false
+is_repeated d _ = false
 
 -- No task stands that a line could belong to.
 abbrev pub is_idle : List SystemDef → Bool
@@ -85,39 +74,22 @@ is_list_full lists which = nat_le 4096 (length (list_of which lists).entries)
 
 -- One statement more than the limits allow.
 abbrev pub is_full : Draft → Stmt → Bool
-is_full d stmts.Unbuilt = false
-is_full d (stmts.Complex c) = false
 is_full d (stmts.Rnldef r) = is_list_full d.deck.lists r.which
 is_full d (stmts.System n) = nat_le 8 (length d.deck.systems)
 is_full d (stmts.Job n) = nat_le 64 (length (jobs_now d.deck.systems))
 is_full d (stmts.Task n) = nat_le 64 (task_count (jobs_now d.deck.systems))
 is_full d (stmts.Line s) = d.room == 0
-is_full d stmts.Schedule = false
-is_full d (stmts.Event s a) = false
+is_full d _ = false
 
 -- The list of an RNLDEF is full.
 abbrev pub is_crowded : Deck → Stmt → Bool
-is_crowded deck stmts.Unbuilt = false
-is_crowded deck (stmts.Complex c) = false
 is_crowded deck (stmts.Rnldef r) = is_list_full deck.lists r.which
-is_crowded deck (stmts.System n) = false
-is_crowded deck (stmts.Job n) = false
-is_crowded deck (stmts.Task n) = false
-is_crowded deck (stmts.Line s) = false
-is_crowded deck stmts.Schedule = false
-is_crowded deck (stmts.Event s a) = false
+is_crowded deck _ = false
 
 -- A name that no statement gave.
 abbrev pub is_unknown : Draft → Stmt → Bool
-is_unknown d stmts.Unbuilt = false
-is_unknown d (stmts.Complex c) = false
-is_unknown d (stmts.Rnldef r) = false
-is_unknown d (stmts.System n) = false
-is_unknown d (stmts.Job n) = false
-is_unknown d (stmts.Task n) = false
-is_unknown d (stmts.Line s) = false
-is_unknown d stmts.Schedule = false
 is_unknown d (stmts.Event s a) = is_none (event_of d.deck.systems s a)
+is_unknown d _ = false
 
 -- The least kind that applies to a statement of the right form.
 abbrev pub verdict : Draft → Stmt → Option Kind

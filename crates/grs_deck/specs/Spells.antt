@@ -32,15 +32,9 @@ IsShort n = length n ≤ 8
 
 abbrev pub IsShortAct : Act → Type 0
 IsShortAct (acts.Task j t) = IsShort j × IsShort t
-IsShortAct acts.Turn = Unit {0}
 IsShortAct (acts.Send j t) = IsShort j × IsShort t
-IsShortAct acts.Take = Unit {0}
-IsShortAct acts.Settle = Unit {0}
-IsShortAct (acts.Tell e) = Unit {0}
-IsShortAct (acts.Leave e) = Unit {0}
-IsShortAct acts.Switch = Unit {0}
 IsShortAct (acts.Purge n) = IsShort n
-IsShortAct acts.Rest = Unit {0}
+IsShortAct _ = Unit {0}
 
 -- At most 8 bytes as written, and not blanks alone.
 abbrev pub IsQname : List ℕ → Type 0

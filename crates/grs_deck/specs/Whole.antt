@@ -29,28 +29,18 @@ pub record IsTaskOf (s : SystemDef) (id : SysId) (t : TaskId) : Type 0 where
 -- What a system may do: with its own tasks, with an entry that there is, with another system.
 abbrev pub IsChoiceOf : List SystemDef → ℕ → SystemDef → SysId → Choice → Type 0
 IsChoiceOf systems entries s id (choices.Task t) = IsTaskOf s id t
-IsChoiceOf systems entries s id choices.Turn = Unit {0}
 IsChoiceOf systems entries s id (choices.Send t) = IsTaskOf s id t
-IsChoiceOf systems entries s id choices.Take = Unit {0}
-IsChoiceOf systems entries s id choices.Settle = Unit {0}
 IsChoiceOf systems entries s id (choices.Tell e) = e < entries
 IsChoiceOf systems entries s id (choices.Leave e) = e < entries
-IsChoiceOf systems entries s id choices.Switch = Unit {0}
 IsChoiceOf systems entries s id (choices.Purge other) = (other.0 < length systems) × (other.0 ≢ id.0)
-IsChoiceOf systems entries s id choices.Rest = Unit {0}
+IsChoiceOf systems entries s id _ = Unit {0}
 
 -- What a system does is built: it goes on with a task, takes its turn or rests.
 abbrev pub IsBuilt : Choice → Type 0
 IsBuilt (choices.Task t) = Unit {0}
 IsBuilt choices.Turn = Unit {0}
-IsBuilt (choices.Send t) = ⊥
-IsBuilt choices.Take = ⊥
-IsBuilt choices.Settle = ⊥
-IsBuilt (choices.Tell e) = ⊥
-IsBuilt (choices.Leave e) = ⊥
-IsBuilt choices.Switch = ⊥
-IsBuilt (choices.Purge other) = ⊥
 IsBuilt choices.Rest = Unit {0}
+IsBuilt _ = ⊥
 
 -- An event of a system that there is, of a kind that is built.
 pub record IsEventOf (systems : List SystemDef) (entries : ℕ) (e : Event) : Type 0 where

@@ -42,12 +42,7 @@ line_entries t hist = filter (λ h. is_by t h && is_of_line h) hist
 -- the end that this code is, or else the one behind it
 abbrev pub end_or : Code → Option ℕ → Option ℕ
 end_or (codes.End n) other = Some n
-end_or codes.C00 other = other
-end_or codes.C04 other = other
-end_or codes.C08 other = other
-end_or codes.C14 other = other
-end_or codes.C18 other = other
-end_or codes.Wait other = other
+end_or _ other = other
 
 -- the code with which a task was ended, if one of these replies is an end
 abbrev pub end_among : List HistEntry → Option ℕ
@@ -88,9 +83,7 @@ passed_lines t ls hist = cond (is_some (end_code t hist)) [] (passed_behind (len
 -- whether a WAIT line lets its task pass: the task owns the resource, or has no element there
 abbrev pub lets_pass : State → TaskId → Meaning → Bool
 lets_pass s t (lines.Wait r) = owns (list_of s r) t || not (has_task (list_of s r) t)
-lets_pass s t (lines.Enq r ctl ret unit) = true
-lets_pass s t (lines.Deq r have) = true
-lets_pass s t lines.Nothing = true
+lets_pass s t _ = true
 
 -- the last of these entries
 abbrev pub last_entry : List HistEntry → Option HistEntry

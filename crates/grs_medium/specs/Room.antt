@@ -2,7 +2,7 @@
 use Rattle.std.specs.Prelude.{Bool, true, false, length}
 use Rattle.grs_base.specs.declared.resource.SysId.{SysId}
 use Rattle.grs_wire.specs.declared.medium.Act.{Act}
-use Rattle.grs_wire.specs.declared.medium.Act.TheVariants.{Turn, Switch, Submit, Take, Settle, Tell, Leave, Purge, Rest}
+use Rattle.grs_wire.specs.declared.medium.Act.TheVariants.{Turn, Purge, Rest}
 use Rattle.rsa_message.specs.Room.{Room, HasRoom}
 use Rattle.grs_medium.specs.Medium.{MediumState}
 
@@ -14,23 +14,12 @@ pub record MediumValue : Type 0 where
 -- the acts that can be asked for today
 abbrev pub is_built : Act → Bool
 is_built (Turn out) = true
-is_built (Switch words) = false
-is_built (Submit entry req) = false
-is_built Take = false
-is_built (Settle to mail) = false
-is_built (Tell to mail) = false
-is_built (Leave entry) = false
 is_built (Purge target) = true
 is_built Rest = true
+is_built _ = false
 
 -- room for this act of c
 abbrev pub HasRoomFor : Room → SysId → Act → Type 0
 HasRoomFor room c (Turn out) = HasRoom room c (length out)
-HasRoomFor room c (Switch words) = Unit {0}
-HasRoomFor room c (Submit entry req) = Unit {0}
-HasRoomFor room c Take = Unit {0}
-HasRoomFor room c (Settle to mail) = Unit {0}
-HasRoomFor room c (Tell to mail) = Unit {0}
-HasRoomFor room c (Leave entry) = Unit {0}
 HasRoomFor room c (Purge target) = HasRoom room c 0
-HasRoomFor room c Rest = Unit {0}
+HasRoomFor room c _ = Unit {0}

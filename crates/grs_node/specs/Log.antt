@@ -63,7 +63,4 @@ abbrev pub end_in : Phase → TaskEnd
 end_in phases.Ended = ends.Ended
 end_in phases.HeldAnswer = ends.Waits
 end_in (phases.HeldLine r) = ends.Waits
-end_in phases.Ready = ends.Open
-end_in phases.ToSend = ends.Open
-end_in phases.Sent = ends.Open
-end_in (phases.Ending c) = ends.Open
+end_in _ = ends.Open

@@ -135,11 +135,7 @@ ready_step limit n t (Some l) = take_line limit (with_tasks n (with_line n.tasks
 unfoldable pub phase_step : ℕ → Node → TaskId → List Meaning → Phase → Step
 phase_step limit n t ls phases.Ready = ready_step limit n t (slice_get ls (state_of n.tasks t).line)
 phase_step limit n t ls (phases.Ending c) = end_step n t c (state_of n.tasks t).records
-phase_step limit n t ls phases.ToSend = only n
-phase_step limit n t ls phases.Sent = only n
-phase_step limit n t ls phases.HeldAnswer = only n
-phase_step limit n t ls (phases.HeldLine r) = only n
-phase_step limit n t ls phases.Ended = only n
+phase_step limit n t ls _ = only n
 
 -- a task of these lines goes on
 abbrev pub task_step : ℕ → Node → TaskId → Option (List Meaning) → Step
@@ -150,11 +146,7 @@ task_step limit n t (Some ls) = phase_step limit n t ls (state_of n.tasks t).pha
 abbrev pub goes_on : Phase → Bool
 goes_on phases.Ready = true
 goes_on (phases.Ending c) = true
-goes_on phases.ToSend = false
-goes_on phases.Sent = false
-goes_on phases.HeldAnswer = false
-goes_on (phases.HeldLine r) = false
-goes_on phases.Ended = false
+goes_on _ = false
 
 -- the desk lines of a system
 abbrev pub desk_count : Option SystemDef → ℕ
@@ -177,26 +169,12 @@ unfoldable pub prepare : Deck → Node → Choice → Prepared
 prepare deck n (choices.Task t) = cond (may_go deck n t) Quiet Nothing
 prepare deck n choices.Turn = Call (record { known = n.known; act = acts.Turn (take most_additions n.outbox) })
 prepare deck n choices.Rest = cond (is_pending deck n) Nothing (Call (record { known = n.known; act = acts.Rest }))
-prepare deck n (choices.Send t) = Nothing
-prepare deck n choices.Take = Nothing
-prepare deck n choices.Settle = Nothing
-prepare deck n (choices.Tell e) = Nothing
-prepare deck n (choices.Leave e) = Nothing
-prepare deck n choices.Switch = Nothing
-prepare deck n (choices.Purge s) = Nothing
+prepare deck n _ = Nothing
 
 -- a choice that is done without a call
 unfoldable pub finish_quiet : Deck → Node → Choice → Step
 finish_quiet deck n (choices.Task t) = task_step deck.limit n t (lines_of deck t)
-finish_quiet deck n choices.Turn = only n
-finish_quiet deck n (choices.Send t) = only n
-finish_quiet deck n choices.Take = only n
-finish_quiet deck n choices.Settle = only n
-finish_quiet deck n (choices.Tell e) = only n
-finish_quiet deck n (choices.Leave e) = only n
-finish_quiet deck n choices.Switch = only n
-finish_quiet deck n (choices.Purge s) = only n
-finish_quiet deck n choices.Rest = only n
+finish_quiet deck n _ = only n
 
 -- whether an entry is of a task of the deck
 abbrev pub is_of_deck : Deck → RingBody → Bool
@@ -225,24 +203,7 @@ put_in n taken = record {
 unfoldable pub finish_call : Deck → Node → Reply → Step
 finish_call deck n (replies.Turned entries taken closed) = put_in (read_entries deck n entries) taken
 finish_call deck n (replies.Stale set) = only (record n { known = set })
-finish_call deck n (replies.NotYours at) = only n
-finish_call deck n (replies.Behind first) = only n
-finish_call deck n replies.Switched = only n
-finish_call deck n replies.Already = only n
-finish_call deck n replies.Sole = only n
-finish_call deck n replies.Sent = only n
-finish_call deck n (replies.Taken mail) = only n
-finish_call deck n replies.Empty = only n
-finish_call deck n replies.Settled = only n
-finish_call deck n replies.Told = only n
-finish_call deck n replies.Left = only n
-finish_call deck n (replies.Kept mask) = only n
-finish_call deck n replies.Purged = only n
-finish_call deck n replies.NoSuch = only n
-finish_call deck n replies.InStar = only n
-finish_call deck n replies.Resting = only n
-finish_call deck n replies.Over = only n
-finish_call deck n replies.Removed = only n
+finish_call deck n _ = only n
 
 -- What a system is after a choice, with the reply if a call was made.
 unfoldable pub finish : Deck → Node → Choice → Option Reply → Step

@@ -41,11 +41,8 @@ is_told_to task (Desk k said) = false
 
 -- whether a line is told at a system's desk
 abbrev pub is_told_at_desk : ToldLine → Bool
-is_told_at_desk (Coded t k part verb code) = false
-is_told_at_desk (Shown t k verb code rows) = false
-is_told_at_desk (Post t k) = false
-is_told_at_desk (Ended t code) = false
 is_told_at_desk (Desk k said) = true
+is_told_at_desk _ = false
 
 -- the task at these places
 abbrev pub task_at : ℕ → ℕ → ℕ → TaskId

@@ -15,7 +15,7 @@ use Rattle.grs_legal.specs.declared.meaning.Meaning.TheVariants as lines
 use Rattle.grs_wire.specs.declared.deck.Deck.{Deck}
 use Rattle.grs_wire.specs.declared.deck.Event.{Event}
 use Rattle.grs_wire.specs.declared.history.HistEntry.{HistEntry}
-use Rattle.grs_wire.specs.declared.history.HistEntry.TheVariants.{Enq, Deq, Release, Look, Remove}
+use Rattle.grs_wire.specs.declared.history.HistEntry.TheVariants.{Enq, Deq}
 use Rattle.grs_wire.specs.declared.told.Verb.{Verb}
 use Rattle.grs_wire.specs.declared.told.Verb.TheVariants as verbs
 use Rattle.grs_wire.specs.declared.told.Told.{Told}
@@ -59,100 +59,61 @@ gets_control _ _ = false
 
 -- a line tells a task the code of an ENQ or RESERVE: the reply of its entry; and control only to an owner
 abbrev pub TellsEnq : State → TaskId → Code → Option HistEntry → Type 0
-TellsEnq s t code None = ⊥
 TellsEnq s t code (Some (Enq u r c ret reply)) = (told_as reply ≡ code) × (gets_control ret code ≡ true → owns (list_of s r) t ≡ true)
-TellsEnq s t code (Some (Deq u r have reply)) = ⊥
-TellsEnq s t code (Some (Release u r)) = ⊥
-TellsEnq s t code (Some (Look u place filter rows)) = ⊥
-TellsEnq s t code (Some (Remove by target)) = ⊥
+TellsEnq s t code _ = ⊥
 
 -- a line tells a task the code of a DEQ
 abbrev pub TellsDeq : Code → Option HistEntry → Type 0
-TellsDeq code None = ⊥
-TellsDeq code (Some (Enq u r c ret reply)) = ⊥
 TellsDeq code (Some (Deq u r have reply)) = reply ≡ code
-TellsDeq code (Some (Release u r)) = ⊥
-TellsDeq code (Some (Look u place filter rows)) = ⊥
-TellsDeq code (Some (Remove by target)) = ⊥
+TellsDeq code _ = ⊥
 
 -- whether an ENQ entry is of this resource, and its task gets control when it is told this code
 abbrev pub is_control_of : Res → Code → Option HistEntry → Bool
-is_control_of r code None = false
 is_control_of r code (Some (Enq u q c ret reply)) = same_res r q && gets_control ret code
-is_control_of r code (Some (Deq u q have reply)) = false
-is_control_of r code (Some (Release u q)) = false
-is_control_of r code (Some (Look u place filter rows)) = false
-is_control_of r code (Some (Remove by target)) = false
+is_control_of r code _ = false
 
 -- whether a line tells a task control of a resource
 abbrev pub tells_control : TaskId → List Meaning → List HistEntry → Res → ToldLine → Bool
 tells_control t ls entries r (Coded u k part verbs.Enq code) = same_task t u && is_control_of r code (entry_of_line ls entries k)
-tells_control t ls entries r (Coded u k part verbs.Deq code) = false
-tells_control t ls entries r (Coded u k part verbs.Wait code) = false
-tells_control t ls entries r (Coded u k part verbs.Gqscan code) = false
-tells_control t ls entries r (Coded u k part verbs.Display code) = false
-tells_control t ls entries r (Shown u k verb code rows) = false
 tells_control t ls entries r (Post u k) = same_task t u && is_control_of r C00 (entry_of_line ls entries k)
-tells_control t ls entries r (Ended u code) = false
-tells_control t ls entries r (Desk k said) = false
+tells_control t ls entries r _ = false
 
 -- a WAIT is told 00 by an owner that was told control before, and 08 by a task without an element
 abbrev pub TellsWaitOf : TaskId → List Meaning → List HistEntry → List ToldLine → State → Res → Code → Type 0
 TellsWaitOf t ls entries before s r C00 = (owns (list_of s r) t ≡ true) × (list_any (tells_control t ls entries r) before ≡ true)
 TellsWaitOf t ls entries before s r C08 = has_task (list_of s r) t ≡ false
-TellsWaitOf t ls entries before s r C04 = ⊥
-TellsWaitOf t ls entries before s r C14 = ⊥
-TellsWaitOf t ls entries before s r C18 = ⊥
-TellsWaitOf t ls entries before s r Wait = ⊥
-TellsWaitOf t ls entries before s r (End n) = ⊥
+TellsWaitOf t ls entries before s r _ = ⊥
 
 abbrev pub TellsWait : TaskId → List Meaning → List HistEntry → List ToldLine → State → Code → Option Meaning → Type 0
-TellsWait t ls entries before s code None = ⊥
-TellsWait t ls entries before s code (Some (lines.Enq r ctl ret unit)) = ⊥
-TellsWait t ls entries before s code (Some (lines.Deq r have)) = ⊥
 TellsWait t ls entries before s code (Some (lines.Wait r)) = TellsWaitOf t ls entries before s r code
-TellsWait t ls entries before s code (Some lines.Nothing) = ⊥
+TellsWait t ls entries before s code _ = ⊥
 
 -- an ECB is posted to an owner whose ENQ had one and was answered 04
 abbrev pub Posts : State → TaskId → Option HistEntry → Type 0
-Posts s t None = ⊥
 Posts s t (Some (Enq u r c ret reply)) = (ret ≡ RetEcb) × (reply ≡ C04) × (owns (list_of s r) t ≡ true)
-Posts s t (Some (Deq u r have reply)) = ⊥
-Posts s t (Some (Release u r)) = ⊥
-Posts s t (Some (Look u place filter rows)) = ⊥
-Posts s t (Some (Remove by target)) = ⊥
+Posts s t _ = ⊥
 
 -- whether a line is no code of the task, or one of an earlier line
 abbrev pub is_code_before : TaskId → ℕ → ToldLine → Bool
 is_code_before t k (Coded u j part verb code) = not (same_task t u) || nat_lt j k
-is_code_before t k (Post u j) = true
-is_code_before t k (Ended u code) = true
 is_code_before t k (Shown u j verb code rows) = not (same_task t u) || nat_lt j k
-is_code_before t k (Desk j said) = true
+is_code_before t k _ = true
 
 -- whether a line tells the code of a task's line
 abbrev pub is_code_of : TaskId → ℕ → ToldLine → Bool
 is_code_of t k (Coded u j part verb code) = same_task t u && (j == k)
-is_code_of t k (Post u j) = false
-is_code_of t k (Ended u code) = false
 is_code_of t k (Shown u j verb code rows) = same_task t u && (j == k)
-is_code_of t k (Desk j said) = false
+is_code_of t k _ = false
 
 -- whether a line posts the ECB of a task's line
 abbrev pub is_post_of : TaskId → ℕ → ToldLine → Bool
-is_post_of t k (Coded u j part verb code) = false
 is_post_of t k (Post u j) = same_task t u && (j == k)
-is_post_of t k (Ended u code) = false
-is_post_of t k (Shown u j verb code rows) = false
-is_post_of t k (Desk j said) = false
+is_post_of t k _ = false
 
 -- whether a line tells that a task has ended
 abbrev pub is_end_of : TaskId → ToldLine → Bool
-is_end_of t (Coded u j part verb code) = false
-is_end_of t (Post u j) = false
 is_end_of t (Ended u code) = same_task t u
-is_end_of t (Shown u j verb code rows) = false
-is_end_of t (Desk j said) = false
+is_end_of t _ = false
 
 -- a code line agrees by its verb
 abbrev pub CodeAgrees : ℕ → TaskId → List Meaning → List HistEntry → List ToldLine → ℕ → Code → Verb → Type 0

@@ -2,7 +2,7 @@
 use Rattle.std.specs.Prelude.{ℕ, Bool, true, false, not, ◌&&◌, ◌||◌, List, [], ◌∷◌, Option, Some, None, is_none, unwrap_or, if◌then◌else◌}
 use Rattle.grs_base.specs.Names.{trim_blanks, is_qname, is_rname}
 use Rattle.grs_base.specs.declared.resource.Ret.{Ret}
-use Rattle.grs_base.specs.declared.resource.Ret.TheVariants.{RetNone, RetUse, RetHave, RetTest, RetChng, RetEcb}
+use Rattle.grs_base.specs.declared.resource.Ret.TheVariants.{RetNone, RetHave}
 use Rattle.grs_base.specs.declared.look.Filter.{Filter}
 use Rattle.grs_base.specs.declared.look.Filter.TheVariants as filters
 use Rattle.grs_base.specs.declared.line.Line.{Line}
@@ -43,13 +43,8 @@ rnl_or_yes None = true
 rnl_or_yes (Some b) = b
 
 abbrev pub is_have : Option Ret → Bool
-is_have None = false
-is_have (Some RetNone) = false
-is_have (Some RetUse) = false
 is_have (Some RetHave) = true
-is_have (Some RetTest) = false
-is_have (Some RetChng) = false
-is_have (Some RetEcb) = false
+is_have _ = false
 
 -- Without names every list is shown.
 abbrev pub filter_of : Wanted → Filter

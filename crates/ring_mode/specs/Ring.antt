@@ -83,12 +83,7 @@ is_asked w (Some a) = same_want w a.req.want
 
 abbrev pub is_sent : Phase → Bool
 is_sent phases.Sent = true
-is_sent phases.Ready = false
-is_sent phases.ToSend = false
-is_sent phases.HeldAnswer = false
-is_sent (phases.HeldLine r) = false
-is_sent (phases.Ending c) = false
-is_sent phases.Ended = false
+is_sent _ = false
 
 -- an own task that sent this request gets its answer
 unfoldable pub answer_sent : TasksView → Req → Answer → Option Asked → TasksView

@@ -24,12 +24,7 @@ use Rattle.task_state.specs.View.{TasksView, is_task, state_of, record_of, with_
 -- whether a code is 00
 abbrev pub is_granted : Code → Bool
 is_granted C00 = true
-is_granted C04 = false
-is_granted C08 = false
-is_granted C14 = false
-is_granted C18 = false
-is_granted Wait = false
-is_granted (End n) = false
+is_granted _ = false
 
 -- whether an ENQ that was answered like this stands in a list
 abbrev pub is_queued : Ret → Code → Bool
@@ -49,13 +44,9 @@ is_changed _ _ = false
 
 -- what a task does behind this answer
 abbrev pub phase_after : Code → Phase
-phase_after C00 = phases.Ready
-phase_after C04 = phases.Ready
-phase_after C08 = phases.Ready
-phase_after C14 = phases.Ready
-phase_after C18 = phases.Ready
 phase_after Wait = phases.HeldAnswer
 phase_after (End n) = phases.Ending n
+phase_after _ = phases.Ready
 
 -- telling the code of a task's last line; WAIT isn't told
 unfoldable pub tell_code : TasksView → TaskId → Verb → Code → TasksView
@@ -92,22 +83,12 @@ replied v t w unit (Rows rows) = v
 -- whether a task is held by the answer of its last line
 abbrev pub is_held : Phase → Bool
 is_held phases.HeldAnswer = true
-is_held phases.Ready = false
-is_held phases.ToSend = false
-is_held phases.Sent = false
-is_held (phases.HeldLine r) = false
-is_held (phases.Ending c) = false
-is_held phases.Ended = false
+is_held _ = false
 
 -- whether a task is held by a WAIT line for this resource
 abbrev pub is_held_for : Res → Phase → Bool
 is_held_for r (phases.HeldLine q) = same_res r q
-is_held_for r phases.HeldAnswer = false
-is_held_for r phases.Ready = false
-is_held_for r phases.ToSend = false
-is_held_for r phases.Sent = false
-is_held_for r (phases.Ending c) = false
-is_held_for r phases.Ended = false
+is_held_for r _ = false
 
 -- a task that is no longer held at a WAIT line for this resource
 unfoldable pub passes_wait : TasksView → TaskId → Res → TasksView

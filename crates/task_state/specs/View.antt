@@ -9,7 +9,7 @@ use Rattle.grs_wire.specs.declared.told.ToldLine.{ToldLine}
 use Rattle.task_state.specs.declared.state.Asked.{Asked}
 use Rattle.task_state.specs.declared.state.Rec.{Rec}
 use Rattle.task_state.specs.declared.state.Phase.{Phase}
-use Rattle.task_state.specs.declared.state.Phase.TheVariants.{Ready, ToSend, Sent, HeldAnswer, HeldLine, Ending, Ended}
+use Rattle.task_state.specs.declared.state.Phase.TheVariants.{Ready, Ending}
 use Rattle.task_state.specs.declared.state.TaskState.{TaskState}
 
 -- the number of the system, its tasks, and all lines that were told, in the order of telling
@@ -69,12 +69,7 @@ without_first (x ∷ xs) r = cond (same_res r x.res) xs (x ∷ without_first xs 
 -- the end code of a task that goes to a phase
 abbrev pub code_in : Phase → ℕ → ℕ
 code_in (Ending c) old = c
-code_in Ready old = old
-code_in ToSend old = old
-code_in Sent old = old
-code_in HeldAnswer old = old
-code_in (HeldLine r) old = old
-code_in Ended old = old
+code_in _ old = old
 
 -- records with those of one resource changed
 abbrev pub on_record : Res → (Rec → Rec) → List Rec → List Rec
