@@ -9,6 +9,7 @@ pub struct NoMemory;
 pub enum NameFault {
     /// The name is empty or too long, or a qname is blanks alone.
     BadLength,
+    /// There was no memory for the name.
     NoMemory,
 }
 
@@ -43,14 +44,18 @@ pub enum Kind {
 /// fault is of the whole deck.
 #[derive(Clone, Copy, Debug, PartialEq, Eq)]
 pub struct DeckFault {
+    /// The line, from 1; or 0.
     pub line: u32,
+    /// What is wrong.
     pub kind: Kind,
 }
 
 /// Why a text was not read.
 #[derive(Clone, Copy, Debug, PartialEq, Eq)]
 pub enum ReadError {
+    /// The text has a fault; this is its first.
     Fault(DeckFault),
+    /// There was no memory for what the text says. It may have a fault or none.
     NoMemory,
 }
 

@@ -11,8 +11,11 @@ use std::alloc::Global;
 /// Who shares a resource: one job, one system, or the whole complex.
 #[derive(Clone, Copy, Debug, PartialEq, Eq)]
 pub enum Scope {
+    /// One job.
     Step,
+    /// One system.
     System,
+    /// The whole complex.
     Systems,
 }
 
@@ -25,10 +28,11 @@ pub struct Item {
     pub scope: Scope,
 }
 
-/// One line of a task. `rnl` tells whether the name lists are looked at.
+/// One line of a task. `q` and `r` are the names of the resource that it speaks of, and `rnl` tells whether the name
+/// lists are looked at.
 #[derive(Drop)]
 pub enum Line {
-    /// One item until an ENQ can name several.
+    /// Asks for a resource. There is one item until an ENQ can name several.
     Enq {
         items: List<Item>,
         ret: Ret,
@@ -44,7 +48,7 @@ pub enum Line {
         ret: Ret,
         rnl: bool,
     },
-    /// `have` is RET=HAVE. The unit is read and changes nothing.
+    /// Gives a resource up. `have` is RET=HAVE. The unit is read and changes nothing.
     Deq {
         q: Qname,
         r: Rname,
@@ -53,6 +57,7 @@ pub enum Line {
         unit: Option<u16>,
         rnl: bool,
     },
+    /// Waits until control of a resource was told.
     Wait {
         q: Qname,
         r: Rname,

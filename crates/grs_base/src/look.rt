@@ -9,6 +9,7 @@ use std::alloc::Global;
 /// Which resources are shown.
 #[derive(Drop)]
 pub enum Filter {
+    /// Every resource with a list that isn't empty.
     All,
     /// Resources on which somebody waits.
     Contended,
@@ -20,7 +21,9 @@ pub enum Filter {
 /// one system.
 #[derive(Clone, Copy, Debug, PartialEq, Eq)]
 pub enum Place {
+    /// A slice of the Systems resources.
     Slice(u32),
+    /// The Step and System resources of a system.
     Local(SysId),
 }
 

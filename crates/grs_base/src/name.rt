@@ -7,7 +7,7 @@ use std::alloc::Global;
 use std::hash::{Hash, Hasher};
 use std::marker::Model;
 
-/// The first name of a resource, seen as its bytes without trailing blanks.
+/// The first name of a resource, of 1 to 8 bytes, seen as its bytes without trailing blanks.
 #[derive(Drop)]
 pub struct Qname {
     bytes: Vec<u8>,
@@ -66,7 +66,8 @@ fn copy_of(alloc: Global, bytes: &[u8]) -> Result<Vec<u8>, NoMemory>
 }
 
 impl Qname {
-    /// A qname, without the trailing blanks.
+    /// The qname of bytes, without their trailing blanks. Answers BadLength exactly where there are more than 8
+    /// bytes, trailing blanks counted, or none but blanks; NoMemory where there is none for the name.
     #[tactic(auto, using(crate::proofs::NameLaws::trims))]
     pub fn new(alloc: Global, bytes: &[u8]) -> Result<Qname, NameFault>
         ensures value { IfOk result (λ q. q ≡ trim_blanks bytes.now) }
@@ -83,6 +84,7 @@ impl Qname {
         }
     }
 
+    /// An equal name.
     pub fn copy(&self, alloc: Global) -> Result<Qname, NoMemory>
         ensures { IfOk result (λ q. q ≡ self.now) }
     {
@@ -91,6 +93,7 @@ impl Qname {
         })
     }
 
+    /// The bytes, without trailing blanks.
     pub fn bytes(&self) -> &[u8]
         ensures bytes { result.now ≡ self.now }
         ensures short { length self.now ≤ 8 }
@@ -135,7 +138,7 @@ impl Hash for Qname {
     }
 }
 
-/// The second name of a resource, seen as its bytes.
+/// The second name of a resource, of 1 to 255 bytes, seen as its bytes.
 #[derive(Drop)]
 pub struct Rname {
     bytes: Vec<u8>,
@@ -154,6 +157,8 @@ impl Model for Rname {
 }
 
 impl Rname {
+    /// The rname of bytes. Answers BadLength exactly where there are none or more than 255; NoMemory where there is
+    /// none for the name.
     pub fn new(alloc: Global, bytes: &[u8]) -> Result<Rname, NameFault>
         ensures value { IfOk result (λ r. r ≡ bytes.now) }
         ensures good { OnOk result (is_rname bytes.now ≡ true) }
@@ -168,6 +173,7 @@ impl Rname {
         }
     }
 
+    /// An equal name.
     pub fn copy(&self, alloc: Global) -> Result<Rname, NoMemory>
         ensures { IfOk result (λ r. r ≡ self.now) }
     {
@@ -176,6 +182,7 @@ impl Rname {
         })
     }
 
+    /// The bytes.
     pub fn bytes(&self) -> &[u8]
         ensures bytes { result.now ≡ self.now }
         ensures short { length self.now ≤ 255 }

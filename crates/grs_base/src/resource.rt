@@ -7,7 +7,7 @@ use super::list::{Copied, List};
 use super::name::{Qname, Rname};
 use std::alloc::Global;
 
-/// A system, by its place among the systems of the deck, from 0.
+/// A system, by its place among the systems of the deck, from 0 to 7.
 #[derive(Clone, Copy, Debug, PartialEq, Eq, Hash)]
 pub struct SysId(pub u8);
 
@@ -23,42 +23,56 @@ pub struct TaskId {
 /// Control of a resource, exclusive or shared.
 #[derive(Clone, Copy, Debug, PartialEq, Eq)]
 pub enum Ctl {
+    /// Exclusive: one task alone owns.
     E,
+    /// Shared: tasks own side by side.
     S,
 }
 
-/// How an ENQ asks: the values of its RET operand, or ECB.
+/// How an ENQ asks: the values of its RET operand, or ECB. (z/OS MVS Programming: Authorized Assembler Services
+/// Reference, "ENQ".)
 #[derive(Clone, Copy, Debug, PartialEq, Eq)]
 pub enum Ret {
+    /// Waits for control. A request that may not be made ends the task.
     RetNone,
+    /// Takes control only where it can be had at once.
     RetUse,
+    /// Waits for control. A request that may not be made is answered by a code.
     RetHave,
+    /// Asks whether control can be had, and takes none.
     RetTest,
+    /// Changes shared control to exclusive.
     RetChng,
+    /// Is queued, and goes on; an event control block is posted when control comes.
     RetEcb,
 }
 
 /// A request that stands in the list of a resource.
 #[derive(Clone, Copy, Debug, PartialEq, Eq)]
 pub struct Elem {
+    /// The task that asked.
     pub task: TaskId,
+    /// The control for which it asked, or to which it was changed.
     pub ctl: Ctl,
 }
 
 /// A resource. The same names under another kind, system or job are another resource.
 #[derive(PartialEq, Eq, Hash, Drop)]
 pub enum Res {
+    /// One job's; `job` is its place in its system.
     Step {
         system: SysId,
         job: u16,
         q: Qname,
         r: Rname,
     },
+    /// One system's.
     System {
         system: SysId,
         q: Qname,
         r: Rname,
     },
+    /// The whole complex's.
     Systems {
         q: Qname,
         r: Rname,

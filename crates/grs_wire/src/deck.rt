@@ -14,13 +14,14 @@ pub struct TaskDef {
     pub lines: List<Line>,
 }
 
+/// A job: its name and its tasks, in order.
 #[derive(Drop)]
 pub struct JobDef {
     pub name: Name,
     pub tasks: List<TaskDef>,
 }
 
-/// What an operator commands.
+/// What an operator commands. (z/OS MVS System Commands, "SETGRS" and "VARY GRS".)
 #[derive(Clone, Copy, Debug, PartialEq, Eq)]
 pub enum Order {
     /// SETGRS MODE=STAR: the complex changes to star mode.
@@ -36,6 +37,7 @@ pub struct Desk {
     pub order: Order,
 }
 
+/// A system: its name, the commands of its desk, and its jobs, in order.
 #[derive(Drop)]
 pub struct SystemDef {
     pub name: Name,

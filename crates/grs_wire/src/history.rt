@@ -9,6 +9,7 @@ use std::alloc::Global;
 /// A request at its place in the history, with the reply that was given to it; or a removal.
 #[derive(Drop)]
 pub enum HistEntry {
+    /// An ENQ or RESERVE, as its scope was resolved.
     Enq {
         task: TaskId,
         res: Res,
@@ -16,13 +17,14 @@ pub enum HistEntry {
         ret: Ret,
         code: Code,
     },
-    /// `have` is RET=HAVE.
+    /// A DEQ; `have` is RET=HAVE.
     Deq {
         task: TaskId,
         res: Res,
         have: bool,
         code: Code,
     },
+    /// What an ending task had, taken out wherever it stood.
     Release {
         task: TaskId,
         res: Res,

@@ -103,12 +103,15 @@ pub enum Reply {
     Sole,
     /// The request is in its manager's inbox.
     Sent,
+    /// The first mail of the inbox, which it is in no longer.
     Taken {
         mail: Mail,
     },
     /// The inbox is empty.
     Empty,
+    /// The mail that settles a request is in its inbox.
     Settled,
+    /// The mail that tells of control is in its inbox.
     Told,
     /// The caller has no interest in the lock entry.
     Left,

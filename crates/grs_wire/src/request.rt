@@ -7,13 +7,14 @@ use std::alloc::Global;
 /// What a task asks for. `full` tells whether the task had as many elements as it may when it asked.
 #[derive(Drop)]
 pub enum Want {
+    /// Asks for control.
     Enq {
         res: Res,
         ctl: Ctl,
         ret: Ret,
         full: bool,
     },
-    /// `have` is RET=HAVE.
+    /// Gives control up; `have` is RET=HAVE.
     Deq {
         res: Res,
         have: bool,
@@ -30,6 +31,7 @@ pub enum Want {
     },
 }
 
+/// A request: who asks, and what for.
 #[derive(Drop)]
 pub struct Req {
     pub task: TaskId,
@@ -40,13 +42,16 @@ pub struct Req {
 /// code 00.
 #[derive(Drop)]
 pub enum Answer {
+    /// The code of an ENQ, a DEQ or a RELEASE.
     Coded(Code),
+    /// The lists that looks show.
     Rows(List<Row>),
 }
 
 /// What an event fixed: what has its place in the history from then on.
 #[derive(Drop)]
 pub enum Fixed {
+    /// A request.
     Asked(Req),
     /// A look at the Step and System resources of the task's system.
     LocalLook { task: TaskId, filter: Filter },

@@ -15,11 +15,13 @@ pub struct Names {
 /// How a task stands at the end of a run.
 #[derive(Clone, Copy, Debug, PartialEq, Eq)]
 pub enum TaskEnd {
+    /// It has ended, and was told so.
     Ended,
     /// Its system was removed before it ended.
     Removed,
     /// It is held until it is told control.
     Waits,
+    /// Anything else: it could go on, or its request is on its way.
     Open,
 }
 
