@@ -29,11 +29,12 @@ use Rattle.task_state.specs.View.{code_in}
 use Rattle.task_state.specs.Replies.{is_held, phase_after}
 use Rattle.grs_world.specs.Agree.{entry_of_line, tells_control, is_control_of, is_code_before, is_code_of, is_post_of, is_end_of}
 use Rattle.grs_world.proofs.Own.{own}
-use Rattle.grs_world.proofs.Entries.{slice_get-end, asked_at-grows, end_among-push}
-use Rattle.grs_world.proofs.Lines.{take-more, slice_get-within, asks-more, passed-none}
+use Rattle.grs_world.proofs.Entries.{asked_at-grows, end_among-push}
+use Rattle.grs_world.proofs.Lines.{asks-more, passed-none}
 use Rattle.grs_world.proofs.Invariant.{Each, key, has_res, is_distinct, IsEntryOn, IsEcb, IsRec, IsDue, Past, Passed, IsInPhase, IsTask, is_post_before, is_unsent, has_ended, code_bound}
-use Rattle.grs_world.proofs.Others.{any-more, none-more, all-more, all-kept}
-use Rattle.grs_world.proofs.Granted.{codes_later, lt_suc, or_right}
+use Rattle.grs_world.proofs.Granted.{codes_later, lt_suc}
+use Rattle.grs_world.proofs.Truths.{or_second}
+use Rattle.grs_world.proofs.Facts.{all-kept, all-more, any-more, none-more, slice_get-end, slice_get-within, take-more}
 
 -- what was told after a code: WAIT isn't told
 abbrev pub told_after : List ToldLine → TaskId → ℕ → Verb → Code → List ToldLine
@@ -80,12 +81,12 @@ posts-after T t k n verb c h =
 -- codes told so far are of lines up to the one that was answered
 codes-after : (T : List ToldLine) (t : TaskId) (k : ℕ) (verb : Verb) (c : Code) → list_all (is_code_before t k) T ≡ true → list_all (is_code_before t (code_bound (phase_after c) k)) (told_after T t k verb c) ≡ true
 codes-after T t k verb Wait h = h
-codes-after T t k verb C00 h = all-more (is_code_before t (suc k)) T _ (codes_later t k T h) (or_right (not (same_task t t)) _ (lt_suc k))
-codes-after T t k verb C04 h = all-more (is_code_before t (suc k)) T _ (codes_later t k T h) (or_right (not (same_task t t)) _ (lt_suc k))
-codes-after T t k verb C08 h = all-more (is_code_before t (suc k)) T _ (codes_later t k T h) (or_right (not (same_task t t)) _ (lt_suc k))
-codes-after T t k verb C14 h = all-more (is_code_before t (suc k)) T _ (codes_later t k T h) (or_right (not (same_task t t)) _ (lt_suc k))
-codes-after T t k verb C18 h = all-more (is_code_before t (suc k)) T _ (codes_later t k T h) (or_right (not (same_task t t)) _ (lt_suc k))
-codes-after T t k verb (End n) h = all-more (is_code_before t (suc k)) T _ (codes_later t k T h) (or_right (not (same_task t t)) _ (lt_suc k))
+codes-after T t k verb C00 h = all-more (is_code_before t (suc k)) T _ (codes_later t k T h) (or_second (not (same_task t t)) _ (lt_suc k))
+codes-after T t k verb C04 h = all-more (is_code_before t (suc k)) T _ (codes_later t k T h) (or_second (not (same_task t t)) _ (lt_suc k))
+codes-after T t k verb C08 h = all-more (is_code_before t (suc k)) T _ (codes_later t k T h) (or_second (not (same_task t t)) _ (lt_suc k))
+codes-after T t k verb C14 h = all-more (is_code_before t (suc k)) T _ (codes_later t k T h) (or_second (not (same_task t t)) _ (lt_suc k))
+codes-after T t k verb C18 h = all-more (is_code_before t (suc k)) T _ (codes_later t k T h) (or_second (not (same_task t t)) _ (lt_suc k))
+codes-after T t k verb (End n) h = all-more (is_code_before t (suc k)) T _ (codes_later t k T h) (or_second (not (same_task t t)) _ (lt_suc k))
 
 -- a conjunction of which the second part is kept
 and_kept : (a b c : Bool) → (b ≡ true → c ≡ true) → (a && b) ≡ true → (a && c) ≡ true
@@ -144,7 +145,7 @@ module _ (ls : List Meaning) (E : List HistEntry) (h : HistEntry) (t : TaskId) w
       control = λ f. any-after (tells_control t ls (E ++ h ∷ []) x.res) T t k verb c (any-kept (tells_control t ls E x.res) (tells_control t ls (E ++ h ∷ []) x.res) (grows-tells x.res) T (e.0.control (ap (λ z. z.1) (sym here) ∙ f)));
       due = λ f. still (e.0.due f);
     },
-    recs-asked T knows knows' n k verb c ph xs (λ r f. same r (or_right (same_res r x.res) (has_res r xs) f)) e.1,
+    recs-asked T knows knows' n k verb c ph xs (λ r f. same r (or_second (same_res r x.res) (has_res r xs) f)) e.1,
   )
     where
       here : knows' x.res ≡ knows x.res

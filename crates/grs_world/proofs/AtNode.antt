@@ -22,7 +22,7 @@ use Rattle.grs_wire.specs.declared.request.Want.TheVariants.{Enq, Deq, Release, 
 use Rattle.grs_wire.proofs.WantLaws.{speaks_of}
 use Rattle.task_state.specs.View.{TasksView, is_task}
 use Rattle.task_state.proofs.ViewLaws.{is_task-system}
-use Rattle.grs_world.proofs.Seen.{part, is_res_of, is_home_at, askers, stand_apart, FullFits}
+use Rattle.grs_world.proofs.Seen.{part, is_res_of, is_home_at, askers, stand_apart, FullFits, own-one_system}
 use Rattle.grs_world.proofs.Asking.{Opens}
 use Rattle.grs_world.proofs.Ours.{IsOurs}
 use Rattle.grs_world.proofs.Good.{IsGood, may_have}
@@ -47,11 +47,6 @@ pub systems-other : (s : ℕ) (r : Res) → is_systems r ≡ true → is_res_of 
 systems-other s (resources.Step n j q r) h = cc
 systems-other s (resources.System n q r) h = cc
 systems-other s (resources.Systems q r) h = refl
-
-pub alone-other : (s : ℕ) (r : Res) → is_res_of s r ≡ true → is_systems r ≡ false
-alone-other s (resources.Step n j q r) h = refl
-alone-other s (resources.System n q r) h = refl
-alone-other s (resources.Systems q r) h = cc
 
 -- what is one of a system's resources and not of the whole complex is of it alone
 pub own-alone : (s : ℕ) (r : Res) → is_own s r ≡ true → is_systems r ≡ false → is_res_of s r ≡ true
@@ -119,7 +114,7 @@ module _ (deck : Deck) (s : ℕ) (Q : List HistEntry) (out : List Req) (n : Node
   held-alone mine = ap (λ z. after_want z t w) seen.held ∙ after_want-part (is_res_of s) (replay deck.limit Q) t w r is mine ∙ ap (part (is_res_of s)) (sym after)
 
   pub shared-alone : is_res_of s r ≡ true → n.shared ≡ part is_systems (replay deck.limit (Q ++ h ∷ []))
-  shared-alone mine = seen.shared ∙ sym (part-want_other is_systems (replay deck.limit Q) t w r is (alone-other s r mine)) ∙ ap (part is_systems) (sym after)
+  shared-alone mine = seen.shared ∙ sym (part-want_other is_systems (replay deck.limit Q) t w r is (own-one_system s r mine)) ∙ ap (part is_systems) (sym after)
 
   pub held-shared : is_systems r ≡ true → n.held ≡ part (is_res_of s) (replay deck.limit (Q ++ h ∷ []))
   held-shared all = seen.held ∙ sym (part-want_other (is_res_of s) (replay deck.limit Q) t w r is (systems-other s r all)) ∙ ap (part (is_res_of s)) (sym after)

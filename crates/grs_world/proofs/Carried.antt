@@ -24,15 +24,16 @@ use Rattle.grs_wire.specs.declared.told.ToldLine.{ToldLine}
 use Rattle.grs_wire.specs.declared.told.ToldLine.TheVariants as told
 use Rattle.task_state.specs.Replies.{gives_up}
 use Rattle.grs_world.specs.Agree.{Agrees}
-use Rattle.grs_world.proofs.Entries.{filter-append}
 use Rattle.grs_world.proofs.Owners.{is_among}
 use Rattle.grs_world.proofs.Projections.{on_res, is_leave_of, list_of-same, owns-stays, leave-by, leave-for}
 use Rattle.grs_world.proofs.Replied.{Replied}
 use Rattle.grs_world.proofs.Seen.{is_res_of, askers, none_leaves, Clears, ToldBy, none, more, is_line_of}
-use Rattle.grs_world.proofs.Tape.{Item, entries, requests, by, on, for_all, from, home, IsItem, Items, items-append, At, filter-within, filter-none, entries-append, entries_of-items, on_res-items, by-item, on-item}
+use Rattle.grs_world.proofs.Tape.{Item, entries, requests, by, on, for_all, from, home, IsItem, Items, items-append, At, filter-within, entries-append, entries_of-items, on_res-items, by-item, on-item}
 use Rattle.grs_world.proofs.Transfer.{Carries, CarriesLine, line-carried, fits-carried}
 use Rattle.grs_world.proofs.Views.{waits, local, waiting, Blocked, View, two_homes, local-home, from-home, by-from}
-use Rattle.grs_world.proofs.Truths.{and_on, cons_kept, cons_left, no_truth, some_value}
+use Rattle.grs_world.proofs.Truths.{and_on, no_truth}
+use Rattle.grs_world.proofs.Facts.{filter-append, filter-cons_kept, filter-cons_left, filter-none, some_value}
+use Rattle.grs_world.proofs.Askers.{among-front}
 
 -- ---- which items of a resource a system has processed
 same_on : (r : Res) (x : Item) → on r x ≡ true → r ≡ x.res
@@ -97,19 +98,19 @@ module _ (deck : Deck) (s : ℕ) (front rest Q : List Item) (v : View deck s fro
           let loc : local x ≡ false = rw f refl in
           let noL : filter (by t) (filter local xs) ≡ [] = filter-none (by t) local xs none in
           let noW : filter (by t) (waiting s xs) ≡ [] = filter-none (by t) (waits s) xs none in
-          cons_kept (by t) x xs k ∙ (ap (λ z. x ∷ z) (none ∙ sym noW) ∙ (sym (cons_kept (by t) x (waiting s xs) k) ∙ (ap (filter (by t)) (sym (cons_kept (waits s) x xs w)) ∙ ap (λ z. z ++ filter (by t) (waiting s (x ∷ xs))) (sym (ap (filter (by t)) (cons_left local x xs loc) ∙ noL)))))
+          filter-cons_kept (by t) x xs k ∙ (ap (λ z. x ∷ z) (none ∙ sym noW) ∙ (sym (filter-cons_kept (by t) x (waiting s xs) k) ∙ (ap (filter (by t)) (sym (filter-cons_kept (waits s) x xs w)) ∙ ap (λ z. z ++ filter (by t) (waiting s (x ∷ xs))) (sym (ap (filter (by t)) (filter-cons_left local x xs loc) ∙ noL)))))
       go false f true k ih =
           let w : waits s x ≡ false = rw f refl in
           let loc : local x ≡ true = rw f refl in
-          cons_kept (by t) x xs k ∙ (ap (λ z. x ∷ z) ih ∙ (ap (λ z. z ++ filter (by t) (waiting s xs)) (sym (ap (filter (by t)) (cons_kept local x xs loc) ∙ cons_kept (by t) x (filter local xs) k)) ∙ ap (λ z. filter (by t) (filter local (x ∷ xs)) ++ filter (by t) z) (sym (cons_left (waits s) x xs w))))
+          filter-cons_kept (by t) x xs k ∙ (ap (λ z. x ∷ z) ih ∙ (ap (λ z. z ++ filter (by t) (waiting s xs)) (sym (ap (filter (by t)) (filter-cons_kept local x xs loc) ∙ filter-cons_kept (by t) x (filter local xs) k)) ∙ ap (λ z. filter (by t) (filter local (x ∷ xs)) ++ filter (by t) z) (sym (filter-cons_left (waits s) x xs w))))
       go c f false k ih =
-          cons_left (by t) x xs k ∙ (ih ∙ (ap (λ z. z ++ filter (by t) (waiting s xs)) (sym (skip local)) ∙ ap (λ z. filter (by t) (filter local (x ∷ xs)) ++ z) (sym (skip (waits s)))))
+          filter-cons_left (by t) x xs k ∙ (ih ∙ (ap (λ z. z ++ filter (by t) (waiting s xs)) (sym (skip local)) ∙ ap (λ z. filter (by t) (filter local (x ∷ xs)) ++ z) (sym (skip (waits s)))))
         where
           skip : (p : Item → Bool) → filter (by t) (filter p (x ∷ xs)) ≡ filter (by t) (filter p xs)
           skip p = either (p x)
             where
               either : (a : Bool) → filter (by t) (cond a (x ∷ filter p xs) (filter p xs)) ≡ filter (by t) (filter p xs)
-              either true = cons_left (by t) x (filter p xs) k
+              either true = filter-cons_left (by t) x (filter p xs) k
               either false = refl
 
   -- a task of the system did by the whole what it did by the view, and what waits
@@ -130,7 +131,7 @@ none_by t (x ∷ xs) a = go (same_task t x.req.task) refl a (none_by t xs)
   where
     go : (b : Bool) → same_task t x.req.task ≡ b → (b || is_among t (askers (requests xs))) ≡ false → (is_among t (askers (requests xs)) ≡ false → filter (by t) xs ≡ []) → filter (by t) (x ∷ xs) ≡ []
     go true e a ih = cc
-    go false e a ih = cons_left (by t) x xs e ∙ ih a
+    go false e a ih = filter-cons_left (by t) x xs e ∙ ih a
 
 -- ---- an owner stays one
 stays_on : (deck : Deck) (s : ℕ) (t : TaskId) (r : Res) → t.system.0 ≡ s → is_res_of s r ≡ false → (xs : List Item) → Items deck xs → none_leaves t r (requests (waiting s xs)) ≡ true → list_all (λ h. not (is_leave_of t h)) (entries (filter (on r) xs)) ≡ true
@@ -194,27 +195,19 @@ module _ (deck : Deck) (s : ℕ) (front rest Q : List Item) (v : View deck s fro
     owning = λ r. owning-whole t e r (none_leaves-apart t r (requests (waiting s rest)) apart);
   }
 
-  among_front : (t : TaskId) (xs ys : List Req) → is_among t (askers (xs ++ ys)) ≡ false → is_among t (askers xs) ≡ false
-  among_front t [] ys a = refl
-  among_front t (x ∷ xs) ys a = go (same_task t x.task) a (among_front t xs ys)
-    where
-      go : (b : Bool) → (b || is_among t (askers (xs ++ ys))) ≡ false → (is_among t (askers (xs ++ ys)) ≡ false → is_among t (askers xs) ≡ false) → (b || is_among t (askers xs)) ≡ false
-      go true a ih = cc
-      go false a ih = ih a
-
   leaves_front : (t : TaskId) (r : Res) (xs ys : List Req) → none_leaves t r (xs ++ ys) ≡ true → none_leaves t r xs ≡ true
   leaves_front t r [] ys a = refl
   leaves_front t r (x ∷ xs) ys a = and_on (not (same_task t x.task && gives_up r x.want)) (none_leaves t r xs) (and_parts _ _ a).0 (leaves_front t r xs ys (and_parts _ _ a).1)
 
   carries_line : (opens later : List Req) → opens ≡ requests (waiting s rest) ++ later → (l : ToldLine) → is_line_of s l ≡ true → Clears deck opens (entries Q) l → CarriesLine deck (entries (front ++ rest)) (entries Q) l
-  carries_line opens later is (told.Coded t k part verb code) ours c = carries-whole t (eqb-true _ _ ours) (among_front t (requests (waiting s rest)) later (subst (λ qs. is_among t (askers qs) ≡ false) is c))
+  carries_line opens later is (told.Coded t k part verb code) ours c = carries-whole t (eqb-true _ _ ours) (among-front t (requests (waiting s rest)) later (subst (λ qs. is_among t (askers qs) ≡ false) is c))
   carries_line opens later is (told.Shown t k verb code rows) ours c = c
   carries_line opens later is (told.Post t k) ours c = (
     entries (filter (by t) (waiting s rest)),
     mine-whole deck s front rest Q v t (eqb-true _ _ ours),
     (λ ls lines r of. owning-whole t (eqb-true _ _ ours) r (leaves_front t r (requests (waiting s rest)) later (subst (λ qs. none_leaves t r qs ≡ true) is (c ls lines r of)))),
   )
-  carries_line opens later is (told.Ended t code) ours c = carries-whole t (eqb-true _ _ ours) (among_front t (requests (waiting s rest)) later (subst (λ qs. is_among t (askers qs) ≡ false) is c))
+  carries_line opens later is (told.Ended t code) ours c = carries-whole t (eqb-true _ _ ours) (among-front t (requests (waiting s rest)) later (subst (λ qs. is_among t (askers qs) ≡ false) is c))
   carries_line opens later is (told.Desk k said) ours c = c
 
 -- ---- lines that are told
@@ -236,7 +229,7 @@ all-append s (l ∷ ls) ms a b = and_on (is_line_of s l) _ (and_parts _ _ a).0 (
 
 pub filter-ours : (s : ℕ) (ls : List ToldLine) → list_all (is_line_of s) ls ≡ true → filter (is_line_of s) ls ≡ ls
 filter-ours s [] a = refl
-filter-ours s (l ∷ ls) a = cons_kept (is_line_of s) l ls (and_parts _ _ a).0 ∙ ap (λ z. l ∷ z) (filter-ours s ls (and_parts _ _ a).1)
+filter-ours s (l ∷ ls) a = filter-cons_kept (is_line_of s) l ls (and_parts _ _ a).0 ∙ ap (λ z. l ∷ z) (filter-ours s ls (and_parts _ _ a).1)
 
 -- The lines that a system is told on the way from T0 to T are of its tasks, and agree with the history P behind
 -- all that was told before to any system.
@@ -311,7 +304,7 @@ at-view deck s front rest Q x v away right a = at-same deck front Q x v.front_it
         let all : for_all x ≡ true = is_all (for_all x) refl in
         let loc : local x ≡ false = rw all refl in
         let none : filter (by x.req.task) rest ≡ [] = v.blocked.0 (and_on (for_all x) (from s x) all f) in
-        v.tasks x.req.task e ∙ (ap (λ z. filter (by x.req.task) front ++ filter (by x.req.task) z) (cons_left local x rest loc) ∙ (ap (λ z. filter (by x.req.task) front ++ z) (filter-none (by x.req.task) local rest none) ∙ append-nil (filter (by x.req.task) front)))
+        v.tasks x.req.task e ∙ (ap (λ z. filter (by x.req.task) front ++ filter (by x.req.task) z) (filter-cons_left local x rest loc) ∙ (ap (λ z. filter (by x.req.task) front ++ z) (filter-none (by x.req.task) local rest none) ∙ append-nil (filter (by x.req.task) front)))
       where
         is_all : (b : Bool) → for_all x ≡ b → for_all x ≡ true
         is_all true k = k

@@ -20,7 +20,8 @@ use Rattle.task_state.specs.View.{record_place, record_of, on_record}
 use Rattle.task_state.specs.Replies.{is_held}
 use Rattle.grs_world.specs.Agree.{entry_of_line, tells_control, is_control_of, is_code_of, is_post_of}
 use Rattle.grs_world.proofs.Invariant.{Each, key, has_res, is_distinct, IsEntryOn, IsRec, IsDue}
-use Rattle.grs_world.proofs.Others.{any-more, any-last, none-more}
+use Rattle.grs_world.proofs.Truths.{or_off, or_second}
+use Rattle.grs_world.proofs.Facts.{any-last, any-more, none-more}
 
 -- what is known of the record that is found
 pub found : (P : Rec → Type 0) (xs : List Rec) (r : Res) (x : Rec) → Each P xs → record_of xs r ≡ Some x → P x × (same_res r x.res ≡ true)
@@ -69,14 +70,6 @@ also knows r q = ((knows q).0 || same_res r q, (knows q).1 || same_res r q)
 abbrev pub marked : (Res → Bool × Bool) → Res → Res → Bool × Bool
 marked knows r q = ((knows q).0 || same_res r q, (knows q).1)
 
-or_true : (a b : Bool) → b ≡ true → (a || b) ≡ true
-or_true true b h = refl
-or_true false b h = h
-
-or_false : (a b : Bool) → b ≡ false → (a || b) ≡ a
-or_false true b h = refl
-or_false false b h = h
-
 -- an entry that is queued gives control by 00
 pub queued_control : (r : Res) (o : Option HistEntry) → IsEntryOn r o → is_control_of r C00 o ≡ true
 queued_control r None h = absurd h
@@ -119,7 +112,7 @@ module _ (ls : List Meaning) (E : List HistEntry) (T : List ToldLine) (knows : R
         entry = h.0.entry;
         low = h.0.low;
         high = h.0.high;
-        known = sym (or_true (knows y.res).0 (same_res r y.res) s);
+        known = sym (or_second (knows y.res).0 (same_res r y.res) s);
         control = λ c. any-last (tells_control t ls E y.res) T l (subst (λ q. tells_control t ls E q l ≡ true) (same_res-exact r y.res s) control);
         due = λ u. absurd (cc);
       }
@@ -127,8 +120,8 @@ module _ (ls : List Meaning) (E : List HistEntry) (T : List ToldLine) (knows : R
         entry = h.0.entry;
         low = h.0.low;
         high = h.0.high;
-        known = h.0.known ∙ sym (or_false (knows y.res).0 (same_res r y.res) s);
-        control = λ c. any-more (tells_control t ls E y.res) T l (h.0.control (sym (or_false (knows y.res).1 (same_res r y.res) s) ∙ c));
+        known = h.0.known ∙ sym (or_off (knows y.res).0 (same_res r y.res) s);
+        control = λ c. any-more (tells_control t ls E y.res) T l (h.0.control (sym (or_off (knows y.res).1 (same_res r y.res) s) ∙ c));
         due = λ u. due s u (h.0.due u);
       }
 
@@ -157,7 +150,7 @@ module _ (ls : List Meaning) (E : List HistEntry) (T : List ToldLine) (knows : R
         entry = h.0.entry;
         low = h.0.low;
         high = h.0.high;
-        known = sym (or_true (knows y.res).0 (same_res r y.res) s);
+        known = sym (or_second (knows y.res).0 (same_res r y.res) s);
         control = λ c. any-last (tells_control t ls E y.res) T (Post t k) (subst (λ q. tells_control t ls E q (Post t k) ≡ true) (same_res-exact r y.res s) posts);
         due = λ u. absurd (cc);
       }
@@ -165,8 +158,8 @@ module _ (ls : List Meaning) (E : List HistEntry) (T : List ToldLine) (knows : R
         entry = h.0.entry;
         low = h.0.low;
         high = h.0.high;
-        known = h.0.known ∙ sym (or_false (knows y.res).0 (same_res r y.res) s);
-        control = λ c. any-more (tells_control t ls E y.res) T (Post t k) (h.0.control (sym (or_false (knows y.res).1 (same_res r y.res) s) ∙ c));
+        known = h.0.known ∙ sym (or_off (knows y.res).0 (same_res r y.res) s);
+        control = λ c. any-more (tells_control t ls E y.res) T (Post t k) (h.0.control (sym (or_off (knows y.res).1 (same_res r y.res) s) ∙ c));
         due = λ u. due s (h.0.due u);
       }
 
@@ -181,7 +174,7 @@ recs-marked ls E T knows t r line ph (y ∷ ys) h = (go (same_res r y.res) refl,
       entry = h.0.entry;
       low = h.0.low;
       high = h.0.high;
-      known = sym (or_true (knows y.res).0 (same_res r y.res) s);
+      known = sym (or_second (knows y.res).0 (same_res r y.res) s);
       control = h.0.control;
       due = λ u. absurd (cc);
     }
@@ -189,7 +182,7 @@ recs-marked ls E T knows t r line ph (y ∷ ys) h = (go (same_res r y.res) refl,
       entry = h.0.entry;
       low = h.0.low;
       high = h.0.high;
-      known = h.0.known ∙ sym (or_false (knows y.res).0 (same_res r y.res) s);
+      known = h.0.known ∙ sym (or_off (knows y.res).0 (same_res r y.res) s);
       control = h.0.control;
       due = h.0.due;
     }

@@ -41,11 +41,11 @@ use Rattle.grs_world.specs.Agree.{tells_control, is_control_of, gets_control, is
 use Rattle.grs_world.proofs.Own.{own, exclusive_on, own-push, own-without, own-exclusive}
 use Rattle.grs_world.proofs.Owners.{owns-push, owns-exclusive, all_exclusive}
 use Rattle.grs_world.proofs.Invariant.{Each, key, has_res, is_distinct, IsEntryOn, IsEcb, IsRec, IsDue, Past, IsTask, is_post_before}
-use Rattle.grs_world.proofs.Others.{any-last, none-more}
 use Rattle.grs_world.proofs.Control.{queued_control}
 use Rattle.grs_world.proofs.EnqCases.{EnqCase, enq_case, now, waits, ecb, changes, keeps, refused}
 use Rattle.grs_world.proofs.Keys.{has_res-task, keys-push, distinct-push, keys-exclusive, distinct-exclusive, own-exclusive_already, keys-without, distinct-without, gone-without, each-without, each-push, each-exclusive}
 use Rattle.grs_world.proofs.Asked.{told_after, Asks, recs-asked, of_new_line, task-asked}
+use Rattle.grs_world.proofs.Facts.{any-last, none-more}
 
 absent-has : (es : List Elem) (u : TaskId) → standing_of es u ≡ Absent → has_task es u ≡ false
 absent-has es u h = grind (arith, nat_tests, h, has_task-place es u)

@@ -10,17 +10,7 @@ use Rattle.grs_wire.specs.History.{is_by, code_of}
 use Rattle.grs_legal.specs.Asks.{is_silent}
 use Rattle.grs_legal.specs.Legal.{entries_of, is_of_line, line_entries, end_or, end_among, last_entry}
 use Rattle.grs_world.specs.Agree.{asked_at}
-
-pub filter-append : {X : Type 0} (p : X → Bool) (xs ys : List X) → filter p (xs ++ ys) ≡ filter p xs ++ filter p ys
-filter-append p [] ys = refl
-filter-append p (x ∷ xs) ys = grind (arith, filter-append p xs ys)
-
--- what an item adds to a filtered list
-pub filter-push_kept : {X : Type 0} (p : X → Bool) (xs : List X) (x : X) → p x ≡ true → filter p (xs ++ x ∷ []) ≡ filter p xs ++ x ∷ []
-filter-push_kept p xs x h = grind (arith, h, filter-append p xs (x ∷ []))
-
-pub filter-push_left : {X : Type 0} (p : X → Bool) (xs : List X) (x : X) → p x ≡ false → filter p (xs ++ x ∷ []) ≡ filter p xs
-filter-push_left p xs x h = grind (arith, h, append-nil, filter-append p xs (x ∷ []))
+use Rattle.grs_world.proofs.Facts.{filter-push_kept, filter-push_left, slice_get-append}
 
 -- another task's entry adds nothing
 pub line_entries-other : (t : TaskId) (hist : List HistEntry) (h : HistEntry) → is_by t h ≡ false → line_entries t (hist ++ h ∷ []) ≡ line_entries t hist
@@ -61,15 +51,6 @@ end_among-push (x ∷ xs) h none = by_code (code_of x) (end_among-push xs h) non
     by_code codes.C14 more e = more e
     by_code codes.C18 more e = more e
     by_code codes.Wait more e = more e
-
-pub slice_get-append : {X : Type 0} (xs ys : List X) (i : ℕ) (x : X) → slice_get xs i ≡ Some x → slice_get (xs ++ ys) i ≡ Some x
-slice_get-append [] ys i x h = cc
-slice_get-append (y ∷ xs) ys zero x h = h
-slice_get-append (y ∷ xs) ys (suc i) x h = slice_get-append xs ys i x h
-
-pub slice_get-end : {X : Type 0} (xs : List X) (y : X) (ys : List X) → slice_get (xs ++ y ∷ ys) (length xs) ≡ Some y
-slice_get-end [] y ys = refl
-slice_get-end (x ∷ xs) y ys = slice_get-end xs y ys
 
 -- an entry of a line keeps its place when the history grows
 pub asked_at-grows : (l : Option Meaning) (xs ys : List HistEntry) (i : ℕ) (e : HistEntry) → asked_at l (slice_get xs i) ≡ Some e → asked_at l (slice_get (xs ++ ys) i) ≡ Some e

@@ -55,13 +55,10 @@ use Rattle.task_state.specs.Replies.{is_leaving}
 use Rattle.grs_world.proofs.Telling.{learns_all, learned_all, LearnedAll, IsHome}
 use Rattle.grs_world.proofs.Asked.{told_after, Asks, of_new_line}
 use Rattle.grs_world.proofs.Decided.{both, by_lists, enq_records, task-enq, task-deq}
-use Rattle.grs_world.proofs.Good.{owned, may_have, IsGood, replay-push, has_task-home, owns-has, home-ours, became-apart, all-filter, holds-knows, task-told_after, became, before_telling, before-own, told-all, other-decided}
+use Rattle.grs_world.proofs.Good.{owned, may_have, IsGood, has_task-home, owns-has, home-ours, became-apart, holds-knows, task-told_after, became, before_telling, before-own, told-all, other-decided}
 use Rattle.grs_world.proofs.Did.{Did, did-answered_enq, did-answered_deq}
-
--- one item more of which it holds too
-pub all-push : {X : Type 0} (p : X → Bool) (xs : List X) (x : X) → list_all p xs ≡ true → p x ≡ true → list_all p (xs ++ x ∷ []) ≡ true
-all-push p [] x h e = grind (arith, e)
-all-push p (y ∷ xs) x h e = grind (arith, h, all-push p xs x, e)
+use Rattle.grs_world.proofs.Replied.{replay-push}
+use Rattle.grs_world.proofs.Facts.{all-filter, all-more}
 
 all-exclusive : (p : Res → TaskId → Bool) (s : State) (r : Res) (t : TaskId) → list_all (λ h. p h.0 h.1.task) s ≡ true → list_all (λ h. p h.0 h.1.task) (with_exclusive same_res s r t) ≡ true
 all-exclusive p [] r t h = h
@@ -69,7 +66,7 @@ all-exclusive p (x ∷ s) r t h = grind (arith, h, all-exclusive p s r t, cases_
 
 elems-effect : (p : Res → TaskId → Bool) (s : State) (r : Res) (t : TaskId) (c : Ctl) (e : Effect) → p r t ≡ true → list_all (λ h. p h.0 h.1.task) s ≡ true → list_all (λ h. p h.0 h.1.task) (after_effect s r t c e) ≡ true
 elems-effect p s r t c Nothing mine h = h
-elems-effect p s r t c Append mine h = all-push (λ z. p z.0 z.1.task) s (r, record { task = t; ctl = c }) h mine
+elems-effect p s r t c Append mine h = all-more (λ z. p z.0 z.1.task) s (r, record { task = t; ctl = c }) h mine
 elems-effect p s r t c MakeExclusive mine h = all-exclusive p s r t h
 
 pub elems-want : (p : Res → TaskId → Bool) (s : State) (t : TaskId) (w : Want) → ((r : Res) → res_wanted w ≡ Some r → p r t ≡ true) → list_all (λ h. p h.0 h.1.task) s ≡ true → list_all (λ h. p h.0 h.1.task) (after_want s t w) ≡ true

@@ -12,6 +12,11 @@ pub systems_of-first : (systems entries : ℕ) (star : Bool) → systems_of (fir
 systems_of-first systems entries true = refl
 systems_of-first systems entries false = refl
 
+-- nothing is told
+pub first_told : (deck : Deck) (s : ℕ) → (first_node deck s).tasks.told ≡ []
+unfolding first_node
+first_told deck s = refl
+
 -- one more system
 more_from : (deck : Deck) (s i k : ℕ) (ds : List SystemDef) → k ≡ s + i → i < length ds → first_nodes deck s (take (suc i) ds) ≡ first_nodes deck s (take i ds) ++ first_node deck k ∷ []
 more_from deck s i k [] e h = absurd (omega (arith, h))

@@ -21,7 +21,6 @@ use Rattle.grs_medium.specs.Medium.{live}
 use Rattle.rsa_message.specs.Message.{unseen, first_number}
 use Rattle.grs_world.specs.Tables.{went_through, before_number, processed, systems_part, TablesAreFronts}
 use Rattle.grs_world.specs.World.{run, hist}
-use Rattle.grs_world.proofs.Entries.{filter-append}
 use Rattle.grs_world.proofs.Messages.{given-rest}
 use Rattle.grs_world.proofs.Parts.{after_want-part, part-want_other}
 use Rattle.grs_world.proofs.Replied.{only_entry, replay-push, step-for}
@@ -30,7 +29,7 @@ use Rattle.grs_world.proofs.Seen.{NodeLaws, part}
 use Rattle.grs_world.proofs.Sound.{good_run}
 use Rattle.grs_world.proofs.Stands.{Bodies, waits_live, first_number-seen}
 use Rattle.grs_world.proofs.Tape.{Item, entries, requests, for_all, IsItem, Items, items-tape, At, Tape, tape-front}
-use Rattle.grs_world.proofs.Truths.{some_value, take-seam}
+use Rattle.grs_world.proofs.Facts.{filter-append, some_value, take-seam}
 
 -- ---- the table by the requests of the message alone
 abbrev wants_from : State → List Item → State

@@ -38,6 +38,8 @@ use Rattle.task_state.specs.Replies.{is_leaving}
 use Rattle.task_state.proofs.ViewLaws.{is_task-system}
 use Rattle.grs_world.proofs.Telling.{learns_all, learns_all-is, IsHome}
 use Rattle.grs_world.proofs.Asked.{told_after}
+use Rattle.grs_world.proofs.Facts.{some_of}
+use Rattle.grs_world.proofs.Keys.{same_res-sym}
 
 -- what each task owns by the lists after a history
 abbrev pub owned : Deck → List HistEntry → Res → TaskId → Bool
@@ -58,9 +60,6 @@ pub record IsGood (deck : Deck) (s : ℕ) (os : Opens) (P : List HistEntry) (v :
   pub here : (t : TaskId) → is_home_at deck s t ≡ true → is_task v t ≡ true
   pub system : v.system ≡ s
 
-pub replay-push : (limit : ℕ) (P : List HistEntry) (h : HistEntry) → replay limit (P ++ h ∷ []) ≡ step limit (replay limit P) h
-replay-push limit P h = replay_from-append limit [] P (h ∷ [])
-
 -- an owner is of the deck
 pub has_task-home : (p : Res → TaskId → Bool) (s : State) (r : Res) (t : TaskId) → list_all (λ h. p h.0 h.1.task) s ≡ true → has_task (list_of s r) t ≡ true → p r t ≡ true
 has_task-home p [] r t all h = cc
@@ -74,10 +73,6 @@ owns-has es t h = any-front es (owners es) t (sym (owns-front es t) ∙ h)
     any-front [] (suc n) u e = cc
     any-front (x ∷ xs) zero u e = cc
     any-front (x ∷ xs) (suc n) u e = grind (arith, e, any-front xs n u, cases_Bool (same_task u x.task))
-
-pub some_of : {X : Type 0} (o : Option X) → is_some o ≡ true → (x : X) × (o ≡ Some x)
-some_of None h = absurd (cc)
-some_of (Some x) h = (x, refl)
 
 -- a task of the deck that is here is of the system
 pub home-ours : (deck : Deck) (s : ℕ) (v : TasksView) (t : TaskId) → v.system ≡ s → is_some (lines_of deck t) ≡ true → is_task v t ≡ true → IsHome deck s v t
@@ -107,11 +102,6 @@ apart-take (suc n) (e ∷ es) h = grind (arith, h, apart-take n es, has-take n e
 
 pub became-apart : (before after : List Elem) (t : TaskId) → is_apart after ≡ true → stand_apart (became_owners before after t) ≡ true
 became-apart before after t h = pick-apart (λ u. not (owns before u) && not (same_task t u)) (take (owners after) after) (apart-take (owners after) after h)
-
--- elements stay of the deck's tasks
-pub all-filter : {X : Type 0} (p q : X → Bool) (xs : List X) → list_all p xs ≡ true → list_all p (filter q xs) ≡ true
-all-filter p q [] h = refl
-all-filter p q (x ∷ xs) h = grind (arith, h, all-filter p q xs, cases_Bool (q x))
 
 -- knowledge that is the same
 pub holds-knows : (deck : Deck) (s : ℕ) (os : Opens) (P : List HistEntry) (knows knows' : Res → TaskId → Bool) (v : TasksView) → ((q : Res) (u : TaskId) → knows' q u ≡ knows q u) → Holds deck s os P knows v → Holds deck s os P knows' v
@@ -153,18 +143,11 @@ module _ (deck : Deck) (P : List HistEntry) (t : TaskId) (w : Want) (r : Res) (s
   before-others : (q : Res) (u : TaskId) → same_task u t ≡ false → before_telling q u ≡ owned deck P q u
   before-others q u apart = by_res q r _
       (λ same. subst (λ z. before_telling z u ≡ owned deck P z u) (sym same) at)
-      (λ other. rw (ap (λ es. owns es u) (list_of-want_other (replay deck.limit P) t w q (speaks q ∙ other)), unlike q other) (and_true (owns (list_of (replay deck.limit P) q) u)))
+      (λ other. rw (ap (λ es. owns es u) (list_of-want_other (replay deck.limit P) t w q (speaks q ∙ other)), same_res-sym r q ∙ other) (and_true (owns (list_of (replay deck.limit P) q) u)))
     where
       and_true : (b : Bool) → (b && true) ≡ b
       and_true true = refl
       and_true false = refl
-
-      unlike : (z : Res) → same_res z r ≡ false → same_res r z ≡ false
-      unlike z e = go (same_res r z) refl
-        where
-          go : (b : Bool) → same_res r z ≡ b → b ≡ false
-          go true f = let g : true ≡ false = sym (same_res-itself z) ∙ ap (λ y. same_res z y) (sym (same_res-exact r z f)) ∙ e in absurd (cc)
-          go false f = refl
 
       at : before_telling r u ≡ owned deck P r u
       at = rw (same_res-itself r, is_among-became (list_of (replay deck.limit P) r) (list_of (after_want (replay deck.limit P) t w) r) t u)
@@ -183,18 +166,11 @@ module _ (deck : Deck) (P : List HistEntry) (t : TaskId) (w : Want) (r : Res) (s
   pub told-all : (q : Res) (u : TaskId) → learns_all before_telling r became q u ≡ owned deck (P ++ h ∷ []) q u
   told-all q u = learns_all-is before_telling r became q u ∙ by_res q r ((before_telling q u || (same_res r q && is_among u became)) ≡ owned deck (P ++ h ∷ []) q u)
       (λ same. subst (λ z. (before_telling z u || (same_res r z && is_among u became)) ≡ owned deck (P ++ h ∷ []) z u) (sym same) at)
-      (λ other. rw (unlike q other) (ends (owns (list_of (after_want (replay deck.limit P) t w) q) u)) ∙ ap (λ s. owns (list_of s q) u) (sym after))
+      (λ other. rw (same_res-sym r q ∙ other) (ends (owns (list_of (after_want (replay deck.limit P) t w) q) u)) ∙ ap (λ s. owns (list_of s q) u) (sym after))
     where
       ends : (b : Bool) → ((b && true) || false) ≡ b
       ends true = refl
       ends false = refl
-
-      unlike : (z : Res) → same_res z r ≡ false → same_res r z ≡ false
-      unlike z e = go (same_res r z) refl
-        where
-          go : (b : Bool) → same_res r z ≡ b → b ≡ false
-          go true f = let g : true ≡ false = sym (same_res-itself z) ∙ ap (λ y. same_res z y) (sym (same_res-exact r z f)) ∙ e in absurd (cc)
-          go false f = refl
 
       pieces : (a b : Bool) → (b ≡ true → a ≡ true) → ((a && not b) || b) ≡ a
       pieces true true f = refl

@@ -31,23 +31,22 @@ use Rattle.task_state.specs.View.{on_record}
 use Rattle.task_state.specs.Replies.{is_held}
 use Rattle.grs_world.specs.Agree.{entry_of_line, tells_control, is_code_before, is_end_of, TellsEnq, TellsWait, Posts, LineAgrees}
 use Rattle.grs_world.proofs.Own.{own}
-use Rattle.grs_world.proofs.Lines.{take-more, asks-same, passed-more}
+use Rattle.grs_world.proofs.Lines.{asks-same, passed-more}
 use Rattle.grs_world.proofs.Invariant.{Each, IsEntryOn, IsEcb, IsRec, IsDue, Past, Passed, IsWaitFor, IsInPhase, IsTask, is_post_before, has_ended, code_bound}
-use Rattle.grs_world.proofs.Others.{none-more, all-more, all-kept, recs-told, phase-told}
+use Rattle.grs_world.proofs.Others.{recs-told, phase-told}
 use Rattle.grs_world.proofs.Control.{also, marked, recs-marked, keys-told, distinct-told, queued_control, recs-coded, recs-posted}
+use Rattle.grs_world.proofs.Truths.{or_second}
+use Rattle.grs_world.proofs.Facts.{all-kept, all-more, none-more, some_value, take-more}
 
 -- a task's past after a history
 abbrev pub past : ℕ → List HistEntry → TaskId → Past
 past limit P t = record { lists = replay limit P; asked = line_entries t P; last = last_entry (entries_of t P) }
 
-some_same : {X : Type 0} (x y : X) → Some x ≡ Some y → x ≡ y
-some_same x y e = cc
-
 -- an entry that waited, of this resource, is told 00 to an owner
 tells_waited : (s : State) (t : TaskId) (r : Res) (o : Option HistEntry) (h : HistEntry) → o ≡ Some h → code_of h ≡ Wait → IsEntryOn r o → owns (list_of s r) t ≡ true → TellsEnq s t C00 o
 tells_waited s t r None h e w on own = absurd on
 tells_waited s t r (Some (Enq u q c ret code)) h e w on own =
-    let is_wait : code ≡ Wait = ap code_of (some_same (Enq u q c ret code) h e) ∙ w in
+    let is_wait : code ≡ Wait = ap code_of (some_value (Enq u q c ret code) h e) ∙ w in
     (rw is_wait refl, λ g. subst (λ z. owns (list_of s z) t ≡ true) (sym on.0) own)
 tells_waited s t r (Some (Deq u q have code)) h e w on own = absurd on
 tells_waited s t r (Some (Release u q)) h e w on own = absurd on
@@ -57,7 +56,7 @@ tells_waited s t r (Some (Remove by target)) h e w on own = absurd on
 -- an owner of a resource owns what an entry of it asked for
 owns-on : (s : State) (t : TaskId) (r : Res) (o : Option HistEntry) (h : HistEntry) → o ≡ Some h → IsEntryOn r o → owns (list_of s r) t ≡ true → owns_asked s t h ≡ true
 owns-on s t r None h e on own = absurd on
-owns-on s t r (Some (Enq u q c ret code)) h e on own = subst (λ z. owns_asked s t z ≡ true) (some_same (Enq u q c ret code) h e) (subst (λ z. owns (list_of s z) t ≡ true) (sym on.0) own)
+owns-on s t r (Some (Enq u q c ret code)) h e on own = subst (λ z. owns_asked s t z ≡ true) (some_value (Enq u q c ret code) h e) (subst (λ z. owns (list_of s z) t ≡ true) (sym on.0) own)
 owns-on s t r (Some (Deq u q have code)) h e on own = absurd on
 owns-on s t r (Some (Release u q)) h e on own = absurd on
 owns-on s t r (Some (Look u place filter rows)) h e on own = absurd on
@@ -85,10 +84,6 @@ codes_later t n T h = all-kept (is_code_before t n) (is_code_before t (suc n)) (
 pub lt_suc : (n : ℕ) → nat_lt n (suc n) ≡ true
 lt_suc n = lt-ltb n (suc n) (omega arith)
 
-pub or_right : (a b : Bool) → b ≡ true → (a || b) ≡ true
-or_right true b h = refl
-or_right false b h = h
-
 -- a task held by its last answer is told it
 pub task-coded : (limit : ℕ) (ls : List Meaning) (P : List HistEntry) (T : List ToldLine) (knows : Res → Bool × Bool) (t : TaskId) (r : Res) (y : Rec) (n code : ℕ) (xs : List Rec) (o : Option Asked) (ws : List Row) →
     IsTask ls (past limit P t) T knows t (record { line = n; phase = phases.HeldAnswer; code = code; records = xs; outstanding = o; rows = ws }) →
@@ -100,7 +95,7 @@ task-coded limit ls P T knows t r y n code xs o ws h rec same at own =
     let on_n : IsEntryOn r (entry_of_line ls (line_entries t P) n) = subst (λ k. IsEntryOn r (entry_of_line ls (line_entries t P) k)) at on in
     let of_line : entry_of_line ls (line_entries t P) y.line ≡ Some h.phase.last = ap (λ k. entry_of_line ls (line_entries t P) k) at ∙ h.phase.of_line in
     let codes_at : list_all (is_code_before t y.line) T ≡ true = subst (λ k. list_all (is_code_before t k) T ≡ true) (sym at) h.codes in
-    let last_code : is_code_before t (suc n) (Coded t y.line 0 verbs.Enq C00) ≡ true = or_right (not (same_task t t)) _ (subst (λ k. nat_lt k (suc n) ≡ true) (sym at) (lt_suc n)) in
+    let last_code : is_code_before t (suc n) (Coded t y.line 0 verbs.Enq C00) ≡ true = or_second (not (same_task t t)) _ (subst (λ k. nat_lt k (suc n) ≡ true) (sym at) (lt_suc n)) in
     let control : tells_control t ls (line_entries t P) r (Coded t n 0 verbs.Enq C00) ≡ true = grind (arith, same_task-itself t, queued_control r (entry_of_line ls (line_entries t P) n) on_n) in (
       record {
         keys = keys-told r xs ∙ h.keys;
@@ -146,7 +141,7 @@ task-posted limit ls P T knows t r y x h rec due going same own =
         count = h.count;
         records = recs-posted ls (line_entries t P) T knows t r y.line on x.line x.phase x.records h.records;
         codes = all-more (is_code_before t (code_bound x.phase x.line)) T _ h.codes refl;
-        posts = all-more (is_post_before t (suc x.line)) T _ h.posts (or_right (not (same_task t t)) _ (lt-ltb y.line (suc x.line) (omega (arith, rec.high))));
+        posts = all-more (is_post_before t (suc x.line)) T _ h.posts (or_second (not (same_task t t)) _ (lt-ltb y.line (suc x.line) (omega (arith, rec.high))));
         phase = phase-told ls (past limit P t) T t x.line x.phase (Post t y.line) refl h.phase;
         emptied = λ e. absurd (grind (arith, e, going));
       },
@@ -167,7 +162,7 @@ task-marked ls p T knows t r x h = record {
   emptied = λ e. ap (on_record r (λ z. record z { told = true })) (h.emptied e);
 }
 
-recs-phase : (ls : List Meaning) (E : List HistEntry) (T : List ToldLine) (knows : Res → Bool × Bool) (t : TaskId) (n : ℕ) (ph ph' : Phase) → is_held ph ≡ false → (xs : List Rec) → Each (IsRec ls E T knows t n ph) xs → Each (IsRec ls E T knows t n ph') xs
+pub recs-phase : (ls : List Meaning) (E : List HistEntry) (T : List ToldLine) (knows : Res → Bool × Bool) (t : TaskId) (n : ℕ) (ph ph' : Phase) → is_held ph ≡ false → (xs : List Rec) → Each (IsRec ls E T knows t n ph) xs → Each (IsRec ls E T knows t n ph') xs
 recs-phase ls E T knows t n ph ph' e [] h = tt
 recs-phase ls E T knows t n ph ph' e (x ∷ xs) h = (
   record {
@@ -221,7 +216,7 @@ task-passed limit ls P T knows t q n code xs o ws h own control =
         within = h.within;
         count = λ e. h.count refl;
         records = recs-told ls (line_entries t P) T knows t n phases.Ready (Coded t n 0 verbs.Wait C00) xs (λ k. refl) (recs-phase ls (line_entries t P) T knows t n (phases.HeldLine q) phases.Ready refl xs h.records);
-        codes = all-more (is_code_before t (suc n)) T _ (codes_later t n T h.codes) (or_right (not (same_task t t)) _ (lt_suc n));
+        codes = all-more (is_code_before t (suc n)) T _ (codes_later t n T h.codes) (or_second (not (same_task t t)) _ (lt_suc n));
         posts = all-more (is_post_before t (suc n)) T _ h.posts refl;
         phase = record {
           going = record { no_code = h.phase.going.no_code; no_end = none-more (is_end_of t) T _ h.phase.going.no_end refl };

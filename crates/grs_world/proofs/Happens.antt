@@ -10,24 +10,14 @@ use Rattle.grs_wire.specs.declared.deck.Event.{Event}
 use Rattle.grs_node.specs.Node.{Node, first_node}
 use Rattle.grs_world.specs.World.{World, chosen, placed, counted, happens_at, happens, run_from}
 use Rattle.grs_world.specs.Running.{is_live, node_at}
-
--- the item at a place that is there
-get-there : {X : Type 0} (xs : List X) (i : ℕ) (d : X) → i < length xs → slice_get xs i ≡ Some (get_or xs i d)
-get-there [] i d h = absurd (omega (arith, h))
-get-there (x ∷ xs) zero d h = refl
-get-there (x ∷ xs) (suc i) d h = get-there xs i d (omega (arith, h))
-
-get-past : {X : Type 0} (xs : List X) (i : ℕ) → length xs ≤ i → slice_get xs i ≡ None
-get-past [] i h = refl
-get-past (x ∷ xs) zero h = absurd (omega (arith, h))
-get-past (x ∷ xs) (suc i) h = get-past xs i (omega (arith, h))
+use Rattle.grs_world.proofs.Facts.{slice_get-none, slice_get-there}
 
 -- an event of a system that is there and wasn't removed
 pub happens-live : (deck : Deck) (w : World) (e : Event) → is_live w e.system ≡ true → happens deck w e ≡ placed w e.system (node_at deck w.nodes e.system) (chosen deck w.medium e.system (node_at deck w.nodes e.system) e.choice)
 unfolding happens happens_at placed
 happens-live deck w e h =
     let both = and_parts (nat_lt e.system.0 (length w.nodes)) (not (has w.medium.removed e.system.0)) h in
-    ap (λ o. happens_at deck w e o) (get-there w.nodes e.system.0 (first_node deck e.system.0) (ltb-true _ _ both.0)) ∙ by_removed (has w.medium.removed e.system.0) both.1
+    ap (λ o. happens_at deck w e o) (slice_get-there w.nodes e.system.0 (first_node deck e.system.0) (ltb-true _ _ both.0)) ∙ by_removed (has w.medium.removed e.system.0) both.1
   where
     by_removed : (b : Bool) → not b ≡ true → cond b (counted w) (placed w e.system (node_at deck w.nodes e.system) (chosen deck w.medium e.system (node_at deck w.nodes e.system) e.choice)) ≡ placed w e.system (node_at deck w.nodes e.system) (chosen deck w.medium e.system (node_at deck w.nodes e.system) e.choice)
     by_removed true k = cc
@@ -43,9 +33,9 @@ happens-idle deck w e h = by_place (nat_lt e.system.0 (length w.nodes)) refl
     by_removed n false k = cc
 
     by_place : (b : Bool) → nat_lt e.system.0 (length w.nodes) ≡ b → happens_at deck w e (slice_get w.nodes e.system.0) ≡ counted w
-    by_place false past = ap (λ o. happens_at deck w e o) (get-past w.nodes e.system.0 (grind (arith, nat_tests, past)))
+    by_place false past = ap (λ o. happens_at deck w e o) (slice_get-none w.nodes e.system.0 (grind (arith, nat_tests, past)))
     by_place true there =
-        ap (λ o. happens_at deck w e o) (get-there w.nodes e.system.0 (first_node deck e.system.0) (ltb-true _ _ there))
+        ap (λ o. happens_at deck w e o) (slice_get-there w.nodes e.system.0 (first_node deck e.system.0) (ltb-true _ _ there))
         ∙ by_removed (node_at deck w.nodes e.system) (has w.medium.removed e.system.0) (ap (λ b. b && not (has w.medium.removed e.system.0)) (sym there) ∙ h)
 
 pub ruleset happening = (happens-live, happens-idle)

@@ -14,6 +14,7 @@ use Rattle.task_state.specs.declared.state.Rec.{Rec}
 use Rattle.task_state.specs.View.{without_first, on_record}
 use Rattle.grs_world.proofs.Own.{own, exclusive_on, has_task-own}
 use Rattle.grs_world.proofs.Invariant.{Each, key, has_res, is_distinct}
+use Rattle.grs_world.proofs.Facts.{map-append}
 
 pub same_res-sym : (a b : Res) → same_res a b ≡ same_res b a
 same_res-sym a b = go (same_res a b) refl
@@ -33,10 +34,6 @@ has_res-keys r (x ∷ xs) = grind (arith, has_res-keys r xs)
 -- a task has an element of a resource just where it has a record of it
 pub has_res-task : (s : State) (t : TaskId) (r : Res) (xs : List Rec) → map key xs ≡ own s t → has_res r xs ≡ has_task (list_of s r) t
 has_res-task s t r xs e = has_res-keys r xs ∙ ap (list_any (λ k. same_res r k.0)) e ∙ sym (has_task-own s t r)
-
-pub map-append : {X Y : Type 0} (f : X → Y) (xs ys : List X) → map f (xs ++ ys) ≡ map f xs ++ map f ys
-map-append f [] ys = refl
-map-append f (x ∷ xs) ys = ap (λ zs. f x ∷ zs) (map-append f xs ys)
 
 pub keys-push : (xs : List Rec) (y : Rec) → map key (xs ++ y ∷ []) ≡ map key xs ++ key y ∷ []
 keys-push xs y = map-append key xs (y ∷ [])

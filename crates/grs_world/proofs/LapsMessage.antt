@@ -15,6 +15,8 @@ use Rattle.grs_wire.proofs.MaskLaws.{has-zero, has-with_same, has-with_other, ha
 use Rattle.rsa_message.specs.Message.{Message, is_at, first_after, or_else, is_unseen, any_unseen, left_by, cleared, stamped, is_due, moves, turned_open, turned_closed, turned}
 use Rattle.grs_world.specs.Laps.{LastAtHome}
 use Rattle.grs_world.proofs.LapsRound.{Ahead, home, inside_round, after_some, first_found, first_inside}
+use Rattle.grs_world.proofs.Truths.{or_first, or_second}
+use Rattle.grs_world.proofs.Stands.{has-others}
 
 -- Whoever has still to process an entry: the message comes to it before it has gone once round from the system that
 -- put the entry in.
@@ -35,14 +37,6 @@ pub record Round (m : Message) : Type 0 where
   pub awaited : (h : SysId) → m.holder ≡ Some h → AllAwaited m.systems h m.entries
 
 -- ---- the set of all systems
-has-all : (n u : ℕ) → u < n → has (others n 0) u ≡ true
-has-all zero u low = absurd (omega arith)
-has-all (suc n) u low = rw (has-zero n) (go (ℕ_discrete u n) (has-all n u))
-  where
-    go : Dec (u ≡ n) → (u < n → has (others n 0) u ≡ true) → has (with_also (others n 0) n) u ≡ true
-    go (yes same) below = rw same (has-with_same (others n 0) n)
-    go (no other) below = has-with_other (others n 0) n u other ∙ below (omega arith)
-
 all-below : (n u : ℕ) → has (others n 0) u ≡ true → u < n
 all-below zero u e = let no : false ≡ true = sym (has-zero u) ∙ e in absurd cc
 all-below (suc n) u e = go (ℕ_discrete u n) (all-below n u) (rw (has-zero n) at e)
@@ -102,25 +96,17 @@ new_onward n c h test moved inside e from all due u here =
     subst (λ (x : SysId). Ahead n x.0 h.0 u) (sym from) (onward n c h test moved c.0 0 k.0 u k.1 k.2 start k.3 (due u low here))
 
 -- ---- all entries
-or_left : (a b : Bool) → a ≡ true → (a || b) ≡ true
-or_left true b e = refl
-or_left false b e = absurd cc
-
-or_right : (a b : Bool) → b ≡ true → (a || b) ≡ true
-or_right true b e = refl
-or_right false b e = e
-
 -- a system that has still to process one of these passes the test
 abbrev Passes : ℕ → (SysId → Bool) → List RingEntry → Type 0
 Passes n test es = (u : ℕ) → u < n → any_unseen (record { 0 = u }) es ≡ true → test (record { 0 = u }) ≡ true
 
 passes_head : (n : ℕ) (test : SysId → Bool) (e : RingEntry) (es : List RingEntry) → Passes n test (e ∷ es) → (u : ℕ) → u < n → has e.mask u ≡ true → test (record { 0 = u }) ≡ true
 unfolding any_unseen
-passes_head n test e es due u low here = due u low (or_left _ (list_any (is_unseen (record { 0 = u })) es) here)
+passes_head n test e es due u low here = due u low (or_first _ (list_any (is_unseen (record { 0 = u })) es) here)
 
 passes_tail : (n : ℕ) (test : SysId → Bool) (e : RingEntry) (es : List RingEntry) → Passes n test (e ∷ es) → Passes n test es
 unfolding any_unseen
-passes_tail n test e es due u low here = due u low (or_right (has e.mask u) _ here)
+passes_tail n test e es due u low here = due u low (or_second (has e.mask u) _ here)
 
 cleared_onward : (n : ℕ) (c h : SysId) (test : SysId → Bool) → or_else (first_after n c test) c ≡ h → (es : List RingEntry) → Passes n test (cleared c es)
     → AllAwaited n c es → AllAwaited n h (cleared c es)
@@ -151,11 +137,11 @@ joined n h (x ∷ xs) ys a b = (a.0, joined n h xs ys a.1 b)
 
 passes_front : (n : ℕ) (test : SysId → Bool) (xs ys : List RingEntry) → Passes n test (xs ++ ys) → Passes n test xs
 unfolding any_unseen
-passes_front n test xs ys due u low here = due u low (list_any-append (is_unseen (record { 0 = u })) xs ys ∙ or_left _ _ here)
+passes_front n test xs ys due u low here = due u low (list_any-append (is_unseen (record { 0 = u })) xs ys ∙ or_first _ _ here)
 
 passes_back : (n : ℕ) (test : SysId → Bool) (xs ys : List RingEntry) → Passes n test (xs ++ ys) → Passes n test ys
 unfolding any_unseen
-passes_back n test xs ys due u low here = due u low (list_any-append (is_unseen (record { 0 = u })) xs ys ∙ or_right (list_any (is_unseen (record { 0 = u })) xs) _ here)
+passes_back n test xs ys due u low here = due u low (list_any-append (is_unseen (record { 0 = u })) xs ys ∙ or_second (list_any (is_unseen (record { 0 = u })) xs) _ here)
 
 -- ---- a Turn
 at_itself : (h : Option SysId) (c : SysId) → is_at h c ≡ true → h ≡ Some c
@@ -163,7 +149,7 @@ at_itself None c e = absurd cc
 at_itself (Some s) c e = ap (λ (n : ℕ). Some (record { 0 = n })) (eqb-true s.0 c.0 e)
 
 due_all : (n live rest : ℕ) (es : List RingEntry) → live ≡ others n 0 → Passes n (is_due es live rest) es
-due_all n live rest es all u low here = let in_it : has live u ≡ true = subst (λ (x : ℕ). has x u ≡ true) (sym all) (has-all n u low) in rw (in_it, here) refl
+due_all n live rest es all u low here = let in_it : has live u ≡ true = subst (λ (x : ℕ). has x u ≡ true) (sym all) (has-others n u low) in rw (in_it, here) refl
 
 moved_inside : (n : ℕ) (c : SysId) (first : Option SysId) (h : SysId) → c.0 < n → ((x : SysId) → first ≡ Some x → x.0 < n) → or_else first c ≡ h → h.0 < n
 moved_inside n c None h low each e = subst (λ (x : SysId). x.0 < n) e low

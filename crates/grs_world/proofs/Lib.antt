@@ -35,6 +35,8 @@ pub mod Replied
 pub mod Projections
 pub mod Transfer
 pub mod Truths
+pub mod Facts
+pub mod Askers
 pub mod Stands
 pub mod Tape
 pub mod Views

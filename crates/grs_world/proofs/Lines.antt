@@ -6,32 +6,7 @@ use Rattle.std.proofs.lemmas.Bool.{le-ltb}
 use Rattle.grs_legal.specs.declared.meaning.Meaning.{Meaning}
 use Rattle.grs_legal.specs.Asks.{Ask, asks_in, asks_of, is_silent}
 use Rattle.grs_legal.specs.Legal.{passed_behind}
-
--- the line at a place is the last of those up to it
-pub take-more : {X : Type 0} (xs : List X) (n : ℕ) (x : X) → slice_get xs n ≡ Some x → take (n + 1) xs ≡ take n xs ++ x ∷ []
-take-more [] n x h = cc
-take-more (y ∷ xs) zero x h = grind (arith, h)
-take-more (y ∷ xs) (suc n) x h = grind (arith, take-more xs n x h)
-
--- all lines
-pub take-whole : {X : Type 0} (xs : List X) → take (length xs) xs ≡ xs
-take-whole [] = refl
-take-whole (x ∷ xs) = ap (λ zs. x ∷ zs) (take-whole xs)
-
-pub slice_get-within : {X : Type 0} (xs : List X) (n : ℕ) (x : X) → slice_get xs n ≡ Some x → n < length xs
-slice_get-within [] n x h = absurd (cc)
-slice_get-within (y ∷ xs) zero x h = omega arith
-slice_get-within (y ∷ xs) (suc n) x h = omega (arith, slice_get-within xs n x h)
-
-pub slice_get-past : {X : Type 0} (xs : List X) (n : ℕ) → slice_get xs n ≡ None → length xs ≤ n
-slice_get-past [] n h = omega arith
-slice_get-past (y ∷ xs) zero h = absurd (cc)
-slice_get-past (y ∷ xs) (suc n) h = omega (arith, slice_get-past xs n h)
-
-pub slice_get-none : {X : Type 0} (xs : List X) (n : ℕ) → length xs ≤ n → slice_get xs n ≡ None
-slice_get-none [] n h = refl
-slice_get-none (y ∷ xs) zero h = absurd (omega arith)
-slice_get-none (y ∷ xs) (suc n) h = slice_get-none xs n (omega arith)
+use Rattle.grs_world.proofs.Facts.{take-more}
 
 pub asks_of-append : (ls ms : List Meaning) → asks_of (ls ++ ms) ≡ asks_of ls ++ asks_of ms
 asks_of-append [] ms = refl
@@ -111,10 +86,3 @@ passed-more (m ∷ ls) l e (suc k) same =
     let behind : nat_lt (suc k) (length (asks_in m)) ≡ false = le-ltb (suc k) (length (asks_in m)) (omega (arith, count)) in
     rw behind (passed-more ls l e (suc k - length (asks_in m)) (omega (arith, count)))
 
--- the item at a place of mapped items
-pub slice_get-map : {X Y : Type 0} (f : X → Y) (xs : List X) (n : ℕ) → slice_get (map f xs) n ≡ option_map f (slice_get xs n)
-slice_get-map f [] n = refl
-slice_get-map f (x ∷ xs) zero = refl
-slice_get-map f (x ∷ xs) (suc n) = slice_get-map f xs n
-
-pub ruleset of_lines = (slice_get-map)

@@ -8,11 +8,10 @@ use Rattle.grs_wire.specs.Masks.{has}
 use Rattle.grs_wire.specs.declared.medium.RingEntry.{RingEntry}
 use Rattle.grs_wire.specs.declared.request.Req.{Req}
 use Rattle.rsa_message.specs.Message.{Message, turned_open, cleared, stamped, unseen}
-use Rattle.grs_world.proofs.Entries.{filter-append}
 use Rattle.grs_world.proofs.Runs.{GoodMessage, seen_at, message_log, updated, updated_same, updated_other}
 use Rattle.grs_world.proofs.Stands.{Stands, none, gone, kept, Bodies, Stands-cleared, Stands-append, Stands-stamped, unseen-drop, waits_for, waits_new, waits_seen, waits_live}
 use Rattle.grs_world.proofs.Tape.{Item, requests, for_all, requests-append}
-use Rattle.grs_world.proofs.Truths.{drop-seam}
+use Rattle.grs_world.proofs.Facts.{drop-seam, filter-append}
 
 Stands-same : (U V : ℕ → ℕ → Bool) → ((j s : ℕ) → U j s ≡ V j s) → {k : ℕ} {qs : List Req} {es : List RingEntry} → Stands U k qs es → Stands V k qs es
 Stands-same U V same none = none

@@ -10,14 +10,15 @@ use Rattle.grs_wire.specs.declared.deck.Deck.{Deck}
 use Rattle.grs_wire.specs.declared.request.Req.{Req}
 use Rattle.task_state.specs.View.{is_task, state_of, new_task, new_tasks}
 use Rattle.grs_node.specs.Node.{first_node}
-use Rattle.grs_world.proofs.Lines.{slice_get-within}
 use Rattle.grs_world.proofs.Seen.{is_home_at, askers, stand_apart, NodeLaws}
 use Rattle.grs_world.proofs.Ours.{IsHere, script_at}
-use Rattle.grs_world.proofs.Good.{owned, IsGood, some_of}
+use Rattle.grs_world.proofs.Good.{owned, IsGood}
 use Rattle.grs_world.proofs.AtNode.{Seen}
 use Rattle.grs_world.proofs.Processed.{read_own, read_other, elsewhere}
 use Rattle.grs_world.proofs.Puts.{put, put_told, may_put}
 use Rattle.grs_world.proofs.Quiet.{quiet}
+use Rattle.grs_world.proofs.Facts.{slice_get-within, some_of}
+use Rattle.grs_world.proofs.First.{first_told}
 
 new_tasks-blank : (n i : ℕ) → get_or (new_tasks n) i new_task ≡ new_task
 new_tasks-blank zero i = grind (arith)
@@ -31,10 +32,6 @@ length-new_tasks (suc n) = ap suc (length-new_tasks n)
 first_state : (deck : Deck) (s : ℕ) (t : TaskId) → state_of (first_node deck s).tasks t ≡ new_task
 unfolding state_of first_node
 first_state deck s t = new_tasks-blank (length (scripts_of deck s)) t.task
-
-first_told : (deck : Deck) (s : ℕ) → (first_node deck s).tasks.told ≡ []
-unfolding first_node
-first_told deck s = refl
 
 first_system : (deck : Deck) (s : ℕ) → (first_node deck s).tasks.system ≡ s
 unfolding first_node

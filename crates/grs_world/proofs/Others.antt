@@ -28,6 +28,7 @@ use Rattle.task_state.specs.declared.state.TaskState.{TaskState}
 use Rattle.grs_world.specs.Agree.{tells_control, is_code_before, is_code_of, is_post_of, is_end_of}
 use Rattle.grs_world.proofs.Own.{own, has_task-own, own-want_other}
 use Rattle.grs_world.proofs.Invariant.{Each, has_res, IsRec, IsDue, Past, Passed, IsInPhase, IsTask, is_post_before}
+use Rattle.grs_world.proofs.Facts.{all-kept, all-more, any-more, none-more}
 
 -- lists in which a task kept what it owned, and its own elements
 pub record KeepsTask (s s' : State) (t : TaskId) : Type 0 where
@@ -45,10 +46,6 @@ lets_pass-kept s s' t (lines.Enq r c ret unit) k h = refl
 lets_pass-kept s s' t (lines.Deq r have) k h = refl
 lets_pass-kept s s' t (lines.Wait r) k h = lets_pass-wait s s' t r k h
 lets_pass-kept s s' t lines.Nothing k h = refl
-
-pub all-kept : {X : Type 0} (p q : X → Bool) → ((x : X) → p x ≡ true → q x ≡ true) → (xs : List X) → list_all p xs ≡ true → list_all q xs ≡ true
-all-kept p q k [] h = refl
-all-kept p q k (x ∷ xs) h = grind (arith, h, k x, all-kept p q k xs)
 
 pub passed-kept : (ls : List Meaning) (s' : State) (p : Past) (t : TaskId) (n : ℕ) → KeepsTask p.lists s' t → Passed ls p t n → Passed ls (record p { lists = s' }) t n
 passed-kept ls s' p t n k h = all-kept (lets_pass p.lists t) (lets_pass s' t) (λ l. lets_pass-kept p.lists s' t l k) (passed_behind (length p.asked) (take n ls)) h
@@ -100,26 +97,6 @@ task-kept ls p T knows knows' s' t x k same h = record {
   phase = phase-kept ls s' p T t x.line x.phase k h.phase;
   emptied = h.emptied;
 }
-
-pub list_any-push : {X : Type 0} (p : X → Bool) (xs : List X) (x : X) → list_any p (xs ++ x ∷ []) ≡ (list_any p xs || p x)
-list_any-push p [] x = grind arith
-list_any-push p (y ∷ xs) x = grind (arith, list_any-push p xs x)
-
-pub list_all-push : {X : Type 0} (p : X → Bool) (xs : List X) (x : X) → list_all p (xs ++ x ∷ []) ≡ (list_all p xs && p x)
-list_all-push p [] x = grind arith
-list_all-push p (y ∷ xs) x = grind (arith, list_all-push p xs x)
-
-pub any-more : {X : Type 0} (p : X → Bool) (xs : List X) (x : X) → list_any p xs ≡ true → list_any p (xs ++ x ∷ []) ≡ true
-any-more p xs x h = grind (arith, h, list_any-push p xs x)
-
-pub any-last : {X : Type 0} (p : X → Bool) (xs : List X) (x : X) → p x ≡ true → list_any p (xs ++ x ∷ []) ≡ true
-any-last p xs x h = grind (arith, h, list_any-push p xs x, cases_Bool (list_any p xs))
-
-pub none-more : {X : Type 0} (p : X → Bool) (xs : List X) (x : X) → list_any p xs ≡ false → p x ≡ false → list_any p (xs ++ x ∷ []) ≡ false
-none-more p xs x h e = grind (arith, h, e, list_any-push p xs x)
-
-pub all-more : {X : Type 0} (p : X → Bool) (xs : List X) (x : X) → list_all p xs ≡ true → p x ≡ true → list_all p (xs ++ x ∷ []) ≡ true
-all-more p xs x h e = grind (arith, h, e, list_all-push p xs x)
 
 -- whether a line is told to this task
 abbrev pub is_told_to : TaskId → ToldLine → Bool

@@ -15,17 +15,18 @@ use Rattle.grs_wire.specs.declared.medium.RingEntry.{RingEntry}
 use Rattle.grs_wire.specs.declared.request.Fixed.TheVariants.{Asked}
 use Rattle.grs_wire.specs.declared.request.Req.{Req}
 use Rattle.grs_world.proofs.Carried.{ToldNews, told-whole, at-same, carries-whole, on-own, by-whole, none_by}
-use Rattle.grs_world.proofs.Entries.{filter-push_left}
 use Rattle.grs_world.proofs.Owners.{is_among}
 use Rattle.grs_world.proofs.Putting.{PutIn, put-all, all_may}
 use Rattle.grs_world.proofs.Reading.{read_all, read-entries, ReadTo, reading}
 use Rattle.grs_world.proofs.Replied.{Replied, replied_front, replied_for, by-for, answer-for}
-use Rattle.grs_world.proofs.Seen.{NodeLaws, QuietStep, keeps, fixes, ToldBy, askers, stand_apart, is_res_of}
+use Rattle.grs_world.proofs.Seen.{NodeLaws, QuietStep, keeps, fixes, ToldBy, askers, stand_apart, is_res_of, own-one_system}
 use Rattle.grs_world.proofs.Stands.{Bodies}
 use Rattle.grs_world.proofs.Tape.{Item, entries, requests, for_all, from, by, IsItem, Items, items-append, At, Tape, entries-append, tape-behind, replied-tape}
 use Rattle.grs_world.proofs.Transfer.{Carries, stands-carried}
-use Rattle.grs_world.proofs.Views.{waits, waiting, View, view-decided, home-local}
+use Rattle.grs_world.proofs.Views.{waits, waiting, View, view-decided}
 use Rattle.grs_world.proofs.Truths.{and_on, or_second}
+use Rattle.grs_world.proofs.Facts.{filter-push_left}
+use Rattle.grs_world.proofs.Askers.{among-front, apart-front}
 
 -- What an event of a system comes to: it stands at front' afterwards, has put these requests into the message,
 -- and the history has these items more.
@@ -42,24 +43,6 @@ pub record Outcome (deck : Deck) (Seen : ℕ → List HistEntry → List Req →
   pub view : View deck s front' rest' Q'
   pub seen : Seen s (entries Q') (requests (waiting s rest')) step.node
   pub news : ToldNews deck s (entries ((front ++ rest) ++ more)) n.tasks.told step.node.tasks.told
-
-among_front : (t : TaskId) (xs ys : List Req) → is_among t (askers (xs ++ ys)) ≡ false → is_among t (askers xs) ≡ false
-among_front t [] ys a = refl
-among_front t (x ∷ xs) ys a = go (same_task t x.task) a (among_front t xs ys)
-  where
-    go : (b : Bool) → (b || is_among t (askers (xs ++ ys))) ≡ false → (is_among t (askers (xs ++ ys)) ≡ false → is_among t (askers xs) ≡ false) → (b || is_among t (askers xs)) ≡ false
-    go true a ih = cc
-    go false a ih = ih a
-
-apart_front : (xs ys : List Req) → stand_apart (askers (xs ++ ys)) ≡ true → stand_apart (askers xs) ≡ true
-apart_front [] ys a = refl
-apart_front (x ∷ xs) ys a =
-    let parts = and_parts (not (is_among x.task (askers (xs ++ ys)))) (stand_apart (askers (xs ++ ys))) a in
-    and_on (not (is_among x.task (askers xs))) (stand_apart (askers xs)) (go (is_among x.task (askers (xs ++ ys))) refl parts.0) (apart_front xs ys parts.1)
-  where
-    go : (b : Bool) → is_among x.task (askers (xs ++ ys)) ≡ b → not b ≡ true → not (is_among x.task (askers xs)) ≡ true
-    go true e f = cc
-    go false e f = rw (among_front x.task xs ys e) refl
 
 module _ (deck : Deck) (Seen : ℕ → List HistEntry → List Req → Node → Type 0) (s : ℕ) (front rest Q : List Item) (n : Node) (v : View deck s front rest Q) (here : Replied deck.limit (entries (front ++ rest))) where
   -- a task goes on by itself
@@ -85,9 +68,9 @@ module _ (deck : Deck) (Seen : ℕ → List HistEntry → List Req → Node → 
       let parts = and_parts (t.system.0 == s) _ at_home in
       let system : t.system.0 ≡ s = eqb-true t.system.0 s parts.0 in
       let item : IsItem deck x = record { lists = replay deck.limit (entries Q); made = made; wanted = wanted; known = parts.1; place = or_second (is_systems r) _ (subst (λ m. is_res_of m r ≡ true) (sym system) own) } in
-      let one : for_all x ≡ false = home-local s r own in
+      let one : for_all x ≡ false = own-one_system s r own in
       let w_off : waits s x ≡ false = rw one refl in
-      let alone : is_among t (askers (requests (waiting s rest))) ≡ false = among_front t (requests (waiting s rest)) n.outbox apart in
+      let alone : is_among t (askers (requests (waiting s rest))) ≡ false = among-front t (requests (waiting s rest)) n.outbox apart in
       let by_same : filter (by t) (front ++ rest) ≡ filter (by t) Q =
       by-whole deck s front rest Q v t system ∙ (ap (λ z. filter (by t) Q ++ z) (none_by t (waiting s rest) alone) ∙ append-nil (filter (by t) Q)) in
       let all_items : Items deck (front ++ rest) = items-append deck front rest v.front_items v.rest_items in
@@ -141,7 +124,7 @@ module _ (deck : Deck) (Seen : ℕ → List HistEntry → List Req → Node → 
     puts =
         let whole : n.outbox ≡ take k n.outbox ++ drop k n.outbox = sym (take-append-drop k n.outbox) in
         put-all deck s front Q (take k n.outbox) rest v here (all_may deck Seen laws s (entries Q) (requests (waiting s rest)) n seen [] (take k n.outbox) (drop k n.outbox) whole)
-        (apart_front (requests (waiting s rest) ++ take k n.outbox) (drop k n.outbox)
+        (apart-front (requests (waiting s rest) ++ take k n.outbox) (drop k n.outbox)
         (subst (λ qs. stand_apart (askers qs) ≡ true) (ap (λ z. requests (waiting s rest) ++ z) whole ∙ sym (append_assoc (requests (waiting s rest)) (take k n.outbox) (drop k n.outbox))) (laws.apart s (entries Q) (requests (waiting s rest)) n seen)))
 
     grown_right : Replied deck.limit (entries ((front ++ rest) ++ puts.items))

@@ -31,10 +31,11 @@ use Rattle.grs_world.proofs.Decided.{both, by_lists}
 use Rattle.grs_world.proofs.Asking.{line_asked, IsAskedFor, Opens}
 use Rattle.grs_world.proofs.Ours.{IsOurs, said, task-knows}
 use Rattle.grs_world.proofs.Did.{Did, did-none, did-phase, did-outstanding}
-use Rattle.grs_world.proofs.Good.{owned, IsGood, replay-push}
+use Rattle.grs_world.proofs.Good.{owned, IsGood}
 use Rattle.grs_world.proofs.Events.{Settles, Moves, is_full_by, enq_settles, deq_settles}
 use Rattle.grs_world.proofs.Turns.{release_settles, said-stays}
 use Rattle.grs_world.proofs.AtNode.{own-systems, may_own, first_same, entry-after}
+use Rattle.grs_world.proofs.Replied.{replay-push}
 
 -- the same task, whatever its outstanding request
 pub task-open : (ls : List Meaning) (p : Past) (T : List ToldLine) (knows : Res → Bool × Bool) (t : TaskId) (x : TaskState) (o : Option Asked) → IsTask ls p T knows t x → IsTask ls p T knows t (record x { outstanding = o })

@@ -14,8 +14,8 @@ use Rattle.grs_wire.specs.Wants.{answer_to, after_want, res_wanted, new_owners, 
 use Rattle.grs_wire.specs.declared.request.Answer.TheVariants.{Coded}
 use Rattle.grs_wire.specs.declared.request.Want.{Want}
 use Rattle.grs_wire.specs.declared.request.Want.TheVariants.{Enq, Deq, Release, Look}
-use Rattle.grs_world.proofs.Entries.{filter-push_kept, filter-push_left}
 use Rattle.grs_world.proofs.Seen.{part}
+use Rattle.grs_world.proofs.Facts.{filter-push_kept, filter-push_left}
 
 pub list_of-part : (p : Res → Bool) (s : State) (r : Res) → p r ≡ true → list_of (part p s) r ≡ list_of s r
 list_of-part p [] r h = refl

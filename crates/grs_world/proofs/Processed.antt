@@ -35,12 +35,16 @@ use Rattle.grs_world.proofs.Keys.{has_res-task}
 use Rattle.grs_world.proofs.Seen.{part, is_res_of, is_home_at, askers, stand_apart, IsOthers, is_elsewhere, after_read, Reads, ToldBy, none}
 use Rattle.grs_world.proofs.Asking.{line_asked, unasked, unasked_by, IsAskedFor, IsOpenBy, IsReq, are_sent}
 use Rattle.grs_world.proofs.Ours.{IsOurs, IsHere, said}
-use Rattle.grs_world.proofs.Good.{owned, may_have, IsGood, replay-push, has_task-home, past-other, some_of}
+use Rattle.grs_world.proofs.Good.{owned, may_have, IsGood, has_task-home, past-other}
 use Rattle.grs_world.proofs.Events.{Settles, Moves, settles, elems-want, before-others_asker, unlike-ours}
 use Rattle.grs_world.proofs.Meant.{is_own}
 use Rattle.grs_world.proofs.Parts.{answer_to-part, new_owners-part, part-want_other}
 use Rattle.grs_world.proofs.AtNode.{opens_of, Seen, away-may, away-task, own-may, entry-after, speaks-by, held-shared, shared-shared}
 use Rattle.grs_world.proofs.OwnEntries.{task-open, same_want-itself, OwnRead, own_read}
+use Rattle.grs_world.proofs.Truths.{not_true}
+use Rattle.grs_world.proofs.Replied.{replay-push}
+use Rattle.grs_world.proofs.Facts.{some_of}
+use Rattle.grs_world.proofs.Askers.{among-front}
 
 read-tasks : (n : Node) (q : Req) → (after_read n q).tasks ≡ tell_new (answer_own n.tasks q (answer_to n.shared q.task q.want)) (res_wanted q.want) (new_owners n.shared q.task q.want)
 unfolding process
@@ -87,14 +91,6 @@ module _ (deck : Deck) (s : ℕ) (Q : List HistEntry) (out0 out : List Req) (n :
   owners-are : new_owners n.shared q.task q.want ≡ new_owners (replay deck.limit Q) q.task q.want
   owners-are = ap (λ z. new_owners z q.task q.want) seen.shared ∙ new_owners-part is_systems (replay deck.limit Q) q.task q.want r is all
 
-pub is_among-front : (t : TaskId) (xs ys : List Req) → is_among t (askers (xs ++ ys)) ≡ false → is_among t (askers xs) ≡ false
-is_among-front t [] ys h = refl
-is_among-front t (x ∷ xs) ys h = grind (arith, h, is_among-front t xs ys, cases_Bool (same_task t x.task))
-
-not_true : (b : Bool) → not b ≡ true → b ≡ false
-not_true true h = cc
-not_true false h = refl
-
 -- the first of the own requests in the message
 pub read_own : (deck : Deck) (s : ℕ) (Q : List HistEntry) (out : List Req) (n : Node) (q : Req) (h : HistEntry) → Seen deck s Q (q ∷ out) n → entries_for (replay deck.limit Q) q.task q.want ≡ h ∷ [] → Reads deck (Seen deck) s Q out n q h
 read_own deck s Q out n q h seen e = by_open (state_of v t).outstanding refl (here.asked.0 (same_task-itself t))
@@ -121,7 +117,7 @@ read_own deck s Q out n q h seen e = by_open (state_of v t).outstanding refl (he
     away = not_true (is_among q.task (askers (out ++ n.outbox))) (and_parts (not (is_among q.task (askers (out ++ n.outbox)))) (stand_apart (askers (out ++ n.outbox))) seen.apart).0
 
     moves : Moves q.task (opens_of (q ∷ out) n) (opens_of out n)
-    moves = record { away = away; away_out = is_among-front q.task out n.outbox away; asked = λ u o apart k. k.1; sent = λ u p apart k. (and_parts (not (same_task u q.task) || is_sent p) (are_sent u p out) k).1 }
+    moves = record { away = away; away_out = among-front q.task out n.outbox away; asked = λ u o apart k. k.1; sent = λ u p apart k. (and_parts (not (same_task u q.task) || is_sent p) (are_sent u p out) k).1 }
 
     sent : is_sent (state_of n.tasks q.task).phase ≡ true
     sent = by_same (and_parts (not (same_task q.task q.task) || is_sent (state_of n.tasks q.task).phase) (are_sent q.task (state_of n.tasks q.task).phase out) here.sent).0

@@ -40,6 +40,9 @@ use Rattle.grs_world.proofs.Own.{own, exclusive_on, queued_by-own, has_task-own,
 use Rattle.grs_world.proofs.Owners.{all_exclusive, owns-exclusive}
 use Rattle.grs_world.proofs.Seen.{part}
 use Rattle.grs_world.proofs.Replied.{is_plain, RepliedFrom, Replied, only_entry, one_look}
+use Rattle.grs_world.proofs.Truths.{not_true}
+use Rattle.grs_world.proofs.Facts.{some_value}
+use Rattle.grs_world.proofs.Keys.{own-exclusive_already}
 
 -- what an ENQ's answer tells of its effect; where control was exclusive before, making it so again is the same
 abbrev told_effect : Ret → Code → Effect
@@ -66,11 +69,6 @@ own-after_effect : (s : State) (r : Res) (t : TaskId) (c : Ctl) (e : Effect) →
 own-after_effect s r t c Nothing = refl
 own-after_effect s r t c Append = own-push s r t c
 own-after_effect s r t c MakeExclusive = own-exclusive s r t
-
--- the elements of an exclusive owner are so already
-own-already : (s : State) (t : TaskId) (r : Res) → list_all (λ e. not (same_task t e.task) || not (is_shared e.ctl)) (list_of s r) ≡ true → map (exclusive_on r) (own s t) ≡ own s t
-own-already [] t r h = refl
-own-already (x ∷ s) t r h = grind (arith, h, own-already s t r)
 
 -- the code tells the effect of an ENQ, but of an exclusive owner's
 abbrev not_exclusive : Standing → Bool
@@ -106,7 +104,7 @@ own-enq : (s : State) (r : Res) (t : TaskId) (c : Ctl) (ret : Ret) (full : Bool)
     own (after_effect s r t c (decide_enq (list_of s r) t c ret full).effect) t ≡ own_effect (told_effect ret (enq_code s r t c ret full)) r c (own s t)
 own-enq s r t c ret full apart =
     own-after_effect s r t c (decide_enq (list_of s r) t c ret full).effect
-    ∙ told_by_standing (own s t) r c ret full (can_have (list_of s r) c) (standing_of (list_of s r) t) (λ e. own-already s t r (all_exclusive (list_of s r) t apart e))
+    ∙ told_by_standing (own s t) r c ret full (can_have (list_of s r) c) (standing_of (list_of s r) t) (λ e. own-exclusive_already s t r (all_exclusive (list_of s r) t apart e))
 
 -- so does a DEQ
 own-deq : (s : State) (r : Res) (t : TaskId) (have : Bool) (st : Standing) →
@@ -246,10 +244,6 @@ pub answer-same : (limit : ℕ) (P Q : List HistEntry) (h : HistEntry) (t : Task
 answer-same limit P Q h t r here there mine same by on right =
     right ∙ reply_of-same limit (replay limit P) (replay limit Q) h t r by on (list_of-same limit P Q r here there same) (is_full-same limit P Q t here there mine)
 
--- the lists of a part
-pub list_of-part : (p : Res → Bool) (s : State) (r : Res) → p r ≡ true → list_of (part p s) r ≡ list_of s r
-list_of-part p s r h = pick-filter (λ x. same_res r x.0) (λ x. x.1) (λ x. p x.0) (λ x e. subst (λ q. p q ≡ true) (same_res-exact r x.0 e) h) s
-
 pub list_of-part_other : (p : Res → Bool) (s : State) (r : Res) → p r ≡ false → list_of (part p s) r ≡ []
 list_of-part_other p [] r h = refl
 list_of-part_other p (x ∷ s) r h = grind (arith, h, list_of-part_other p s r h, same_res-exact r x.0)
@@ -288,13 +282,9 @@ owns-told (Release u r) es t stays has = owns-list_without es t u stays has
 owns-told (Look u place f rows) es t stays has = has
 owns-told (Remove by target) es t stays has = has
 
-false-from_not : (b : Bool) → not b ≡ true → b ≡ false
-false-from_not true e = absurd (cc)
-false-from_not false e = refl
-
 owns-told_after : (hs : List HistEntry) (es : List Elem) (t : TaskId) → list_all (λ h. not (is_leave_of t h)) hs ≡ true → owns es t ≡ true → owns (list_told_after es hs) t ≡ true
 owns-told_after [] es t stays has = has
-owns-told_after (h ∷ hs) es t stays has = owns-told_after hs (list_told h es) t (and_parts _ _ stays).1 (owns-told h es t (false-from_not (is_leave_of t h) (and_parts _ _ stays).0) has)
+owns-told_after (h ∷ hs) es t stays has = owns-told_after hs (list_told h es) t (and_parts _ _ stays).1 (owns-told h es t (not_true (is_leave_of t h) (and_parts _ _ stays).0) has)
 
 list_told_after-append : (es : List Elem) (hs gs : List HistEntry) → list_told_after es (hs ++ gs) ≡ list_told_after (list_told_after es hs) gs
 list_told_after-append es [] gs = refl
@@ -313,9 +303,6 @@ leave-by t (Deq u r have code) e = e
 leave-by t (Release u r) e = e
 leave-by t (Look u place f rows) e = refl
 leave-by t (Remove by target) e = refl
-
-some_value : {X : Type 0} (x y : X) → Some x ≡ Some y → x ≡ y
-some_value x y e = cc
 
 -- the entry of a request may change the list of the resource that is wanted, and no other
 pub may_change-for : (s : State) (t : TaskId) (w : Want) (r q : Res) (h : HistEntry) → res_wanted w ≡ Some r → entries_for s t w ≡ h ∷ [] → may_change h q ≡ same_res q r

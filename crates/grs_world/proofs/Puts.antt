@@ -30,16 +30,12 @@ use Rattle.grs_world.proofs.Asking.{line_asked, unasked_by, IsAskedFor, IsOpenBy
 use Rattle.grs_world.proofs.Ours.{IsOurs, IsHere, said}
 use Rattle.grs_world.proofs.Telling.{told-phase}
 use Rattle.grs_world.proofs.Did.{did-none, did-phase}
-use Rattle.grs_world.proofs.Good.{owned, IsGood, some_of}
+use Rattle.grs_world.proofs.Good.{owned, IsGood}
 use Rattle.grs_world.proofs.Events.{next_line, passed_before, is_full_by}
 use Rattle.grs_world.proofs.Turns.{quiet_settles, next_release, passed_ending}
 use Rattle.grs_world.proofs.AtNode.{opens_of, Seen}
 use Rattle.grs_world.proofs.OwnEntries.{task-open}
-
--- what holds of all requests holds of one among them
-all-middle : {X : Type 0} (p : X → Bool) (xs : List X) (q : X) (ys : List X) → list_all p (xs ++ q ∷ ys) ≡ true → p q ≡ true
-all-middle p [] q ys h = (and_parts (p q) (list_all p ys) h).0
-all-middle p (x ∷ xs) q ys h = all-middle p xs q ys (and_parts (p x) (list_all p (xs ++ q ∷ ys)) h).1
+use Rattle.grs_world.proofs.Facts.{all-behind, all-middle, some_of, take-drop, take-none}
 
 asked-middle : (t : TaskId) (o : Option Asked) (xs : List Req) (q : Req) (ys : List Req) → IsAskedBy t o (xs ++ q ∷ ys) → same_task t q.task ≡ true → IsReq q o
 asked-middle t o [] q ys h e = h.0 e
@@ -86,17 +82,6 @@ put_one deck s Q out q box v good home =
     by_opened x ls None is j = absurd is
     by_opened x ls (Some a) is j = (j.0, refl, j.2)
 
-take-none : {X : Type 0} (xs : List X) → take 0 xs ≡ []
-take-none xs = grind (arith)
-
-drop-none : {X : Type 0} (xs : List X) → drop 0 xs ≡ xs
-drop-none xs = grind (arith)
-
-take-drop : {X : Type 0} (k : ℕ) (xs : List X) → take k xs ++ drop k xs ≡ xs
-take-drop zero xs = ap (λ ys. ys ++ drop 0 xs) (take-none xs) ∙ drop-none xs
-take-drop (suc k) [] = refl
-take-drop (suc k) (x ∷ xs) = ap (λ ys. x ∷ ys) (take-drop k xs)
-
 -- the first requests that wait are put in
 put_all : (deck : Deck) (s : ℕ) (Q : List HistEntry) (k : ℕ) (out box : List Req) (v : TasksView) → IsGood deck s (record { out = out; all = out ++ box }) Q v → list_all (λ q. is_home_at deck s q.task) box ≡ true →
     IsGood deck s (record { out = out ++ take k box; all = out ++ box }) Q (all_sent v (take k box))
@@ -120,10 +105,6 @@ all_sent-told v (q ∷ qs) = all_sent-told (with_phase v q.task phases.Sent) qs 
 pub put_told : (n : Node) (k : ℕ) → (put_in n k).node.tasks.told ≡ n.tasks.told
 unfolding put_in
 put_told n k = all_sent-told n.tasks (take k n.outbox)
-
-all-behind : {X : Type 0} (p : X → Bool) (xs ys : List X) → list_all p (xs ++ ys) ≡ true → list_all p ys ≡ true
-all-behind p [] ys h = h
-all-behind p (x ∷ xs) ys h = all-behind p xs ys (and_parts (p x) (list_all p (xs ++ ys)) h).1
 
 pub put : (deck : Deck) (s : ℕ) (Q : List HistEntry) (out : List Req) (n : Node) (k : ℕ) → Seen deck s Q out n → Seen deck s Q (out ++ take k n.outbox) (put_in n k).node
 unfolding put_in

@@ -19,14 +19,15 @@ use Rattle.grs_wire.specs.declared.request.Req.{Req}
 use Rattle.grs_wire.specs.declared.request.Want.{Want}
 use Rattle.grs_wire.specs.declared.request.Want.TheVariants as wants
 use Rattle.grs_world.proofs.Carried.{carries-whole}
-use Rattle.grs_world.proofs.Entries.{filter-append}
 use Rattle.grs_world.proofs.Owners.{is_among}
 use Rattle.grs_world.proofs.Replied.{Replied, replied_for, answer-for}
 use Rattle.grs_world.proofs.Seen.{NodeLaws, MayPut, askers, stand_apart, FullFits}
 use Rattle.grs_world.proofs.Tape.{Item, entries, requests, for_all, from, IsItem, At, Tape, entries-append, requests-append}
 use Rattle.grs_world.proofs.Transfer.{Carries, stands-put, fits-carried}
 use Rattle.grs_world.proofs.Views.{waits, waiting, View, view-put}
-use Rattle.grs_world.proofs.Truths.{and_on, cons_kept, not_true, or_false, or_first, task_swap}
+use Rattle.grs_world.proofs.Truths.{and_on, not_true, or_false, or_first, task_swap}
+use Rattle.grs_world.proofs.Facts.{filter-append, filter-cons_kept}
+use Rattle.grs_world.proofs.Askers.{apart-before, askers-append}
 
 -- each of these requests may be put in
 abbrev pub AllMayPut : Deck → ℕ → List HistEntry → List Req → Type 0
@@ -44,21 +45,6 @@ one_entry s t (wants.Enq q c ret full) r e = (_, refl)
 one_entry s t (wants.Deq q have) r e = (_, refl)
 one_entry s t (wants.Release q) r e = (_, refl)
 one_entry s t (wants.Look first count f) r e = absurd (cc)
-
-among_later : (t u : TaskId) (ts us : List TaskId) → is_among t (ts ++ u ∷ us) ≡ false → same_task t u ≡ false
-among_later t u [] us a = (or_false (same_task t u) (is_among t us) a).0
-among_later t u (x ∷ ts) us a = among_later t u ts us (or_false (same_task t x) (is_among t (ts ++ u ∷ us)) a).1
-
-apart_before : (ts : List TaskId) (u : TaskId) (us : List TaskId) → stand_apart (ts ++ u ∷ us) ≡ true → is_among u ts ≡ false
-apart_before [] u us a = refl
-apart_before (t ∷ ts) u us a =
-    let parts = and_parts (not (is_among t (ts ++ u ∷ us))) (stand_apart (ts ++ u ∷ us)) a in
-    let e : same_task u t ≡ false = task_swap t u (among_later t u ts us (not_true _ parts.0)) in
-    rw (e, apart_before ts u us parts.1) refl
-
-askers-append : (xs ys : List Req) → askers (xs ++ ys) ≡ askers xs ++ askers ys
-askers-append [] ys = refl
-askers-append (x ∷ xs) ys = ap (λ z. x.task ∷ z) (askers-append xs ys)
 
 -- What is put in: each request with the entry that the history gives it.
 pub record PutIn (deck : Deck) (s : ℕ) (front rest Q : List Item) (qs : List Req) : Type 0 where
@@ -84,7 +70,7 @@ put-all deck s front Q (q ∷ qs) rest v here may apart =
     let made : entries_for (replay deck.limit P) q.task q.want ≡ one.0 ∷ [] = one.1 in
     let item : IsItem deck x = record { lists = replay deck.limit P; made = made; wanted = m.of_res; known = some_there (lines_of deck q.task) m.lines m.of_deck; place = or_first (is_systems m.res) _ m.systems } in
     let alone : is_among q.task (askers (requests (waiting s rest))) ≡ false =
-    apart_before (askers (requests (waiting s rest))) q.task (askers qs) (subst (λ ts. stand_apart ts ≡ true) (askers-append (requests (waiting s rest)) (q ∷ qs)) apart) in
+    apart-before (askers (requests (waiting s rest))) q.task (askers qs) (subst (λ ts. stand_apart ts ≡ true) (askers-append (requests (waiting s rest)) (q ∷ qs)) apart) in
     let carries : Carries deck.limit q.task P (entries Q) = carries-whole deck s front rest Q v here q.task m.home alone in
     let full : FullFits deck.limit (replay deck.limit P) q.task q.want = fits-carried deck.limit q.task P (entries Q) q.want here v.replied carries.mine m.fits in
     let at : At deck P x = record { made = made; full = full; is = item } in
@@ -93,15 +79,15 @@ put-all deck s front Q (q ∷ qs) rest v here may apart =
     let w : waits s x ≡ true = and_on (for_all x) (from s x) m.systems mine in
     let grown : entries (front ++ (rest ++ x ∷ [])) ≡ P ++ one.0 ∷ [] = ap entries (sym (append_assoc front rest (x ∷ []))) ∙ entries-append (front ++ rest) (x ∷ []) in
     let wait_grown : requests (waiting s (rest ++ x ∷ [])) ≡ requests (waiting s rest) ++ q ∷ [] =
-    ap requests (filter-append (waits s) rest (x ∷ []) ∙ ap (λ z. waiting s rest ++ z) (cons_kept (waits s) x [] w)) ∙ requests-append (waiting s rest) (x ∷ []) in
+    ap requests (filter-append (waits s) rest (x ∷ []) ∙ ap (λ z. waiting s rest ++ z) (filter-cons_kept (waits s) x [] w)) ∙ requests-append (waiting s rest) (x ∷ []) in
     let on = put-all deck s front Q qs (rest ++ x ∷ []) (view-put deck s front rest Q x item v m.systems alone)
     (subst (Replied deck.limit) (sym grown) (replied_for deck.limit P q.task q.want one.0 here full made)) may.1
     (subst (λ z. stand_apart (askers z) ≡ true) (sym (ap (λ z. z ++ qs) wait_grown ∙ append_assoc (requests (waiting s rest)) (q ∷ []) qs)) apart) in
     record {
       items = x ∷ on.items;
       is = ap (λ z. q ∷ z) on.is;
-      all = cons_kept (waits s) x on.items w ∙ ap (λ z. x ∷ z) on.all;
-      systems = cons_kept for_all x on.items m.systems ∙ ap (λ z. x ∷ z) on.systems;
+      all = filter-cons_kept (waits s) x on.items w ∙ ap (λ z. x ∷ z) on.all;
+      systems = filter-cons_kept for_all x on.items m.systems ∙ ap (λ z. x ∷ z) on.systems;
       ours = and_on (from s x) _ mine on.ours;
       tape = (at, subst (λ z. Tape deck z on.items) grown on.tape);
       legal = (stands, subst (λ z. LegalFrom deck z (entries on.items)) grown on.legal);

@@ -45,7 +45,7 @@ use Rattle.grs_world.proofs.Owners.{is_among}
 use Rattle.grs_world.proofs.Invariant.{IsRec, Past, IsTask, has_res, is_unsent}
 use Rattle.grs_world.proofs.Others.{task-told}
 use Rattle.grs_world.proofs.Control.{found, not_found}
-use Rattle.grs_world.proofs.Granted.{past, or_right}
+use Rattle.grs_world.proofs.Granted.{past}
 use Rattle.grs_world.proofs.Keys.{has_res-task}
 use Rattle.grs_world.proofs.Asked.{Asks}
 use Rattle.grs_world.proofs.Decided.{by_lists}
@@ -54,14 +54,17 @@ use Rattle.grs_world.proofs.Asking.{line_asked, unasked, IsAtLines, IsAskedFor, 
 use Rattle.grs_world.proofs.Ours.{IsOurs, IsHere, said, ours-line, agrees-ours}
 use Rattle.grs_world.proofs.Did.{Did, did-none, did-line, did-phase, did-outstanding, did-telling}
 use Rattle.grs_world.proofs.Steps.{task-skipped, task-waited, task-held, task-ending, task-ended}
-use Rattle.grs_world.proofs.Good.{owned, may_have, IsGood, replay-push, has_task-home, home-ours, ours-home}
-use Rattle.grs_world.proofs.Events.{all-push, Settles, Moves, is_full_by, enq_legal, enq_settles, deq_legal, deq_settles}
+use Rattle.grs_world.proofs.Good.{owned, may_have, IsGood, has_task-home, home-ours, ours-home}
+use Rattle.grs_world.proofs.Events.{Settles, Moves, is_full_by, enq_legal, enq_settles, deq_legal, deq_settles}
 use Rattle.grs_world.proofs.Meant.{is_own, lines_own}
 use Rattle.grs_world.proofs.Parts.{answer_to-part, new_owners-part}
 use Rattle.grs_world.proofs.Turns.{quiet_settles, release_legal, release_settles, task-less, said-less, state-is, plain-task, plain-here}
 use Rattle.grs_world.proofs.AtNode.{opens_of, Seen, own-alone, own-may, may_own, held-alone, shared-alone}
 use Rattle.grs_world.proofs.OwnEntries.{task-open}
-use Rattle.grs_world.proofs.Processed.{is_among-front}
+use Rattle.grs_world.proofs.Truths.{or_second}
+use Rattle.grs_world.proofs.Replied.{replay-push}
+use Rattle.grs_world.proofs.Facts.{all-more}
+use Rattle.grs_world.proofs.Askers.{among-front, apart-push}
 
 -- one request more behind the open ones
 asked-push_own : (t : TaskId) (o : Option Asked) (qs : List Req) (q : Req) → is_among t (askers qs) ≡ false → IsReq q o → IsAskedBy t o (qs ++ q ∷ [])
@@ -71,14 +74,6 @@ asked-push_own t o (x ∷ qs) q h is = (λ e. absurd (grind (arith, h, e)), aske
 asked-push_other : (u : TaskId) (o : Option Asked) (qs : List Req) (q : Req) → same_task u q.task ≡ false → IsAskedBy u o qs → IsAskedBy u o (qs ++ q ∷ [])
 asked-push_other u o [] q apart h = (λ e. absurd (let f : false ≡ true = sym apart ∙ e in cc), tt)
 asked-push_other u o (x ∷ qs) q apart h = (h.0, asked-push_other u o qs q apart h.1)
-
-is_among-push : (t : TaskId) (qs : List Req) (q : Req) → is_among t (askers (qs ++ q ∷ [])) ≡ (is_among t (askers qs) || same_task t q.task)
-is_among-push t [] q = grind arith
-is_among-push t (x ∷ qs) q = grind (arith, is_among-push t qs q)
-
-apart-push : (qs : List Req) (q : Req) → stand_apart (askers qs) ≡ true → is_among q.task (askers qs) ≡ false → stand_apart (askers (qs ++ q ∷ [])) ≡ true
-apart-push [] q h a = refl
-apart-push (x ∷ qs) q h a = grind (arith, h, a, apart-push qs q, is_among-push x.task qs q, same_task-sym x.task q.task, cases_Bool (same_task q.task x.task))
 
 module _ (deck : Deck) (s : ℕ) (Q : List HistEntry) (out : List Req) (n : Node) (seen : Seen deck s Q out n) where
   -- a step that changes the tasks alone, and fixes nothing
@@ -96,7 +91,7 @@ module _ (deck : Deck) (s : ℕ) (Q : List HistEntry) (out : List Req) (n : Node
     free = asked-none t (out ++ n.outbox) unasked_here
 
     free_out : is_among t (askers out) ≡ false
-    free_out = is_among-front t out n.outbox free
+    free_out = among-front t out n.outbox free
 
     moves : Moves t (opens_of out n) (opens_of out n)
     moves = record { away = free; away_out = free_out; asked = λ u o apart k. k; sent = λ u p apart k. k }
@@ -152,7 +147,7 @@ module _ (deck : Deck) (s : ℕ) (Q : List HistEntry) (out : List Req) (n : Node
           good = settled.good;
           held = seen.held;
           shared = seen.shared;
-          homes = ap (list_all (λ y. is_home_at deck s y.task)) (sym pushed) ∙ all-push (λ (y : Req). is_home_at deck s y.task) (out ++ n.outbox) q seen.homes (ours-home deck s n.tasks t ls ours);
+          homes = ap (list_all (λ y. is_home_at deck s y.task)) (sym pushed) ∙ all-more (λ (y : Req). is_home_at deck s y.task) (out ++ n.outbox) q seen.homes (ours-home deck s n.tasks t ls ours);
           apart = ap (λ qs. stand_apart (askers qs)) (sym pushed) ∙ apart-push (out ++ n.outbox) q seen.apart free;
         })
         settled.told
@@ -284,7 +279,7 @@ module _ (deck : Deck) (s : ℕ) (Q : List HistEntry) (out : List Req) (n : Node
           by_record : (o : Option Rec) → record_of (state_of n.tasks t).records q ≡ o → QuietStep deck (Seen deck) s Q out n (only (with_tasks n (wait (with_line n.tasks t) t q o)))
           by_record None e =
               let absent : has_task (list_of (replay deck.limit Q) q) t ≡ false = sym (has_res-task (replay deck.limit Q) t q (state_of n.tasks t).records is_ready.keys) ∙ not_found (state_of n.tasks t).records q e in
-              waited (lines.Wait q) at refl C08 (or_right (owns (list_of (replay deck.limit Q) q) t) _ (ap not absent)) absent _ (tells_line C08)
+              waited (lines.Wait q) at refl C08 (or_second (owns (list_of (replay deck.limit Q) q) t) _ (ap not absent)) absent _ (tells_line C08)
           by_record (Some y) e = by_told y.told refl
             where
               f : IsRec ls (line_entries t Q) n.tasks.told (by_lists (replay deck.limit Q) t) t (state_of n.tasks t).line phases.Ready y × (same_res q y.res ≡ true)

@@ -18,13 +18,13 @@ use Rattle.grs_wire.specs.declared.request.Want.{Want}
 use Rattle.grs_wire.specs.declared.request.Want.TheVariants as wants
 use Rattle.ring_mode.specs.Ring.{Side, process, process_entry, process_all}
 use Rattle.grs_world.proofs.Carried.{ToldNews, no_news, more_news, told-whole, at-view}
-use Rattle.grs_world.proofs.Entries.{filter-append}
 use Rattle.grs_world.proofs.Replied.{Replied, replied_for, only_entry}
-use Rattle.grs_world.proofs.Seen.{NodeLaws, ToldBy, Reads, after_read, is_elsewhere, is_res_of}
+use Rattle.grs_world.proofs.Seen.{NodeLaws, ToldBy, Reads, after_read, is_elsewhere, is_res_of, own-one_system}
 use Rattle.grs_world.proofs.Stands.{Bodies, none, more}
 use Rattle.grs_world.proofs.Tape.{Item, entries, requests, for_all, from, home, IsItem, Items, At, Tape, entries-append, requests-append}
-use Rattle.grs_world.proofs.Views.{waits, waiting, View, view-own, view-learned, home-local, from-home}
-use Rattle.grs_world.proofs.Truths.{and_off, and_on, cons_kept, cons_left, no_truth, some_value}
+use Rattle.grs_world.proofs.Views.{waits, waiting, View, view-own, view-learned, from-home}
+use Rattle.grs_world.proofs.Truths.{and_off, and_on, no_truth}
+use Rattle.grs_world.proofs.Facts.{filter-append, filter-cons_kept, filter-cons_left, some_value}
 
 -- ---- what the node does
 abbrev pub read_all : Node → List Req → Node
@@ -40,7 +40,7 @@ unfolding read_entries process_all
 read-one deck n x e es i all body =
     let side : Side = record { tasks = n.tasks; shared = n.shared } in
     let known : is_of_deck deck e.body ≡ true = subst (λ b. is_of_deck deck b ≡ true) (sym body) i.known in
-    ap (λ fs. let t : Side = process_all side fs in record n { tasks = t.tasks; shared = t.shared }) (cons_kept (λ f. is_of_deck deck f.body) e es known)
+    ap (λ fs. let t : Side = process_all side fs in record n { tasks = t.tasks; shared = t.shared }) (filter-cons_kept (λ f. is_of_deck deck f.body) e es known)
     ∙ ap (λ (m : Side). let t : Side = process_all m (filter (λ f. is_of_deck deck f.body) es) in record n { tasks = t.tasks; shared = t.shared }) (process-request side e x deck i all body)
 
 pub read-entries : (deck : Deck) (n : Node) (xs : List Item) (es : List RingEntry) → Items deck xs → Bodies (requests (filter for_all xs)) es → read_entries deck n es ≡ read_all n (requests (filter for_all xs))
@@ -116,10 +116,10 @@ module _ (deck : Deck) (Seen : ℕ → List HistEntry → List Req → Node → 
     -- it decided the request itself
     read_own_local : home s x ≡ true → Seen s (entries Q) (requests (waiting s (x ∷ rest))) n → ReadTo deck Seen s T extra n (read_all n (requests (filter for_all (x ∷ rest))))
     read_own_local h seen =
-        let one : for_all x ≡ false = home-local s x.res h in
+        let one : for_all x ≡ false = own-one_system s x.res h in
         let w : waits s x ≡ false = rw one refl in
-        subst (λ xs. ReadTo deck Seen s T extra n (read_all n (requests xs))) (sym (cons_left for_all x rest one))
-        (ih (front ++ x ∷ []) Q n whole_next (view-own deck s front (rest ++ extra) Q x v h) (subst (λ xs. Seen s (entries Q) (requests xs) n) (cons_left (waits s) x rest w) seen) tape_next right_next out)
+        subst (λ xs. ReadTo deck Seen s T extra n (read_all n (requests xs))) (sym (filter-cons_left for_all x rest one))
+        (ih (front ++ x ∷ []) Q n whole_next (view-own deck s front (rest ++ extra) Q x v h) (subst (λ xs. Seen s (entries Q) (requests xs) n) (filter-cons_left (waits s) x rest w) seen) tape_next right_next out)
 
     module _ (away : home s x ≡ false) where
       at_view : At deck (entries Q) x
@@ -137,9 +137,9 @@ module _ (deck : Deck) (Seen : ℕ → List HistEntry → List Req → Node → 
           let w : waits s x ≡ false = rw one refl in
           let apart : from s x ≡ false = not_ours (from s x) refl in
           let passed : is_elsewhere deck s x.entry ≡ true = elsewhere-made deck s is_item.lists x.req.task x.req.want x.res x.entry is_item.made is_item.wanted apart is_item.known one away in
-          subst (λ xs. ReadTo deck Seen s T extra n (read_all n (requests xs))) (sym (cons_left for_all x rest one))
+          subst (λ xs. ReadTo deck Seen s T extra n (read_all n (requests xs))) (sym (filter-cons_left for_all x rest one))
           (ih (front ++ x ∷ []) (Q ++ x ∷ []) n whole_next learned
-          (subst (λ P. Seen s P (requests (waiting s rest)) n) (sym view_next) (laws.elsewhere s (entries Q) (requests (waiting s rest)) n x.entry (subst (λ xs. Seen s (entries Q) (requests xs) n) (cons_left (waits s) x rest w) seen) passed))
+          (subst (λ P. Seen s P (requests (waiting s rest)) n) (sym view_next) (laws.elsewhere s (entries Q) (requests (waiting s rest)) n x.entry (subst (λ xs. Seen s (entries Q) (requests xs) n) (filter-cons_left (waits s) x rest w) seen) passed))
           tape_next right_next out)
         where
           not_ours : (b : Bool) → from s x ≡ b → from s x ≡ false
@@ -163,7 +163,7 @@ module _ (deck : Deck) (Seen : ℕ → List HistEntry → List Req → Node → 
           (told-whole deck s (front ++ x ∷ []) (rest ++ extra) (Q ++ x ∷ []) learned (subst (λ xs. Replied deck.limit (entries xs)) (sym all_is) here) (requests (waiting s rest) ++ n.outbox) later opens_are n.tasks.told m.tasks.told
           (subst (λ P. ToldBy deck s (requests (waiting s rest) ++ n.outbox) P n.tasks.told m.tasks.told) (sym view_next) reads.told)) in
           let on = ih (front ++ x ∷ []) (Q ++ x ∷ []) m whole_next learned (subst (λ P. Seen s P (requests (waiting s rest)) m) (sym view_next) reads.seen) tape_next right_next out in
-          subst (λ xs. ReadTo deck Seen s T extra n (read_all n (requests xs))) (sym (cons_kept for_all x rest all))
+          subst (λ xs. ReadTo deck Seen s T extra n (read_all n (requests xs))) (sym (filter-cons_kept for_all x rest all))
           (record {
             Q = on.Q;
             view = on.view;
@@ -178,10 +178,10 @@ module _ (deck : Deck) (Seen : ℕ → List HistEntry → List Req → Node → 
           go : (b : Bool) → from s x ≡ b → ReadTo deck Seen s T extra n (read_all n (requests (filter for_all (x ∷ rest))))
           go true f =
               let w : waits s x ≡ true = and_on (for_all x) (from s x) all f in
-              read_asked all (laws.read_own s (entries Q) (requests (waiting s rest)) n x.req x.entry (subst (λ xs. Seen s (entries Q) (requests xs) n) (cons_kept (waits s) x rest w) seen) at_view.made)
+              read_asked all (laws.read_own s (entries Q) (requests (waiting s rest)) n x.req x.entry (subst (λ xs. Seen s (entries Q) (requests xs) n) (filter-cons_kept (waits s) x rest w) seen) at_view.made)
           go false f =
               let w : waits s x ≡ false = and_off (for_all x) (from s x) f in
-              read_asked all (laws.read_other s (entries Q) (requests (waiting s rest)) n x.req x.entry (subst (λ xs. Seen s (entries Q) (requests xs) n) (cons_left (waits s) x rest w) seen)
+              read_asked all (laws.read_other s (entries Q) (requests (waiting s rest)) n x.req x.entry (subst (λ xs. Seen s (entries Q) (requests xs) n) (filter-cons_left (waits s) x rest w) seen)
               (record { of_deck = is_item.known; apart = eqb-false x.req.task.system.0 s f; res = x.res; of_res = is_item.wanted; systems = all; fits = at_view.full }) at_view.made)
 
     read_next : Seen s (entries Q) (requests (waiting s (x ∷ rest))) n → ReadTo deck Seen s T extra n (read_all n (requests (filter for_all (x ∷ rest))))

@@ -23,14 +23,14 @@ use Rattle.grs_wire.specs.declared.told.ToldLine.TheVariants as lines
 use Rattle.grs_world.specs.Agree.{Agrees, AllAgree}
 use Rattle.grs_world.specs.World.{World, placed, fixed_by, told_by, happens, run_from, run, hist, first_world}
 use Rattle.grs_world.proofs.Carried.{LinesAgree, ToldNews, filter-ours}
-use Rattle.grs_world.proofs.Entries.{filter-append}
 use Rattle.grs_world.proofs.Outcomes.{Outcome}
 use Rattle.grs_world.proofs.Replied.{replay-push, step-for}
 use Rattle.grs_world.proofs.Seen.{is_line_of}
 use Rattle.grs_world.proofs.Stands.{Stands, waits_for}
 use Rattle.grs_world.proofs.Tape.{Item, entries, requests, for_all, from, Items, items-tape, At, Tape, entries-append, requests-append, tape-append}
 use Rattle.grs_world.proofs.Views.{waits, waiting, View, view-other, not_from}
-use Rattle.grs_world.proofs.Truths.{drop-seam, false_by}
+use Rattle.grs_world.proofs.Truths.{false_by}
+use Rattle.grs_world.proofs.Facts.{drop-seam, filter-append, slice_get-set, slice_get-set_other, take-front, take-whole}
 
 -- ---- the lists after all that was fixed
 abbrev pub after_all : State → List (SysId × Fixed) → State
@@ -68,15 +68,6 @@ after-tape deck c P (x ∷ xs) t =
 legal-append : (deck : Deck) (P hs gs : List HistEntry) → LegalFrom deck P hs → LegalFrom deck (P ++ hs) gs → LegalFrom deck P (hs ++ gs)
 legal-append deck P [] gs a b = subst (λ Q. LegalFrom deck Q gs) (append-nil P) b
 legal-append deck P (h ∷ hs) gs a b = (a.0, legal-append deck (P ++ h ∷ []) hs gs a.1 (subst (λ Q. LegalFrom deck Q gs) (sym (append_assoc P (h ∷ []) hs)) b))
-
-take-front : {X : Type 0} (n : ℕ) (xs ys : List X) → n ≤ length xs → take n (xs ++ ys) ≡ take n xs
-take-front zero xs ys h = grind (arith)
-take-front (suc n) [] ys h = absurd (omega (arith, h))
-take-front (suc n) (x ∷ xs) ys h = ap (λ zs. x ∷ zs) (take-front n xs ys (omega (arith, h)))
-
-take-whole : {X : Type 0} (xs : List X) → take (length xs) xs ≡ xs
-take-whole [] = refl
-take-whole (x ∷ xs) = ap (λ zs. x ∷ zs) (take-whole xs)
 
 abbrev pub lines_of_told : List Told → List ToldLine
 lines_of_told xs = map (λ x. x.line) xs
@@ -155,18 +146,6 @@ by_system {A = A} {B = B} {C = C} f g h s x y z P here there u = go (eqb u s) re
     go : (b : Bool) → eqb u s ≡ b → P u (cond b x (f u)) (cond b y (g u)) (cond b z (h u))
     go true e = subst (λ i. P i x y z) (sym (eqb-true u s e)) here
     go false e = there u (eqb-false u s e)
-
-pub slice_get-set : {X : Type 0} (xs : List X) (i : ℕ) (x y : X) → slice_get xs i ≡ Some x → slice_get (set xs i y) i ≡ Some y
-slice_get-set [] i x y h = cc
-slice_get-set (z ∷ xs) zero x y h = refl
-slice_get-set (z ∷ xs) (suc i) x y h = slice_get-set xs i x y h
-
-pub slice_get-set_other : {X : Type 0} (xs : List X) (i j : ℕ) (y : X) → j ≢ i → slice_get (set xs i y) j ≡ slice_get xs j
-slice_get-set_other [] i j y ne = refl
-slice_get-set_other (z ∷ xs) zero zero y ne = absurd (ne refl)
-slice_get-set_other (z ∷ xs) zero (suc j) y ne = refl
-slice_get-set_other (z ∷ xs) (suc i) zero y ne = refl
-slice_get-set_other (z ∷ xs) (suc i) (suc j) y ne = slice_get-set_other xs i j y (λ e. ne (ap suc e))
 
 pub views-other : (deck : Deck) (s u : ℕ) (front Q xs rest : List Item) → u ≢ s → Items deck xs → list_all (from s) xs ≡ true → View deck u front rest Q → View deck u front (rest ++ xs) Q
 views-other deck s u front Q [] rest ne i f v = subst (λ ys. View deck u front ys Q) (sym (append-nil rest)) v

@@ -1,6 +1,6 @@
 -- What is known of one system of a complex after it has processed a history, and how each of its steps keeps it.
 -- The run of the whole complex is reasoned about over these laws alone.
-use Rattle.std.proofs.Common.{◌≡◌, ◌≢◌, ℕ, Bool, true, false, not, ◌&&◌, List, [], ◌∷◌, ◌++◌, map, take, Option, Some, None}
+use Rattle.std.proofs.Common.{◌≡◌, ◌≢◌, ℕ, Bool, true, false, not, ◌&&◌, List, [], ◌∷◌, ◌++◌, map, take, Option, Some, None, refl}
 use Rattle.std.specs.Prelude.{filter, ◌==◌, is_some, IfSome}
 use Rattle.std.specs.List.{list_all}
 use Rattle.grs_base.specs.Same.{same_task}
@@ -38,6 +38,11 @@ abbrev pub is_res_of : ℕ → Res → Bool
 is_res_of s (resources.Step n j q r) = n.0 == s
 is_res_of s (resources.System n q r) = n.0 == s
 is_res_of s (resources.Systems q r) = false
+
+pub own-one_system : (s : ℕ) (r : Res) → is_res_of s r ≡ true → is_systems r ≡ false
+own-one_system s (resources.Step n j q r) h = refl
+own-one_system s (resources.System n q r) h = refl
+own-one_system s (resources.Systems q r) h = cc
 
 -- whether a task is of the deck and of this system
 abbrev pub is_home_at : Deck → ℕ → TaskId → Bool

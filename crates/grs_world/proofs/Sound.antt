@@ -32,12 +32,8 @@ use Rattle.grs_world.proofs.Seen.{NodeLaws}
 use Rattle.grs_world.proofs.Stands.{none, has-others}
 use Rattle.grs_world.proofs.Tape.{entries, requests, Tape, replied-tape}
 use Rattle.grs_world.proofs.Views.{View, waiting}
-
--- what a first part of the outbox has, taken again
-take_taken : {X : Type 0} (k : ℕ) (xs : List X) → take (length (take k xs)) xs ≡ take k xs
-take_taken zero xs = refl
-take_taken (suc k) [] = refl
-take_taken (suc k) (x ∷ xs) = ap (λ ys. x ∷ ys) (take_taken k xs)
+use Rattle.grs_world.proofs.Facts.{take-taken}
+use Rattle.grs_world.proofs.First.{first_told}
 
 -- ---- one event
 module _ (deck : Deck) (Seen : ℕ → List HistEntry → List Req → Node → Type 0) (laws : NodeLaws deck Seen) (es : List Event) (e : Event) (g : GoodWorld deck Seen es (run deck es)) where
@@ -134,7 +130,7 @@ module _ (deck : Deck) (Seen : ℕ → List HistEntry → List Req → Node → 
         let given = given-rest w.medium c g.front (g.rest s) g.T (g.whole s) (g.alive s n at) g.message in
         let o = turn_outcome deck Seen s (g.front s) (g.rest s) (g.Q s) n (g.view s) right laws tape (length out) (g.seen s n at) (unseen c w.medium.message.entries) given in
         push deck Seen es e g n at m (g.front s ++ g.rest s) (take (length out) n.outbox) _ is refl
-        (subst (λ qs. GoodMessage m (message_log g.T ++ qs) (seen_at (updated g.front s (g.front s ++ g.rest s)))) (sym (take_taken most_additions n.outbox))
+        (subst (λ qs. GoodMessage m (message_log g.T ++ qs) (seen_at (updated g.front s (g.front s ++ g.rest s)))) (sym (take-taken most_additions n.outbox))
         (message-turned w.medium m c out w.medium.rest g.front g.rest (g.front s ++ g.rest s) g.T g.whole (g.whole s) is_open refl refl g.message)) o
 
     good_turn : LeadsBy choices.Turn (row (run deck es).medium e.system (acts.Turn (take most_additions n.outbox)))
@@ -210,10 +206,6 @@ first_is deck s n h = (first_at deck 0 deck.systems s n h).0 ∙ ap (first_node 
   where
     zero_plus : (a : ℕ) → 0 + a ≡ a
     zero_plus a = omega arith
-
-first_told : (deck : Deck) (s : ℕ) → (first_node deck s).tasks.told ≡ []
-unfolding first_node
-first_told deck s = refl
 
 first_live : (deck : Deck) → live (first_medium (length deck.systems) deck.entries deck.star) ≡ others (length deck.systems) 0
 first_live deck = by_test (λ (m : Message). others m.systems 0 ≡ others (length deck.systems) 0) deck.star (never_opened (length deck.systems)) (opened (length deck.systems)) (λ h. refl) (λ h. refl)

@@ -11,6 +11,7 @@ use Rattle.grs_wire.specs.declared.request.Req.{Req}
 use Rattle.grs_wire.proofs.MaskLaws.{has-without_same, has-without_other, has-zero, has-with_same, has-with_other}
 use Rattle.grs_wire.proofs.WantLaws.{by_test}
 use Rattle.rsa_message.specs.Message.{cleared, left_by, stamped, unseen, first_number}
+use Rattle.grs_world.proofs.Truths.{and_off}
 
 -- Stands U k qs es: of the requests qs, the first of which has place k, those that a system has still to
 -- process stand in es, in order. U j s says that s has still to process the request at place j.
@@ -119,12 +120,8 @@ waits_new live seen n within j s l = go (has live s) refl
     go true e = let h : seen s ≤ n = within s e in sym (le-leb (seen s) j (omega arith))
     go false e = refl
 
-and_false : (b x : Bool) → x ≡ false → (b && x) ≡ false
-and_false true x e = e
-and_false false x e = refl
-
 pub waits_seen : (live : ℕ) (seen : ℕ → ℕ) (j s : ℕ) → j < seen s → waits_for live seen j s ≡ false
-waits_seen live seen j s h = and_false (has live s) (leb (seen s) j) (lt-leb (seen s) j h)
+waits_seen live seen j s h = and_off (has live s) (leb (seen s) j) (lt-leb (seen s) j h)
 
 pub waits_live : (live : ℕ) (seen : ℕ → ℕ) (s : ℕ) → has live s ≡ true → (j : ℕ) → waits_for live seen j s ≡ leb (seen s) j
 waits_live live seen s h j = rw h refl

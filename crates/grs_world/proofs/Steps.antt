@@ -31,12 +31,14 @@ use Rattle.task_state.specs.View.{without_first}
 use Rattle.task_state.specs.Replies.{is_held}
 use Rattle.grs_world.specs.Agree.{is_code_before, is_end_of, LineAgrees}
 use Rattle.grs_world.proofs.Own.{own, own-without, has_task-own, queued_by-own}
-use Rattle.grs_world.proofs.Lines.{take-whole, slice_get-within, slice_get-past, slice_get-none, asks-same}
+use Rattle.grs_world.proofs.Lines.{asks-same}
 use Rattle.grs_world.proofs.Invariant.{Each, key, IsRec, IsDue, Past, Passed, IsWaitFor, IsTask, is_post_before}
-use Rattle.grs_world.proofs.Others.{none-more, all-more, all-kept, recs-knows, recs-told}
-use Rattle.grs_world.proofs.Granted.{past, codes_later, lt_suc, or_right, passed-line}
+use Rattle.grs_world.proofs.Others.{recs-knows, recs-told}
+use Rattle.grs_world.proofs.Granted.{past, codes_later, lt_suc, passed-line, recs-phase}
 use Rattle.grs_world.proofs.Keys.{distinct-without, each-without}
 use Rattle.grs_world.proofs.Decided.{by_lists, other-without, keys_taken}
+use Rattle.grs_world.proofs.Truths.{or_second}
+use Rattle.grs_world.proofs.Facts.{all-kept, all-more, none-more, slice_get-none, slice_get-past, slice_get-within, take-whole}
 
 none-filtered : (r : Res) (ks : List (Res × Ctl)) → list_any (λ k. same_res r k.0) (filter (λ k. not (same_res r k.0)) ks) ≡ false
 none-filtered r [] = refl
@@ -48,7 +50,7 @@ gone s t r = has_task-own (without same_res s r t) t r ∙ ap (list_any (λ k. s
 
 wait-released : (s : State) (t : TaskId) (r q : Res) → (owns (list_of s q) t || not (has_task (list_of s q) t)) ≡ true → (owns (list_of (without same_res s r t) q) t || not (has_task (list_of (without same_res s r t) q) t)) ≡ true
 wait-released s t r q h = by_res q r _
-    (λ same. or_right (owns (list_of (without same_res s r t) q) t) _ (ap not (ap (λ z. has_task (list_of (without same_res s r t) z) t) same ∙ gone s t r)))
+    (λ same. or_second (owns (list_of (without same_res s r t) q) t) _ (ap not (ap (λ z. has_task (list_of (without same_res s r t) z) t) same ∙ gone s t r)))
     (λ apart. subst (λ es. (owns es t || not (has_task es t)) ≡ true) (sym (list_at-without_other same_res res_equality s q r t apart)) h)
 
 lets_pass-released : (s : State) (t : TaskId) (r : Res) (l : Meaning) → lets_pass s t l ≡ true → lets_pass (without same_res s r t) t l ≡ true
@@ -143,7 +145,7 @@ module _ (ls : List Meaning) (p : Past) (T : List ToldLine) (knows : Res → Boo
     within = slice_get-within ls n l at;
     count = λ e. count_same;
     records = recs-told ls p.asked T knows t (suc n) phases.Ready (Coded t (suc n) 0 verbs.Wait c) xs (λ j. refl) (recs-line ls p.asked T knows t n phases.Ready xs k.records);
-    codes = all-more (is_code_before t (suc (suc n))) T _ (codes_later t (suc n) T k.codes) (or_right (not (same_task t t)) _ (lt_suc (suc n)));
+    codes = all-more (is_code_before t (suc (suc n))) T _ (codes_later t (suc n) T k.codes) (or_second (not (same_task t t)) _ (lt_suc (suc n)));
     posts = all-more (is_post_before t (suc (suc n))) T _ (all-posts_later t (suc n) T k.posts) refl;
     phase = record { going = record { no_code = k.phase.going.no_code; no_end = none-more (is_end_of t) T _ k.phase.going.no_end refl }; free = k.phase.free; passed = passed_line lets };
     emptied = λ e. absurd (cc);
@@ -169,24 +171,6 @@ module _ (ls : List Meaning) (p : Past) (T : List ToldLine) (knows : Res → Boo
     emptied = λ e. absurd (cc);
   }
 
-recs-ending : (ls : List Meaning) (E : List HistEntry) (T : List ToldLine) (knows : Res → Bool × Bool) (t : TaskId) (n c : ℕ) (xs : List Rec) → Each (IsRec ls E T knows t n phases.Ready) xs → Each (IsRec ls E T knows t n (phases.Ending c)) xs
-recs-ending ls E T knows t n c [] h = tt
-recs-ending ls E T knows t n c (x ∷ xs) h = (
-  record {
-    entry = h.0.entry;
-    low = h.0.low;
-    high = h.0.high;
-    known = h.0.known;
-    control = h.0.control;
-    due = λ u. still (h.0.due u);
-  },
-  recs-ending ls E T knows t n c xs h.1,
-)
-  where
-    still : ((is_held phases.Ready ≡ true) × (x.line ≡ n)) ⊎ IsDue ls E T t x.line → ((is_held (phases.Ending c) ≡ true) × (x.line ≡ n)) ⊎ IsDue ls E T t x.line
-    still (inl a) = absurd (cc (a.0))
-    still (inr d) = inr d
-
 -- a task without lines left begins to end
 pub task-ending : (ls : List Meaning) (p : Past) (T : List ToldLine) (knows : Res → Bool × Bool) (t : TaskId) (n code : ℕ) (xs : List Rec) (o : Option Asked) (ws : List Row) →
     IsTask ls p T knows t (record { line = n; phase = phases.Ready; code = code; records = xs; outstanding = o; rows = ws }) → slice_get ls n ≡ None →
@@ -196,7 +180,7 @@ task-ending ls p T knows t n code xs o ws k past_end = record {
   distinct = k.distinct;
   within = k.within;
   count = λ e. k.count refl;
-  records = recs-ending ls p.asked T knows t n 0 xs k.records;
+  records = recs-phase ls p.asked T knows t n phases.Ready (phases.Ending 0) refl xs k.records;
   codes = k.codes;
   posts = k.posts;
   phase = record {

@@ -152,12 +152,3 @@ filter-within deck p q h (x ∷ xs) a = go (q x) refl (p x) refl (filter-within 
     go true f false e ih = rw e ih
     go false f true e ih = let yes_q : q x ≡ true = h x a.0 e in absurd (cc)
     go false f false e ih = ih
-
-pub filter-none : {X : Type 0} (p q : X → Bool) (xs : List X) → filter p xs ≡ [] → filter p (filter q xs) ≡ []
-filter-none p q [] e = refl
-filter-none p q (x ∷ xs) e = go (p x) refl (q x) e (filter-none p q xs)
-  where
-    go : (b : Bool) → p x ≡ b → (c : Bool) → cond b (x ∷ filter p xs) (filter p xs) ≡ [] → (filter p xs ≡ [] → filter p (filter q xs) ≡ []) → filter p (cond c (x ∷ filter q xs) (filter q xs)) ≡ []
-    go true f c e ih = absurd (cc)
-    go false f true e ih = rw f (ih e)
-    go false f false e ih = ih e

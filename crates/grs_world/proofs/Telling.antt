@@ -28,15 +28,17 @@ use Rattle.task_state.proofs.ViewLaws.{state_of-same, told-state, state_of-telli
 use Rattle.task_state.specs.Replies.{is_leaving, is_held, is_held_for, tell_control, tell_untold, tell_record, passes_wait, tell_all}
 use Rattle.grs_world.specs.Agree.{Agrees, tells_control, entry_of_line}
 use Rattle.grs_world.proofs.Invariant.{IsRec, IsDue, IsEntryOn, IsTask, has_res, has_ended, is_unsent}
-use Rattle.grs_world.proofs.Others.{is_told_to, any-last}
+use Rattle.grs_world.proofs.Others.{is_told_to}
 use Rattle.grs_world.proofs.Owners.{is_among}
 use Rattle.grs_world.proofs.Control.{found, not_found, also, marked, queued_control}
 use Rattle.grs_base.proofs.ListLaws.{same_task-sym}
-use Rattle.grs_world.proofs.Granted.{or_right, past, task-coded, task-posted, task-marked, task-passed}
+use Rattle.grs_world.proofs.Granted.{past, task-coded, task-posted, task-marked, task-passed}
 use Rattle.grs_world.proofs.Seen.{stand_apart, ToldBy, more, is_line_of, Clears}
 use Rattle.grs_world.proofs.Asking.{unasked, unasked-told, unasked-none, records-unasked, held-none, unheld, Opens, IsOpenBy, open-told, IsAskedBy, asked-none, asked-leaves, sent-kept}
 use Rattle.ring_mode.specs.Ring.{is_sent}
 use Rattle.grs_world.proofs.Ours.{IsOurs, Holds, IsHere, said, IsChanged, changed-state, changed-telling, changed-then, changed-none, holds-changed, ours-line, agrees-ours, clears-post, learns, learns-own, learns-other, learns-also, learns-marked, task-knows, here-knows, here-told}
+use Rattle.grs_world.proofs.Truths.{or_second}
+use Rattle.grs_world.proofs.Facts.{any-last}
 
 -- a record with control told
 abbrev pub told_rec : Rec → Rec
@@ -368,8 +370,8 @@ learned_all deck s os P T0 knows r (t ∷ ts) v home unknown apart h agreed =
     let mine = home t among in
     let m : Learned deck s os P T0 knows v (tell_control v r t) r t = one (is_task v t) refl mine in
     let n = learned_all deck s os P T0 (learns knows r t) r ts (tell_control v r t)
-    (λ u e. let hu = home u (or_right (same_task u t) (is_among u ts) e) in (λ z. let o = hu.0 (sym (m.changed.here u) ∙ z) in record { lines = o.lines; ours = record { lines = o.ours.lines; home = o.ours.home; here = z } }, hu.1))
-    (λ u e. learns-other knows r t u r (apart_from u t ts (and_parts _ _ apart).0 e) ∙ unknown u (or_right (same_task u t) (is_among u ts) e))
+    (λ u e. let hu = home u (or_second (same_task u t) (is_among u ts) e) in (λ z. let o = hu.0 (sym (m.changed.here u) ∙ z) in record { lines = o.lines; ours = record { lines = o.ours.lines; home = o.ours.home; here = z } }, hu.1))
+    (λ u e. learns-other knows r t u r (apart_from u t ts (and_parts _ _ apart).0 e) ∙ unknown u (or_second (same_task u t) (is_among u ts) e))
     (and_parts _ _ apart).1 m.holds m.agreed in
     record { here = λ u. n.here u ∙ m.changed.here u; system = n.system ∙ m.changed.system; holds = n.holds; agreed = n.agreed }
   where

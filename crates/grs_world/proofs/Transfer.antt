@@ -30,10 +30,11 @@ use Rattle.grs_legal.specs.Legal.{ask_in, entries_of, is_of_line, line_entries, 
 use Rattle.grs_legal.specs.declared.meaning.Meaning.{Meaning}
 use Rattle.grs_legal.specs.declared.meaning.Meaning.TheVariants as meanings
 use Rattle.grs_world.specs.Agree.{Agrees, AgreesOf, CodeAgrees, TellsEnq, TellsDeq, TellsWait, TellsWaitOf, Posts, entry_of_line, tells_control, is_code_before, is_code_of, is_post_of, is_end_of}
-use Rattle.grs_world.proofs.Entries.{filter-append, asked_at-grows}
+use Rattle.grs_world.proofs.Entries.{asked_at-grows}
 use Rattle.grs_world.proofs.Seen.{FullFits, ask_of, MayPut, is_line_of, IsEnqOf}
 use Rattle.grs_world.proofs.Replied.{Replied, only_entry, by-for}
 use Rattle.grs_world.proofs.Projections.{queued_by-same, is_full-same, has_task-same}
+use Rattle.grs_world.proofs.Facts.{filter-append}
 
 -- what a task did and has by the history Q, it also did and has by P
 pub record Carries (limit : ℕ) (t : TaskId) (P Q : List HistEntry) : Type 0 where

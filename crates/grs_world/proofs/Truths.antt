@@ -1,4 +1,4 @@
--- Tests, and lists by tests: small laws that the law of the world cites.
+-- Truth values: small laws on tests.
 use Rattle.std.proofs.Common.{◌≡◌, Bool, true, false, not, ◌&&◌, ◌||◌, List, [], ◌∷◌, ◌++◌, length, take, drop, Some, refl, ap, subst}
 use Rattle.std.specs.Prelude.{filter}
 use Rattle.grs_base.specs.Same.{same_task}
@@ -32,6 +32,10 @@ pub or_second : (a b : Bool) → b ≡ true → (a || b) ≡ true
 or_second true b e = refl
 or_second false b e = e
 
+pub or_off : (a b : Bool) → b ≡ false → (a || b) ≡ a
+or_off true b e = refl
+or_off false b e = e
+
 pub or_other : (a b : Bool) → (a || b) ≡ true → a ≡ false → b ≡ true
 or_other true b e f = cc
 or_other false b e f = e
@@ -46,22 +50,3 @@ not_true false e = refl
 
 pub task_swap : (t u : TaskId) → same_task t u ≡ false → same_task u t ≡ false
 task_swap t u e = false_by (same_task u t) (λ h. no_truth (same_task t u) (subst (λ (z : TaskId). same_task z u ≡ true) (same_task-exact u t h) (same_task-itself u)) e)
-
-pub some_value : {X : Type 0} (x y : X) → Some x ≡ Some y → x ≡ y
-some_value x y e = cc
-
--- a filter at the first item
-pub cons_left : {X : Type 0} (p : X → Bool) (x : X) (xs : List X) → p x ≡ false → filter p (x ∷ xs) ≡ filter p xs
-cons_left p x xs h = rw h refl
-
-pub cons_kept : {X : Type 0} (p : X → Bool) (x : X) (xs : List X) → p x ≡ true → filter p (x ∷ xs) ≡ x ∷ filter p xs
-cons_kept p x xs h = rw h refl
-
--- the two parts of a list
-pub take-seam : {X : Type 0} (xs ys : List X) → take (length xs) (xs ++ ys) ≡ xs
-take-seam [] ys = refl
-take-seam (x ∷ xs) ys = ap (λ z. x ∷ z) (take-seam xs ys)
-
-pub drop-seam : {X : Type 0} (xs ys : List X) → drop (length xs) (xs ++ ys) ≡ ys
-drop-seam [] ys = refl
-drop-seam (x ∷ xs) ys = drop-seam xs ys

@@ -27,7 +27,6 @@ use Rattle.task_state.specs.declared.state.TaskState.{TaskState}
 use Rattle.task_state.specs.Replies.{is_leaving, replied, tell_new}
 use Rattle.task_state.specs.View.{TasksView, state_of, without_first}
 use Rattle.grs_world.proofs.Entries.{line_entries-release}
-use Rattle.grs_world.proofs.Lines.{take-whole}
 use Rattle.grs_world.proofs.Invariant.{Each, IsRec, Past, IsTask}
 use Rattle.grs_world.proofs.Granted.{past}
 use Rattle.grs_world.proofs.Seen.{ToldBy, none}
@@ -36,8 +35,10 @@ use Rattle.grs_world.proofs.Ours.{IsOurs, IsHere, said, holds-changed, task-know
 use Rattle.grs_world.proofs.Decided.{both, by_lists}
 use Rattle.grs_world.proofs.Did.{Did, did-answered_release}
 use Rattle.grs_world.proofs.Steps.{task-released, next-release}
-use Rattle.grs_world.proofs.Good.{owned, may_have, IsGood, replay-push}
+use Rattle.grs_world.proofs.Good.{owned, may_have, IsGood}
 use Rattle.grs_world.proofs.Events.{Settles, Moves, settles, before-own_asker, past-release}
+use Rattle.grs_world.proofs.Facts.{take-whole}
+use Rattle.grs_world.proofs.Replied.{replay-push}
 
 -- an ending task asks for the release of its first resource on record, and may
 module _ (limit : ℕ) (ls : List Meaning) (P : List HistEntry) (T : List ToldLine) (t : TaskId) (n c code : ℕ) (xs : List Rec) (o : Option Asked) (ws : List Row) (knows : Res → Bool × Bool)

@@ -9,12 +9,12 @@ use Rattle.grs_base.specs.declared.resource.Res.TheVariants as resources
 use Rattle.grs_base.specs.declared.resource.TaskId.{TaskId}
 use Rattle.grs_base.proofs.SameLaws.{same_task-exact}
 use Rattle.grs_wire.specs.declared.deck.Deck.{Deck}
-use Rattle.grs_world.proofs.Entries.{filter-append, filter-push_kept, filter-push_left}
 use Rattle.grs_world.proofs.Owners.{is_among}
 use Rattle.grs_world.proofs.Replied.{Replied, replied_for}
-use Rattle.grs_world.proofs.Seen.{is_res_of, askers}
-use Rattle.grs_world.proofs.Tape.{Item, entries, requests, by, for_all, from, home, IsItem, Items, items-append, At, Tape, tape-append, entries-append, filter-none}
-use Rattle.grs_world.proofs.Truths.{and_on, and_other, cons_kept, cons_left, false_by, no_truth, or_false, or_other, task_swap}
+use Rattle.grs_world.proofs.Seen.{is_res_of, askers, own-one_system}
+use Rattle.grs_world.proofs.Tape.{Item, entries, requests, by, for_all, from, home, IsItem, Items, items-append, At, Tape, tape-append, entries-append}
+use Rattle.grs_world.proofs.Truths.{and_on, and_other, false_by, no_truth, or_false, or_other, task_swap}
+use Rattle.grs_world.proofs.Facts.{filter-append, filter-cons_kept, filter-cons_left, filter-none, filter-push_kept, filter-push_left}
 
 -- an item for the whole complex of a task of this system
 abbrev pub waits : ℕ → Item → Bool
@@ -57,11 +57,6 @@ pub replied-push : (deck : Deck) (Q : List Item) (x : Item) → Replied deck.lim
 replied-push deck Q x r a = subst (Replied deck.limit) (sym (entries-append Q (x ∷ []))) (replied_for deck.limit (entries Q) x.req.task x.req.want x.entry r a.full a.made)
 
 -- ---- single items
-pub home-local : (s : ℕ) (r : Res) → is_res_of s r ≡ true → is_systems r ≡ false
-home-local s (resources.Step n j q r) h = refl
-home-local s (resources.System n q r) h = refl
-home-local s (resources.Systems q r) h = cc
-
 pub two_homes : (s u : ℕ) (r : Res) → is_res_of s r ≡ true → is_res_of u r ≡ true → u ≡ s
 two_homes s u (resources.Step n j q r) h k = sym (eqb-true n.0 u k) ∙ eqb-true n.0 s h
 two_homes s u (resources.System n q r) h k = sym (eqb-true n.0 u k) ∙ eqb-true n.0 s h
@@ -72,7 +67,7 @@ pub local-home : (deck : Deck) (x : Item) → IsItem deck x → for_all x ≡ fa
 local-home deck x i e = or_other (is_systems x.res) (is_res_of x.req.task.system.0 x.res) i.place e
 
 pub home-from : (deck : Deck) (s : ℕ) (x : Item) → IsItem deck x → home s x ≡ true → from s x ≡ true
-home-from deck s x i h = eq-eqb x.req.task.system.0 s (two_homes s x.req.task.system.0 x.res h (local-home deck x i (home-local s x.res h)))
+home-from deck s x i h = eq-eqb x.req.task.system.0 s (two_homes s x.req.task.system.0 x.res h (local-home deck x i (own-one_system s x.res h)))
 
 pub from-home : (deck : Deck) (s : ℕ) (x : Item) → IsItem deck x → from s x ≡ true → for_all x ≡ false → home s x ≡ true
 from-home deck s x i f e = subst (λ n. is_res_of n x.res ≡ true) (eqb-true x.req.task.system.0 s f) (local-home deck x i e)
@@ -94,7 +89,7 @@ not_home : (deck : Deck) (s : ℕ) (x : Item) → IsItem deck x → from s x ≡
 not_home deck s x i f = false_by (home s x) (λ h. no_truth (from s x) (home-from deck s x i h) f)
 
 all_home : (s : ℕ) (x : Item) → for_all x ≡ true → home s x ≡ false
-all_home s x f = false_by (home s x) (λ h. no_truth (for_all x) f (home-local s x.res h))
+all_home s x f = false_by (home s x) (λ h. no_truth (for_all x) f (own-one_system s x.res h))
 
 -- ---- the first item of the rest is processed
 module _ (deck : Deck) (s : ℕ) (front rest Q : List Item) (x : Item) (v : View deck s front (x ∷ rest) Q) where
@@ -104,14 +99,14 @@ module _ (deck : Deck) (s : ℕ) (front rest Q : List Item) (x : Item) (v : View
   -- one that the system decided itself
   pub view-own : home s x ≡ true → View deck s (front ++ x ∷ []) rest Q
   view-own h =
-      let one : for_all x ≡ false = home-local s x.res h in
+      let one : for_all x ≡ false = own-one_system s x.res h in
       let mine : from s x ≡ true = home-from deck s x is_item h in
       let loc : local x ≡ true = rw one refl in
       record {
         systems = v.systems ∙ sym (filter-push_left for_all front x one);
         others = λ u ne. v.others u ne ∙ sym (filter-push_left (from u) front x (not_from s u x ne mine));
-        own = v.own ∙ (ap (λ z. filter (home s) front ++ z) (cons_kept (home s) x rest h) ∙ (sym (append_assoc (filter (home s) front) (x ∷ []) (filter (home s) rest)) ∙ ap (λ z. z ++ filter (home s) rest) (sym (filter-push_kept (home s) front x h))));
-        tasks = λ t e. v.tasks t e ∙ (ap (λ z. filter (by t) front ++ filter (by t) z) (cons_kept local x rest loc) ∙ (ap (λ z. filter (by t) front ++ z) (filter-append (by t) (x ∷ []) (filter local rest))
+        own = v.own ∙ (ap (λ z. filter (home s) front ++ z) (filter-cons_kept (home s) x rest h) ∙ (sym (append_assoc (filter (home s) front) (x ∷ []) (filter (home s) rest)) ∙ ap (λ z. z ++ filter (home s) rest) (sym (filter-push_kept (home s) front x h))));
+        tasks = λ t e. v.tasks t e ∙ (ap (λ z. filter (by t) front ++ filter (by t) z) (filter-cons_kept local x rest loc) ∙ (ap (λ z. filter (by t) front ++ z) (filter-append (by t) (x ∷ []) (filter local rest))
             ∙ (sym (append_assoc (filter (by t) front) (filter (by t) (x ∷ [])) (filter (by t) (filter local rest))) ∙ ap (λ z. z ++ filter (by t) (filter local rest)) (sym (filter-append (by t) front (x ∷ []))))));
         blocked = v.blocked.1;
         tape = v.tape;
@@ -134,7 +129,7 @@ module _ (deck : Deck) (s : ℕ) (front rest Q : List Item) (x : Item) (v : View
           let none_local : filter (by t) (filter local rest) ≡ [] = filter-none (by t) local rest none in
           let loc : local x ≡ false = rw all refl in
           let before : filter (by t) Q ≡ filter (by t) front =
-          v.tasks t e ∙ (ap (λ z. filter (by t) front ++ filter (by t) z) (cons_left local x rest loc) ∙ (ap (λ z. filter (by t) front ++ z) none_local ∙ append-nil (filter (by t) front))) in
+          v.tasks t e ∙ (ap (λ z. filter (by t) front ++ filter (by t) z) (filter-cons_left local x rest loc) ∙ (ap (λ z. filter (by t) front ++ z) none_local ∙ append-nil (filter (by t) front))) in
           filter-push_kept (by t) Q x b ∙ (ap (λ z. z ++ x ∷ []) before ∙ (sym (filter-push_kept (by t) front x b) ∙ (sym (append-nil (filter (by t) (front ++ x ∷ []))) ∙ ap (λ z. filter (by t) (front ++ x ∷ []) ++ z) (sym none_local))))
         where
           true_by : (c : Bool) → (c ≡ false → false ≡ true) → c ≡ true
@@ -144,14 +139,14 @@ module _ (deck : Deck) (s : ℕ) (front rest Q : List Item) (x : Item) (v : View
           filter-push_left (by t) Q x b ∙ (v.tasks t e ∙ (ap (λ z. filter (by t) front ++ z) (skip (local x)) ∙ ap (λ z. z ++ filter (by t) (filter local rest)) (sym (filter-push_left (by t) front x b))))
         where
           skip : (c : Bool) → filter (by t) (cond c (x ∷ filter local rest) (filter local rest)) ≡ filter (by t) (filter local rest)
-          skip true = cons_left (by t) x (filter local rest) b
+          skip true = filter-cons_left (by t) x (filter local rest) b
           skip false = refl
 
   pub view-learned : home s x ≡ false → At deck (entries Q) x → View deck s (front ++ x ∷ []) rest (Q ++ x ∷ [])
   view-learned h at = record {
     systems = filter-append for_all Q (x ∷ []) ∙ (ap (λ z. z ++ filter for_all (x ∷ [])) v.systems ∙ sym (filter-append for_all front (x ∷ [])));
     others = λ u ne. filter-append (from u) Q (x ∷ []) ∙ (ap (λ z. z ++ filter (from u) (x ∷ [])) (v.others u ne) ∙ sym (filter-append (from u) front (x ∷ [])));
-    own = filter-push_left (home s) Q x h ∙ (v.own ∙ (ap (λ z. filter (home s) front ++ z) (cons_left (home s) x rest h) ∙ ap (λ z. z ++ filter (home s) rest) (sym (filter-push_left (home s) front x h))));
+    own = filter-push_left (home s) Q x h ∙ (v.own ∙ (ap (λ z. filter (home s) front ++ z) (filter-cons_left (home s) x rest h) ∙ ap (λ z. z ++ filter (home s) rest) (sym (filter-push_left (home s) front x h))));
     tasks = task_learned h;
     blocked = v.blocked.1;
     tape = tape-push deck Q x v.tape at;
@@ -199,16 +194,16 @@ module _ (deck : Deck) (s : ℕ) (front rest Q : List Item) (x : Item) (i : IsIt
 
   -- another system's
   pub view-other : from s x ≡ false → View deck s front (rest ++ x ∷ []) Q
-  view-other f = behind (not_home deck s x i f) (λ t e. filter-none (by t) local (x ∷ []) (cons_left (by t) x [] (not_by s t x e f))) (among-other s rest x f)
+  view-other f = behind (not_home deck s x i f) (λ t e. filter-none (by t) local (x ∷ []) (filter-cons_left (by t) x [] (not_by s t x e f))) (among-other s rest x f)
 
   -- an own request for the whole complex
   pub view-put : for_all x ≡ true → is_among x.req.task (askers (requests (waiting s rest))) ≡ false → View deck s front (rest ++ x ∷ []) Q
-  view-put f apart = let loc : local x ≡ false = rw f refl in behind (all_home s x f) (λ t e. ap (filter (by t)) (cons_left local x [] loc)) apart
+  view-put f apart = let loc : local x ≡ false = rw f refl in behind (all_home s x f) (λ t e. ap (filter (by t)) (filter-cons_left local x [] loc)) apart
 
   -- one that the system decides itself
   pub view-decided : home s x ≡ true → At deck (entries Q) x → is_among x.req.task (askers (requests (waiting s rest))) ≡ false → View deck s front (rest ++ x ∷ []) (Q ++ x ∷ [])
   view-decided h at apart =
-      let one : for_all x ≡ false = home-local s x.res h in
+      let one : for_all x ≡ false = own-one_system s x.res h in
       let mine : from s x ≡ true = home-from deck s x i h in
       let loc : local x ≡ true = rw one refl in
       record {
