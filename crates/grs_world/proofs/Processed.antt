@@ -22,8 +22,8 @@ use Rattle.grs_wire.specs.declared.request.Req.{Req}
 use Rattle.grs_wire.specs.declared.request.Want.{Want}
 use Rattle.grs_wire.specs.declared.request.Want.TheVariants.{Enq, Deq, Release}
 use Rattle.grs_wire.proofs.WantLaws.{by_res, list_of-want_other}
-use Rattle.ring_mode.specs.Ring.{process, answer_own, answer_sent, is_asked, is_sent, same_want}
-use Rattle.task_state.specs.Replies.{replied, recalled, settled, tell_new, tell_all, phase_asking, gives_up, is_leaving}
+use Rattle.ring_mode.specs.Ring.{process, answer_own, is_asked, is_sent, same_want}
+use Rattle.task_state.specs.Replies.{replied, recalled, settled, settled_any, tell_new, tell_all, phase_asking, gives_up, is_leaving}
 use Rattle.task_state.specs.View.{TasksView, is_task, state_of}
 use Rattle.task_state.specs.declared.state.Asked.{Asked}
 use Rattle.task_state.specs.declared.state.TaskState.{TaskState}
@@ -57,17 +57,17 @@ read-shared n q = refl
 -- the tasks among which a request of the system's own was answered
 answers-own : (v : TasksView) (q : Req) (answer : Answer) (a : Asked) → is_task v q.task ≡ true → is_sent (state_of v q.task).phase ≡ true → (state_of v q.task).outstanding ≡ Some a → a.req ≡ q → same_want q.want q.want ≡ true →
     answer_own v q answer ≡ replied (recalled v q.task q.want) q.task q.want a.unit answer
-unfolding answer_own answer_sent settled
+unfolding answer_own settled_any settled
 answers-own v q answer a here sent opened is same =
     let asked : is_asked q.want (state_of v q.task).outstanding ≡ true = ap (is_asked q.want) opened ∙ ap (λ (z : Req). same_want q.want z.want) is ∙ same in
     let all : (is_task v q.task && (is_sent (state_of v q.task).phase && is_asked q.want (state_of v q.task).outstanding)) ≡ true = rw (here, sent, asked) refl in
-    ap (λ b. cond b (answer_sent v q answer (state_of v q.task).outstanding) v) all
-    ∙ ap (λ o. answer_sent v q answer o) opened
+    ap (λ b. cond b (settled_any v q.task answer (state_of v q.task).outstanding) v) all
+    ∙ ap (λ o. settled_any v q.task answer o) opened
     ∙ ap (λ (z : Req). replied (recalled v q.task z.want) q.task z.want a.unit answer) is
 
 answers-none : (v : TasksView) (q : Req) (answer : Answer) → is_task v q.task ≡ false → answer_own v q answer ≡ v
 unfolding answer_own
-answers-none v q answer away = ap (λ b. cond (b && (is_sent (state_of v q.task).phase && is_asked q.want (state_of v q.task).outstanding)) (answer_sent v q answer (state_of v q.task).outstanding) v) away
+answers-none v q answer away = ap (λ b. cond (b && (is_sent (state_of v q.task).phase && is_asked q.want (state_of v q.task).outstanding)) (settled_any v q.task answer (state_of v q.task).outstanding) v) away
 
 -- a system after an entry, given its tasks
 module _ (deck : Deck) (s : ℕ) (Q : List HistEntry) (out0 out : List Req) (n : Node) (seen : Seen deck s Q out0 n) (q : Req) (h : HistEntry) (r : Res) (is : res_wanted q.want ≡ Some r) (all : is_systems r ≡ true) (after : replay deck.limit (Q ++ h ∷ []) ≡ after_want (replay deck.limit Q) q.task q.want)

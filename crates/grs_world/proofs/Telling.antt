@@ -25,7 +25,7 @@ use Rattle.task_state.specs.declared.state.Phase.TheVariants as phases
 use Rattle.task_state.specs.declared.state.TaskState.{TaskState}
 use Rattle.task_state.specs.View.{TasksView, is_task, state_of, with_phase, with_told, telling, record_of, on_record, code_in}
 use Rattle.task_state.proofs.ViewLaws.{state_of-same, told-state, state_of-telling, told-telling}
-use Rattle.task_state.specs.Replies.{is_leaving, is_held, is_held_for, tell_control, tell_untold, tell_record, passes_wait, tell_all}
+use Rattle.task_state.specs.Replies.{is_leaving, is_held, is_held_for, tell_control, tell_untold, tell_line, passes_wait, tell_all}
 use Rattle.grs_world.specs.Agree.{Agrees, tells_control, entry_of_line}
 use Rattle.grs_world.proofs.Invariant.{IsRec, IsDue, IsEntryOn, IsTask, has_res, has_ended, is_unsent}
 use Rattle.grs_world.proofs.Others.{is_told_to}
@@ -263,8 +263,8 @@ module _ (deck : Deck) (s : ℕ) (os : Opens) (P : List HistEntry) (T0 : List To
   -- an untold record is told
   learned-record : (v : TasksView) (y : Rec) → Holds deck s os P knows v → IsOurs deck s v t ls → ToldBy deck s os.all P T0 v.told → owns (list_of (replay deck.limit P) r) t ≡ true → is_leaving r (state_of v t).outstanding ≡ false →
       IsRec ls (line_entries t P) v.told (knows_of knows t (state_of v t)) t (unasked (state_of v t)).line (unasked (state_of v t)).phase y → same_res r y.res ≡ true → has_ended (unasked (state_of v t)).phase ≡ false → y.told ≡ false →
-      Learned deck s os P T0 knows v (tell_record v t r y) r t
-  unfolding tell_record
+      Learned deck s os P T0 knows v (tell_line v t r y.line) r t
+  unfolding tell_line
   learned-record v y h ours agreed own stays rec same going untold = by_test (λ w. Learned deck s os P T0 knows v w r t) (is_held (state_of v t).phase && (y.line == (state_of v t).line)) _ _
       (λ e. learned-coded deck s os P T0 knows r t ls v y h ours agreed own rec same (and_parts _ _ e).0 (eqb-true _ _ (and_parts _ _ e).1))
       (λ e. posted (learned-posted deck s os P T0 knows r t ls v y h ours agreed own stays rec same going (is_due e (rec.due untold))))
@@ -309,7 +309,7 @@ module _ (deck : Deck) (s : ℕ) (os : Opens) (P : List HistEntry) (T0 : List To
       go (Some y) e =
           let seen : record_of (unasked (state_of v t)).records r ≡ Some y = ap (λ xs. record_of xs r) (records-unasked (state_of v t)) ∙ e in
           let f = found (IsRec ls (line_entries t P) v.told (knows_of knows t (state_of v t)) t (unasked (state_of v t)).line (unasked (state_of v t)).phase) (unasked (state_of v t)).records r y (h.each t ls ours).task.records seen in
-          subst (λ b. Learned deck s os P T0 knows v (cond b v (cond (is_leaving r (state_of v t).outstanding) (with_told v t r) (tell_record v t r y))) r t) (sym (untold y f.0 f.1))
+          subst (λ b. Learned deck s os P T0 knows v (cond b v (cond (is_leaving r (state_of v t).outstanding) (with_told v t r) (tell_line v t r y.line))) r t) (sym (untold y f.0 f.1))
           (by_test (λ w. Learned deck s os P T0 knows v w r t) (is_leaving r (state_of v t).outstanding) _ _
           (λ leaves. learned-marked deck s os P T0 knows r t ls v h ours agreed leaves)
           (λ stays. learned-record v y h ours agreed own stays f.0 f.1 (going-of v y h ours seen) (untold y f.0 f.1)))

@@ -124,6 +124,14 @@ fn seen(world: &World<'_>, first: TaskId, second: TaskId) -> (usize, usize, Task
     )
 }
 
+/// What a system kept of its event at a place: whether the event made a call, and how many requests it fixed and
+/// lines it told.
+fn kept(world: &World<'_>, system: usize, place: usize) -> Option<(bool, usize, usize)> {
+    let node = world.nodes().get(system)?;
+    let step = node.log().steps.as_slice().get(place)?;
+    Some((step.journalled, step.fixed.len(), step.told.len()))
+}
+
 #[test]
 fn gives_control_and_ends(rt: HostRuntime) -> Result<(), Fail> {
     let alloc = rt.alloc();
@@ -150,6 +158,10 @@ fn sends_the_message_round(rt: HostRuntime) -> Result<(), Fail> {
     let held = seen(&world, task(0, 0), task(1, 0));
     assert_eq!(rt; held, (2, 1, TaskEnd::Open, TaskEnd::Waits));
     assert!(rt; !world.at_rest());
+    for (place, wanted) in [(0, (false, 0, 0)), (1, (true, 1, 0)), (2, (true, 0, 1))] {
+        assert_eq!(rt; kept(&world, 0, place), Some(wanted), "event {place} of the first system");
+    }
+    assert_eq!(rt; kept(&world, 0, 3), None);
     for event in [
         go(0, 0),
         turn(0),

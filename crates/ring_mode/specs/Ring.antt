@@ -23,7 +23,7 @@ use Rattle.task_state.specs.declared.state.Asked.{Asked}
 use Rattle.task_state.specs.declared.state.Phase.{Phase}
 use Rattle.task_state.specs.declared.state.Phase.TheVariants as phases
 use Rattle.task_state.specs.View.{TasksView, is_task, state_of}
-use Rattle.task_state.specs.Replies.{settled, tell_new}
+use Rattle.task_state.specs.Replies.{settled_any, tell_new}
 
 -- the ring's part of a system: its tasks, and its table of the Systems resources
 pub record Side : Type 0 where
@@ -38,7 +38,7 @@ abbrev pub is_for_all : Option Res → Bool
 is_for_all None = true
 is_for_all (Some r) = is_systems r
 
--- tests of equality
+-- whether two requests ask the same, part by part
 abbrev pub same_ctl : Ctl → Ctl → Bool
 same_ctl controls.E controls.E = true
 same_ctl controls.S controls.S = true
@@ -81,19 +81,16 @@ abbrev pub is_asked : Want → Option Asked → Bool
 is_asked w None = false
 is_asked w (Some a) = same_want w a.req.want
 
+-- whether a task's request has been sent and isn't answered yet
 abbrev pub is_sent : Phase → Bool
 is_sent phases.Sent = true
 is_sent _ = false
 
--- an own task that sent this request gets its answer
-unfoldable pub answer_sent : TasksView → Req → Answer → Option Asked → TasksView
-answer_sent v q answer None = v
-answer_sent v q answer (Some a) = settled v q.task a answer
-
+-- a task of this system that has sent this request gets its answer
 unfoldable pub answer_own : TasksView → Req → Answer → TasksView
 answer_own v q answer =
     cond (is_task v q.task && (is_sent (state_of v q.task).phase && is_asked q.want (state_of v q.task).outstanding))
-    (answer_sent v q answer (state_of v q.task).outstanding)
+    (settled_any v q.task answer (state_of v q.task).outstanding)
     v
 
 -- A request is processed: it is answered by the table. If a task of this system asked, it is told the answer

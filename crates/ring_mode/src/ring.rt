@@ -40,7 +40,7 @@ fn is_awaited(tasks: &Tasks, req: &Req) -> bool
 }
 
 /// Answers an own task that sent this request.
-#[tactic(auto, using(crate::proofs::Settled::settling), unfolding(crate::specs::Ring::answer_own))]
+#[tactic(auto, unfolding(crate::specs::Ring::answer_own))]
 fn answer_own(alloc: Global, tasks: &mut Tasks, req: &Req, answer: &Answer) -> Result<(), NoMemory>
     ensures step { OnOk result (tasks.new ≡ ring.answer_own tasks.old req.now answer.now) }
     ensures system { tasks.new.system ≡ tasks.old.system }

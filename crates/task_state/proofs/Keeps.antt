@@ -5,9 +5,8 @@ use Rattle.grs_base.specs.declared.resource.Res.{Res}
 use Rattle.grs_base.specs.declared.resource.Ret.{Ret}
 use Rattle.grs_base.specs.declared.resource.TaskId.{TaskId}
 use Rattle.grs_base.specs.declared.decision.Code.{Code}
-use Rattle.task_state.specs.declared.state.Rec.{Rec}
 use Rattle.task_state.specs.View.{TasksView}
-use Rattle.task_state.specs.Replies.{is_queued, is_changed, record_enq, tell_record, tell_line}
+use Rattle.task_state.specs.Replies.{is_queued, is_changed, record_enq}
 use Rattle.task_state.proofs.Stays.{stays, system-record, count-record, system-exclusive, count-exclusive}
 
 -- a number that both of two values have, one of them has
@@ -26,7 +25,3 @@ count-enq v t r c unit ret code =
     either (λ (w : TasksView). length w.tasks) (is_queued ret code) _ _ _ (count-record v t _) (either (λ (w : TasksView). length w.tasks) (is_changed ret code) _ _ _ (count-exclusive v t r) refl)
 
 pub ruleset keeps = (stays, system-enq, count-enq)
-
-pub tell_record_line : (v : TasksView) (t : TaskId) (r : Res) (x : Rec) → tell_record v t r x ≡ tell_line v t r x.line
-unfolding tell_record tell_line
-tell_record_line v t r x = refl

@@ -94,15 +94,8 @@ is_held_for r _ = false
 unfoldable pub passes_wait : TasksView → TaskId → Res → TasksView
 passes_wait v t r = cond (is_held_for r (state_of v t).phase) (telling (with_phase v t phases.Ready) (told.Coded t (state_of v t).line 0 verbs.Wait C00)) v
 
--- a task that is told control of an untold record: by the code of its last line if that one waited, else by
--- posting its ECB
-unfoldable pub tell_record : TasksView → TaskId → Res → Rec → TasksView
-tell_record v t r x =
-    cond (is_held (state_of v t).phase && (x.line == (state_of v t).line))
-    (telling (with_phase (with_told v t r) t phases.Ready) (told.Coded t x.line 0 verbs.Enq C00))
-    (passes_wait (telling (with_told v t r) (told.Post t x.line)) t r)
-
--- the same, for which its line of this number asked
+-- A task is told control for which its line of this number asked: by that line's code if the task is held by its
+-- answer, else by posting the line's ECB.
 unfoldable pub tell_line : TasksView → TaskId → Res → ℕ → TasksView
 tell_line v t r k =
     cond (is_held (state_of v t).phase && (k == (state_of v t).line))
@@ -121,11 +114,12 @@ abbrev pub is_leaving : Res → Option Asked → Bool
 is_leaving r None = false
 is_leaving r (Some a) = gives_up r a.req.want
 
--- The same where there is an untold record. Of a resource that the task is about to give up it is told nothing.
+-- A task is told control of a record, if there is one that isn't told yet. Of a resource that it is about to give
+-- up it is told nothing.
 unfoldable pub tell_untold : TasksView → TaskId → Res → Option Rec → TasksView
 tell_untold v t r None = v
 tell_untold v t r (Some x) =
-    cond x.told v (cond (is_leaving r (state_of v t).outstanding) (with_told v t r) (tell_record v t r x))
+    cond x.told v (cond (is_leaving r (state_of v t).outstanding) (with_told v t r) (tell_line v t r x.line))
 
 -- a task that got control of a resource by another's request; one that isn't of this system is passed over
 unfoldable pub tell_control : TasksView → Res → TaskId → TasksView

@@ -212,7 +212,7 @@ fn tell_unless_leaving(
 }
 
 /// Tells a task control that it got by another's request; one that isn't of this system is passed over.
-#[tactic(auto, using(crate::proofs::Keeps::keeps, crate::proofs::Keeps::tell_record_line), unfolding(crate::specs::Replies::tell_control, crate::specs::Replies::tell_untold))]
+#[tactic(auto, using(crate::proofs::Keeps::keeps), unfolding(crate::specs::Replies::tell_control, crate::specs::Replies::tell_untold))]
 fn tell_control(tasks: &mut Tasks, res: &Res, task: TaskId) -> Result<(), NoMemory>
     ensures step { OnOk result (tasks.new ≡ steps.tell_control tasks.old res.now task) }
     ensures system { tasks.new.system ≡ tasks.old.system }
