@@ -90,10 +90,9 @@ impl<'d> Node<'d> {
         })
     }
 
-    /// What a choice comes to. Nothing changes.
-    pub fn prepare(&mut self, choice: &Choice) -> Result<Prepared, NoMemory>
-        ensures prepared { IfOk result (λ prepared. prepared ≡ steps.prepare self.old.deck self.old.node choice.now) }
-        ensures unchanged { self.new ≡ self.old }
+    /// What a choice comes to.
+    pub fn prepare(&self, choice: &Choice) -> Result<Prepared, NoMemory>
+        ensures { IfOk result (λ prepared. prepared ≡ steps.prepare self.now.deck self.now.node choice.now) }
     {
         self.system
             .prepare(self.alloc, self.deck, self.scripts.as_slice(), *choice)
