@@ -85,4 +85,3 @@ passed-more (m ∷ ls) l e (suc k) same =
     let count : suc k ≡ length (asks_in m) + length (asks_of ls) = same ∙ count-first m ls in
     let behind : nat_lt (suc k) (length (asks_in m)) ≡ false = le-ltb (suc k) (length (asks_in m)) (omega (arith, count)) in
     rw behind (passed-more ls l e (suc k - length (asks_in m)) (omega (arith, count)))
-

@@ -159,7 +159,11 @@ fn sends_the_message_round(rt: HostRuntime) -> Result<(), Fail> {
     assert_eq!(rt; held, (2, 1, TaskEnd::Open, TaskEnd::Waits));
     assert!(rt; !world.at_rest());
     for (place, wanted) in [(0, (false, 0, 0)), (1, (true, 1, 0)), (2, (true, 0, 1))] {
-        assert_eq!(rt; kept(&world, 0, place), Some(wanted), "event {place} of the first system");
+        assert_eq!(rt;
+            kept(&world, 0, place),
+            Some(wanted),
+            "event {place} of the first system"
+        );
     }
     assert_eq!(rt; kept(&world, 0, 3), None);
     for event in [
