@@ -1,6 +1,6 @@
 //! The entries of the message, in order.
-ghost use Rattle.std.specs.Prelude.{◌≡◌, ◌+◌, ◌<◌, ◌≤◌, ◌^◌, ◌++◌, ◌∷◌, ◌==◌, [], ℕ, List, length, map, filter, not, IfOk, vec_len, vec_capacity};
-ghost use Rattle.rsa_message.specs.Message.{is_unseen, left_by, unseen, any_unseen, cleared, stamped, first_number};
+ghost use Rattle.std.specs.Prelude.{◌≡◌, ◌+◌, ◌<◌, ◌≤◌, ◌^◌, ◌++◌, ◌==◌, length, map, filter, not, IfOk, vec_len, vec_capacity};
+ghost use Rattle.rsa_message.specs.Message.{left_by, unseen, any_unseen, cleared, stamped, first_number};
 
 use grs_base::{List, NoMemory, SysId};
 use grs_wire::masks::{has_system, with_system, without_system};

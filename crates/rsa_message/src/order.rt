@@ -1,5 +1,5 @@
 //! To which system the message goes next: upwards by number and round.
-ghost use Rattle.std.specs.Prelude.{◌≡◌, ◌+◌, ◌-◌, ◌%◌, ◌<◌, ◌≤◌, ℕ, Bool};
+ghost use Rattle.std.specs.Prelude.{◌≡◌, ◌+◌, ◌%◌, ◌<◌, ◌≤◌};
 ghost use Rattle.grs_wire.specs.Masks.{has};
 ghost use Rattle.rsa_message.specs.Message.{is_at, is_due, first_after, moved_on, or_else, number_of};
 

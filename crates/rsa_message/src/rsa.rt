@@ -1,5 +1,5 @@
 //! The message as a whole.
-ghost use Rattle.std.specs.Prelude.{◌≡◌, ◌+◌, ◌<◌, ◌≤◌, ◌^◌, max, length, if◌then◌else◌, None, IfOk, OnOk};
+ghost use Rattle.std.specs.Prelude.{◌≡◌, ◌+◌, ◌<◌, ◌≤◌, ◌^◌, length, if◌then◌else◌, None, IfOk, OnOk};
 ghost use Rattle.rsa_message.specs.Message.{opened, never_opened, unseen, first_number, turn_reply, turned, turned_open, turned_closed, turn_changes, wakes, dropped, closed_by, message_at_end};
 ghost use Rattle.rsa_message.specs.Room.{HasRoom};
 
@@ -181,7 +181,8 @@ impl Rsa {
             && (self.closed || has_unseen(self.entries.as_slice(), caller) || out != 0)
     }
 
-    /// The reply that `turn` with so many requests would give, and whether it would change the message.
+    /// The reply that `turn` with so many requests would give, and whether it would change the message. NoMemory comes
+    /// where there is none for the copies, or a request would have a number above `LAST_NUMBER`.
     #[tactic(auto, unfolding(crate::specs::Message::turn_reply, crate::specs::Message::turn_changes))]
     pub fn preview_turn(
         &self,
