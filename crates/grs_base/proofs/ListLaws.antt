@@ -1,17 +1,12 @@
 -- Laws of the list of one resource.
-use Rattle.std.proofs.Common.{◌≡◌, ◌≢◌, ℕ, suc, ◌+◌, ◌<◌, ◌≤◌, Bool, true, false, cond, not, ◌&&◌, ◌||◌, List, [], ◌∷◌, ◌++◌, map, length, refl, ap, sym, ◌∙◌, subst, arith, ltb, eqb}
+use Rattle.std.proofs.Common.{◌≡◌, ◌<◌, ◌≤◌, Bool, true, false, ◌||◌, List, [], ◌∷◌, ◌++◌, length, refl, arith, ltb}
 use Rattle.std.specs.Prelude.{filter}
-use Rattle.std.proofs.lemmas.Bool.{lt-ltb, le-ltb, ltb-true, ltb-false, eqb-true, eq-eqb, ne_eqb, cases_Bool}
 use Rattle.std.proofs.lemmas.Bool.Decides.{nat_tests}
 use Rattle.grs_base.specs.Same.{same_task}
-use Rattle.grs_base.specs.Lists.{is_shared, shared_front, owners, place_of, standing_of, begins_shared, is_owner, owns, owns_shared, has_task, is_apart, list_after, list_exclusive, list_without, can_have, all_shared, decide_enq, enq_decision}
+use Rattle.grs_base.specs.Lists.{shared_front, owners, place_of, standing_of, is_owner, owns, owns_shared, has_task, is_apart, list_exclusive}
 use Rattle.grs_base.specs.declared.resource.TaskId.{TaskId}
 use Rattle.grs_base.specs.declared.resource.Elem.{Elem}
-use Rattle.grs_base.specs.declared.resource.Ctl.{Ctl}
-use Rattle.grs_base.specs.declared.resource.Ctl.TheVariants.{E, S}
-use Rattle.grs_base.specs.declared.decision.Effect.{Effect}
-use Rattle.grs_base.specs.declared.decision.Effect.TheVariants.{Nothing, Append, MakeExclusive}
-use Rattle.grs_base.proofs.SameLaws.{same_task-exact, same_task-itself}
+use Rattle.grs_base.proofs.SameLaws.{same_task-exact}
 
 pub owns_shared-place : (es : List Elem) (t : TaskId) → owns_shared es t ≡ ltb (place_of es t) (shared_front es)
 owns_shared-place [] t = refl

@@ -1,5 +1,5 @@
 -- Worked values: the hashes, slices and lock entries of names, and what looks show.
-use Rattle.std.proofs.Common.{◌≡◌, ℕ, List, [], ◌∷◌, Option, Some, None, true, false, refl, codes, replicate}
+use Rattle.std.proofs.Common.{◌≡◌, refl, codes, replicate}
 use Rattle.grs_base.specs.Slices.{hash_from, hash_of, slice_of, entry_of}
 use Rattle.grs_base.specs.ResOrder.{padded}
 

@@ -1,21 +1,20 @@
 -- Laws of the state: what each step leaves in the list of each resource, and in the order of each task.
-use Rattle.std.proofs.Common.{◌≡◌, ◌≢◌, ℕ, Bool, true, false, cond, not, ◌&&◌, ◌||◌, List, [], ◌∷◌, ◌++◌, map, length, refl, ap, sym, ◌∙◌, subst, arith, eqb, append-nil}
+use Rattle.std.proofs.Common.{◌≡◌, Bool, true, false, cond, not, List, [], ◌∷◌, ◌++◌, refl, arith, append-nil}
 use Rattle.std.specs.Prelude.{filter}
-use Rattle.std.proofs.lemmas.Bool.{and_parts, false_from_ne_true, cases_Bool}
 use Rattle.grs_base.specs.Same.{same_res, same_task}
-use Rattle.grs_base.specs.Lists.{list_after, list_exclusive, list_without, owns, decide_enq, enq_decision, standing_of, can_have}
+use Rattle.grs_base.specs.Lists.{list_after, list_exclusive, list_without, decide_enq, enq_decision, standing_of, can_have}
 use Rattle.grs_base.specs.declared.resource.Ret.{Ret}
 use Rattle.grs_base.specs.declared.decision.Standing.{Standing}
 use Rattle.grs_base.specs.declared.decision.Standing.TheVariants.{OnlyShared, Absent}
-use Rattle.grs_base.specs.State.{pick, Held, list_at, without, with_exclusive, queued_by, is_at, State, list_of, after_effect, enq_state, deq_state, release_state, remove_state, is_systems}
+use Rattle.grs_base.specs.State.{Held, list_at, without, with_exclusive, queued_by, is_at, State, list_of, after_effect}
 use Rattle.grs_base.specs.declared.resource.Res.{Res}
 use Rattle.grs_base.specs.declared.resource.TaskId.{TaskId}
 use Rattle.grs_base.specs.declared.resource.Elem.{Elem}
 use Rattle.grs_base.specs.declared.resource.Ctl.{Ctl}
-use Rattle.grs_base.specs.declared.resource.Ctl.TheVariants.{E, S}
+use Rattle.grs_base.specs.declared.resource.Ctl.TheVariants.{E}
 use Rattle.grs_base.specs.declared.decision.Effect.{Effect}
 use Rattle.grs_base.specs.declared.decision.Effect.TheVariants.{Nothing, Append, MakeExclusive}
-use Rattle.grs_base.proofs.SameLaws.{IsEquality, same_res-exact, same_res-itself, same_task-exact, same_task-itself}
+use Rattle.grs_base.proofs.SameLaws.{IsEquality, same_res-exact, same_res-itself, same_task-itself}
 use Rattle.grs_base.proofs.Picks.{pick-append, pick-filter, pick-filter_by, pick-map, pick-map_by}
 
 module _ {K : Type 0} (same : K → K → Bool) (equality : IsEquality same) where

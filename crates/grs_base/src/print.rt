@@ -1,7 +1,7 @@
 //! Prints the name of a resource.
 ghost use Rattle.std.specs.Prelude.{◌≡◌, ◌<◌, ◌++◌, ◌∷◌, [], length, OnOk, OnErr, IfOk};
 ghost use Rattle.std.specs.List.{list_all};
-ghost use Rattle.grs_base.specs.Printed.{is_plain_byte, is_printable, quotes_doubled, hex_digit, hex_digits, quoted, hexed, printed_name};
+ghost use Rattle.grs_base.specs.Printed.{is_plain_byte, is_printable, hex_digit, quoted, hexed, printed_name};
 
 use super::NoMemory;
 use super::list::List;
