@@ -1,4 +1,5 @@
--- The list of one resource, and what is answered by it.
+-- The list of one resource, and what is answered by it. (z/OS MVS Programming: Authorized Assembler Services Reference,
+-- "ENQ" and "DEQ".)
 use Rattle.std.specs.Prelude.{ℕ, suc, Bool, true, false, not, ◌&&◌, ◌||◌, ◌==◌, nat_lt, List, [], ◌∷◌, ◌++◌, length, map, filter, cond, if◌then◌else◌}
 use Rattle.grs_base.specs.Same.{same_task}
 use Rattle.grs_base.specs.declared.resource.TaskId.{TaskId}
@@ -29,11 +30,12 @@ abbrev pub owners : List Elem → ℕ
 owners [] = 0
 owners (e ∷ es) = if is_shared e.ctl then suc (shared_front es) else 1
 
+-- whether nobody in the list is exclusive; so of the empty list
 abbrev pub all_shared : List Elem → Bool
 all_shared [] = true
 all_shared (e ∷ es) = is_shared e.ctl && all_shared es
 
--- whether control can be had at once
+-- whether a task that isn't in the list can have this control at once
 abbrev pub can_have : List Elem → Ctl → Bool
 can_have es E = length es == 0
 can_have es S = all_shared es
@@ -55,7 +57,8 @@ standing_of es task =
     then (if begins_shared es then (if owners es == 1 then OnlyShared else AmongShared) else Exclusive)
     else (if nat_lt (place_of es task) (length es) then Waits else Absent)
 
--- what is answered to a task that has an element or may not have another
+-- what is answered to an ENQ that may not be made: the task ends with code n where nothing was said of it (RET=NONE),
+-- else it is told c
 abbrev pub unless_unconditional : Ret → ℕ → Code → Code
 unless_unconditional RetNone n c = End n
 unless_unconditional RetUse n c = c
@@ -67,7 +70,7 @@ unless_unconditional RetEcb n c = c
 abbrev pub decided : Code → Effect → Decision
 decided c e = record { code = c; effect = e }
 
--- a task that isn't there, by whether control can be had
+-- what ENQ decides for a task that isn't in the list and may have another element, by whether control can be had
 abbrev pub enq_absent : Ret → Bool → Decision
 enq_absent RetChng can = decided C08 Nothing
 enq_absent RetTest can = decided (if can then C00 else C04) Nothing
@@ -76,7 +79,7 @@ enq_absent RetNone can = decided (if can then C00 else Wait) Append
 enq_absent RetHave can = decided (if can then C00 else Wait) Append
 enq_absent RetEcb can = decided (if can then C00 else C04) Append
 
--- a task that isn't there, by whether it has as many elements as it may
+-- what ENQ decides for a task that isn't in the list, by whether it has as many elements as it may
 abbrev pub enq_new : Ret → Bool → Bool → Decision
 enq_new RetChng full can = decided C08 Nothing
 enq_new RetNone full can = if full then decided (End 538) Nothing else enq_absent RetNone can
@@ -100,7 +103,7 @@ enq_decision Absent ret full can = enq_new ret full can
 abbrev pub decide_enq : List Elem → TaskId → Ctl → Ret → Bool → Decision
 decide_enq es task ctl ret full = enq_decision (standing_of es task) ret full (can_have es ctl)
 
--- the table of DEQ: the code, and whether the element is taken out
+-- the table of DEQ: the code, by whether RET=HAVE was said; an owner's element is taken out
 abbrev pub deq_code : Standing → Bool → Code
 deq_code Exclusive have = C00
 deq_code OnlyShared have = C00
@@ -143,7 +146,7 @@ list_exclusive es task = map (λ x. cond (same_task task x.task) (record { task 
 abbrev pub list_without : List Elem → TaskId → List Elem
 list_without es task = filter (λ x. not (same_task task x.task)) es
 
--- a list after what is decided
+-- the list after what is decided
 abbrev pub list_after : List Elem → TaskId → Ctl → Effect → List Elem
 list_after es task ctl Nothing = es
 list_after es task ctl Append = es ++ record { task = task; ctl = ctl } ∷ []

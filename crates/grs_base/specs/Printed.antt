@@ -11,6 +11,7 @@ is_plain_byte b =
     (is_between 65 90 b || (is_between 97 122 b || is_between 48 57 b))
     || ((b == 36 || (b == 35 || b == 64)) || ((b == 46 || b == 95) || (b == 45 || (b == 42 || b == 63))))
 
+-- from blank to ~
 abbrev pub is_printable : ℕ → Bool
 is_printable b = is_between 32 126 b
 
@@ -28,11 +29,14 @@ abbrev pub hex_digits : List ℕ → List ℕ
 hex_digits [] = []
 hex_digits (b ∷ bs) = hex_digit (b / 16) ∷ hex_digit (b % 16) ∷ hex_digits bs
 
+-- between quotes
 abbrev pub quoted : List ℕ → List ℕ
 quoted bs = 39 ∷ (quotes_doubled bs ++ 39 ∷ [])
 
+-- as hexadecimal digits between quotes, behind an X
 abbrev pub hexed : List ℕ → List ℕ
 hexed bs = 88 ∷ 39 ∷ (hex_digits bs ++ 39 ∷ [])
 
+-- plain where each byte is, else between quotes where each byte is printable, else as hexadecimal digits
 abbrev pub printed_name : List ℕ → List ℕ
 printed_name bs = if list_all is_plain_byte bs then bs else (if list_all is_printable bs then quoted bs else hexed bs)

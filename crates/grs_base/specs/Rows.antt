@@ -17,6 +17,7 @@ lists_from s (h ∷ hs) = put res_order h.0 (list_of s h.0) (lists_from s hs)
 abbrev pub lists_of : State → List (Res × List Elem)
 lists_of s = lists_from s s
 
+-- a resource with its list, and how many of the list own it
 abbrev pub row_of : Res × List Elem → Row
 row_of e = record { res = e.0; elems = e.1; owners = owners e.1 }
 

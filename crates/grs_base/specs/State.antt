@@ -44,6 +44,7 @@ module _ {K : Type 0} where
   abbrev pub queued_by : Held K → TaskId → List K
   queued_by s t = pick (λ h. same_task t h.1.task) (λ h. h.0) s
 
+-- the elements of all lists
 abbrev pub State : Type 0
 State = Held Res
 
@@ -57,25 +58,31 @@ after_effect s r t c Nothing = s
 after_effect s r t c Append = s ++ (r, record { task = t; ctl = c }) ∷ []
 after_effect s r t c MakeExclusive = with_exclusive same_res s r t
 
--- whether a task has as many elements as it may
+-- whether a task has as many elements as the limit allows
 abbrev pub is_full : ℕ → State → TaskId → Bool
 is_full limit s t = nat_le limit (length (queued_by s t))
 
+-- what an ENQ is answered; `full` tells that its task has as many elements as it may
 abbrev pub enq_code : State → Res → TaskId → Ctl → Ret → Bool → Code
 enq_code s r t c ret full = (decide_enq (list_of s r) t c ret full).code
 
+-- the state after an ENQ
 abbrev pub enq_state : State → Res → TaskId → Ctl → Ret → Bool → State
 enq_state s r t c ret full = after_effect s r t c (decide_enq (list_of s r) t c ret full).effect
 
+-- what a DEQ is answered; `have` is RET=HAVE
 abbrev pub deq_reply : State → Res → TaskId → Bool → Code
 deq_reply s r t have = deq_code (standing_of (list_of s r) t) have
 
+-- the state after a DEQ: only an owner gives control up
 abbrev pub deq_state : State → Res → TaskId → State
 deq_state s r t = cond (is_owner (standing_of (list_of s r) t)) (without same_res s r t) s
 
+-- the state after a task's element was taken out wherever it stood
 abbrev pub release_state : State → Res → TaskId → State
 release_state s r t = without same_res s r t
 
+-- whether a resource is one of the whole complex
 abbrev pub is_systems : Res → Bool
 is_systems (Step _ _ _ _) = false
 is_systems (System _ _ _) = false
@@ -85,7 +92,7 @@ is_systems (Systems _ _) = true
 abbrev pub remove_state : State → ℕ → State
 remove_state s n = filter (λ h. not (is_systems h.0 && (n == h.1.task.system.0))) s
 
--- the list of a queue, where there is one
+-- the list of a queue, or the empty list where there is none
 abbrev pub list_at_some : Held ℕ → Option ℕ → List Elem
 list_at_some s None = []
 list_at_some s (Some q) = list_at nat_eq s q

@@ -1,4 +1,4 @@
-//! What can be wrong with a deck, and want of memory.
+//! What can be wrong with a deck, and want of memory. Decks are this project's own, and so are their faults.
 
 /// Memory was wanted and not given.
 #[derive(Clone, Copy, Debug, PartialEq, Eq)]

@@ -1,4 +1,6 @@
-//! What a task's lines say.
+//! What a task's lines say: the requests that a program makes by macros, and the commands that show lists. (z/OS MVS
+//! Programming: Authorized Assembler Services Reference, "ENQ", "DEQ", "GQSCAN" and "RESERVE"; z/OS MVS System Commands,
+//! "DISPLAY GRS".)
 ghost use Rattle.std.specs.Prelude.{◌≡◌, IfOk};
 
 use super::NoMemory;
@@ -19,7 +21,7 @@ pub enum Scope {
     Systems,
 }
 
-/// A resource that an ENQ asks for.
+/// A resource that an ENQ asks for: its names, the control that is wanted, and who shares it.
 #[derive(Drop)]
 pub struct Item {
     pub q: Qname,
@@ -38,8 +40,7 @@ pub enum Line {
         ret: Ret,
         rnl: bool,
     },
-    /// An ENQ of a resource of the whole complex that stands for the reserve of a device, the `unit`, a
-    /// number of 16 bits. (z/OS MVS Programming: Authorized Assembler Services Reference, "RESERVE".)
+    /// An ENQ of a resource of the whole complex that stands for the reserve of a device, whose number is `unit`.
     Reserve {
         q: Qname,
         r: Rname,
@@ -48,7 +49,7 @@ pub enum Line {
         ret: Ret,
         rnl: bool,
     },
-    /// Gives a resource up. `have` is RET=HAVE. The unit is read and changes nothing.
+    /// Gives a resource up. `have` is RET=HAVE. The unit, which a deck may give, changes nothing.
     Deq {
         q: Qname,
         r: Rname,

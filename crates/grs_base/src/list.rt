@@ -1,4 +1,4 @@
-//! A list.
+//! A list of items, and copies of lists.
 ghost use Rattle.std.specs.Prelude.{◌≡◌, IfOk};
 
 use super::NoMemory;

@@ -1,5 +1,6 @@
-//! Names of resources.
-ghost use Rattle.std.specs.Prelude.{◌≡◌, ◌<◌, ◌≤◌, ◌↔◌, length, List, ℕ, IfOk, IsOk, OnOk, Err, true, false};
+//! The two names of a resource. (z/OS MVS Programming: Authorized Assembler Services Reference, "ENQ".) That a qname may
+//! be shorter than eight bytes, as if blanks stood behind it, is this project's own.
+ghost use Rattle.std.specs.Prelude.{◌≡◌, ◌≤◌, ◌↔◌, length, List, ℕ, IfOk, OnOk, Err, true, false};
 ghost use Rattle.grs_base.specs.Names.{trim_blanks, is_qname, is_rname, IsQname};
 
 use super::fault::{NameFault, NoMemory};

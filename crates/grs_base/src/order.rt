@@ -1,5 +1,5 @@
-//! The order in which resources are shown.
-ghost use Rattle.std.specs.Prelude.{◌≡◌, ◌≤◌, length};
+//! The order in which resources are shown, which is this project's own.
+ghost use Rattle.std.specs.Prelude.{◌≡◌};
 ghost use Rattle.std.specs.Ordering.{on, then_cmp};
 ghost use Rattle.grs_base.specs.ResOrder.{group_of, qname_of, rname_of, padded as padded_name, by_numbers, res_order};
 
@@ -17,13 +17,6 @@ impl Res {
         }
     }
 
-    /// Where this resource is shown, by its group, its padded qname and its rname.
-    pub fn order(&self, other: &Res) -> Ordering
-        ensures { result ≡ res_order self.now other.now }
-    {
-        order_of_groups(self, other).then(order_of_names(self, other))
-    }
-
     /// The second name.
     pub fn rname(&self) -> &Rname
         ensures { result.now ≡ rname_of self.now }
@@ -31,6 +24,13 @@ impl Res {
         match self {
             Res::Step { r, .. } | Res::System { r, .. } | Res::Systems { r, .. } => r,
         }
+    }
+
+    /// Whether this resource is shown before another: by its group, its padded qname and its rname.
+    pub fn order(&self, other: &Res) -> Ordering
+        ensures { result ≡ res_order self.now other.now }
+    {
+        order_of_groups(self, other).then(order_of_names(self, other))
     }
 }
 

@@ -1,5 +1,5 @@
-//! Prints the name of a resource.
-ghost use Rattle.std.specs.Prelude.{◌≡◌, ◌<◌, ◌++◌, ◌∷◌, [], length, OnOk, OnErr, IfOk};
+//! How the name of a resource is printed, in decks and in reports alike. The forms are this project's own.
+ghost use Rattle.std.specs.Prelude.{◌≡◌, ◌<◌, ◌++◌, length, OnOk, OnErr, IfOk};
 ghost use Rattle.std.specs.List.{list_all};
 ghost use Rattle.grs_base.specs.Printed.{is_plain_byte, is_printable, hex_digit, quoted, hexed, printed_name};
 

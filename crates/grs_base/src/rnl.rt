@@ -63,7 +63,7 @@ impl Copied for RnlEntry {
     }
 }
 
-/// The most entries of a name list.
+/// The most entries of a name list, a limit of this project's own.
 pub const MOST_ENTRIES: usize = 4096;
 
 /// A name list, seen as which one it is and its entries in order.

@@ -1,4 +1,5 @@
-//! The slices of Systems resources, by a hash of their names, and the lock entries of the slices.
+//! The slices of Systems resources, by a hash of their names, and the lock entries of the slices. How they are dealt
+//! out is this project's own.
 ghost use Rattle.std.specs.Prelude.{◌≡◌, ◌<◌, ◌≢◌};
 ghost use Rattle.grs_base.specs.Slices.{hash_from, slice_of, entry_of};
 
