@@ -1,7 +1,9 @@
-//! Each value that passes between the parts is copied once, and tells the same as what was put into it.
+//! Values that pass between the parts are copied, with all that they hold, and tell the same as what was put into them.
+//! A copy is made of the outermost value, and each is dropped on one path alone, since a drop is dear to prove.
 use super::*;
 use grs_base::{
-    Code, Ctl, Elem, Filter, Line, List, Lists, Place, Qname, Res, Ret, Rname, Row, SysId, TaskId,
+    Code, Ctl, Elem, Filter, Line, List, Lists, NameFault, Place, Qname, Res, Ret, Rname, Row,
+    SysId, TaskId,
 };
 use std::alloc::Global;
 use std::test::Fail;
@@ -12,7 +14,7 @@ const TASK: TaskId = TaskId {
     task: 3,
 };
 
-fn res(alloc: Global) -> Result<Res, Fail> {
+fn res(alloc: Global) -> Result<Res, NameFault> {
     let q = Qname::new(alloc, b"PAYROLL")?;
     let r = Rname::new(alloc, b"MASTER")?;
     Ok(Res::Systems { q, r })
@@ -28,19 +30,24 @@ fn is_named(res: &Res) -> bool {
     }
 }
 
-/// A list of one row with one element.
-fn rows(alloc: Global) -> Result<List<Row>, Fail> {
+fn row(alloc: Global) -> Result<Row, NameFault> {
     let mut elems = List::new(alloc);
     elems.push(Elem {
         task: TASK,
         ctl: Ctl::S,
     })?;
-    let mut rows = List::new(alloc);
-    rows.push(Row {
+    Ok(Row {
         res: res(alloc)?,
         elems,
         owners: 1,
-    })?;
+    })
+}
+
+/// A list of one row with one element.
+fn rows(alloc: Global) -> Result<List<Row>, NameFault> {
+    let row = row(alloc)?;
+    let mut rows = List::new(alloc);
+    rows.push(row)?;
     Ok(rows)
 }
 
@@ -52,52 +59,51 @@ fn is_one_row(rows: &[Row]) -> bool {
     }
 }
 
-fn copied_task(alloc: Global) -> Result<TaskDef, Fail> {
+fn tasks(alloc: Global) -> Result<List<TaskDef>, NameFault> {
+    let name = List::from_bytes(alloc, b"T1")?;
     let mut lines = List::new(alloc);
     lines.push(Line::DisplayC)?;
-    let name = List::from_bytes(alloc, b"T1")?;
-    let task = TaskDef { name, lines };
-    Ok(task.copy(alloc)?)
-}
-
-fn copied_job(alloc: Global) -> Result<JobDef, Fail> {
     let mut tasks = List::new(alloc);
-    tasks.push(copied_task(alloc)?)?;
-    let name = List::from_bytes(alloc, b"JOB1")?;
-    let job = JobDef { name, tasks };
-    Ok(job.copy(alloc)?)
+    tasks.push(TaskDef { name, lines })?;
+    Ok(tasks)
 }
 
-fn copied_system(alloc: Global) -> Result<SystemDef, Fail> {
+fn jobs(alloc: Global) -> Result<List<JobDef>, NameFault> {
+    let name = List::from_bytes(alloc, b"JOB1")?;
+    let tasks = tasks(alloc)?;
+    let mut jobs = List::new(alloc);
+    jobs.push(JobDef { name, tasks })?;
+    Ok(jobs)
+}
+
+fn systems(alloc: Global) -> Result<List<SystemDef>, NameFault> {
+    let name = List::from_bytes(alloc, b"SYA")?;
     let mut desk = List::new(alloc);
     desk.push(Desk {
         at: 5,
         order: Order::Star,
     })?;
-    let mut jobs = List::new(alloc);
-    jobs.push(copied_job(alloc)?)?;
-    let name = List::from_bytes(alloc, b"SYA")?;
-    let system = SystemDef { name, desk, jobs };
-    Ok(system.copy(alloc)?)
+    let jobs = jobs(alloc)?;
+    let mut systems = List::new(alloc);
+    systems.push(SystemDef { name, desk, jobs })?;
+    Ok(systems)
 }
 
-fn copied_deck(alloc: Global) -> Result<Deck, Fail> {
-    let mut systems = List::new(alloc);
-    systems.push(copied_system(alloc)?)?;
+fn deck(alloc: Global) -> Result<Deck, NameFault> {
     let mut events = List::new(alloc);
     events.push(Event {
         system: SysId(0),
         choice: Choice::Turn,
     })?;
-    let deck = Deck {
+    let systems = systems(alloc)?;
+    Ok(Deck {
         star: true,
         entries: 8,
         limit: 16,
         lists: Lists::new(alloc),
         systems,
         events,
-    };
-    Ok(deck.copy(alloc)?)
+    })
 }
 
 fn is_task(tasks: &[TaskDef]) -> bool {
@@ -125,49 +131,67 @@ fn is_system(systems: &[SystemDef]) -> bool {
     }
 }
 
-fn copies_decks(alloc: Global) -> Result<bool, Fail> {
-    let deck = copied_deck(alloc)?;
+/// Whether a deck is that of `deck`.
+fn is_deck(deck: &Deck) -> bool {
     let numbers = deck.star && deck.entries == 8 && deck.limit == 16 && deck.events.len() == 1;
-    Ok(numbers && is_system(deck.systems.as_slice()))
+    numbers && is_system(deck.systems.as_slice())
 }
 
-fn copies_history(alloc: Global) -> Result<bool, Fail> {
-    let entry = HistEntry::Look {
+fn is_deck_copied(alloc: Global, deck: &Deck) -> Result<bool, NameFault> {
+    let copied = deck.copy(alloc)?;
+    Ok(is_deck(&copied))
+}
+
+fn copies_decks(alloc: Global) -> Result<bool, NameFault> {
+    let deck = deck(alloc)?;
+    is_deck_copied(alloc, &deck)
+}
+
+fn look(alloc: Global) -> Result<HistEntry, NameFault> {
+    Ok(HistEntry::Look {
         task: TASK,
         place: Place::Slice(7),
         filter: Filter::Contended,
         rows: rows(alloc)?,
-    };
-    Ok(match entry.copy(alloc)? {
+    })
+}
+
+/// Whether an entry is that of `look`.
+fn is_look(entry: &HistEntry) -> bool {
+    match entry {
         HistEntry::Look {
             task,
             place,
             rows,
             ..
-        } => task == TASK && place == Place::Slice(7) && is_one_row(rows.as_slice()),
+        } => *task == TASK && *place == Place::Slice(7) && is_one_row(rows.as_slice()),
         _ => false,
-    })
+    }
 }
 
-fn want(alloc: Global) -> Result<Want, Fail> {
-    Ok(Want::Enq {
-        res: res(alloc)?,
-        ctl: Ctl::E,
-        ret: Ret::RetUse,
-        full: true,
-    })
+fn is_look_copied(alloc: Global, entry: &HistEntry) -> Result<bool, NameFault> {
+    let copied = entry.copy(alloc)?;
+    Ok(is_look(&copied))
 }
 
-fn copied_request(alloc: Global) -> Result<Req, Fail> {
-    let want = want(alloc)?;
-    let req = Req {
+fn copies_history(alloc: Global) -> Result<bool, NameFault> {
+    let entry = look(alloc)?;
+    is_look_copied(alloc, &entry)
+}
+
+fn request(alloc: Global) -> Result<Req, NameFault> {
+    Ok(Req {
         task: TASK,
-        want: want.copy(alloc)?,
-    };
-    Ok(req.copy(alloc)?)
+        want: Want::Enq {
+            res: res(alloc)?,
+            ctl: Ctl::E,
+            ret: Ret::RetUse,
+            full: true,
+        },
+    })
 }
 
-/// Whether a request is that of `copied_request`.
+/// Whether a request is that of `request`.
 fn is_request(req: &Req) -> bool {
     match &req.want {
         Want::Enq {
@@ -180,89 +204,112 @@ fn is_request(req: &Req) -> bool {
     }
 }
 
-fn copies_answers(alloc: Global) -> Result<bool, Fail> {
-    let answer = Answer::Rows(rows(alloc)?);
-    Ok(match answer.copy(alloc)? {
+/// Whether an answer is rows, and those of `rows`.
+fn is_answer(answer: &Answer) -> bool {
+    match answer {
         Answer::Rows(rows) => is_one_row(rows.as_slice()),
         Answer::Coded(_) => false,
+    }
+}
+
+fn is_answer_copied(alloc: Global, answer: &Answer) -> Result<bool, NameFault> {
+    let copied = answer.copy(alloc)?;
+    Ok(is_answer(&copied))
+}
+
+fn copies_answers(alloc: Global) -> Result<bool, NameFault> {
+    let answer = Answer::Rows(rows(alloc)?);
+    is_answer_copied(alloc, &answer)
+}
+
+fn mail(alloc: Global) -> Result<Mail, NameFault> {
+    Ok(Mail::Request {
+        entry: 4,
+        from: SysId(2),
+        req: request(alloc)?,
     })
 }
 
-fn copied_entry(alloc: Global) -> Result<RingEntry, Fail> {
-    let body = RingBody::Request(copied_request(alloc)?);
-    let entry = RingEntry {
-        number: 9,
-        from: SysId(1),
-        body: body.copy(alloc)?,
-        mask: 6,
-    };
-    Ok(entry.copy(alloc)?)
-}
-
-/// Whether entries are the one of `copied_entry`.
-fn is_entry(entries: &[RingEntry]) -> bool {
-    match entries {
-        [entry] => {
-            let asks = match &entry.body {
-                RingBody::Request(req) => is_request(req),
-                RingBody::Remove(_) => false,
-            };
-            asks && entry.number == 9 && entry.from == SysId(1) && entry.mask == 6
-        }
+/// Whether a mail is that of `mail`.
+fn is_mail(mail: &Mail) -> bool {
+    match mail {
+        Mail::Request { entry, from, req } => *entry == 4 && *from == SysId(2) && is_request(req),
         _ => false,
     }
 }
 
-fn copies_mail(alloc: Global) -> Result<bool, Fail> {
-    let mail = Mail::Request {
-        entry: 4,
-        from: SysId(2),
-        req: copied_request(alloc)?,
-    };
-    Ok(match mail.copy(alloc)? {
-        Mail::Request { entry, from, req } => entry == 4 && from == SysId(2) && is_request(&req),
-        _ => false,
-    })
+fn is_mail_copied(alloc: Global, mail: &Mail) -> Result<bool, NameFault> {
+    let copied = mail.copy(alloc)?;
+    Ok(is_mail(&copied))
 }
 
-fn turn(alloc: Global) -> Result<Act, Fail> {
+fn copies_mail(alloc: Global) -> Result<bool, NameFault> {
+    let mail = mail(alloc)?;
+    is_mail_copied(alloc, &mail)
+}
+
+fn call(alloc: Global) -> Result<Call, NameFault> {
+    let req = request(alloc)?;
     let mut out = List::new(alloc);
-    out.push(copied_request(alloc)?)?;
-    Ok(Act::Turn { out })
-}
-
-fn call(alloc: Global) -> Result<Call, Fail> {
+    out.push(req)?;
     Ok(Call {
         known: 3,
-        act: turn(alloc)?,
+        act: Act::Turn { out },
     })
 }
 
-fn reply(alloc: Global) -> Result<Reply, Fail> {
+fn entries(alloc: Global) -> Result<List<RingEntry>, NameFault> {
+    let body = RingBody::Request(request(alloc)?);
     let mut entries = List::new(alloc);
-    entries.push(copied_entry(alloc)?)?;
-    Ok(Reply::Turned {
-        entries,
-        taken: 1,
-        closed: true,
-    })
+    entries.push(RingEntry {
+        number: 9,
+        from: SysId(1),
+        body,
+        mask: 6,
+    })?;
+    Ok(entries)
 }
 
-fn call_line(alloc: Global) -> Result<JEntry, Fail> {
+/// A line of the journal, of a Turn and its reply.
+fn call_line(alloc: Global) -> Result<JEntry, NameFault> {
+    let entries = entries(alloc)?;
     let call = call(alloc)?;
     Ok(JEntry {
         system: SysId(1),
         call,
-        reply: reply(alloc)?,
+        reply: Reply::Turned {
+            entries,
+            taken: 1,
+            closed: true,
+        },
     })
 }
 
+/// Whether a call is that of `call`.
 fn is_call(call: &Call) -> bool {
     match &call.act {
         Act::Turn { out } => match out.as_slice() {
             [req] => call.known == 3 && is_request(req),
             _ => false,
         },
+        _ => false,
+    }
+}
+
+fn is_body(body: &RingBody) -> bool {
+    match body {
+        RingBody::Request(req) => is_request(req),
+        RingBody::Remove(_) => false,
+    }
+}
+
+/// Whether entries are those of `entries`.
+fn is_entry(entries: &[RingEntry]) -> bool {
+    match entries {
+        [entry] => {
+            let numbers = entry.number == 9 && entry.from == SysId(1) && entry.mask == 6;
+            numbers && is_body(&entry.body)
+        }
         _ => false,
     }
 }
@@ -278,40 +325,33 @@ fn is_reply(reply: &Reply) -> bool {
     }
 }
 
+/// Whether a line of the journal is that of `call_line`.
 fn is_call_line(line: &JEntry) -> bool {
     line.system == SysId(1) && is_call(&line.call) && is_reply(&line.reply)
 }
 
-/// Whether a line is copied. A line is dropped on one path alone in each function here, since a drop of it is dear
-/// to prove.
-fn copies_call_line(alloc: Global, line: &JEntry) -> Result<bool, Fail> {
+fn is_call_line_copied(alloc: Global, line: &JEntry) -> Result<bool, NameFault> {
     let copied = line.copy(alloc)?;
     Ok(is_call_line(&copied))
 }
 
-fn copies_calls(alloc: Global) -> Result<bool, Fail> {
+fn copies_calls(alloc: Global) -> Result<bool, NameFault> {
     let line = call_line(alloc)?;
-    copies_call_line(alloc, &line)
+    is_call_line_copied(alloc, &line)
 }
 
-fn copied_fixed(alloc: Global) -> Result<Fixed, Fail> {
-    let fixed = Fixed::Asked(copied_request(alloc)?);
-    Ok(fixed.copy(alloc)?)
-}
-
-fn copied_line(alloc: Global) -> Result<ToldLine, Fail> {
-    let line = ToldLine::Shown {
+fn shown(alloc: Global) -> Result<ToldLine, NameFault> {
+    Ok(ToldLine::Shown {
         task: TASK,
         k: 2,
         verb: Verb::Display,
         code: Code::C00,
         rows: rows(alloc)?,
-    };
-    Ok(line.copy(alloc)?)
+    })
 }
 
-/// Whether lines are the one of `copied_line`.
-fn is_line(line: &ToldLine) -> bool {
+/// Whether a line is that of `shown`.
+fn is_shown(line: &ToldLine) -> bool {
     match line {
         ToldLine::Shown { task, k, rows, .. } => {
             *task == TASK && *k == 2 && is_one_row(rows.as_slice())
@@ -320,31 +360,46 @@ fn is_line(line: &ToldLine) -> bool {
     }
 }
 
-fn copies_told(alloc: Global) -> Result<bool, Fail> {
+fn is_told_copied(alloc: Global, told: &Told) -> Result<bool, NameFault> {
+    let copied = told.copy(alloc)?;
+    let same = copied.event == 11 && copied.system == SysId(1);
+    Ok(same && is_shown(&copied.line))
+}
+
+fn copies_told(alloc: Global) -> Result<bool, NameFault> {
     let told = Told {
         event: 11,
         system: SysId(1),
-        line: copied_line(alloc)?,
+        line: shown(alloc)?,
     };
-    let told = told.copy(alloc)?;
-    Ok(told.event == 11 && told.system == SysId(1) && is_line(&told.line))
+    is_told_copied(alloc, &told)
 }
 
-fn copied_log(alloc: Global) -> Result<NodeLog, Fail> {
+fn fixed(alloc: Global) -> Result<List<Fixed>, NameFault> {
+    let req = request(alloc)?;
     let mut fixed = List::new(alloc);
-    fixed.push(copied_fixed(alloc)?)?;
+    fixed.push(Fixed::Asked(req))?;
+    Ok(fixed)
+}
+
+fn told(alloc: Global) -> Result<List<ToldLine>, NameFault> {
+    let line = shown(alloc)?;
     let mut told = List::new(alloc);
-    told.push(copied_line(alloc)?)?;
-    let step = StepDone {
+    told.push(line)?;
+    Ok(told)
+}
+
+fn log(alloc: Global) -> Result<NodeLog, NameFault> {
+    let fixed = fixed(alloc)?;
+    let told = told(alloc)?;
+    let mut steps = List::new(alloc);
+    steps.push(StepDone {
         choice: Choice::Take,
         journalled: true,
         fixed,
         told,
-    };
-    let mut steps = List::new(alloc);
-    steps.push(step.copy(alloc)?)?;
-    let log = NodeLog { steps };
-    Ok(log.copy(alloc)?)
+    })?;
+    Ok(NodeLog { steps })
 }
 
 fn is_fixed(fixed: &[Fixed]) -> bool {
@@ -356,20 +411,30 @@ fn is_fixed(fixed: &[Fixed]) -> bool {
 
 fn is_told(told: &[ToldLine]) -> bool {
     match told {
-        [line] => is_line(line),
+        [line] => is_shown(line),
         _ => false,
     }
 }
 
-fn copies_logs(alloc: Global) -> Result<bool, Fail> {
-    let log = copied_log(alloc)?;
-    Ok(match log.steps.as_slice() {
+/// Whether steps are those of `log`.
+fn is_step(steps: &[StepDone]) -> bool {
+    match steps {
         [step] => {
             let same = step.choice == Choice::Take && step.journalled;
             same && is_fixed(step.fixed.as_slice()) && is_told(step.told.as_slice())
         }
         _ => false,
-    })
+    }
+}
+
+fn is_log_copied(alloc: Global, log: &NodeLog) -> Result<bool, NameFault> {
+    let copied = log.copy(alloc)?;
+    Ok(is_step(copied.steps.as_slice()))
+}
+
+fn copies_logs(alloc: Global) -> Result<bool, NameFault> {
+    let log = log(alloc)?;
+    is_log_copied(alloc, &log)
 }
 
 #[test]
