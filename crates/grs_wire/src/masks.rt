@@ -1,6 +1,6 @@
 //! Sets of systems as numbers. Whoever has such a set asks it by the three words here, and never opens its
 //! bits.
-ghost use Rattle.std.specs.Prelude.{◌≡◌, ◌<◌, ◌^◌};
+ghost use Rattle.std.specs.Prelude.{◌≡◌, ◌<◌};
 ghost use Rattle.grs_wire.specs.Masks.{has, without, with_also};
 
 use grs_base::SysId;
