@@ -1,4 +1,4 @@
-//! What a deck says.
+//! What a deck says. Its form is this project's own; each line asks for what its macro or command asks for.
 ghost use Rattle.std.specs.Prelude.{◌≡◌, IfOk};
 
 use grs_base::{Copied, Line, List, Lists, NoMemory, SysId, TaskId, copy_all};
@@ -30,7 +30,7 @@ pub enum Order {
     Vary(SysId),
 }
 
-/// A command at a system's desk, to be given once the system has made about `at` events.
+/// A command at a system's desk. `at` is about how many events the system makes before; nothing rests on it.
 #[derive(Clone, Copy, Debug, PartialEq, Eq)]
 pub struct Desk {
     pub at: u32,
@@ -52,15 +52,15 @@ pub enum Choice {
     Task(TaskId),
     /// The system takes its turn at the authority message.
     Turn,
-    /// A waiting request is sent to its manager.
+    /// The request of this task is sent to the manager of its lock entry.
     Send(TaskId),
     /// A mail is taken from the inbox.
     Take,
     /// The first held request is settled.
     Settle,
-    /// A task of another system is told that it got control, for this entry.
+    /// A task of another system is told that it got control of a resource of this lock entry.
     Tell(u32),
-    /// Interest in this entry is given up.
+    /// Interest in this lock entry is given up.
     Leave(u32),
     /// The complex changes to star mode.
     Switch,

@@ -1,5 +1,6 @@
 //! What passes between a system and the shared medium: calls, replies, mail, and the entries of the authority
-//! message. A set of systems is a number here; `masks` has the words for it.
+//! message, which is the RSA-message of z/OS MVS Planning: Global Resource Serialization. Calls and replies are this
+//! project's own. A set of systems is a number here; `masks` has the words for it.
 ghost use Rattle.std.specs.Prelude.{◌≡◌, IfOk};
 
 use super::request::{Answer, Req};
