@@ -1,13 +1,13 @@
 -- Laws of histories.
-use Rattle.std.proofs.Common.{◌≡◌, ℕ, Bool, true, false, cond, List, [], ◌∷◌, ◌++◌, refl, ap, subst, sym, ◌∙◌}
-use Rattle.grs_base.specs.Same.{same_res, same_task}
-use Rattle.grs_base.specs.Lists.{is_apart, is_owner, standing_of, list_without, list_after, decide_enq}
+use Rattle.std.proofs.Common.{◌≡◌, ℕ, Bool, true, false, cond, List, [], ◌∷◌, ◌++◌, refl, subst, sym}
+use Rattle.grs_base.specs.Same.{same_res}
+use Rattle.grs_base.specs.Lists.{is_apart, is_owner, standing_of, list_without}
 use Rattle.grs_base.specs.State.{State, list_of, is_full, without}
 use Rattle.grs_base.specs.declared.resource.Res.{Res}
 use Rattle.grs_base.proofs.SameLaws.{same_res-exact}
 use Rattle.grs_base.proofs.StateLaws.{list_at-without, res_equality, list_of-effect}
 use Rattle.grs_wire.specs.History.{step, replay_from}
-use Rattle.grs_wire.specs.Laws.{may_change, list_stepped, KeepsOtherLists, StepsByLists, KeepsOwners, NoneTwice}
+use Rattle.grs_wire.specs.Laws.{list_stepped, KeepsOtherLists, StepsByLists, KeepsOwners, NoneTwice}
 use Rattle.grs_wire.specs.declared.history.HistEntry.{HistEntry}
 use Rattle.grs_wire.specs.declared.history.HistEntry.TheVariants.{Enq, Deq, Release, Look, Remove}
 use Rattle.grs_wire.specs.declared.request.Want.TheVariants as wants

@@ -1,7 +1,7 @@
 -- What the removal of a system leaves of each list.
-use Rattle.std.proofs.Common.{◌≡◌, ℕ, Bool, true, false, not, ◌&&◌, List, refl, ap, sym, ◌∙◌, subst, arith, eqb}
+use Rattle.std.proofs.Common.{◌≡◌, ℕ, Bool, true, false, not, ◌&&◌, refl, ap, sym, ◌∙◌, subst}
 use Rattle.std.specs.Prelude.{filter, ◌==◌}
-use Rattle.grs_base.specs.Same.{same_res, same_task}
+use Rattle.grs_base.specs.Same.{same_res}
 use Rattle.grs_base.specs.Lists.{owns, is_apart}
 use Rattle.grs_base.specs.State.{State, list_of, is_systems, remove_state}
 use Rattle.grs_base.specs.declared.resource.Res.{Res}

@@ -1,5 +1,5 @@
 -- A history of requests, and the lists that it leads through.
-use Rattle.std.specs.Prelude.{ℕ, zero, suc, Bool, false, ◌==◌, List, [], ◌∷◌, ◌++◌}
+use Rattle.std.specs.Prelude.{ℕ, zero, suc, Bool, false, List, [], ◌∷◌, ◌++◌}
 use Rattle.grs_base.specs.Same.{same_task}
 use Rattle.grs_base.specs.State.{State, is_full, enq_code, deq_reply, remove_state}
 use Rattle.grs_base.specs.Looks.{look}
@@ -9,7 +9,7 @@ use Rattle.grs_base.specs.declared.resource.SysId.{SysId}
 use Rattle.grs_base.specs.declared.resource.TaskId.{TaskId}
 use Rattle.grs_base.specs.declared.decision.Code.{Code}
 use Rattle.grs_base.specs.declared.decision.Code.TheVariants.{C00}
-use Rattle.grs_wire.specs.Wants.{answer_to, after_want}
+use Rattle.grs_wire.specs.Wants.{after_want}
 use Rattle.grs_wire.specs.declared.history.HistEntry.{HistEntry}
 use Rattle.grs_wire.specs.declared.history.HistEntry.TheVariants.{Enq, Deq, Release, Look, Remove}
 use Rattle.grs_wire.specs.declared.request.Answer.{Answer}
