@@ -13,6 +13,7 @@ use Rattle.grs_wire.specs.declared.medium.Reply.{Reply}
 use Rattle.grs_wire.specs.Masks.{has, without, only}
 use Rattle.grs_wire.proofs.MaskLaws.{without-absent, with-present, has-with_same}
 use Rattle.rsa_message.specs.Message.{Message, is_at, or_else, first_after, is_unseen, any_unseen, left_by, cleared, stamped, is_due, moves, wakes, rest_after_turn, turned_open, turned_closed, turned, turn_changes}
+use Rattle.rsa_message.proofs.OrderLaws.{is_at-exact}
 use Rattle.grs_medium.specs.Apply.{turn_row, purge_row, rest_row, row, row_changes, apply, changes, is_live}
 use Rattle.grs_medium.specs.Medium.{MediumState, live}
 use Rattle.grs_medium.specs.Room.{is_built}
@@ -50,10 +51,6 @@ cleared-seen s (e ∷ es) h =
     let mask : without e.mask s.0 ≡ e.mask = without-absent e.mask s.0 parts.0 in
     rw (not_only e.mask s.0 parts.0) (ap (λ (x : ℕ). record e { mask = x } ∷ map (left_by s) (filter (λ x. not (x.mask == only s.0)) es)) mask ∙ ap (λ (xs : List RingEntry). e ∷ xs) kept)
 
-at_itself : (h : Option SysId) (c : SysId) → is_at h c ≡ true → h ≡ Some c
-at_itself None c e = absurd cc
-at_itself (Some s) c e = ap (λ (n : ℕ). Some (record { 0 = n })) (eqb-true s.0 c.0 e)
-
 is_true : (b : Bool) → not b ≡ false → b ≡ true
 is_true true e = refl
 is_true false e = absurd cc
@@ -69,7 +66,7 @@ open_kept : (m : Message) (c : SysId) (lives rest : ℕ) → is_at m.holder c �
 unfolding stamped
 open_kept m c lives rest here seen stays =
     let entries : cleared c m.entries ++ [] ≡ m.entries = append-nil (cleared c m.entries) ∙ cleared-seen c m.entries seen in
-    let holder : Some (or_else (first_after m.systems c (is_due m.entries lives rest)) c) ≡ m.holder = at_itself _ c stays ∙ sym (at_itself m.holder c here) in
+    let holder : Some (or_else (first_after m.systems c (is_due m.entries lives rest)) c) ≡ m.holder = is_at-exact _ c stays ∙ sym (is_at-exact m.holder c here) in
     rw seen
     (subst (λ (es : List RingEntry). record m { holder = Some (or_else (first_after m.systems c (is_due es lives rest)) c); entries = es; next = m.next + 0 } ≡ m) (sym entries)
     (ap (λ (h : Option SysId). record m { holder = h; next = m.next + 0 }) holder ∙ ap (λ (n : ℕ). record m { next = n }) (add-zero m.next)))

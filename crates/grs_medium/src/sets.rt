@@ -1,5 +1,5 @@
 //! What is asked of all systems that aren't removed.
-ghost use Rattle.std.specs.Prelude.{◌≡◌, ◌+◌, ◌<◌, ◌≤◌, ◌||◌, [], length, slice_index_or};
+ghost use Rattle.std.specs.Prelude.{◌≡◌, ◌<◌, ◌≤◌, ◌||◌, [], length, slice_index_or};
 ghost use Rattle.grs_wire.specs.Masks.{has, others, all_others};
 ghost use Rattle.grs_medium.specs.Medium.{is_empty};
 
