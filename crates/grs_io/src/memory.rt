@@ -1,7 +1,7 @@
 //! Streams over memory, of which chosen calls fail. They are for tests of what stands on streams.
 ghost use Rattle.std.specs.Prelude.{◌≡◌, ◌+◌, ◌<◌, ◌≤◌, [], min, not, false, is_ok, length, Some, IfOk, OnOk, OnErr};
 ghost use Rattle.std.specs.Io.KnownBytes.{ReadConsumes, WriteAppends};
-ghost use Rattle.grs_io.specs.Faults.{HasRisen};
+ghost use Rattle.grs_io.specs.Faults.{last_count, HasRisen};
 ghost use Rattle.grs_io.specs.Memory.{is_listed};
 
 use super::source::move_front;
@@ -35,7 +35,7 @@ impl Calls {
     /// Counts a failed call.
     fn fail(&mut self)
         ensures risen { HasRisen self.old.faults self.new.faults }
-        ensures faults { self.new.faults ≡ min (self.old.faults + 1) 18446744073709551615 }
+        ensures faults { self.new.faults ≡ min (self.old.faults + 1) last_count }
         ensures made { self.new.made ≡ self.old.made }
         ensures fails { self.new.fails ≡ self.old.fails }
     {
@@ -45,7 +45,7 @@ impl Calls {
     /// Counts a call, and whether it is one that fails.
     fn begin(&mut self) -> bool
         ensures listed { result ≡ is_listed self.old.fails self.new.made }
-        ensures made { self.new.made ≡ min (self.old.made + 1) 18446744073709551615 }
+        ensures made { self.new.made ≡ min (self.old.made + 1) last_count }
         ensures fails { self.new.fails ≡ self.old.fails }
         ensures faults { self.new.faults ≡ self.old.faults }
     {
@@ -103,7 +103,7 @@ impl Source for MemSource {
         ensures moved { ReadConsumes (Some self.old.left) (Some self.new.left) result buf.new }
         ensures kept { OnOk result (self.new.faults ≡ self.old.faults) }
         ensures counted { OnErr result (HasRisen self.old.faults self.new.faults) }
-        ensures calls { self.new.calls ≡ min (self.old.calls + 1) 18446744073709551615 }
+        ensures calls { self.new.calls ≡ min (self.old.calls + 1) last_count }
         ensures fails { is_ok result ≡ not (is_listed self.old.fails self.new.calls) }
         ensures count { IfOk result (λ n. n ≡ min (min (length self.old.left) (length buf.new)) self.old.chunk) }
         ensures same { (self.new.chunk ≡ self.old.chunk) × (self.new.fails ≡ self.old.fails) }
@@ -173,7 +173,7 @@ impl Sink for MemSink {
         ensures appended { WriteAppends (Some self.old.written) (Some self.new.written) result piece.now }
         ensures kept { OnOk result (self.new.faults ≡ self.old.faults) }
         ensures counted { OnErr result (HasRisen self.old.faults self.new.faults) }
-        ensures calls { self.new.calls ≡ min (self.old.calls + 1) 18446744073709551615 }
+        ensures calls { self.new.calls ≡ min (self.old.calls + 1) last_count }
         ensures fails { OnOk result (is_listed self.old.fails self.new.calls ≡ false) }
         ensures count { IfOk result (λ n. n ≡ min (length piece.now) self.old.chunk) }
         ensures same { (self.new.chunk ≡ self.old.chunk) × (self.new.fails ≡ self.old.fails) }

@@ -1,7 +1,7 @@
 //! Reads a source whole, and writes a text whole. Each call of a stream is made once, and the first that
 //! fails ends the work.
-ghost use Rattle.std.specs.Prelude.{◌≡◌, ◌+◌, ◌<◌, ◌≤◌, ◌++◌, length, take, Err, IfOk, OnOk, OnErr};
-ghost use Rattle.std.specs.Io.KnownBytes.{Appends, Consumes, IsAtEnd};
+ghost use Rattle.std.specs.Prelude.{◌≡◌, ◌+◌, ◌<◌, ◌≤◌, length, Err, IfOk, OnOk, OnErr};
+ghost use Rattle.std.specs.Io.KnownBytes.{Appends};
 ghost use Rattle.grs_io.specs.Faults.{HasRisen};
 ghost use Rattle.grs_io.specs.Moved.{TakesFirst, AppendsPart, AddsRead};
 
@@ -46,7 +46,7 @@ pub fn read_all<S: Source>(
     source: &mut S,
     limit: usize,
 ) -> Result<List<u8>, ReadFailure>
-    requires { limit < 18446744073709551615 }
+    requires { limit < usize.MAX }
     ensures text { IfOk result (λ text.
         TakesFirst (limit + 1) (S.left source.old) (S.left source.new) text) }
     ensures within { IfOk result (λ text. length text ≤ limit + 1) }
