@@ -3,14 +3,14 @@ use Rattle.std.specs.Prelude.{ℕ, Bool, false, not, List, Option, Some, None}
 use Rattle.grs_base.specs.Names.{trim_blanks, is_qname, is_rname}
 
 -- A qname that has a length which it may not have.
-abbrev pub is_bad_q : Option (List ℕ) → Bool
-is_bad_q None = false
-is_bad_q (Some q) = not (is_qname q)
+abbrev pub is_bad_qname : Option (List ℕ) → Bool
+is_bad_qname None = false
+is_bad_qname (Some q) = not (is_qname q)
 
 -- An rname that has a length which it may not have.
-abbrev pub is_bad_r : Option (List ℕ) → Bool
-is_bad_r None = false
-is_bad_r (Some r) = not (is_rname r)
+abbrev pub is_bad_rname : Option (List ℕ) → Bool
+is_bad_rname None = false
+is_bad_rname (Some r) = not (is_rname r)
 
 -- A qname loses its trailing blanks.
 abbrev pub trimmed : Option (List ℕ) → Option (List ℕ)

@@ -2,14 +2,14 @@
 //! length make a name.
 ghost use Rattle.std.specs.Prelude.{◌≡◌, true, false, IfOk};
 ghost use Rattle.grs_base.specs.Names.{trim_blanks, is_qname, is_rname};
-ghost use Rattle.deck_scan.specs.Lengths.{is_bad_q, is_bad_r, trimmed};
+ghost use Rattle.deck_scan.specs.Lengths.{is_bad_qname, is_bad_rname, trimmed};
 
 use grs_base::{List, NameFault, NoMemory, Qname, Rname, is_qname, is_rname};
 use std::alloc::Global;
 
 /// Whether a qname is given that has no bytes but blanks, or more than 8.
-pub fn is_bad_q(q: &Option<List<u8>>) -> bool
-    ensures { result ≡ is_bad_q q.now }
+pub fn is_bad_qname(q: &Option<List<u8>>) -> bool
+    ensures { result ≡ is_bad_qname q.now }
 {
     match q {
         None => false,
@@ -18,8 +18,8 @@ pub fn is_bad_q(q: &Option<List<u8>>) -> bool
 }
 
 /// Whether an rname is given that has no bytes, or more than 255.
-pub fn is_bad_r(r: &Option<List<u8>>) -> bool
-    ensures { result ≡ is_bad_r r.now }
+pub fn is_bad_rname(r: &Option<List<u8>>) -> bool
+    ensures { result ≡ is_bad_rname r.now }
 {
     match r {
         None => false,
@@ -53,7 +53,7 @@ pub fn rname_of(alloc: Global, bytes: &[u8]) -> Result<Rname, NoMemory>
 
 /// The qname, where one is given.
 pub fn maybe_qname(alloc: Global, q: &Option<List<u8>>) -> Result<Option<Qname>, NoMemory>
-    requires { is_bad_q q.now ≡ false }
+    requires { is_bad_qname q.now ≡ false }
     ensures { IfOk result (λ x. x ≡ trimmed q.now) }
 {
     match q {
@@ -64,7 +64,7 @@ pub fn maybe_qname(alloc: Global, q: &Option<List<u8>>) -> Result<Option<Qname>,
 
 /// The rname, where one is given.
 pub fn maybe_rname(alloc: Global, r: &Option<List<u8>>) -> Result<Option<Rname>, NoMemory>
-    requires { is_bad_r r.now ≡ false }
+    requires { is_bad_rname r.now ≡ false }
     ensures { IfOk result (λ x. x ≡ r.now) }
 {
     match r {

@@ -11,7 +11,7 @@ mod scan;
 mod token;
 
 pub use laws::{bad_bytes, printed_names, spelled_lines};
-pub use lengths::{is_bad_q, is_bad_r, maybe_qname, maybe_rname, qname_of, rname_of};
+pub use lengths::{is_bad_qname, is_bad_rname, maybe_qname, maybe_rname, qname_of, rname_of};
 pub use miss::{Miss, or_bad, refused};
 pub use next::{
     any_word_at, close_at, comma_at, end_at, equals_at, name_at, open_at, value_at, word_at,

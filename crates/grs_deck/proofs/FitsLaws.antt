@@ -24,7 +24,7 @@ use Rattle.deck_form.specs.Form.{form}
 use Rattle.deck_form.specs.Unbuilt.{is_unbuilt}
 use Rattle.grs_deck.specs.declared.judge.Draft.{Draft}
 use Rattle.grs_deck.specs.Places.{jobs_now, task_count, IsWithin, Fits, event_of}
-use Rattle.grs_deck.specs.Judge.{is_long, is_repeated, is_misplaced, is_list_full, is_full, is_crowded, is_unknown, verdict}
+use Rattle.grs_deck.specs.Judge.{has_bad_name, is_repeated, is_misplaced, is_list_full, is_full, is_crowded, is_unknown, verdict}
 use Rattle.grs_deck.specs.Grow.{on_last, add_job, add_task, add_line, in_jobs, in_tasks, add_entry, in_list, with_event, grow}
 use Rattle.grs_deck.specs.Whole.{IsListOf, AreLists}
 use Rattle.grs_deck.specs.Reading.{unless, judge_form, judge}
@@ -49,10 +49,10 @@ no_fault false false false false true f h = absurd cc
 no_fault false false false false false true h = absurd cc
 no_fault false false false false false false h = record { long = refl; repeated = refl; misplaced = refl; full = refl; unknown = refl; unbuilt = refl }
 
-pub tests_of : (d : Draft) (st : Stmt) → verdict d st ≡ None → NoFault (is_long st) (is_repeated d st) (is_misplaced d st) (is_full d st) (is_unknown d st) (is_unbuilt st)
-tests_of d st h = no_fault (is_long st) (is_repeated d st) (is_misplaced d st) (is_full d st) (is_unknown d st) (is_unbuilt st) h
+pub tests_of : (d : Draft) (st : Stmt) → verdict d st ≡ None → NoFault (has_bad_name st) (is_repeated d st) (is_misplaced d st) (is_full d st) (is_unknown d st) (is_unbuilt st)
+tests_of d st h = no_fault (has_bad_name st) (is_repeated d st) (is_misplaced d st) (is_full d st) (is_unknown d st) (is_unbuilt st) h
 
-pub not_long : (d : Draft) (st : Stmt) → verdict d st ≡ None → is_long st ≡ false
+pub not_long : (d : Draft) (st : Stmt) → verdict d st ≡ None → has_bad_name st ≡ false
 not_long d st h = (tests_of d st h).long
 
 -- ---- each system of a list, as a pair of the first and the others

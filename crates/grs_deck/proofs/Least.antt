@@ -12,7 +12,7 @@ use Rattle.deck_form.proofs.Taken.{form_taken}
 use Rattle.deck_form.proofs.Unknown.{failed, one_spelled, apart, one_kind, is_none}
 use Rattle.deck_form.specs.Unbuilt.{is_unbuilt}
 use Rattle.grs_deck.specs.declared.judge.Draft.{Draft}
-use Rattle.grs_deck.specs.Judge.{is_long, is_repeated, is_misplaced, is_full, is_unknown, verdict}
+use Rattle.grs_deck.specs.Judge.{has_bad_name, is_repeated, is_misplaced, is_full, is_unknown, verdict}
 use Rattle.grs_deck.specs.Grow.{grow}
 use Rattle.grs_deck.specs.Reading.{unless, judge_form, judge}
 use Rattle.grs_deck.specs.Faults.{number, SomeStmt, Applies, IsLeast}
@@ -20,7 +20,7 @@ use Rattle.grs_deck.proofs.FitsLaws.{tests_of}
 
 -- the test of a kind
 abbrev holds : Kind → Draft → Stmt → Bool
-holds NameLength d st = is_long st
+holds NameLength d st = has_bad_name st
 holds Repeated d st = is_repeated d st
 holds OutOfPlace d st = is_misplaced d st
 holds TooMany d st = is_full d st
@@ -50,7 +50,7 @@ tested d st false k rest h r = r
 
 verdict_holds : (d : Draft) (st : Stmt) → Holds d st (verdict d st)
 verdict_holds d st =
-    tested d st (is_long st) NameLength _ (λ h. h)
+    tested d st (has_bad_name st) NameLength _ (λ h. h)
     (tested d st (is_repeated d st) Repeated _ (λ h. h)
     (tested d st (is_misplaced d st) OutOfPlace _ (λ h. h)
     (tested d st (is_full d st) TooMany _ (λ h. h)
@@ -69,17 +69,17 @@ ends n false x k rest low t h = absurd cc
 
 verdict_below : (d : Draft) (st : Stmt) (j k : Kind) → verdict d st ≡ kind k → holds j d st ≡ true → number k ≤ number j
 verdict_below d st NameLength k v t =
-    ends 5 (is_long st) NameLength k _ (lit≤ tt) t v
+    ends 5 (has_bad_name st) NameLength k _ (lit≤ tt) t v
 verdict_below d st Repeated k v t =
-    chain 6 (is_long st) NameLength k _ (lit≤ tt) (ends 6 (is_repeated d st) Repeated k _ (lit≤ tt) t) v
+    chain 6 (has_bad_name st) NameLength k _ (lit≤ tt) (ends 6 (is_repeated d st) Repeated k _ (lit≤ tt) t) v
 verdict_below d st OutOfPlace k v t =
-    chain 7 (is_long st) NameLength k _ (lit≤ tt) (chain 7 (is_repeated d st) Repeated k _ (lit≤ tt) (ends 7 (is_misplaced d st) OutOfPlace k _ (lit≤ tt) t)) v
+    chain 7 (has_bad_name st) NameLength k _ (lit≤ tt) (chain 7 (is_repeated d st) Repeated k _ (lit≤ tt) (ends 7 (is_misplaced d st) OutOfPlace k _ (lit≤ tt) t)) v
 verdict_below d st TooMany k v t =
-    chain 8 (is_long st) NameLength k _ (lit≤ tt) (chain 8 (is_repeated d st) Repeated k _ (lit≤ tt) (chain 8 (is_misplaced d st) OutOfPlace k _ (lit≤ tt) (ends 8 (is_full d st) TooMany k _ (lit≤ tt) t))) v
+    chain 8 (has_bad_name st) NameLength k _ (lit≤ tt) (chain 8 (is_repeated d st) Repeated k _ (lit≤ tt) (chain 8 (is_misplaced d st) OutOfPlace k _ (lit≤ tt) (ends 8 (is_full d st) TooMany k _ (lit≤ tt) t))) v
 verdict_below d st UnknownName k v t =
-    chain 9 (is_long st) NameLength k _ (lit≤ tt) (chain 9 (is_repeated d st) Repeated k _ (lit≤ tt) (chain 9 (is_misplaced d st) OutOfPlace k _ (lit≤ tt) (chain 9 (is_full d st) TooMany k _ (lit≤ tt) (ends 9 (is_unknown d st) UnknownName k _ (lit≤ tt) t)))) v
+    chain 9 (has_bad_name st) NameLength k _ (lit≤ tt) (chain 9 (is_repeated d st) Repeated k _ (lit≤ tt) (chain 9 (is_misplaced d st) OutOfPlace k _ (lit≤ tt) (chain 9 (is_full d st) TooMany k _ (lit≤ tt) (ends 9 (is_unknown d st) UnknownName k _ (lit≤ tt) t)))) v
 verdict_below d st NotBuilt k v t =
-    chain 11 (is_long st) NameLength k _ (lit≤ tt) (chain 11 (is_repeated d st) Repeated k _ (lit≤ tt) (chain 11 (is_misplaced d st) OutOfPlace k _ (lit≤ tt) (chain 11 (is_full d st) TooMany k _ (lit≤ tt) (chain 11 (is_unknown d st) UnknownName k _ (lit≤ tt) (ends 11 (is_unbuilt st) NotBuilt k None (lit≤ tt) t))))) v
+    chain 11 (has_bad_name st) NameLength k _ (lit≤ tt) (chain 11 (is_repeated d st) Repeated k _ (lit≤ tt) (chain 11 (is_misplaced d st) OutOfPlace k _ (lit≤ tt) (chain 11 (is_full d st) TooMany k _ (lit≤ tt) (chain 11 (is_unknown d st) UnknownName k _ (lit≤ tt) (ends 11 (is_unbuilt st) NotBuilt k None (lit≤ tt) t))))) v
 verdict_below d st TooLong k v t = absurd cc
 verdict_below d st BadByte k v t = absurd cc
 verdict_below d st UnknownStatement k v t = absurd cc
@@ -95,7 +95,7 @@ some_holds d l st test h a = ap test (one_spelled d.scheduled d.deck.entries l s
 applies_holds : (d : Draft) (l : TokenLine) (st : Stmt) (k : Kind) → Spells d.scheduled d.deck.entries l st → Applies k d l → holds k d st ≡ true
 applies_holds d l st UnknownStatement h a = absurd (apart d.scheduled d.deck.entries l st UnknownStatement h a)
 applies_holds d l st BadOperand h a = absurd (apart d.scheduled d.deck.entries l st BadOperand h a)
-applies_holds d l st NameLength h a = some_holds d l st is_long h a
+applies_holds d l st NameLength h a = some_holds d l st has_bad_name h a
 applies_holds d l st Repeated h a = some_holds d l st (is_repeated d) h a
 applies_holds d l st OutOfPlace h a = some_holds d l st (is_misplaced d) h a
 applies_holds d l st TooMany h a = some_holds d l st (is_full d) h a
@@ -126,7 +126,7 @@ verdict_least d l st k h v = record {
 
 -- no test holds of a statement without a fault
 no_holds : (d : Draft) (st : Stmt) (k : Kind) → verdict d st ≡ None → holds k d st ≡ true → ⊥
-no_holds d st NameLength v t = both_ways (is_long st) (tests_of d st v).long t
+no_holds d st NameLength v t = both_ways (has_bad_name st) (tests_of d st v).long t
 no_holds d st Repeated v t = both_ways (is_repeated d st) (tests_of d st v).repeated t
 no_holds d st OutOfPlace v t = both_ways (is_misplaced d st) (tests_of d st v).misplaced t
 no_holds d st TooMany v t = both_ways (is_full d st) (tests_of d st v).full t

@@ -10,15 +10,15 @@ use Rattle.grs_base.specs.Names.{trim_blanks, is_qname, is_rname}
 use Rattle.grs_wire.specs.declared.deck.Deck.{Deck}
 use Rattle.deck_scan.specs.declared.token.TokenLine.{TokenLine}
 use Rattle.deck_scan.specs.Gives.{◌>>=◌, Gives, IsOkUnlessMemory, refused}
-use Rattle.deck_scan.specs.Lengths.{is_bad_q, is_bad_r}
+use Rattle.deck_scan.specs.Lengths.{is_bad_qname, is_bad_rname}
 use Rattle.deck_scan.specs.Reading.{lines_or_fault}
 use Rattle.deck_scan.proofs.Texts.{bind_ok, read_text, text_read}
 use Rattle.job_syntax.specs.declared.display.Shown.TheVariants as shown
 use Rattle.job_syntax.specs.declared.said.Said.{Said}
 use Rattle.job_syntax.specs.declared.said.Said.TheVariants as said
-use Rattle.job_syntax.specs.Lines.{are_bad, is_bad}
+use Rattle.job_syntax.specs.Lines.{are_bad_names, has_bad_name as line_has_bad_name}
 use Rattle.rnl_syntax.specs.declared.operands.Rnldef.{Rnldef}
-use Rattle.rnl_syntax.specs.Operands.{is_bad as is_bad_rnldef}
+use Rattle.rnl_syntax.specs.Operands.{has_bad_name as rnldef_has_bad_name}
 use Rattle.deck_form.specs.declared.event.Act.{Act}
 use Rattle.deck_form.specs.declared.event.Act.TheVariants as acts
 use Rattle.deck_form.specs.declared.form.Stmt.{Stmt}
@@ -30,7 +30,7 @@ use Rattle.deck_form.proofs.Again.{form_again}
 use Rattle.deck_form.specs.Unbuilt.{is_unbuilt}
 use Rattle.grs_deck.specs.declared.judge.Draft.{Draft}
 use Rattle.grs_deck.specs.Places.{jobs_now, tasks_now, task_count, system_place, job_place, task_place, event_of}
-use Rattle.grs_deck.specs.Judge.{is_over, list_of, is_long_act, is_long, is_repeated, is_misplaced, is_full, is_unknown, verdict}
+use Rattle.grs_deck.specs.Judge.{is_too_long, list_of, has_long_name, has_bad_name, is_repeated, is_misplaced, is_full, is_unknown, verdict}
 use Rattle.grs_deck.specs.Grow.{grow}
 use Rattle.grs_deck.specs.Reading.{judge, judge_all, no_draft, ended, reading, fault, fault_of}
 use Rattle.grs_deck.specs.Spells.{IsShort, IsShortAct, IsQname, IsRname, IsMaybeQname, IsMaybeRname, AreNames, MaySay, MayDefine, MayStand, IsRight, Says, SpellsDeck, Answers}
@@ -71,10 +71,10 @@ fewer n m h = leb-false n m h
 fewer_not : (n m : ℕ) → m < n → leb n m ≡ false
 fewer_not n m h = lt-leb n m h
 
-short_of : (n : List ℕ) → is_over n ≡ false → IsShort n
+short_of : (n : List ℕ) → is_too_long n ≡ false → IsShort n
 short_of n h = ltb-false 8 (length n) h
 
-of_short : (n : List ℕ) → IsShort n → is_over n ≡ false
+of_short : (n : List ℕ) → IsShort n → is_too_long n ≡ false
 of_short n h = le-ltb 8 (length n) h
 
 passed : (b : Bool) → not b ≡ false → b ≡ true
@@ -99,9 +99,9 @@ rname_of r h =
 of_rname : (r : List ℕ) → IsRname r → is_rname r ≡ true
 of_rname r h = let some : 1 ≤ length r = omega (arith, h.0) in rw (le-leb 1 (length r) some, le-leb (length r) 255 h.1) refl
 
-short_act : (a : Act) → is_long_act a ≡ false → IsShortAct a
-short_act (acts.Task j t) h = let k = neither (is_over j) (is_over t) h in (short_of j k.0, short_of t k.1)
-short_act (acts.Send j t) h = let k = neither (is_over j) (is_over t) h in (short_of j k.0, short_of t k.1)
+short_act : (a : Act) → has_long_name a ≡ false → IsShortAct a
+short_act (acts.Task j t) h = let k = neither (is_too_long j) (is_too_long t) h in (short_of j k.0, short_of t k.1)
+short_act (acts.Send j t) h = let k = neither (is_too_long j) (is_too_long t) h in (short_of j k.0, short_of t k.1)
 short_act (acts.Purge n) h = short_of n h
 short_act acts.Turn h = tt
 short_act acts.Take h = tt
@@ -111,9 +111,9 @@ short_act (acts.Leave e) h = tt
 short_act acts.Switch h = tt
 short_act acts.Rest h = tt
 
-act_short : (a : Act) → IsShortAct a → is_long_act a ≡ false
-act_short (acts.Task j t) h = both_false (is_over j) (is_over t) (of_short j h.0) (of_short t h.1)
-act_short (acts.Send j t) h = both_false (is_over j) (is_over t) (of_short j h.0) (of_short t h.1)
+act_short : (a : Act) → IsShortAct a → has_long_name a ≡ false
+act_short (acts.Task j t) h = both_false (is_too_long j) (is_too_long t) (of_short j h.0) (of_short t h.1)
+act_short (acts.Send j t) h = both_false (is_too_long j) (is_too_long t) (of_short j h.0) (of_short t h.1)
 act_short (acts.Purge n) h = of_short n h
 act_short acts.Turn h = refl
 act_short acts.Take h = refl
@@ -125,42 +125,42 @@ act_short acts.Rest h = refl
 
 -- ---- a statement that may stand there
 
-both_names : (q r : List ℕ) → are_bad q r ≡ false → IsQname q × IsRname r
+both_names : (q r : List ℕ) → are_bad_names q r ≡ false → IsQname q × IsRname r
 both_names q r h =
     let k = neither (not (is_qname q)) (not (is_rname r)) h in
     (qname_of q (passed (is_qname q) k.0), rname_of r (passed (is_rname r) k.1))
 
-maybe_qname : (q : Option (List ℕ)) → is_bad_q q ≡ false → IsMaybeQname q
+maybe_qname : (q : Option (List ℕ)) → is_bad_qname q ≡ false → IsMaybeQname q
 maybe_qname None h = tt
 maybe_qname (Some q) h = qname_of q (passed (is_qname q) h)
 
-maybe_rname : (r : Option (List ℕ)) → is_bad_r r ≡ false → IsMaybeRname r
+maybe_rname : (r : Option (List ℕ)) → is_bad_rname r ≡ false → IsMaybeRname r
 maybe_rname None h = tt
 maybe_rname (Some r) h = rname_of r (passed (is_rname r) h)
 
-names_by : (s : Said) → is_bad s ≡ false → AreNames s
+names_by : (s : Said) → line_has_bad_name s ≡ false → AreNames s
 names_by (said.Enq e) h = both_names e.ask.q e.ask.r h
 names_by (said.Reserve e) h = both_names e.ask.q e.ask.r h
 names_by (said.Deq a) h = both_names a.q a.r h
 names_by (said.Wait a) h = both_names a.q a.r h
-names_by (said.Gqscan s) h = let k = neither (is_bad_q s.names.q) (is_bad_r s.names.r) h in (maybe_qname s.names.q k.0, maybe_rname s.names.r k.1)
+names_by (said.Gqscan s) h = let k = neither (is_bad_qname s.names.q) (is_bad_rname s.names.r) h in (maybe_qname s.names.q k.0, maybe_rname s.names.r k.1)
 names_by (said.Display shown.Contended) h = tt
 names_by (said.Display (shown.Resource q r)) h = both_names q r h
 
-say_by : (d : Draft) (s : Said) → is_bad s ≡ false → eqb (length (tasks_now (jobs_now d.deck.systems))) 0 ≡ false → eqb d.room 0 ≡ false → MaySay d s
+say_by : (d : Draft) (s : Said) → line_has_bad_name s ≡ false → eqb (length (tasks_now (jobs_now d.deck.systems))) 0 ≡ false → eqb d.room 0 ≡ false → MaySay d s
 say_by d s long idle full = (names_by s long, there (length (tasks_now (jobs_now d.deck.systems))) idle, there d.room full)
 
 none_yet : {A : Type 0} (xs : List A) → length xs ≡ 0 → xs ≡ []
 none_yet [] h = refl
 none_yet (x ∷ xs) h = absurd (omega (arith, h))
 
-define_by : (d : Draft) (r : Rnldef) → is_bad_rnldef r ≡ false → not (eqb (length d.deck.systems) 0) ≡ false → leb 4096 (length (list_of r.which d.deck.lists).entries) ≡ false → MayDefine d r
+define_by : (d : Draft) (r : Rnldef) → rnldef_has_bad_name r ≡ false → not (eqb (length d.deck.systems) 0) ≡ false → leb 4096 (length (list_of r.which d.deck.lists).entries) ≡ false → MayDefine d r
 define_by d r long misplaced full =
-    let k = neither (not (is_qname r.q)) (is_bad_r r.r) long in
+    let k = neither (not (is_qname r.q)) (is_bad_rname r.r) long in
     let none = eqb-true (length d.deck.systems) 0 (passed (eqb (length d.deck.systems) 0) misplaced) in
     (qname_of r.q (passed (is_qname r.q) k.0), maybe_rname r.r k.1, none_yet d.deck.systems none, fewer 4096 (length (list_of r.which d.deck.lists).entries) full)
 
-may_by : (d : Draft) (st : Stmt) → NoFault (is_long st) (is_repeated d st) (is_misplaced d st) (is_full d st) (is_unknown d st) (is_unbuilt st) → MayStand d st
+may_by : (d : Draft) (st : Stmt) → NoFault (has_bad_name st) (is_repeated d st) (is_misplaced d st) (is_full d st) (is_unknown d st) (is_unbuilt st) → MayStand d st
 may_by d stmts.Unbuilt h = tt
 may_by d (stmts.Complex c) h = h.misplaced
 may_by d (stmts.System n) h = (short_of n h.long, none_of (system_place d.deck.systems n) h.repeated, fewer 8 (length d.deck.systems) h.full)
@@ -169,34 +169,34 @@ may_by d (stmts.Task n) h = (short_of n h.long, none_of (task_place (tasks_now (
 may_by d (stmts.Line s) h = say_by d s h.long h.misplaced h.full
 may_by d (stmts.Rnldef r) h = define_by d r h.long h.misplaced h.full
 may_by d stmts.Schedule h = there (length d.deck.systems) h.misplaced
-may_by d (stmts.Event s a) h = let k = neither (is_over s) (is_long_act a) h.long in (short_of s k.0, short_act a k.1, some_of (event_of d.deck.systems s a) h.unknown)
+may_by d (stmts.Event s a) h = let k = neither (is_too_long s) (has_long_name a) h.long in (short_of s k.0, short_act a k.1, some_of (event_of d.deck.systems s a) h.unknown)
 
 pub right_of : (d : Draft) (st : Stmt) → verdict d st ≡ None → IsRight d st
 right_of d st h = let t = tests_of d st h in (may_by d st t, t.unbuilt)
 
-names_fail : (q r : List ℕ) → IsQname q × IsRname r → are_bad q r ≡ false
+names_fail : (q r : List ℕ) → IsQname q × IsRname r → are_bad_names q r ≡ false
 names_fail q r h = rw (of_qname q h.0, of_rname r h.1) refl
 
-qname_fail : (q : Option (List ℕ)) → IsMaybeQname q → is_bad_q q ≡ false
+qname_fail : (q : Option (List ℕ)) → IsMaybeQname q → is_bad_qname q ≡ false
 qname_fail None h = refl
 qname_fail (Some q) h = rw (of_qname q h) refl
 
-rname_fail : (r : Option (List ℕ)) → IsMaybeRname r → is_bad_r r ≡ false
+rname_fail : (r : Option (List ℕ)) → IsMaybeRname r → is_bad_rname r ≡ false
 rname_fail None h = refl
 rname_fail (Some r) h = rw (of_rname r h) refl
 
-no_bad : (s : Said) → AreNames s → is_bad s ≡ false
+no_bad : (s : Said) → AreNames s → line_has_bad_name s ≡ false
 no_bad (said.Enq e) h = names_fail e.ask.q e.ask.r h
 no_bad (said.Reserve e) h = names_fail e.ask.q e.ask.r h
 no_bad (said.Deq a) h = names_fail a.q a.r h
 no_bad (said.Wait a) h = names_fail a.q a.r h
-no_bad (said.Gqscan s) h = both_false (is_bad_q s.names.q) (is_bad_r s.names.r) (qname_fail s.names.q h.0) (rname_fail s.names.r h.1)
+no_bad (said.Gqscan s) h = both_false (is_bad_qname s.names.q) (is_bad_rname s.names.r) (qname_fail s.names.q h.0) (rname_fail s.names.r h.1)
 no_bad (said.Display shown.Contended) h = refl
 no_bad (said.Display (shown.Resource q r)) h = names_fail q r h
 
 -- the tests of an entry of a name list
 record DefineTests (d : Draft) (r : Rnldef) : Type 0 where
-  long : is_bad_rnldef r ≡ false
+  long : rnldef_has_bad_name r ≡ false
   misplaced : not (eqb (length d.deck.systems) 0) ≡ false
   full : leb 4096 (length (list_of r.which d.deck.lists).entries) ≡ false
 
@@ -208,7 +208,7 @@ of_define d r h = record {
 }
 
 -- no test applies to a statement that is right
-pub no_test : (d : Draft) (st : Stmt) → IsRight d st → NoFault (is_long st) (is_repeated d st) (is_misplaced d st) (is_full d st) (is_unknown d st) (is_unbuilt st)
+pub no_test : (d : Draft) (st : Stmt) → IsRight d st → NoFault (has_bad_name st) (is_repeated d st) (is_misplaced d st) (is_full d st) (is_unknown d st) (is_unbuilt st)
 no_test d stmts.Unbuilt h = absurd (let k : true ≡ false = h.1 in cc)
 no_test d (stmts.Complex c) h = record { long = refl; repeated = refl; misplaced = h.0; full = refl; unknown = refl; unbuilt = h.1 }
 no_test d (stmts.System n) h = record { long = of_short n h.0.0; repeated = none_there (system_place d.deck.systems n) h.0.1; misplaced = refl; full = fewer_not 8 (length d.deck.systems) h.0.2; unknown = refl; unbuilt = h.1 }
@@ -217,7 +217,7 @@ no_test d (stmts.Task n) h = record { long = of_short n h.0.0; repeated = none_t
 no_test d (stmts.Line s) h = record { long = no_bad s h.0.0; repeated = refl; misplaced = there_not (length (tasks_now (jobs_now d.deck.systems))) h.0.1; full = there_not d.room h.0.2; unknown = refl; unbuilt = h.1 }
 no_test d (stmts.Rnldef r) h = let t = of_define d r h.0 in record { long = t.long; repeated = refl; misplaced = t.misplaced; full = t.full; unknown = refl; unbuilt = h.1 }
 no_test d stmts.Schedule h = record { long = refl; repeated = refl; misplaced = there_not (length d.deck.systems) h.0; full = refl; unknown = refl; unbuilt = h.1 }
-no_test d (stmts.Event s a) h = record { long = both_false (is_over s) (is_long_act a) (of_short s h.0.0) (act_short a h.0.1); repeated = refl; misplaced = refl; full = refl; unknown = found_there (event_of d.deck.systems s a) h.0.2.0 h.0.2.1; unbuilt = h.1 }
+no_test d (stmts.Event s a) h = record { long = both_false (is_too_long s) (has_long_name a) (of_short s h.0.0) (act_short a h.0.1); repeated = refl; misplaced = refl; full = refl; unknown = found_there (event_of d.deck.systems s a) h.0.2.0 h.0.2.1; unbuilt = h.1 }
 
 pub of_right : (d : Draft) (st : Stmt) → IsRight d st → verdict d st ≡ None
 of_right d st h = let t = no_test d st h in rw (t.long, t.repeated, t.misplaced, t.full, t.unknown, t.unbuilt) refl

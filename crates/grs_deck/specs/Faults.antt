@@ -11,7 +11,7 @@ use Rattle.deck_form.specs.Spelled.{Spells, IsNoStatement}
 use Rattle.deck_form.specs.Statements.{statements}
 use Rattle.deck_form.specs.Unbuilt.{is_unbuilt}
 use Rattle.grs_deck.specs.declared.judge.Draft.{Draft}
-use Rattle.grs_deck.specs.Judge.{is_long, is_repeated, is_misplaced, is_full, is_unknown}
+use Rattle.grs_deck.specs.Judge.{has_bad_name, is_repeated, is_misplaced, is_full, is_unknown}
 use Rattle.grs_deck.specs.Reading.{no_draft}
 use Rattle.grs_deck.specs.Spells.{Says}
 
@@ -37,7 +37,7 @@ SomeStmt d l test = (st : Stmt) × Spells d.scheduled d.deck.entries l st × (te
 abbrev pub Applies : Kind → Draft → TokenLine → Type 0
 Applies UnknownStatement d l = IsNoStatement UnknownStatement d.scheduled d.deck.entries l
 Applies BadOperand d l = IsNoStatement BadOperand d.scheduled d.deck.entries l
-Applies NameLength d l = SomeStmt d l is_long
+Applies NameLength d l = SomeStmt d l has_bad_name
 Applies Repeated d l = SomeStmt d l (is_repeated d)
 Applies OutOfPlace d l = SomeStmt d l (is_misplaced d)
 Applies TooMany d l = SomeStmt d l (is_full d)

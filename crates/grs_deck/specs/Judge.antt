@@ -8,8 +8,8 @@ use Rattle.grs_base.specs.declared.fault.Kind.{Kind}
 use Rattle.grs_base.specs.declared.fault.Kind.TheVariants.{NameLength, Repeated, OutOfPlace, TooMany, UnknownName, NotBuilt}
 use Rattle.grs_wire.specs.declared.deck.SystemDef.{SystemDef}
 use Rattle.grs_wire.specs.declared.deck.Deck.{Deck}
-use Rattle.job_syntax.specs.Lines.{is_bad}
-use Rattle.rnl_syntax.specs.Operands.{is_bad as is_bad_rnldef}
+use Rattle.job_syntax.specs.Lines.{has_bad_name as line_has_bad_name}
+use Rattle.rnl_syntax.specs.Operands.{has_bad_name as rnldef_has_bad_name}
 use Rattle.deck_form.specs.declared.event.Act.{Act}
 use Rattle.deck_form.specs.declared.event.Act.TheVariants as acts
 use Rattle.deck_form.specs.declared.form.Stmt.{Stmt}
@@ -18,26 +18,26 @@ use Rattle.deck_form.specs.Unbuilt.{is_unbuilt}
 use Rattle.grs_deck.specs.declared.judge.Draft.{Draft}
 use Rattle.grs_deck.specs.Places.{jobs_now, tasks_now, task_count, system_place, job_place, task_place, event_of}
 
-abbrev pub is_over : List ℕ → Bool
-is_over name = nat_lt 8 (length name)
+abbrev pub is_too_long : List ℕ → Bool
+is_too_long name = nat_lt 8 (length name)
 
-abbrev pub is_long_act : Act → Bool
-is_long_act (acts.Task j t) = is_over j || is_over t
-is_long_act (acts.Send j t) = is_over j || is_over t
-is_long_act (acts.Purge n) = is_over n
-is_long_act _ = false
+abbrev pub has_long_name : Act → Bool
+has_long_name (acts.Task j t) = is_too_long j || is_too_long t
+has_long_name (acts.Send j t) = is_too_long j || is_too_long t
+has_long_name (acts.Purge n) = is_too_long n
+has_long_name _ = false
 
 -- A name that is too short or too long.
-abbrev pub is_long : Stmt → Bool
-is_long stmts.Unbuilt = false
-is_long (stmts.Complex c) = false
-is_long (stmts.Rnldef r) = is_bad_rnldef r
-is_long (stmts.System n) = is_over n
-is_long (stmts.Job n) = is_over n
-is_long (stmts.Task n) = is_over n
-is_long (stmts.Line s) = is_bad s
-is_long stmts.Schedule = false
-is_long (stmts.Event s a) = is_over s || is_long_act a
+abbrev pub has_bad_name : Stmt → Bool
+has_bad_name stmts.Unbuilt = false
+has_bad_name (stmts.Complex c) = false
+has_bad_name (stmts.Rnldef r) = rnldef_has_bad_name r
+has_bad_name (stmts.System n) = is_too_long n
+has_bad_name (stmts.Job n) = is_too_long n
+has_bad_name (stmts.Task n) = is_too_long n
+has_bad_name (stmts.Line s) = line_has_bad_name s
+has_bad_name stmts.Schedule = false
+has_bad_name (stmts.Event s a) = is_too_long s || has_long_name a
 
 -- A name that was given before.
 abbrev pub is_repeated : Draft → Stmt → Bool
@@ -94,7 +94,7 @@ is_unknown d _ = false
 -- The least kind that applies to a statement of the right form.
 abbrev pub verdict : Draft → Stmt → Option Kind
 verdict d st =
-    if is_long st then Some NameLength
+    if has_bad_name st then Some NameLength
     else if is_repeated d st then Some Repeated
     else if is_misplaced d st then Some OutOfPlace
     else if is_full d st then Some TooMany

@@ -1,6 +1,6 @@
 //! What each statement adds to a deck. What grows is the last system, its last job, its last task.
 ghost use Rattle.std.specs.Prelude.{◌≡◌, false, OnOk};
-ghost use Rattle.grs_deck.specs.Judge.{is_long, is_list_full, is_crowded};
+ghost use Rattle.grs_deck.specs.Judge.{has_bad_name, is_list_full, is_crowded};
 ghost use Rattle.grs_deck.specs.Whole.{AreLists};
 ghost use Rattle.grs_deck.specs.Places.{Fits};
 ghost use Rattle.grs_deck.specs.Grow.{with_entry, add_job, add_task, add_line, in_jobs, in_tasks, with_setup, with_event, grow_deck};
@@ -125,7 +125,7 @@ fn set_up(deck: &mut Deck, setup: Setup)
 
 /// Adds what a statement says whose names have the right lengths.
 pub fn grow_deck(deck: &mut Deck, alloc: Global, st: Stmt) -> Result<(), NoMemory>
-    requires names { is_long st ≡ false }
+    requires names { has_bad_name st ≡ false }
     requires systems { Fits deck.old.systems }
     requires lists { AreLists deck.old.lists }
     requires room { is_crowded deck.old st ≡ false }

@@ -1,7 +1,7 @@
 //! What is wrong with a statement, where a deck has been read so far. Each test is one kind of fault.
 ghost use Rattle.std.specs.Prelude.{◌≡◌, is_some};
 ghost use Rattle.grs_deck.specs.Places.{Fits};
-ghost use Rattle.grs_deck.specs.Judge.{is_over, is_long_act, is_long, is_repeated, is_idle, is_misplaced, is_list_full, is_full, is_unknown, verdict};
+ghost use Rattle.grs_deck.specs.Judge.{is_too_long, has_long_name, has_bad_name, is_repeated, is_idle, is_misplaced, is_list_full, is_full, is_unknown, verdict};
 
 use crate::limits::{MOST_JOBS, MOST_NAME, MOST_SYSTEMS, MOST_TASKS};
 use crate::places::{
@@ -23,33 +23,33 @@ pub struct Draft {
     pub room: u32,
 }
 
-fn is_over(name: &[u8]) -> bool
-    ensures { result ≡ is_over name.now }
+fn is_too_long(name: &[u8]) -> bool
+    ensures { result ≡ is_too_long name.now }
 {
     name.len() > MOST_NAME
 }
 
-fn is_long_act(act: &Act) -> bool
-    ensures { result ≡ is_long_act act.now }
+fn has_long_name(act: &Act) -> bool
+    ensures { result ≡ has_long_name act.now }
 {
     match act {
-        Act::Task { job, task } => is_over(job.as_slice()) || is_over(task.as_slice()),
-        Act::Send { job, task } => is_over(job.as_slice()) || is_over(task.as_slice()),
-        Act::Purge(name) => is_over(name.as_slice()),
+        Act::Task { job, task } => is_too_long(job.as_slice()) || is_too_long(task.as_slice()),
+        Act::Send { job, task } => is_too_long(job.as_slice()) || is_too_long(task.as_slice()),
+        Act::Purge(name) => is_too_long(name.as_slice()),
         _ => false,
     }
 }
 
-fn is_long(st: &Stmt) -> bool
-    ensures { result ≡ is_long st.now }
+fn has_bad_name(st: &Stmt) -> bool
+    ensures { result ≡ has_bad_name st.now }
 {
     match st {
-        Stmt::System(n) => is_over(n.as_slice()),
-        Stmt::Job(n) => is_over(n.as_slice()),
-        Stmt::Task(n) => is_over(n.as_slice()),
-        Stmt::Rnldef(rnldef) => rnl_syntax::is_bad(rnldef),
-        Stmt::Line(said) => job_syntax::is_bad(said),
-        Stmt::Event { system, act } => is_over(system.as_slice()) || is_long_act(act),
+        Stmt::System(n) => is_too_long(n.as_slice()),
+        Stmt::Job(n) => is_too_long(n.as_slice()),
+        Stmt::Task(n) => is_too_long(n.as_slice()),
+        Stmt::Rnldef(rnldef) => rnl_syntax::has_bad_name(rnldef),
+        Stmt::Line(said) => job_syntax::has_bad_name(said),
+        Stmt::Event { system, act } => is_too_long(system.as_slice()) || has_long_name(act),
         _ => false,
     }
 }
@@ -143,7 +143,7 @@ pub fn verdict(draft: &Draft, st: &Stmt) -> Option<Kind>
     requires { Fits draft.now.deck.systems }
     ensures { result ≡ verdict draft.now st.now }
 {
-    if is_long(st) {
+    if has_bad_name(st) {
         Some(Kind::NameLength)
     } else if is_repeated(draft, st) {
         Some(Kind::Repeated)

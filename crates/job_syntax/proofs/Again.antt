@@ -26,7 +26,7 @@ use Rattle.job_syntax.specs.Options.{no_opts, ret_of, rnl_of, chosen, option_at,
 use Rattle.job_syntax.specs.Ask.{ctl_at, scope_at, names_at, place_at, controlled_at, uncontrolled_at, enq_at, reserve_at, deq_at, wait_at}
 use Rattle.job_syntax.specs.Display.{no_names, reach_of, want_of, want_at, scan_at, resource_at, shown_at, display_at}
 use Rattle.job_syntax.specs.Said.{verb, said_at}
-use Rattle.job_syntax.specs.Spelled.{ctl_word, scope_word, reach_word, Opt, Given, Lists, On, option, IsFree, set, IsAsk, Want, First, Second, want, IsFreeWant, set_want, IsScan, IsShown, IsBehind, verb_for, IsWord}
+use Rattle.job_syntax.specs.Spelled.{ctl_word, scope_word, reach_word, Opt, WithRet, WithRnl, WithUcb, option, IsFree, set, IsAsk, Want, WithQname, WithRname, want, IsFreeWant, set_want, IsScan, IsShown, IsBehind, verb_for, IsWord}
 
 names_again : (q r : Token) (qname rname : List ℕ) (rest : List Token) → Names q qname → Names r rname → names_at (Open ∷ q ∷ Comma ∷ r ∷ Comma ∷ rest) ≡ Some (qname, rname, rest)
 unfolding names_at
@@ -47,25 +47,25 @@ scope_again scopes.Systems rest = refl
 
 option_again : (x : Opt) (o : Opts) (rest : List Token) → IsFree x o → option_at o (option x ++ rest) ≡ Some (set x o, rest)
 unfolding option_at chosen ret_of rnl_of
-option_again (Given RetNone) o rest h = rw h refl
-option_again (Given RetUse) o rest h = rw h refl
-option_again (Given RetHave) o rest h = rw h refl
-option_again (Given RetTest) o rest h = rw h refl
-option_again (Given RetChng) o rest h = rw h refl
-option_again (Given RetEcb) o rest h = rw h refl
-option_again (Lists true) o rest h = rw h refl
-option_again (Lists false) o rest h = rw h refl
-option_again (On w unit) o rest h = rw (h.1, h.0) refl
+option_again (WithRet RetNone) o rest h = rw h refl
+option_again (WithRet RetUse) o rest h = rw h refl
+option_again (WithRet RetHave) o rest h = rw h refl
+option_again (WithRet RetTest) o rest h = rw h refl
+option_again (WithRet RetChng) o rest h = rw h refl
+option_again (WithRet RetEcb) o rest h = rw h refl
+option_again (WithRnl true) o rest h = rw h refl
+option_again (WithRnl false) o rest h = rw h refl
+option_again (WithUcb w unit) o rest h = rw (h.1, h.0) refl
 
 long : (x : Opt) (rest : List Token) → eqb (length (option x ++ rest)) 0 ≡ false
-long (Given RetNone) rest = ne_eqb _ 0 (λ e. omega (arith, e))
-long (Given RetUse) rest = ne_eqb _ 0 (λ e. omega (arith, e))
-long (Given RetHave) rest = ne_eqb _ 0 (λ e. omega (arith, e))
-long (Given RetTest) rest = ne_eqb _ 0 (λ e. omega (arith, e))
-long (Given RetChng) rest = ne_eqb _ 0 (λ e. omega (arith, e))
-long (Given RetEcb) rest = ne_eqb _ 0 (λ e. omega (arith, e))
-long (Lists b) rest = ne_eqb _ 0 (λ e. omega (arith, e))
-long (On w unit) rest = ne_eqb _ 0 (λ e. omega (arith, e))
+long (WithRet RetNone) rest = ne_eqb _ 0 (λ e. omega (arith, e))
+long (WithRet RetUse) rest = ne_eqb _ 0 (λ e. omega (arith, e))
+long (WithRet RetHave) rest = ne_eqb _ 0 (λ e. omega (arith, e))
+long (WithRet RetTest) rest = ne_eqb _ 0 (λ e. omega (arith, e))
+long (WithRet RetChng) rest = ne_eqb _ 0 (λ e. omega (arith, e))
+long (WithRet RetEcb) rest = ne_eqb _ 0 (λ e. omega (arith, e))
+long (WithRnl b) rest = ne_eqb _ 0 (λ e. omega (arith, e))
+long (WithUcb w unit) rest = ne_eqb _ 0 (λ e. omega (arith, e))
 
 -- how many kinds of options are free
 free_kinds : Opts → ℕ
@@ -73,9 +73,9 @@ free_kinds o = is_free o.ret + is_free o.rnl + is_free o.unit
 
 fewer : (x : Opt) (o : Opts) → IsFree x o → free_kinds o ≡ suc (free_kinds (set x o))
 unfolding free_kinds
-fewer (Given r) o h = rw h (omega arith)
-fewer (Lists b) o h = rw h (omega arith)
-fewer (On w unit) o h = rw h.0 (omega arith)
+fewer (WithRet r) o h = rw h (omega arith)
+fewer (WithRnl b) o h = rw h (omega arith)
+fewer (WithUcb w unit) o h = rw h.0 (omega arith)
 
 options_again : (given : List Opt) (o : Opts) → Sets IsFree set no_opts given o → options_at (flat_map option given) ≡ Some o
 unfolding options_at free_kinds
@@ -103,20 +103,20 @@ uncontrolled_again ts a h =
 
 want_again : (x : Want) (o : Wanted) (rest : List Token) → IsFreeWant x o → want_at o (want x ++ rest) ≡ Some (set_want x o, rest)
 unfolding want_at want_of
-want_again (First t q) o rest h = rw (name_again t q rest h.1, h.0) refl
-want_again (Second t r) o rest h = rw (name_again t r rest h.1, h.0) refl
+want_again (WithQname t q) o rest h = rw (name_again t q rest h.1, h.0) refl
+want_again (WithRname t r) o rest h = rw (name_again t r rest h.1, h.0) refl
 
 long_want : (x : Want) (rest : List Token) → eqb (length (want x ++ rest)) 0 ≡ false
-long_want (First t q) rest = ne_eqb _ 0 (λ e. omega (arith, e))
-long_want (Second t r) rest = ne_eqb _ 0 (λ e. omega (arith, e))
+long_want (WithQname t q) rest = ne_eqb _ 0 (λ e. omega (arith, e))
+long_want (WithRname t r) rest = ne_eqb _ 0 (λ e. omega (arith, e))
 
 free_wants : Wanted → ℕ
 free_wants o = is_free o.q + is_free o.r
 
 fewer_wants : (x : Want) (o : Wanted) → IsFreeWant x o → free_wants o ≡ suc (free_wants (set_want x o))
 unfolding free_wants
-fewer_wants (First t q) o h = rw h.0 (omega arith)
-fewer_wants (Second t r) o h = rw h.0 (omega arith)
+fewer_wants (WithQname t q) o h = rw h.0 (omega arith)
+fewer_wants (WithRname t r) o h = rw h.0 (omega arith)
 
 wants_again : (given : List Want) (o : Wanted) → Sets IsFreeWant set_want no_names given o → up_to 2 want_at no_names (flat_map want given) ≡ Some o
 unfolding free_wants

@@ -19,7 +19,7 @@ use Rattle.grs_base.specs.declared.line.Line.{Line}
 use Rattle.grs_base.specs.declared.line.Line.TheVariants as lines
 use Rattle.deck_scan.specs.declared.token.Token.TheVariants.{Word, Open, Close, Comma, Equals}
 use Rattle.deck_scan.specs.Bytes.{is_word}
-use Rattle.deck_scan.specs.Lengths.{is_bad_q, is_bad_r}
+use Rattle.deck_scan.specs.Lengths.{is_bad_qname, is_bad_rname}
 use Rattle.deck_scan.specs.Named.{IsMaybeQname, IsMaybeRname, are_bytes, name_token}
 use Rattle.deck_scan.specs.Next.{Sets}
 use Rattle.deck_scan.specs.Pieces.{Plain, is_piece, is_nonempty, SpellsLines}
@@ -33,8 +33,8 @@ use Rattle.job_syntax.specs.declared.said.Said.TheVariants as said
 use Rattle.job_syntax.specs.Unit.{hex_of, unit_of}
 use Rattle.job_syntax.specs.Options.{no_opts}
 use Rattle.job_syntax.specs.Ask.{is_deq_ret}
-use Rattle.job_syntax.specs.Spelled.{ctl_word, scope_word, reach_word, Opt, Given, Lists, On, option, IsFree, set, IsAsk, Want, First, Second, IsScan, IsResource, IsBehind, verb_for, IsWord}
-use Rattle.job_syntax.specs.Lines.{are_bad, is_bad, ret_or_none, rnl_or_yes, is_have, filter_of, line_of}
+use Rattle.job_syntax.specs.Spelled.{ctl_word, scope_word, reach_word, Opt, WithRet, WithRnl, WithUcb, option, IsFree, set, IsAsk, Want, WithQname, WithRname, IsScan, IsResource, IsBehind, verb_for, IsWord}
+use Rattle.job_syntax.specs.Lines.{are_bad_names, has_bad_name, ret_or_none, rnl_or_yes, is_have, filter_of, line_of}
 use Rattle.job_syntax.specs.Printed.{printed_ret, printed_have, printed_rnl, printed_unit, maybe_unit, printed_line}
 use Rattle.job_syntax.specs.Reading.{SpellsLine}
 use Rattle.job_syntax.specs.Laws.{AreNames, IsFilter, IsMaybeUnit, IsDeckLine}
@@ -147,23 +147,23 @@ maybe_text (Some unit) rest = refl
 
 rnl_given : Bool → List Opt
 rnl_given true = []
-rnl_given false = Lists false ∷ []
+rnl_given false = WithRnl false ∷ []
 
 ret_given : Ret → List Opt → List Opt
 ret_given RetNone rest = rest
-ret_given RetUse rest = Given RetUse ∷ rest
-ret_given RetHave rest = Given RetHave ∷ rest
-ret_given RetTest rest = Given RetTest ∷ rest
-ret_given RetChng rest = Given RetChng ∷ rest
-ret_given RetEcb rest = Given RetEcb ∷ rest
+ret_given RetUse rest = WithRet RetUse ∷ rest
+ret_given RetHave rest = WithRet RetHave ∷ rest
+ret_given RetTest rest = WithRet RetTest ∷ rest
+ret_given RetChng rest = WithRet RetChng ∷ rest
+ret_given RetEcb rest = WithRet RetEcb ∷ rest
 
 have_given : Bool → List Opt → List Opt
-have_given true rest = Given RetHave ∷ rest
+have_given true rest = WithRet RetHave ∷ rest
 have_given false rest = rest
 
 maybe_given : Option ℕ → List Opt → List Opt
 maybe_given None rest = rest
-maybe_given (Some unit) rest = On (printed_unit unit) unit ∷ rest
+maybe_given (Some unit) rest = WithUcb (printed_unit unit) unit ∷ rest
 
 rnl_tokens : (b : Bool) → tokens_of (rnl_bits b) ≡ flat_map option (rnl_given b)
 unfolding rnl_bits rnl_given
@@ -221,7 +221,7 @@ enq_set RetChng false = (refl, (refl, refl))
 enq_set RetEcb true = (refl, refl)
 enq_set RetEcb false = (refl, (refl, refl))
 
-reserve_set : (r : Ret) (b : Bool) (unit : ℕ) → unit < 65536 → Sets IsFree set no_opts (On (printed_unit unit) unit ∷ ret_given r (rnl_given b)) (record { ret = ret_option r; rnl = rnl_option b; unit = Some unit })
+reserve_set : (r : Ret) (b : Bool) (unit : ℕ) → unit < 65536 → Sets IsFree set no_opts (WithUcb (printed_unit unit) unit ∷ ret_given r (rnl_given b)) (record { ret = ret_option r; rnl = rnl_option b; unit = Some unit })
 unfolding ret_given rnl_given
 reserve_set RetNone true unit h = ((refl, unit_again unit h), refl)
 reserve_set RetNone false unit h = ((refl, unit_again unit h), (refl, refl))
@@ -276,7 +276,7 @@ record NamesAre (q r : List ℕ) : Type 0 where
   r_bit : is_bit (Called r) ≡ true
   q_few : length q ≤ 8
   r_few : length r ≤ 255
-  good : are_bad q r ≡ false
+  good : are_bad_names q r ≡ false
 
 some_bytes : (bs : List ℕ) → 0 < length bs → is_nonempty bs ≡ true
 some_bytes [] h = absurd (omega (arith, h))
@@ -302,7 +302,7 @@ names_are q r h = record {
 -- ---- lines
 
 -- A line that is spelled by a word and bits.
-spells_so : (l : Line) (word : List ℕ) (bs : List Bit) (s : Said) → is_piece (Plain word) ≡ true → are_bits bs ≡ true → length word + size bs ≤ 2000 → word ++ 32 ∷ text_of bs ≡ printed_line l → IsWord (verb_for s) word → IsBehind (tokens_of bs) s → is_bad s ≡ false → line_of s ≡ l → SpellsLine (printed_line l) l
+spells_so : (l : Line) (word : List ℕ) (bs : List Bit) (s : Said) → is_piece (Plain word) ≡ true → are_bits bs ≡ true → length word + size bs ≤ 2000 → word ++ 32 ∷ text_of bs ≡ printed_line l → IsWord (verb_for s) word → IsBehind (tokens_of bs) s → has_bad_name s ≡ false → line_of s ≡ l → SpellsLine (printed_line l) l
 spells_so l word bs s is are few text of behind names makes = record {
   short = subst (λ (t : List ℕ). length t ≤ max_text) text (omega (arith, few, bits_long bs, length-append word (32 ∷ text_of bs)));
   tokens = line_of_bits word bs;
@@ -417,8 +417,8 @@ reserve_again q r ctl unit ret rnl h lt =
     let rest = unit_bits unit (enq_rest ret rnl) in
     let bits = controlled_are q r ctl scopes.Systems rest n (reserve_options unit ret rnl) in
     let opts : Opts = record { ret = ret_option ret; rnl = rnl_option rnl; unit = Some unit } in
-    let tokens : tokens_of rest ≡ flat_map option (On (printed_unit unit) unit ∷ ret_given ret (rnl_given rnl)) = rw (ret_tokens ret (rnl_bits rnl) (rnl_given rnl) (rnl_tokens rnl)) refl in
-    let ask = ask_of q r ctl scopes.Systems opts rest (On (printed_unit unit) unit ∷ ret_given ret (rnl_given rnl)) tokens (reserve_set ret rnl unit lt) in
+    let tokens : tokens_of rest ≡ flat_map option (WithUcb (printed_unit unit) unit ∷ ret_given ret (rnl_given rnl)) = rw (ret_tokens ret (rnl_bits rnl) (rnl_given rnl) (rnl_tokens rnl)) refl in
+    let ask = ask_of q r ctl scopes.Systems opts rest (WithUcb (printed_unit unit) unit ∷ ret_given ret (rnl_given rnl)) tokens (reserve_set ret rnl unit lt) in
     spells_so (lines.Reserve q r ctl unit ret rnl) (codes "RESERVE") (controlled q r ctl scopes.Systems rest) (said.Reserve (record { ctl = ctl; ask = record { q = q; r = r; scope = scopes.Systems; opts = opts } })) verb_words.1 bits.are (omega (arith, bits.few)) (reserve_text q r ctl unit ret rnl) refl (ask, refl) n.good
     (rw (h.qname.trimmed, ret_back ret, rnl_back rnl) refl)
 
@@ -475,11 +475,11 @@ scan_bits global q r = Of (codes "SCOPE") ∷ Mark Equals ∷ Of (reach_word glo
 
 r_given : Option (List ℕ) → List Want
 r_given None = []
-r_given (Some r) = Second (name_token r) r ∷ []
+r_given (Some r) = WithRname (name_token r) r ∷ []
 
 q_given : Option (List ℕ) → List Want → List Want
 q_given None rest = rest
-q_given (Some q) rest = First (name_token q) q ∷ rest
+q_given (Some q) rest = WithQname (name_token q) q ∷ rest
 
 scan_words : (is_piece (Plain (codes "SCOPE")) ≡ true) × (is_piece (Plain (codes "QNAME")) ≡ true) × (is_piece (Plain (codes "RNAME")) ≡ true) × (is_piece (Plain (codes "GRS")) ≡ true) × (is_piece (Plain (codes "C")) ≡ true) × (is_piece (Plain (codes "RES")) ≡ true)
 unfolding is_word
@@ -507,7 +507,7 @@ scan_says global None (Some r) = record { given = q_given None (r_given (Some r)
 scan_says global (Some q) None = record { given = q_given (Some q) (r_given None); spelled = refl; names = ((refl, name_names q), refl) }
 scan_says global (Some q) (Some r) = record { given = q_given (Some q) (r_given (Some r)); spelled = refl; names = ((refl, name_names q), ((refl, name_names r), refl)) }
 
-scan_good : (q r : Option (List ℕ)) → IsMaybeQname q → IsMaybeRname r → (is_bad_q q || is_bad_r r) ≡ false
+scan_good : (q r : Option (List ℕ)) → IsMaybeQname q → IsMaybeRname r → (is_bad_qname q || is_bad_rname r) ≡ false
 scan_good None None hq hr = refl
 scan_good None (Some r) hq hr = rw hr.0 refl
 scan_good (Some q) None hq hr = rw hq.0.made refl

@@ -16,7 +16,7 @@ use Rattle.job_syntax.specs.declared.said.Said.{Said}
 use Rattle.job_syntax.specs.declared.said.Verb.{Verb}
 use Rattle.job_syntax.specs.Said.{verb, said_at}
 use Rattle.job_syntax.specs.Spelled.{verb_for, IsSaid}
-use Rattle.job_syntax.specs.Lines.{is_bad, line_of}
+use Rattle.job_syntax.specs.Lines.{has_bad_name, line_of}
 use Rattle.job_syntax.specs.Reading.{said_by, said_first, said_on, sized, alone, sized_alone, one_line, reading, SpellsLine, Answers}
 use Rattle.job_syntax.proofs.Taken.{line_taken}
 use Rattle.job_syntax.proofs.Again.{said_again, verb_again}
@@ -55,10 +55,10 @@ there_said : (l : TokenLine) (s : Said) → l.joined ≡ false → IsSaid l.toke
 unfolding said_on
 there_said l s apart h = rw (apart, h.parts, verb_again (verb_for s) h.word h.is_word, said_again h.behind s h.is_behind) refl
 
-sized_ok : (at : ℕ) (s t : Said) → sized at s ≡ Ok t → (is_bad s ≡ false) × (s ≡ t)
-sized_ok at s t e = go (is_bad s) refl e
+sized_ok : (at : ℕ) (s t : Said) → sized at s ≡ Ok t → (has_bad_name s ≡ false) × (s ≡ t)
+sized_ok at s t e = go (has_bad_name s) refl e
   where
-    go : (b : Bool) → is_bad s ≡ b → cond b (refused at NameLength) (Ok s) ≡ Ok t → (is_bad s ≡ false) × (s ≡ t)
+    go : (b : Bool) → has_bad_name s ≡ b → cond b (refused at NameLength) (Ok s) ≡ Ok t → (has_bad_name s ≡ false) × (s ≡ t)
     go true is k = absurd cc
     go false is k = (is, cc)
 
@@ -73,7 +73,7 @@ record Lines (ls : List TokenLine) (line : Line) : Type 0 where
   apart : tokens.joined ≡ false
   said : Said
   says : IsSaid tokens.tokens said
-  names : is_bad said ≡ false
+  names : has_bad_name said ≡ false
   makes : line_of said ≡ line
 
 one_there : (ls : List TokenLine) (line : Line) → one_line ls ≡ Ok line → Lines ls line

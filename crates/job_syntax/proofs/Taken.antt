@@ -29,22 +29,22 @@ use Rattle.job_syntax.specs.Options.{no_opts, ret_of, rnl_of, with_ret, with_rnl
 use Rattle.job_syntax.specs.Ask.{ctl_at, scope_at, names_at, place_at, enq_may, reserve_may, deq_may, wait_may, controlled_at, uncontrolled_at, enq_at, reserve_at, deq_at, wait_at}
 use Rattle.job_syntax.specs.Display.{no_names, reach_of, with_q, with_r, named_at, want_of, want_at, scan_at, resource_at, shown_at, display_at}
 use Rattle.job_syntax.specs.Said.{verb, said_at}
-use Rattle.job_syntax.specs.Spelled.{ctl_word, scope_word, rnl_word, reach_word, Opt, Given, Lists, On, valued, option, IsFree, set, IsAsk, First, Second, want, IsFreeWant, set_want, IsScan, IsShown, IsBehind, verb_for, IsWord, IsSaid}
+use Rattle.job_syntax.specs.Spelled.{ctl_word, scope_word, rnl_word, reach_word, Opt, WithRet, WithRnl, WithUcb, valued, option, IsFree, set, IsAsk, WithQname, WithRname, want, IsFreeWant, set_want, IsScan, IsShown, IsBehind, verb_for, IsWord, IsSaid}
 
 -- ---- options
 
-with_ret_taken : (o : Opts) (r : Ret) (p : Opts) → with_ret o r ≡ Some p → (o.ret ≡ None) × (p ≡ set (Given r) o)
+with_ret_taken : (o : Opts) (r : Ret) (p : Opts) → with_ret o r ≡ Some p → (o.ret ≡ None) × (p ≡ set (WithRet r) o)
 with_ret_taken o r p e = once_some o.ret (record o { ret = Some r }) p e
 
-with_rnl_taken : (o : Opts) (b : Bool) (p : Opts) → with_rnl o b ≡ Some p → (o.rnl ≡ None) × (p ≡ set (Lists b) o)
+with_rnl_taken : (o : Opts) (b : Bool) (p : Opts) → with_rnl o b ≡ Some p → (o.rnl ≡ None) × (p ≡ set (WithRnl b) o)
 with_rnl_taken o b p e = once_some o.rnl (record o { rnl = Some b }) p e
 
-with_unit_taken : (o : Opts) (w : List ℕ) (n : ℕ) (p : Opts) → with_unit o n ≡ Some p → (o.unit ≡ None) × (p ≡ set (On w n) o)
+with_unit_taken : (o : Opts) (w : List ℕ) (n : ℕ) (p : Opts) → with_unit o n ≡ Some p → (o.unit ≡ None) × (p ≡ set (WithUcb w n) o)
 with_unit_taken o w n p e = once_some o.unit (record o { unit = Some n }) p e
 
 abbrev RetWord : List ℕ → Option Ret → Type 0
 RetWord w None = Unit {0}
-RetWord w (Some r) = valued (codes "RET") w ≡ option (Given r)
+RetWord w (Some r) = valued (codes "RET") w ≡ option (WithRet r)
 
 ret_word : (w : List ℕ) → RetWord w (ret_of w)
 unfolding ret_of
@@ -55,7 +55,7 @@ ret_word w =
     (by_row (RetWord w) w (codes "TEST") RetTest _ (λ h. ap (valued (codes "RET")) h)
     (by_row (RetWord w) w (codes "CHNG") RetChng None (λ h. ap (valued (codes "RET")) h) tt))))
 
-ret_taken : (w : List ℕ) (r : Ret) → ret_of w ≡ Some r → valued (codes "RET") w ≡ option (Given r)
+ret_taken : (w : List ℕ) (r : Ret) → ret_of w ≡ Some r → valued (codes "RET") w ≡ option (WithRet r)
 ret_taken w r e = subst (RetWord w) e (ret_word w)
 
 rnl_taken : (w : List ℕ) (b : Bool) → rnl_of w ≡ Some b → w ≡ rnl_word b
@@ -82,7 +82,7 @@ ecb_taken : (o : Opts) (w : List ℕ) (ts : List Token) (x : Opts × List Token)
 ecb_taken o w ts x is e =
     let p = bind_some (with_ret o RetEcb) (λ p. Some (p, ts)) x e in
     let k = with_ret_taken o RetEcb p.0 p.1 in
-    subst (λ (y : Opts × List Token). OptTook o (Comma ∷ Word w ∷ ts) y.0 y.1) (some_is (p.0, ts) x p.2) (record { given = Given RetEcb; fresh = k.0; is = k.1; spelled = ap (λ (z : List ℕ). Comma ∷ Word z ∷ ts) is })
+    subst (λ (y : Opts × List Token). OptTook o (Comma ∷ Word w ∷ ts) y.0 y.1) (some_is (p.0, ts) x p.2) (record { given = WithRet RetEcb; fresh = k.0; is = k.1; spelled = ap (λ (z : List ℕ). Comma ∷ Word z ∷ ts) is })
 
 ret_option_taken : (o : Opts) (w : List ℕ) (ts : List Token) (x : Opts × List Token) → w ≡ codes "RET" → (value_at ts >>= as_ret o) ≡ Some x → OptTook o (Comma ∷ Word w ∷ ts) x.0 x.1
 ret_option_taken o w ts x is e =
@@ -90,8 +90,8 @@ ret_option_taken o w ts x is e =
     let r = bind_some (ret_of v.0.0) (λ x. with_ret o x >>= λ p. Some (p, v.0.1)) x v.2 in
     let p = bind_some (with_ret o r.0) (λ p. Some (p, v.0.1)) x r.2 in
     let k = with_ret_taken o r.0 p.0 p.1 in
-    let spelled : Comma ∷ Word w ∷ ts ≡ option (Given r.0) ++ v.0.1 = value_front (codes "RET") w ts v.0.1 v.0 is (value_taken ts v.0 v.1) refl ∙ ap (λ (t : List Token). t ++ v.0.1) (ret_taken v.0.0 r.0 r.1) in
-    subst (λ (y : Opts × List Token). OptTook o (Comma ∷ Word w ∷ ts) y.0 y.1) (some_is (p.0, v.0.1) x p.2) (record { given = Given r.0; fresh = k.0; is = k.1; spelled = spelled })
+    let spelled : Comma ∷ Word w ∷ ts ≡ option (WithRet r.0) ++ v.0.1 = value_front (codes "RET") w ts v.0.1 v.0 is (value_taken ts v.0 v.1) refl ∙ ap (λ (t : List Token). t ++ v.0.1) (ret_taken v.0.0 r.0 r.1) in
+    subst (λ (y : Opts × List Token). OptTook o (Comma ∷ Word w ∷ ts) y.0 y.1) (some_is (p.0, v.0.1) x p.2) (record { given = WithRet r.0; fresh = k.0; is = k.1; spelled = spelled })
 
 rnl_option_taken : (o : Opts) (w : List ℕ) (ts : List Token) (x : Opts × List Token) → w ≡ codes "RNL" → (value_at ts >>= as_rnl o) ≡ Some x → OptTook o (Comma ∷ Word w ∷ ts) x.0 x.1
 rnl_option_taken o w ts x is e =
@@ -99,8 +99,8 @@ rnl_option_taken o w ts x is e =
     let r = bind_some (rnl_of v.0.0) (λ x. with_rnl o x >>= λ p. Some (p, v.0.1)) x v.2 in
     let p = bind_some (with_rnl o r.0) (λ p. Some (p, v.0.1)) x r.2 in
     let k = with_rnl_taken o r.0 p.0 p.1 in
-    let spelled : Comma ∷ Word w ∷ ts ≡ option (Lists r.0) ++ v.0.1 = value_front (codes "RNL") w ts v.0.1 v.0 is (value_taken ts v.0 v.1) refl ∙ ap (λ (z : List ℕ). valued (codes "RNL") z ++ v.0.1) (rnl_taken v.0.0 r.0 r.1) in
-    subst (λ (y : Opts × List Token). OptTook o (Comma ∷ Word w ∷ ts) y.0 y.1) (some_is (p.0, v.0.1) x p.2) (record { given = Lists r.0; fresh = k.0; is = k.1; spelled = spelled })
+    let spelled : Comma ∷ Word w ∷ ts ≡ option (WithRnl r.0) ++ v.0.1 = value_front (codes "RNL") w ts v.0.1 v.0 is (value_taken ts v.0 v.1) refl ∙ ap (λ (z : List ℕ). valued (codes "RNL") z ++ v.0.1) (rnl_taken v.0.0 r.0 r.1) in
+    subst (λ (y : Opts × List Token). OptTook o (Comma ∷ Word w ∷ ts) y.0 y.1) (some_is (p.0, v.0.1) x p.2) (record { given = WithRnl r.0; fresh = k.0; is = k.1; spelled = spelled })
 
 unit_option_taken : (o : Opts) (w : List ℕ) (ts : List Token) (x : Opts × List Token) → w ≡ codes "UCB" → (value_at ts >>= as_unit o) ≡ Some x → OptTook o (Comma ∷ Word w ∷ ts) x.0 x.1
 unit_option_taken o w ts x is e =
@@ -108,8 +108,8 @@ unit_option_taken o w ts x is e =
     let r = bind_some (unit_of v.0.0) (λ x. with_unit o x >>= λ p. Some (p, v.0.1)) x v.2 in
     let p = bind_some (with_unit o r.0) (λ p. Some (p, v.0.1)) x r.2 in
     let k = with_unit_taken o v.0.0 r.0 p.0 p.1 in
-    let spelled : Comma ∷ Word w ∷ ts ≡ option (On v.0.0 r.0) ++ v.0.1 = value_front (codes "UCB") w ts v.0.1 v.0 is (value_taken ts v.0 v.1) refl in
-    subst (λ (y : Opts × List Token). OptTook o (Comma ∷ Word w ∷ ts) y.0 y.1) (some_is (p.0, v.0.1) x p.2) (record { given = On v.0.0 r.0; fresh = (k.0, r.1); is = k.1; spelled = spelled })
+    let spelled : Comma ∷ Word w ∷ ts ≡ option (WithUcb v.0.0 r.0) ++ v.0.1 = value_front (codes "UCB") w ts v.0.1 v.0 is (value_taken ts v.0 v.1) refl in
+    subst (λ (y : Opts × List Token). OptTook o (Comma ∷ Word w ∷ ts) y.0 y.1) (some_is (p.0, v.0.1) x p.2) (record { given = WithUcb v.0.0 r.0; fresh = (k.0, r.1); is = k.1; spelled = spelled })
 
 chosen_taken : (o : Opts) (w : List ℕ) (ts : List Token) (x : Opts × List Token) → chosen o w ts ≡ Some x → OptTook o (Comma ∷ Word w ∷ ts) x.0 x.1
 unfolding chosen
@@ -298,7 +298,7 @@ first_taken o w ts x is e =
     let p = bind_some (with_q o v.0.0) (λ p. Some (p, v.0.1)) x v.2 in
     let n = named_taken ts v.0 v.1 in
     let k = once_some o.q (record o { q = Some v.0.0 }) p.0 p.1 in
-    subst (λ (y : Wanted × List Token). WantTook o (Comma ∷ Word w ∷ ts) y.0 y.1) (some_is (p.0, v.0.1) x p.2) (record { given = First n.token v.0.0; fresh = (k.0, n.names); is = k.1; spelled = want_front (codes "QNAME") w n.token ts v.0.1 is n.is })
+    subst (λ (y : Wanted × List Token). WantTook o (Comma ∷ Word w ∷ ts) y.0 y.1) (some_is (p.0, v.0.1) x p.2) (record { given = WithQname n.token v.0.0; fresh = (k.0, n.names); is = k.1; spelled = want_front (codes "QNAME") w n.token ts v.0.1 is n.is })
 
 second_taken : (o : Wanted) (w : List ℕ) (ts : List Token) (x : Wanted × List Token) → w ≡ codes "RNAME" → (named_at ts >>= λ v. with_r o v.0 >>= λ p. Some (p, v.1)) ≡ Some x → WantTook o (Comma ∷ Word w ∷ ts) x.0 x.1
 second_taken o w ts x is e =
@@ -306,7 +306,7 @@ second_taken o w ts x is e =
     let p = bind_some (with_r o v.0.0) (λ p. Some (p, v.0.1)) x v.2 in
     let n = named_taken ts v.0 v.1 in
     let k = once_some o.r (record o { r = Some v.0.0 }) p.0 p.1 in
-    subst (λ (y : Wanted × List Token). WantTook o (Comma ∷ Word w ∷ ts) y.0 y.1) (some_is (p.0, v.0.1) x p.2) (record { given = Second n.token v.0.0; fresh = (k.0, n.names); is = k.1; spelled = want_front (codes "RNAME") w n.token ts v.0.1 is n.is })
+    subst (λ (y : Wanted × List Token). WantTook o (Comma ∷ Word w ∷ ts) y.0 y.1) (some_is (p.0, v.0.1) x p.2) (record { given = WithRname n.token v.0.0; fresh = (k.0, n.names); is = k.1; spelled = want_front (codes "RNAME") w n.token ts v.0.1 is n.is })
 
 want_of_taken : (o : Wanted) (w : List ℕ) (ts : List Token) (x : Wanted × List Token) → want_of o w ts ≡ Some x → WantTook o (Comma ∷ Word w ∷ ts) x.0 x.1
 unfolding want_of

@@ -7,7 +7,7 @@ use Rattle.grs_base.specs.declared.look.Filter.{Filter}
 use Rattle.grs_base.specs.declared.look.Filter.TheVariants as filters
 use Rattle.grs_base.specs.declared.line.Line.{Line}
 use Rattle.grs_base.specs.declared.line.Line.TheVariants as lines
-use Rattle.deck_scan.specs.Lengths.{is_bad_q, is_bad_r, trimmed}
+use Rattle.deck_scan.specs.Lengths.{is_bad_qname, is_bad_rname, trimmed}
 use Rattle.job_syntax.specs.declared.ask.Ask.{Ask}
 use Rattle.job_syntax.specs.declared.ask.EnqAsk.{EnqAsk}
 use Rattle.job_syntax.specs.declared.display.Wanted.{Wanted}
@@ -17,20 +17,20 @@ use Rattle.job_syntax.specs.declared.said.Said.{Said}
 use Rattle.job_syntax.specs.declared.said.Said.TheVariants as said
 
 -- Names of wrong lengths.
-abbrev pub are_bad : List ℕ → List ℕ → Bool
-are_bad q r = not (is_qname q) || not (is_rname r)
+abbrev pub are_bad_names : List ℕ → List ℕ → Bool
+are_bad_names q r = not (is_qname q) || not (is_rname r)
 
 abbrev pub is_bad_shown : Shown → Bool
 is_bad_shown shown.Contended = false
-is_bad_shown (shown.Resource q r) = are_bad q r
+is_bad_shown (shown.Resource q r) = are_bad_names q r
 
-abbrev pub is_bad : Said → Bool
-is_bad (said.Enq e) = are_bad e.ask.q e.ask.r
-is_bad (said.Reserve e) = are_bad e.ask.q e.ask.r
-is_bad (said.Deq a) = are_bad a.q a.r
-is_bad (said.Wait a) = are_bad a.q a.r
-is_bad (said.Gqscan s) = is_bad_q s.names.q || is_bad_r s.names.r
-is_bad (said.Display s) = is_bad_shown s
+abbrev pub has_bad_name : Said → Bool
+has_bad_name (said.Enq e) = are_bad_names e.ask.q e.ask.r
+has_bad_name (said.Reserve e) = are_bad_names e.ask.q e.ask.r
+has_bad_name (said.Deq a) = are_bad_names a.q a.r
+has_bad_name (said.Wait a) = are_bad_names a.q a.r
+has_bad_name (said.Gqscan s) = is_bad_qname s.names.q || is_bad_rname s.names.r
+has_bad_name (said.Display s) = is_bad_shown s
 
 -- Without RET an ENQ is unconditional.
 abbrev pub ret_or_none : Option Ret → Ret

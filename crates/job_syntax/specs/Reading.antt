@@ -15,7 +15,7 @@ use Rattle.job_syntax.specs.declared.said.Said.{Said}
 use Rattle.job_syntax.specs.declared.said.Verb.{Verb}
 use Rattle.job_syntax.specs.Said.{verb, said_at}
 use Rattle.job_syntax.specs.Spelled.{IsSaid}
-use Rattle.job_syntax.specs.Lines.{is_bad, line_of}
+use Rattle.job_syntax.specs.Lines.{has_bad_name, line_of}
 
 abbrev pub said_by : ℕ → Option Verb → List Token → Result Said DeckFault
 said_by at (Some v) ts = or_bad at (said_at v ts)
@@ -32,7 +32,7 @@ unfoldable pub said_on : TokenLine → Result Said DeckFault
 said_on l = if l.joined then refused l.at UnknownStatement else said_first l.at l.tokens
 
 abbrev pub sized : ℕ → Said → Result Said DeckFault
-sized at s = if is_bad s then refused at NameLength else Ok s
+sized at s = if has_bad_name s then refused at NameLength else Ok s
 
 -- A further statement is wrong where it begins.
 abbrev pub alone : Said → List TokenLine → Result Line DeckFault
@@ -60,7 +60,7 @@ pub record SpellsLine (text : List ℕ) (line : Line) : Type 0 where
   pub apart : tokens.joined ≡ false
   pub said : Said
   pub says : IsSaid tokens.tokens said
-  pub names : is_bad said ≡ false
+  pub names : has_bad_name said ≡ false
   pub makes : line_of said ≡ line
 
 -- What is answered of a text: the line that it spells, else its fault. Want of memory is the only other

@@ -40,33 +40,33 @@ rnl_word false = codes "NO"
 
 -- An option of a task line: RET or ECB; RNL; UCB with its word and the unit that the word writes.
 pub data Opt : Type 0 where
-  Given : Ret → Opt
-  Lists : Bool → Opt
-  On : List ℕ → ℕ → Opt
+  WithRet : Ret → Opt
+  WithRnl : Bool → Opt
+  WithUcb : List ℕ → ℕ → Opt
 
 abbrev pub valued : List ℕ → List ℕ → List Token
 valued word value = Comma ∷ Word word ∷ Equals ∷ Word value ∷ []
 
 abbrev pub option : Opt → List Token
-option (Given RetNone) = valued (codes "RET") (codes "NONE")
-option (Given RetUse) = valued (codes "RET") (codes "USE")
-option (Given RetHave) = valued (codes "RET") (codes "HAVE")
-option (Given RetTest) = valued (codes "RET") (codes "TEST")
-option (Given RetChng) = valued (codes "RET") (codes "CHNG")
-option (Given RetEcb) = Comma ∷ Word (codes "ECB") ∷ []
-option (Lists b) = valued (codes "RNL") (rnl_word b)
-option (On w unit) = valued (codes "UCB") w
+option (WithRet RetNone) = valued (codes "RET") (codes "NONE")
+option (WithRet RetUse) = valued (codes "RET") (codes "USE")
+option (WithRet RetHave) = valued (codes "RET") (codes "HAVE")
+option (WithRet RetTest) = valued (codes "RET") (codes "TEST")
+option (WithRet RetChng) = valued (codes "RET") (codes "CHNG")
+option (WithRet RetEcb) = Comma ∷ Word (codes "ECB") ∷ []
+option (WithRnl b) = valued (codes "RNL") (rnl_word b)
+option (WithUcb w unit) = valued (codes "UCB") w
 
 -- None of its kind stands yet, and its word is right.
 abbrev pub IsFree : Opt → Opts → Type 0
-IsFree (Given r) o = o.ret ≡ None
-IsFree (Lists b) o = o.rnl ≡ None
-IsFree (On w unit) o = (o.unit ≡ None) × (unit_of w ≡ Some unit)
+IsFree (WithRet r) o = o.ret ≡ None
+IsFree (WithRnl b) o = o.rnl ≡ None
+IsFree (WithUcb w unit) o = (o.unit ≡ None) × (unit_of w ≡ Some unit)
 
 abbrev pub set : Opt → Opts → Opts
-set (Given r) o = record o { ret = Some r }
-set (Lists b) o = record o { rnl = Some b }
-set (On w unit) o = record o { unit = Some unit }
+set (WithRet r) o = record o { ret = Some r }
+set (WithRnl b) o = record o { rnl = Some b }
+set (WithUcb w unit) o = record o { unit = Some unit }
 
 -- ( q , r , then what stands before the scope, the scope, ) and the options.
 pub record IsAsk (front : List Token) (ts : List Token) (a : Ask) : Type 0 where
@@ -84,20 +84,20 @@ reach_word false = codes "LOCAL"
 
 -- A name that a GQSCAN gives: QNAME and RNAME with the tokens and the bytes that these name.
 pub data Want : Type 0 where
-  First : Token → List ℕ → Want
-  Second : Token → List ℕ → Want
+  WithQname : Token → List ℕ → Want
+  WithRname : Token → List ℕ → Want
 
 abbrev pub want : Want → List Token
-want (First t q) = Comma ∷ Word (codes "QNAME") ∷ Equals ∷ t ∷ []
-want (Second t r) = Comma ∷ Word (codes "RNAME") ∷ Equals ∷ t ∷ []
+want (WithQname t q) = Comma ∷ Word (codes "QNAME") ∷ Equals ∷ t ∷ []
+want (WithRname t r) = Comma ∷ Word (codes "RNAME") ∷ Equals ∷ t ∷ []
 
 abbrev pub IsFreeWant : Want → Wanted → Type 0
-IsFreeWant (First t q) o = (o.q ≡ None) × Names t q
-IsFreeWant (Second t r) o = (o.r ≡ None) × Names t r
+IsFreeWant (WithQname t q) o = (o.q ≡ None) × Names t q
+IsFreeWant (WithRname t r) o = (o.r ≡ None) × Names t r
 
 abbrev pub set_want : Want → Wanted → Wanted
-set_want (First t q) o = record o { q = Some q }
-set_want (Second t r) o = record o { r = Some r }
+set_want (WithQname t q) o = record o { q = Some q }
+set_want (WithRname t r) o = record o { r = Some r }
 
 -- SCOPE = GLOBAL or LOCAL, and the names.
 pub record IsScan (ts : List Token) (s : ScanAsk) : Type 0 where

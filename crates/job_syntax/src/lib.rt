@@ -17,7 +17,7 @@ mod unit;
 pub use ask::{Ask, EnqAsk};
 pub use display::{ScanAsk, Shown, Wanted};
 pub use laws::printed_lines;
-pub use line::{is_bad, line_of};
+pub use line::{has_bad_name, line_of};
 pub use options::Opts;
 pub use print::print_line;
 pub use read::read_line;

@@ -1,18 +1,18 @@
 //! The line that a task line makes. What is read without options has their plain values here.
 ghost use Rattle.std.specs.Prelude.{◌≡◌, true, false, IfOk};
 ghost use Rattle.grs_base.specs.Names.{trim_blanks};
-ghost use Rattle.deck_scan.specs.Lengths.{is_bad_q, is_bad_r};
-ghost use Rattle.job_syntax.specs.Lines.{are_bad, is_bad_shown, is_bad, ret_or_none, rnl_or_yes, is_have, filter_of, enq_line, reserve_line, deq_line, wait_line, display_line, line_of};
+ghost use Rattle.deck_scan.specs.Lengths.{is_bad_qname, is_bad_rname};
+ghost use Rattle.job_syntax.specs.Lines.{are_bad_names, is_bad_shown, has_bad_name, ret_or_none, rnl_or_yes, is_have, filter_of, enq_line, reserve_line, deq_line, wait_line, display_line, line_of};
 
 use crate::ask::{Ask, EnqAsk};
 use crate::display::{Shown, Wanted};
 use crate::said::Said;
-use deck_scan::{is_bad_q, is_bad_r, maybe_qname, maybe_rname, qname_of, rname_of};
+use deck_scan::{is_bad_qname, is_bad_rname, maybe_qname, maybe_rname, qname_of, rname_of};
 use grs_base::{Filter, Item, Line, List, NoMemory, Qname, Ret, Rname, is_qname, is_rname};
 use std::alloc::Global;
 
-fn are_bad(q: &[u8], r: &[u8]) -> bool
-    ensures { result ≡ are_bad q.now r.now }
+fn are_bad_names(q: &[u8], r: &[u8]) -> bool
+    ensures { result ≡ are_bad_names q.now r.now }
 {
     !is_qname(q) || !is_rname(r)
 }
@@ -22,21 +22,21 @@ fn is_bad_shown(shown: &Shown) -> bool
 {
     match shown {
         Shown::Contended => false,
-        Shown::Resource { q, r } => are_bad(q.as_slice(), r.as_slice()),
+        Shown::Resource { q, r } => are_bad_names(q.as_slice(), r.as_slice()),
     }
 }
 
 /// Whether a name has a length that it may not have: a qname of blanks alone or over 8 bytes, an rname of
 /// no byte or over 255.
-pub fn is_bad(said: &Said) -> bool
-    ensures { result ≡ is_bad said.now }
+pub fn has_bad_name(said: &Said) -> bool
+    ensures { result ≡ has_bad_name said.now }
 {
     match said {
-        Said::Enq(enq) => are_bad(enq.ask.q.as_slice(), enq.ask.r.as_slice()),
-        Said::Reserve(enq) => are_bad(enq.ask.q.as_slice(), enq.ask.r.as_slice()),
-        Said::Deq(ask) => are_bad(ask.q.as_slice(), ask.r.as_slice()),
-        Said::Wait(ask) => are_bad(ask.q.as_slice(), ask.r.as_slice()),
-        Said::Gqscan(scan) => is_bad_q(&scan.names.q) || is_bad_r(&scan.names.r),
+        Said::Enq(enq) => are_bad_names(enq.ask.q.as_slice(), enq.ask.r.as_slice()),
+        Said::Reserve(enq) => are_bad_names(enq.ask.q.as_slice(), enq.ask.r.as_slice()),
+        Said::Deq(ask) => are_bad_names(ask.q.as_slice(), ask.r.as_slice()),
+        Said::Wait(ask) => are_bad_names(ask.q.as_slice(), ask.r.as_slice()),
+        Said::Gqscan(scan) => is_bad_qname(&scan.names.q) || is_bad_rname(&scan.names.r),
         Said::Display(shown) => is_bad_shown(shown),
     }
 }
@@ -70,7 +70,7 @@ fn is_have(ret: Option<Ret>) -> bool
 
 /// The names of a line, whose lengths are right.
 fn names_of(alloc: Global, q: &[u8], r: &[u8]) -> Result<(Qname, Rname), NoMemory>
-    requires { are_bad q.now r.now ≡ false }
+    requires { are_bad_names q.now r.now ≡ false }
     ensures q { IfOk result (λ x. x.0 ≡ trim_blanks q.now) }
     ensures r { IfOk result (λ x. x.1 ≡ r.now) }
 {
@@ -80,7 +80,7 @@ fn names_of(alloc: Global, q: &[u8], r: &[u8]) -> Result<(Qname, Rname), NoMemor
 }
 
 fn enq_line(alloc: Global, enq: &EnqAsk) -> Result<Line, NoMemory>
-    requires { are_bad enq.now.ask.q enq.now.ask.r ≡ false }
+    requires { are_bad_names enq.now.ask.q enq.now.ask.r ≡ false }
     ensures { IfOk result (λ l. l ≡ enq_line enq.now) }
 {
     let (q, r) = names_of(alloc, enq.ask.q.as_slice(), enq.ask.r.as_slice())?;
@@ -100,7 +100,7 @@ fn enq_line(alloc: Global, enq: &EnqAsk) -> Result<Line, NoMemory>
 }
 
 fn reserve_line(alloc: Global, enq: &EnqAsk) -> Result<Line, NoMemory>
-    requires { are_bad enq.now.ask.q enq.now.ask.r ≡ false }
+    requires { are_bad_names enq.now.ask.q enq.now.ask.r ≡ false }
     ensures { IfOk result (λ l. l ≡ reserve_line enq.now) }
 {
     let (q, r) = names_of(alloc, enq.ask.q.as_slice(), enq.ask.r.as_slice())?;
@@ -115,7 +115,7 @@ fn reserve_line(alloc: Global, enq: &EnqAsk) -> Result<Line, NoMemory>
 }
 
 fn deq_line(alloc: Global, ask: &Ask) -> Result<Line, NoMemory>
-    requires { are_bad ask.now.q ask.now.r ≡ false }
+    requires { are_bad_names ask.now.q ask.now.r ≡ false }
     ensures { IfOk result (λ l. l ≡ deq_line ask.now) }
 {
     let (q, r) = names_of(alloc, ask.q.as_slice(), ask.r.as_slice())?;
@@ -130,7 +130,7 @@ fn deq_line(alloc: Global, ask: &Ask) -> Result<Line, NoMemory>
 }
 
 fn wait_line(alloc: Global, ask: &Ask) -> Result<Line, NoMemory>
-    requires { are_bad ask.now.q ask.now.r ≡ false }
+    requires { are_bad_names ask.now.q ask.now.r ≡ false }
     ensures { IfOk result (λ l. l ≡ wait_line ask.now) }
 {
     let (q, r) = names_of(alloc, ask.q.as_slice(), ask.r.as_slice())?;
@@ -143,8 +143,8 @@ fn wait_line(alloc: Global, ask: &Ask) -> Result<Line, NoMemory>
 }
 
 fn filter_of(alloc: Global, names: &Wanted) -> Result<Filter, NoMemory>
-    requires q { is_bad_q names.now.q ≡ false }
-    requires r { is_bad_r names.now.r ≡ false }
+    requires q { is_bad_qname names.now.q ≡ false }
+    requires r { is_bad_rname names.now.r ≡ false }
     ensures { IfOk result (λ f. f ≡ filter_of names.now) }
 {
     let q = maybe_qname(alloc, &names.q)?;
@@ -171,7 +171,7 @@ fn display_line(alloc: Global, shown: &Shown) -> Result<Line, NoMemory>
 
 /// The line that a task line makes whose names have the right lengths.
 pub fn line_of(alloc: Global, said: &Said) -> Result<Line, NoMemory>
-    requires { is_bad said.now ≡ false }
+    requires { has_bad_name said.now ≡ false }
     ensures { IfOk result (λ l. l ≡ line_of said.now) }
 {
     match said {

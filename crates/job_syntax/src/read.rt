@@ -3,7 +3,7 @@ ghost use Rattle.grs_base.specs.declared.line.Line.{Line as LineValue};
 ghost use Rattle.deck_scan.specs.Gives.{Gives, IsOkUnlessMemory};
 ghost use Rattle.job_syntax.specs.Reading.{said_by, said_first, said_on, sized_alone, one_line, reading, SpellsLine, Answers};
 
-use crate::line::{is_bad, line_of};
+use crate::line::{has_bad_name, line_of};
 use crate::said::{Said, Verb, said_at, verb_of};
 use deck_scan::{Token, TokenLine, lines, or_bad, refused};
 use grs_base::{Kind, Line, ReadError};
@@ -37,7 +37,7 @@ fn said_on(alloc: Global, line: &TokenLine) -> Result<Said, ReadError>
 fn alone(alloc: Global, at: u32, said: Said, rest: &[TokenLine]) -> Result<Line, ReadError>
     ensures { Gives result (sized_alone at said rest.now) }
 {
-    if is_bad(&said) {
+    if has_bad_name(&said) {
         return Err(refused(at, Kind::NameLength));
     }
     match rest.split_first() {

@@ -17,7 +17,7 @@ use Rattle.rnl_syntax.specs.declared.operands.Operands.{Operands}
 use Rattle.rnl_syntax.specs.declared.operands.Rnldef.{Rnldef}
 use Rattle.rnl_syntax.specs.Lines.{goes_on, with_line}
 use Rattle.rnl_syntax.specs.Operands.{no_operands}
-use Rattle.rnl_syntax.specs.Spelled.{Operand, Of, As, First, Second, operand, IsFree, set, IsRnldef}
+use Rattle.rnl_syntax.specs.Spelled.{Operand, WithRnl, WithType, WithQname, WithRname, operand, IsFree, set, IsRnldef}
 use Rattle.rnl_syntax.specs.Reading.{first_from}
 use Rattle.rnl_syntax.proofs.Closed.{is_close, line_closes, last_closes-append, line_closes-snoc}
 
@@ -251,10 +251,10 @@ named_weight _ n h = absurd h
 given_closes : (xs : List Operand) (o p : Operands) → Sets IsFree set o xs p → closes (flat_map operand xs) + filled o ≡ filled p
 unfolding filled
 given_closes [] o p h = rw h (omega arith)
-given_closes (Of which ∷ xs) o p h = let k = given_closes xs (set (Of which) o) p h.1 in let f = ap some h.0 in omega (arith, k, f)
-given_closes (As form ∷ xs) o p h = let k = given_closes xs (set (As form) o) p h.1 in let f = ap some h.0 in omega (arith, k, f)
-given_closes (First t q ∷ xs) o p h = let k = given_closes xs (set (First t q) o) p h.1 in let f = ap some h.0.0 in let w = named_weight t q h.0.1 in omega (arith, k, f, w)
-given_closes (Second t r ∷ xs) o p h = let k = given_closes xs (set (Second t r) o) p h.1 in let f = ap some h.0.0 in let w = named_weight t r h.0.1 in omega (arith, k, f, w)
+given_closes (WithRnl which ∷ xs) o p h = let k = given_closes xs (set (WithRnl which) o) p h.1 in let f = ap some h.0 in omega (arith, k, f)
+given_closes (WithType form ∷ xs) o p h = let k = given_closes xs (set (WithType form) o) p h.1 in let f = ap some h.0 in omega (arith, k, f)
+given_closes (WithQname t q ∷ xs) o p h = let k = given_closes xs (set (WithQname t q) o) p h.1 in let f = ap some h.0.0 in let w = named_weight t q h.0.1 in omega (arith, k, f, w)
+given_closes (WithRname t r ∷ xs) o p h = let k = given_closes xs (set (WithRname t r) o) p h.1 in let f = ap some h.0.0 in let w = named_weight t r h.0.1 in omega (arith, k, f, w)
 
 -- an RNLDEF has one for each operand
 pub rnldef_closes : (ts : List Token) (d : Rnldef) → IsRnldef ts d → closes ts ≡ 3 + some d.r

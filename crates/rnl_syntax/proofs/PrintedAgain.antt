@@ -19,7 +19,7 @@ use Rattle.deck_scan.specs.declared.token.Token.{Token}
 use Rattle.deck_scan.specs.declared.token.Token.TheVariants.{Word, Open, Close}
 use Rattle.deck_scan.specs.declared.token.TokenLine.{TokenLine}
 use Rattle.deck_scan.specs.Bytes.{is_word, is_allowed, bad_line}
-use Rattle.deck_scan.specs.Lengths.{is_bad_r}
+use Rattle.deck_scan.specs.Lengths.{is_bad_rname}
 use Rattle.deck_scan.specs.Named.{IsMaybeRname, are_bytes, name_piece, name_token}
 use Rattle.deck_scan.specs.Pieces.{Piece, Plain, Sign, Blank, LineEnd, spelled, is_piece, is_nonempty, followed_by, are_pieces, Place, past_all, first_place, next_line, lines_said, without_cr, SpellsLines}
 use Rattle.deck_scan.specs.Reading.{max_text}
@@ -28,7 +28,7 @@ use Rattle.deck_scan.proofs.Print.{printable-before, printable-kept, piece_on, n
 use Rattle.rnl_syntax.specs.declared.operands.Rnldef.{Rnldef}
 use Rattle.rnl_syntax.specs.Lines.{is_open}
 use Rattle.rnl_syntax.specs.Operands.{is_specific}
-use Rattle.rnl_syntax.specs.Spelled.{which_word, form_word, Of, As, First, Second, IsRnldef}
+use Rattle.rnl_syntax.specs.Spelled.{which_word, form_word, WithRnl, WithType, WithQname, WithRname, IsRnldef}
 use Rattle.rnl_syntax.specs.Printed.{printed_rname, printed_rnldef}
 use Rattle.rnl_syntax.specs.Reading.{first_from, MakesEntry, ends_closed, SpellsEntry}
 use Rattle.rnl_syntax.specs.Laws.{IsEntry, begins_operands, IsLineEnd, IsNextLine, MayFollow}
@@ -205,10 +205,10 @@ abbrev rnldef_of : RnlEntry → Rnldef
 rnldef_of e = record { which = e.which; form = e.form; q = e.q; r = e.r }
 
 parts_say : (which : Which) (form : Form) (q : List ℕ) (r : Option (List ℕ)) → (is_specific form && is_none r) ≡ false → IsRnldef (entry_tokens (record { which = which; form = form; q = q; r = r })) (record { which = which; form = form; q = q; r = r })
-parts_say which form q None needed = record { given = Of which ∷ As form ∷ First (name_token q) q ∷ []; spelled = refl; operands = (refl, (refl, ((refl, name_names q), refl))); needed = needed }
-parts_say which form q (Some r) needed = record { given = Of which ∷ As form ∷ First (name_token q) q ∷ Second (name_token r) r ∷ []; spelled = refl; operands = (refl, (refl, ((refl, name_names q), ((refl, name_names r), refl)))); needed = needed }
+parts_say which form q None needed = record { given = WithRnl which ∷ WithType form ∷ WithQname (name_token q) q ∷ []; spelled = refl; operands = (refl, (refl, ((refl, name_names q), refl))); needed = needed }
+parts_say which form q (Some r) needed = record { given = WithRnl which ∷ WithType form ∷ WithQname (name_token q) q ∷ WithRname (name_token r) r ∷ []; spelled = refl; operands = (refl, (refl, ((refl, name_names q), ((refl, name_names r), refl)))); needed = needed }
 
-rname_good : (r : Option (List ℕ)) → IsMaybeRname r → is_bad_r r ≡ false
+rname_good : (r : Option (List ℕ)) → IsMaybeRname r → is_bad_rname r ≡ false
 rname_good None h = refl
 rname_good (Some r) h = rw h.0 refl
 

@@ -28,8 +28,8 @@ use Rattle.deck_scan.proofs.Texts.{bind_ok, read_text, text_read}
 use Rattle.rnl_syntax.specs.declared.operands.Operands.{Operands}
 use Rattle.rnl_syntax.specs.declared.operands.Rnldef.{Rnldef}
 use Rattle.rnl_syntax.specs.Lines.{goes_on, with_line, is_rnldef_word}
-use Rattle.rnl_syntax.specs.Operands.{no_operands, rnldef_at, is_bad, entry_of}
-use Rattle.rnl_syntax.specs.Spelled.{Operand, Of, As, First, Second, operand, IsFree, set, IsRnldef}
+use Rattle.rnl_syntax.specs.Operands.{no_operands, rnldef_at, has_bad_name, entry_of}
+use Rattle.rnl_syntax.specs.Spelled.{Operand, WithRnl, WithType, WithQname, WithRname, operand, IsFree, set, IsRnldef}
 use Rattle.rnl_syntax.specs.Reading.{first_from, first_statement, by_word, by_first, rnldef_on, sized, entry_on, reading, MakesEntry, ends_closed, IsFront, SpellsEntry, Answers, same_which, same_form, same_rname, same_entry, is_entry, is_front, IsFewest, Found}
 use Rattle.rnl_syntax.proofs.Taken.{rnldef_taken}
 use Rattle.rnl_syntax.proofs.Again.{rnldef_again}
@@ -78,10 +78,10 @@ there_statement : (s : TokenLine) (ts : List Token) (d : Rnldef) → s.joined �
 unfolding rnldef_on
 there_statement s ts d apart parts says = rw (apart, parts, rnldef_again ts d says) refl
 
-sized_ok : (at : ℕ) (d : Rnldef) (e : RnlEntry) → sized at d ≡ Ok e → (is_bad d ≡ false) × (entry_of d ≡ e)
-sized_ok at d e h = go (is_bad d) refl h
+sized_ok : (at : ℕ) (d : Rnldef) (e : RnlEntry) → sized at d ≡ Ok e → (has_bad_name d ≡ false) × (entry_of d ≡ e)
+sized_ok at d e h = go (has_bad_name d) refl h
   where
-    go : (b : Bool) → is_bad d ≡ b → cond b (refused at NameLength) (Ok (entry_of d)) ≡ Ok e → (is_bad d ≡ false) × (entry_of d ≡ e)
+    go : (b : Bool) → has_bad_name d ≡ b → cond b (refused at NameLength) (Ok (entry_of d)) ≡ Ok e → (has_bad_name d ≡ false) × (entry_of d ≡ e)
     go true is k = absurd cc
     go false is k = (is, entry_is (entry_of d) e k)
 
@@ -92,7 +92,7 @@ record Statement (o : Option TokenLine) (e : RnlEntry) : Type 0 where
   apart : statement.joined ≡ false
   rnldef : Rnldef
   worded : Worded statement.tokens rnldef
-  names : is_bad rnldef ≡ false
+  names : has_bad_name rnldef ≡ false
   makes : entry_of rnldef ≡ e
 
 entry_there : (o : Option TokenLine) (e : RnlEntry) → entry_on o ≡ Ok e → Statement o e
@@ -189,17 +189,17 @@ head_of (l ∷ ls) s h = go (goes_on s l) refl h (λ k. head_of ls (with_line s 
 
 close_all : (xs : List Operand) (t : Token) → is_close t ≡ true → last_closes (t ∷ flat_map operand xs) ≡ true
 close_all [] t h = h
-close_all (Of which ∷ xs) t h = close_all xs Close refl
-close_all (As form ∷ xs) t h = close_all xs Close refl
-close_all (First u q ∷ xs) t h = close_all xs Close refl
-close_all (Second u r ∷ xs) t h = close_all xs Close refl
+close_all (WithRnl which ∷ xs) t h = close_all xs Close refl
+close_all (WithType form ∷ xs) t h = close_all xs Close refl
+close_all (WithQname u q ∷ xs) t h = close_all xs Close refl
+close_all (WithRname u r ∷ xs) t h = close_all xs Close refl
 
 given_close : (xs : List Operand) (t : Token) (d : Rnldef) → Sets IsFree set no_operands xs (record { which = Some d.which; form = Some d.form; q = Some d.q; r = d.r }) → last_closes (t ∷ flat_map operand xs) ≡ true
 given_close [] t d h = absurd (let z : Some d.which ≡ None = ap (λ (o : Operands). o.which) h in cc)
-given_close (Of which ∷ xs) t d h = close_all xs Close refl
-given_close (As form ∷ xs) t d h = close_all xs Close refl
-given_close (First u q ∷ xs) t d h = close_all xs Close refl
-given_close (Second u r ∷ xs) t d h = close_all xs Close refl
+given_close (WithRnl which ∷ xs) t d h = close_all xs Close refl
+given_close (WithType form ∷ xs) t d h = close_all xs Close refl
+given_close (WithQname u q ∷ xs) t d h = close_all xs Close refl
+given_close (WithRname u r ∷ xs) t d h = close_all xs Close refl
 
 statement_closes : (ts behind : List Token) (t : Token) (d : Rnldef) → ts ≡ t ∷ behind → IsRnldef behind d → last_closes ts ≡ true
 statement_closes ts behind t d parts h = rw (parts, h.spelled) (given_close h.given t d h.operands)

@@ -13,7 +13,7 @@ use Rattle.deck_scan.proofs.Taking.{bind_some, some_is, same_bytes, IsWordOf, ro
 use Rattle.rnl_syntax.specs.declared.operands.Operands.{Operands}
 use Rattle.rnl_syntax.specs.declared.operands.Rnldef.{Rnldef}
 use Rattle.rnl_syntax.specs.Operands.{no_operands, which_of, form_of, with_which, with_form, with_q, with_r, value_of, operand_at, is_specific, whole, rnldef_at}
-use Rattle.rnl_syntax.specs.Spelled.{which_word, form_word, Operand, Of, As, First, Second, enclosed, operand, IsFree, set, IsRnldef}
+use Rattle.rnl_syntax.specs.Spelled.{which_word, form_word, Operand, WithRnl, WithType, WithQname, WithRname, enclosed, operand, IsFree, set, IsRnldef}
 
 -- ---- words
 
@@ -45,8 +45,8 @@ which_value o w ts x is e =
     let y = bind_some (which_of v.0.0) (λ y. with_which o y >>= λ p. Some (p, v.0.1)) x v.2 in
     let p = bind_some (with_which o y.0) (λ p. Some (p, v.0.1)) x y.2 in
     let k = once_some o.which (record o { which = Some y.0 }) p.0 p.1 in
-    let word : enclosed w (Word v.0.0) ≡ operand (Of y.0) = enclosed_is (codes "RNL") v.0.0 w (which_word y.0) is (which_taken v.0.0 y.0 y.1) in
-    let made : Valued o w ts p.0 v.0.1 = record { given = Of y.0; value = Word v.0.0; fresh = k.0; is = k.1; spelled = any_word_taken ts v.0 v.1; of = word } in
+    let word : enclosed w (Word v.0.0) ≡ operand (WithRnl y.0) = enclosed_is (codes "RNL") v.0.0 w (which_word y.0) is (which_taken v.0.0 y.0 y.1) in
+    let made : Valued o w ts p.0 v.0.1 = record { given = WithRnl y.0; value = Word v.0.0; fresh = k.0; is = k.1; spelled = any_word_taken ts v.0 v.1; of = word } in
     subst (λ (z : Operands × List Token). Valued o w ts z.0 z.1) (some_is (p.0, v.0.1) x p.2) made
 
 form_value : (o : Operands) (w : List ℕ) (ts : List Token) (x : Operands × List Token) → w ≡ codes "TYPE" → (any_word_at ts >>= λ v. form_of v.0 >>= λ y. with_form o y >>= λ p. Some (p, v.1)) ≡ Some x → Valued o w ts x.0 x.1
@@ -55,8 +55,8 @@ form_value o w ts x is e =
     let y = bind_some (form_of v.0.0) (λ y. with_form o y >>= λ p. Some (p, v.0.1)) x v.2 in
     let p = bind_some (with_form o y.0) (λ p. Some (p, v.0.1)) x y.2 in
     let k = once_some o.form (record o { form = Some y.0 }) p.0 p.1 in
-    let word : enclosed w (Word v.0.0) ≡ operand (As y.0) = enclosed_is (codes "TYPE") v.0.0 w (form_word y.0) is (form_taken v.0.0 y.0 y.1) in
-    let made : Valued o w ts p.0 v.0.1 = record { given = As y.0; value = Word v.0.0; fresh = k.0; is = k.1; spelled = any_word_taken ts v.0 v.1; of = word } in
+    let word : enclosed w (Word v.0.0) ≡ operand (WithType y.0) = enclosed_is (codes "TYPE") v.0.0 w (form_word y.0) is (form_taken v.0.0 y.0 y.1) in
+    let made : Valued o w ts p.0 v.0.1 = record { given = WithType y.0; value = Word v.0.0; fresh = k.0; is = k.1; spelled = any_word_taken ts v.0 v.1; of = word } in
     subst (λ (z : Operands × List Token). Valued o w ts z.0 z.1) (some_is (p.0, v.0.1) x p.2) made
 
 first_value : (o : Operands) (w : List ℕ) (ts : List Token) (x : Operands × List Token) → w ≡ codes "QNAME" → (name_at ts >>= λ v. with_q o v.0 >>= λ p. Some (p, v.1)) ≡ Some x → Valued o w ts x.0 x.1
@@ -65,7 +65,7 @@ first_value o w ts x is e =
     let p = bind_some (with_q o v.0.0) (λ p. Some (p, v.0.1)) x v.2 in
     let n = name_taken ts v.0 v.1 in
     let k = once_some o.q (record o { q = Some v.0.0 }) p.0 p.1 in
-    let made : Valued o w ts p.0 v.0.1 = record { given = First n.token v.0.0; value = n.token; fresh = (k.0, n.names); is = k.1; spelled = n.is; of = ap (λ (z : List ℕ). enclosed z n.token) is } in
+    let made : Valued o w ts p.0 v.0.1 = record { given = WithQname n.token v.0.0; value = n.token; fresh = (k.0, n.names); is = k.1; spelled = n.is; of = ap (λ (z : List ℕ). enclosed z n.token) is } in
     subst (λ (z : Operands × List Token). Valued o w ts z.0 z.1) (some_is (p.0, v.0.1) x p.2) made
 
 second_value : (o : Operands) (w : List ℕ) (ts : List Token) (x : Operands × List Token) → w ≡ codes "RNAME" → (name_at ts >>= λ v. with_r o v.0 >>= λ p. Some (p, v.1)) ≡ Some x → Valued o w ts x.0 x.1
@@ -74,7 +74,7 @@ second_value o w ts x is e =
     let p = bind_some (with_r o v.0.0) (λ p. Some (p, v.0.1)) x v.2 in
     let n = name_taken ts v.0 v.1 in
     let k = once_some o.r (record o { r = Some v.0.0 }) p.0 p.1 in
-    let made : Valued o w ts p.0 v.0.1 = record { given = Second n.token v.0.0; value = n.token; fresh = (k.0, n.names); is = k.1; spelled = n.is; of = ap (λ (z : List ℕ). enclosed z n.token) is } in
+    let made : Valued o w ts p.0 v.0.1 = record { given = WithRname n.token v.0.0; value = n.token; fresh = (k.0, n.names); is = k.1; spelled = n.is; of = ap (λ (z : List ℕ). enclosed z n.token) is } in
     subst (λ (z : Operands × List Token). Valued o w ts z.0 z.1) (some_is (p.0, v.0.1) x p.2) made
 
 value_taken : (o : Operands) (w : List ℕ) (ts : List Token) (x : Operands × List Token) → value_of o w ts ≡ Some x → Valued o w ts x.0 x.1

@@ -9,7 +9,7 @@ use Rattle.grs_base.specs.declared.rnl.Form.TheVariants.{Specific, Generic, Patt
 use Rattle.grs_base.specs.declared.rnl.RnlEntry.{RnlEntry}
 use Rattle.deck_scan.specs.declared.token.Token.{Token}
 use Rattle.deck_scan.specs.Next.{◌>>=◌, open_at, close_at, any_word_at, name_at, up_to, once}
-use Rattle.deck_scan.specs.Lengths.{is_bad_r}
+use Rattle.deck_scan.specs.Lengths.{is_bad_rname}
 use Rattle.rnl_syntax.specs.declared.operands.Operands.{Operands}
 use Rattle.rnl_syntax.specs.declared.operands.Rnldef.{Rnldef}
 
@@ -82,8 +82,8 @@ unfoldable pub rnldef_at : List Token → Option Rnldef
 rnldef_at ts = up_to 4 operand_at no_operands ts >>= λ o. whole o
 
 -- Names of wrong lengths.
-abbrev pub is_bad : Rnldef → Bool
-is_bad d = not (is_qname d.q) || is_bad_r d.r
+abbrev pub has_bad_name : Rnldef → Bool
+has_bad_name d = not (is_qname d.q) || is_bad_rname d.r
 
 -- The entry that a statement makes; a qname loses its trailing blanks.
 abbrev pub entry_of : Rnldef → RnlEntry

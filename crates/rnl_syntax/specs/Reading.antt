@@ -20,7 +20,7 @@ use Rattle.deck_scan.specs.Reading.{max_text, lines_or_fault}
 use Rattle.rnl_syntax.specs.declared.operands.Rnldef.{Rnldef}
 use Rattle.rnl_syntax.specs.declared.read.Front.{Front}
 use Rattle.rnl_syntax.specs.Lines.{is_rnldef_word, goes_on, with_line}
-use Rattle.rnl_syntax.specs.Operands.{rnldef_at, is_bad, entry_of}
+use Rattle.rnl_syntax.specs.Operands.{rnldef_at, has_bad_name, entry_of}
 use Rattle.rnl_syntax.specs.Spelled.{IsRnldef}
 
 -- ---- the first statement
@@ -51,7 +51,7 @@ unfoldable pub rnldef_on : TokenLine → Result Rnldef DeckFault
 rnldef_on s = if s.joined then refused s.at UnknownStatement else by_first s.at s.tokens
 
 abbrev pub sized : ℕ → Rnldef → Result RnlEntry DeckFault
-sized at d = if is_bad d then refused at NameLength else Ok (entry_of d)
+sized at d = if has_bad_name d then refused at NameLength else Ok (entry_of d)
 
 -- A text without a statement is told as an unknown one on its first line.
 abbrev pub entry_on : Option TokenLine → Result RnlEntry DeckFault
@@ -76,7 +76,7 @@ pub record MakesEntry (text : List ℕ) (entry : RnlEntry) : Type 0 where
   pub parts : statement.tokens ≡ Word (codes "RNLDEF") ∷ behind
   pub rnldef : Rnldef
   pub says : IsRnldef behind rnldef
-  pub names : is_bad rnldef ≡ false
+  pub names : has_bad_name rnldef ≡ false
   pub makes : entry_of rnldef ≡ entry
 
 -- A text ends with a closing parenthesis.

@@ -24,32 +24,32 @@ form_word Pattern = codes "PATTERN"
 
 -- An operand: RNL; TYPE; QNAME and RNAME with the tokens and the bytes that these name.
 pub data Operand : Type 0 where
-  Of : Which → Operand
-  As : Form → Operand
-  First : Token → List ℕ → Operand
-  Second : Token → List ℕ → Operand
+  WithRnl : Which → Operand
+  WithType : Form → Operand
+  WithQname : Token → List ℕ → Operand
+  WithRname : Token → List ℕ → Operand
 
 abbrev pub enclosed : List ℕ → Token → List Token
 enclosed word value = Word word ∷ Open ∷ value ∷ Close ∷ []
 
 abbrev pub operand : Operand → List Token
-operand (Of which) = enclosed (codes "RNL") (Word (which_word which))
-operand (As form) = enclosed (codes "TYPE") (Word (form_word form))
-operand (First t q) = enclosed (codes "QNAME") t
-operand (Second t r) = enclosed (codes "RNAME") t
+operand (WithRnl which) = enclosed (codes "RNL") (Word (which_word which))
+operand (WithType form) = enclosed (codes "TYPE") (Word (form_word form))
+operand (WithQname t q) = enclosed (codes "QNAME") t
+operand (WithRname t r) = enclosed (codes "RNAME") t
 
 -- None of its kind stands yet, and its token names its bytes.
 abbrev pub IsFree : Operand → Operands → Type 0
-IsFree (Of which) o = o.which ≡ None
-IsFree (As form) o = o.form ≡ None
-IsFree (First t q) o = (o.q ≡ None) × Names t q
-IsFree (Second t r) o = (o.r ≡ None) × Names t r
+IsFree (WithRnl which) o = o.which ≡ None
+IsFree (WithType form) o = o.form ≡ None
+IsFree (WithQname t q) o = (o.q ≡ None) × Names t q
+IsFree (WithRname t r) o = (o.r ≡ None) × Names t r
 
 abbrev pub set : Operand → Operands → Operands
-set (Of which) o = record o { which = Some which }
-set (As form) o = record o { form = Some form }
-set (First t q) o = record o { q = Some q }
-set (Second t r) o = record o { r = Some r }
+set (WithRnl which) o = record o { which = Some which }
+set (WithType form) o = record o { form = Some form }
+set (WithQname t q) o = record o { q = Some q }
+set (WithRname t r) o = record o { r = Some r }
 
 -- The tokens behind the word RNLDEF: operands in any order, each at most once; RNL, TYPE and QNAME stand,
 -- and RNAME where the entry is SPECIFIC.

@@ -10,7 +10,7 @@ mod read;
 
 pub use laws::{printed_entries, used_bytes};
 pub use lines::{goes_on, is_rnldef_word, with_line};
-pub use operands::{Operands, Rnldef, entry_of, is_bad, rnldef_at};
+pub use operands::{Operands, Rnldef, entry_of, has_bad_name, rnldef_at};
 pub use print::print_rnldef;
 pub use read::read_rnldef;
 

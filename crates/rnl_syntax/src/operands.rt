@@ -1,10 +1,10 @@
 //! The operands of RNLDEF, in any order, each at most once.
 ghost use Rattle.std.specs.Prelude.{◌≡◌, true, false, IfOk};
 ghost use Rattle.deck_scan.specs.Next.{Reads, maybe};
-ghost use Rattle.rnl_syntax.specs.Operands.{no_operands, which_of, form_of, with_which, with_form, with_q, with_r, value_of, operand_at, is_specific, whole, rnldef_at, is_bad, entry_of};
+ghost use Rattle.rnl_syntax.specs.Operands.{no_operands, which_of, form_of, with_which, with_form, with_q, with_r, value_of, operand_at, is_specific, whole, rnldef_at, has_bad_name, entry_of};
 
 use deck_scan::{
-    Miss, Token, any_word_at, close_at, end_at, is_bad_r, maybe_rname, name_at, open_at, qname_of,
+    Miss, Token, any_word_at, close_at, end_at, is_bad_rname, maybe_rname, name_at, open_at, qname_of,
 };
 use grs_base::{Form, List, NoMemory, RnlEntry, Which, is_qname};
 use std::alloc::Global;
@@ -213,15 +213,15 @@ pub fn rnldef_at(alloc: Global, ts: &[Token]) -> Result<Rnldef, Miss>
 }
 
 /// Whether a name has a length that it may not have.
-pub fn is_bad(d: &Rnldef) -> bool
-    ensures { result ≡ is_bad d.now }
+pub fn has_bad_name(d: &Rnldef) -> bool
+    ensures { result ≡ has_bad_name d.now }
 {
-    !is_qname(d.q.as_slice()) || is_bad_r(&d.r)
+    !is_qname(d.q.as_slice()) || is_bad_rname(&d.r)
 }
 
 /// The entry that a statement makes whose names have the right lengths.
 pub fn entry_of(alloc: Global, d: &Rnldef) -> Result<RnlEntry, NoMemory>
-    requires { is_bad d.now ≡ false }
+    requires { has_bad_name d.now ≡ false }
     ensures { IfOk result (λ e. e ≡ entry_of d.now) }
 {
     let q = qname_of(alloc, d.q.as_slice())?;

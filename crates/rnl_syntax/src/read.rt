@@ -5,7 +5,7 @@ ghost use Rattle.deck_scan.specs.Gives.{Gives, IsOkUnlessMemory};
 ghost use Rattle.rnl_syntax.specs.Reading.{first_statement, by_word, by_first, rnldef_on, sized, entry_on, reading, SpellsEntry, Answers, taken_behind, taken, same_which, same_form, same_rname, same_entry, ends_closed, is_front, IsFewest, Found};
 
 use crate::lines::{goes_on, is_rnldef_word, with_line};
-use crate::operands::{Rnldef, entry_of, is_bad, rnldef_at};
+use crate::operands::{Rnldef, entry_of, has_bad_name, rnldef_at};
 use deck_scan::{Token, TokenLine, lines, or_bad, refused};
 use grs_base::{Form, Kind, List, NoMemory, ReadError, Rname, RnlEntry, Which};
 use std::alloc::Global;
@@ -96,7 +96,7 @@ fn rnldef_on(alloc: Global, statement: &TokenLine) -> Result<Rnldef, ReadError>
 fn sized(alloc: Global, at: u32, rnldef: &Rnldef) -> Result<RnlEntry, ReadError>
     ensures { Gives result (sized at rnldef.now) }
 {
-    if is_bad(rnldef) {
+    if has_bad_name(rnldef) {
         return Err(refused(at, Kind::NameLength));
     }
     Ok(entry_of(alloc, rnldef)?)
