@@ -16,9 +16,13 @@ mode_of w = if bytes_eq w (codes "RING") then Some false else if bytes_eq w (cod
 abbrev pub is_entries : ℕ → Bool
 is_entries n = n == 1 || n == 2 || n == 4 || n == 8 || n == 16 || n == 32 || n == 64
 
+-- The greatest limit of concurrent requests.
+abbrev pub most_limit : ℕ
+most_limit = 4096
+
 -- The limits of concurrent requests that there may be.
 abbrev pub is_limit : ℕ → Bool
-is_limit n = nat_le 1 n && nat_le n 4096
+is_limit n = nat_le 1 n && nat_le n most_limit
 
 unfoldable pub entries_of : List ℕ → Option ℕ
 entries_of w = do

@@ -40,6 +40,10 @@ unfoldable pub digits : ℕ → List ℕ → Option ℕ
 digits n [] = Some n
 digits n (b ∷ bs) = if is_digit b then digits (n * 10 + (b - 48)) bs else None
 
+-- How many digits a number may have.
+abbrev pub most_digits : ℕ
+most_digits = 9
+
 -- The number that 1 to 9 decimal digits write.
 unfoldable pub number_of : List ℕ → Option ℕ
-number_of w = if (length w == 0) || nat_lt 9 (length w) then None else digits 0 w
+number_of w = if (length w == 0) || nat_lt most_digits (length w) then None else digits 0 w

@@ -6,6 +6,9 @@ ghost use Rattle.deck_form.specs.Complex.{mode_of, is_entries, entries_of, limit
 use crate::words::number_of;
 use deck_scan::{Miss, Token, any_word_at, close_at, end_at, open_at};
 
+/// The greatest LIMIT.
+const MOST_LIMIT: u32 = 4096;
+
 /// The operands that stand in a COMPLEX.
 #[derive(Clone, Copy, Debug, PartialEq, Eq)]
 pub struct Setup {
@@ -52,7 +55,7 @@ fn limit_of(w: &[u8]) -> Result<u32, Miss>
     ensures bad { IfErr result (λ e. e ≡ Miss.Bad) }
 {
     let n = number_of(w)?;
-    if 1 <= n && n <= 4096 {
+    if 1 <= n && n <= MOST_LIMIT {
         Ok(n)
     } else {
         Err(Miss::Bad)

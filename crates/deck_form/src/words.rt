@@ -1,11 +1,14 @@
 //! Names of systems, jobs and tasks, and numbers, as the bytes of a word.
-ghost use Rattle.std.specs.Prelude.{◌≡◌, ◌<◌, ◌==◌, length, position, IfOk, IfErr, IfSome};
+ghost use Rattle.std.specs.Prelude.{◌≡◌, ◌<◌, ◌==◌, length, position, IfErr, IfSome};
 ghost use Rattle.deck_scan.specs.Next.{Reads};
 ghost use Rattle.deck_form.specs.Words.{is_digit, is_name_byte, is_name, all_name, short_at, dotted_at, parted, digits, number_of};
 
 use deck_scan::{Miss, Token, any_word_at};
 use grs_base::List;
 use std::alloc::Global;
+
+/// How many digits a number may have, so that it has less than 32 bits.
+const MOST_DIGITS: usize = 9;
 
 fn is_digit(b: u8) -> bool
     ensures { result ≡ is_digit b }
@@ -104,7 +107,7 @@ pub fn number_of(w: &[u8]) -> Result<u32, Miss>
     ensures reads { Reads (λ x. x) result (number_of w.now) }
     ensures bad { IfErr result (λ e. e ≡ Miss.Bad) }
 {
-    if w.is_empty() || w.len() > 9 {
+    if w.is_empty() || w.len() > MOST_DIGITS {
         return Err(Miss::Bad);
     }
     let mut number = 0;

@@ -17,6 +17,7 @@ use Rattle.deck_form.specs.declared.complex.Setup.{Setup}
 use Rattle.deck_form.specs.declared.form.Stmt.{Stmt}
 use Rattle.deck_form.specs.declared.form.Stmt.TheVariants as stmts
 use Rattle.grs_deck.specs.declared.judge.Draft.{Draft}
+use Rattle.grs_deck.specs.Limits.{default_entries, default_limit}
 use Rattle.grs_deck.specs.Places.{event_of}
 
 -- With the last item changed.
@@ -51,7 +52,7 @@ with_line line deck = record deck { systems = in_jobs (in_tasks (add_line line))
 
 -- The operands of COMPLEX, and the values without them.
 abbrev pub with_setup : Setup → Deck → Deck
-with_setup c deck = record deck { star = unwrap_or c.star false; entries = unwrap_or c.entries 64; limit = unwrap_or c.limit 4096 }
+with_setup c deck = record deck { star = unwrap_or c.star false; entries = unwrap_or c.entries default_entries; limit = unwrap_or c.limit default_limit }
 
 abbrev pub with_event : Option Event → Deck → Deck
 with_event None deck = deck

@@ -16,10 +16,12 @@ use Rattle.deck_form.specs.declared.form.Stmt.{Stmt}
 use Rattle.deck_form.specs.declared.form.Stmt.TheVariants as stmts
 use Rattle.deck_form.specs.Unbuilt.{is_unbuilt}
 use Rattle.grs_deck.specs.declared.judge.Draft.{Draft}
+use Rattle.grs_deck.specs.Limits.{most_name_bytes, most_entries, most_systems, most_jobs, most_tasks}
 use Rattle.grs_deck.specs.Places.{jobs_now, tasks_now, task_count, system_place, job_place, task_place, event_of}
 
+-- A name of a system, job or task is too long.
 abbrev pub is_too_long : List ℕ → Bool
-is_too_long name = nat_lt 8 (length name)
+is_too_long name = nat_lt most_name_bytes (length name)
 
 abbrev pub has_long_name : Act → Bool
 has_long_name (acts.Task j t) = is_too_long j || is_too_long t
@@ -70,14 +72,14 @@ list_of Con lists = lists.con
 
 -- A name list has as many entries as it may have.
 abbrev pub is_list_full : Lists → Which → Bool
-is_list_full lists which = nat_le 4096 (length (list_of which lists).entries)
+is_list_full lists which = nat_le most_entries (length (list_of which lists).entries)
 
 -- One statement more than the limits allow.
 abbrev pub is_full : Draft → Stmt → Bool
 is_full d (stmts.Rnldef r) = is_list_full d.deck.lists r.which
-is_full d (stmts.System n) = nat_le 8 (length d.deck.systems)
-is_full d (stmts.Job n) = nat_le 64 (length (jobs_now d.deck.systems))
-is_full d (stmts.Task n) = nat_le 64 (task_count (jobs_now d.deck.systems))
+is_full d (stmts.System n) = nat_le most_systems (length d.deck.systems)
+is_full d (stmts.Job n) = nat_le most_jobs (length (jobs_now d.deck.systems))
+is_full d (stmts.Task n) = nat_le most_tasks (task_count (jobs_now d.deck.systems))
 is_full d (stmts.Line s) = d.room == 0
 is_full d _ = false
 

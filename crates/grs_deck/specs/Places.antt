@@ -12,6 +12,7 @@ use Rattle.grs_wire.specs.declared.deck.Choice.TheVariants as choices
 use Rattle.deck_form.specs.declared.event.Act.{Act}
 use Rattle.deck_form.specs.declared.event.Act.TheVariants as acts
 use Rattle.deck_scan.specs.Next.{◌>>=◌}
+use Rattle.grs_deck.specs.Limits.{most_systems, most_jobs, most_tasks}
 
 -- What the last item has.
 abbrev pub at_last : {A B : Type 0} → (A → List B) → List A → List B
@@ -42,14 +43,14 @@ abbrev pub task_count : List JobDef → ℕ
 task_count [] = 0
 task_count (j ∷ js) = length j.tasks + task_count js
 
--- A system has at most 64 jobs and 64 tasks.
+-- A system is within its limits of jobs and of tasks.
 pub record IsWithin (s : SystemDef) : Type 0 where
-  pub jobs : length s.jobs ≤ 64
-  pub tasks : task_count s.jobs ≤ 64
+  pub jobs : length s.jobs ≤ most_jobs
+  pub tasks : task_count s.jobs ≤ most_tasks
 
--- At most 8 systems, each within its limits.
+-- The systems are within their limit, and each is within its own.
 pub record Fits (systems : List SystemDef) : Type 0 where
-  pub few : length systems ≤ 8
+  pub few : length systems ≤ most_systems
   pub each : All IsWithin systems
 
 abbrev pub system_id : ℕ → SysId

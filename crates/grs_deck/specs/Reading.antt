@@ -15,6 +15,7 @@ use Rattle.deck_form.specs.declared.form.Stmt.{Stmt}
 use Rattle.deck_form.specs.Form.{form}
 use Rattle.deck_form.specs.Statements.{statements}
 use Rattle.grs_deck.specs.declared.judge.Draft.{Draft}
+use Rattle.grs_deck.specs.Limits.{most_lines, default_entries, default_limit}
 use Rattle.grs_deck.specs.Judge.{verdict}
 use Rattle.grs_deck.specs.Grow.{grow}
 
@@ -28,11 +29,11 @@ no_lists = record { incl = no_entries Incl; excl = no_entries Excl; con = no_ent
 
 -- The values without COMPLEX, and no entry of a name list.
 abbrev pub no_deck : Deck
-no_deck = record { star = false; entries = 64; limit = 4096; lists = no_lists; systems = []; events = [] }
+no_deck = record { star = false; entries = default_entries; limit = default_limit; lists = no_lists; systems = []; events = [] }
 
 -- A deck of which nothing was read.
 abbrev pub no_draft : Draft
-no_draft = record { deck = no_deck; begun = false; scheduled = false; room = 16384 }
+no_draft = record { deck = no_deck; begun = false; scheduled = false; room = most_lines }
 
 abbrev pub unless : ℕ → Option Kind → Draft → Result Draft DeckFault
 unless at None d = Ok d

@@ -21,14 +21,15 @@ use Rattle.deck_form.specs.Spelled.{Spells}
 use Rattle.deck_form.specs.Statements.{statements}
 use Rattle.deck_form.specs.Unbuilt.{is_unbuilt}
 use Rattle.grs_deck.specs.declared.judge.Draft.{Draft}
+use Rattle.grs_deck.specs.Limits.{most_name_bytes, most_qname_bytes, most_rname_bytes, most_entries, most_systems, most_jobs, most_tasks}
 use Rattle.grs_deck.specs.Places.{jobs_now, tasks_now, task_count, system_place, job_place, task_place, event_of}
 use Rattle.grs_deck.specs.Judge.{list_of}
 use Rattle.grs_deck.specs.Grow.{grow}
 use Rattle.grs_deck.specs.Reading.{no_draft, fault}
 
--- A name of a system, job or task has at most 8 bytes.
+-- A name of a system, job or task is not too long.
 abbrev pub IsShort : List ℕ → Type 0
-IsShort n = length n ≤ 8
+IsShort n = length n ≤ most_name_bytes
 
 abbrev pub IsShortAct : Act → Type 0
 IsShortAct (acts.Task j t) = IsShort j × IsShort t
@@ -36,13 +37,13 @@ IsShortAct (acts.Send j t) = IsShort j × IsShort t
 IsShortAct (acts.Purge n) = IsShort n
 IsShortAct _ = Unit {0}
 
--- At most 8 bytes as written, and not blanks alone.
+-- A qname is not too long as written, and not blanks alone.
 abbrev pub IsQname : List ℕ → Type 0
-IsQname q = (length q ≤ 8) × (0 < length (trim_blanks q))
+IsQname q = (length q ≤ most_qname_bytes) × (0 < length (trim_blanks q))
 
--- 1 to 255 bytes.
+-- An rname is not empty, and not too long.
 abbrev pub IsRname : List ℕ → Type 0
-IsRname r = (0 < length r) × (length r ≤ 255)
+IsRname r = (0 < length r) × (length r ≤ most_rname_bytes)
 
 abbrev pub IsMaybeQname : Option (List ℕ) → Type 0
 IsMaybeQname None = Unit {0}
@@ -71,16 +72,16 @@ MaySay d s = AreNames s × (0 < length (tasks_now (jobs_now d.deck.systems))) ×
 
 -- An entry of a name list: its names are right, no system stands yet, and its list has room.
 abbrev pub MayDefine : Draft → Rnldef → Type 0
-MayDefine d r = IsQname r.q × IsMaybeRname r.r × (d.deck.systems ≡ []) × (length (list_of r.which d.deck.lists).entries < 4096)
+MayDefine d r = IsQname r.q × IsMaybeRname r.r × (d.deck.systems ≡ []) × (length (list_of r.which d.deck.lists).entries < most_entries)
 
 -- A statement may stand behind those that made this deck.
 abbrev pub MayStand : Draft → Stmt → Type 0
 MayStand d stmts.Unbuilt = Unit {0}
 MayStand d (stmts.Complex c) = d.begun ≡ false
 MayStand d (stmts.Rnldef r) = MayDefine d r
-MayStand d (stmts.System n) = IsShort n × (system_place d.deck.systems n ≡ None) × (length d.deck.systems < 8)
-MayStand d (stmts.Job n) = IsShort n × (job_place (jobs_now d.deck.systems) n ≡ None) × (0 < length d.deck.systems) × (length (jobs_now d.deck.systems) < 64)
-MayStand d (stmts.Task n) = IsShort n × (task_place (tasks_now (jobs_now d.deck.systems)) n ≡ None) × (0 < length (jobs_now d.deck.systems)) × (task_count (jobs_now d.deck.systems) < 64)
+MayStand d (stmts.System n) = IsShort n × (system_place d.deck.systems n ≡ None) × (length d.deck.systems < most_systems)
+MayStand d (stmts.Job n) = IsShort n × (job_place (jobs_now d.deck.systems) n ≡ None) × (0 < length d.deck.systems) × (length (jobs_now d.deck.systems) < most_jobs)
+MayStand d (stmts.Task n) = IsShort n × (task_place (tasks_now (jobs_now d.deck.systems)) n ≡ None) × (0 < length (jobs_now d.deck.systems)) × (task_count (jobs_now d.deck.systems) < most_tasks)
 MayStand d (stmts.Line s) = MaySay d s
 MayStand d stmts.Schedule = 0 < length d.deck.systems
 MayStand d (stmts.Event s a) = IsShort s × IsShortAct a × ((e : Event) × (event_of d.deck.systems s a ≡ Some e))

@@ -14,6 +14,7 @@ use Rattle.grs_wire.specs.declared.deck.Choice.{Choice}
 use Rattle.grs_wire.specs.declared.deck.Choice.TheVariants as choices
 use Rattle.grs_wire.specs.declared.deck.Deck.{Deck}
 use Rattle.deck_form.specs.Complex.{is_entries, is_limit}
+use Rattle.grs_deck.specs.Limits.{most_entries}
 use Rattle.grs_deck.specs.Places.{task_count, Fits}
 
 -- A task of a system: its job stands in the system, and the task in the job, at this place among all
@@ -53,7 +54,7 @@ pub record IsEventOf (systems : List SystemDef) (entries : ℕ) (e : Event) : Ty
 -- A name list with entries of its own alone, and at most 4,096 of them.
 pub record IsListOf (which : Which) (list : RnlView) : Type 0 where
   pub which_is : list.which ≡ which
-  pub few : length list.entries ≤ 4096
+  pub few : length list.entries ≤ most_entries
   pub own : All (λ (e : RnlEntry). e.which ≡ which) list.entries
 
 -- The three name lists.

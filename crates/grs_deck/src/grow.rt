@@ -3,8 +3,9 @@ ghost use Rattle.std.specs.Prelude.{◌≡◌, false, OnOk};
 ghost use Rattle.grs_deck.specs.Judge.{has_bad_name, is_list_full, is_crowded};
 ghost use Rattle.grs_deck.specs.Whole.{AreLists};
 ghost use Rattle.grs_deck.specs.Places.{Fits};
-ghost use Rattle.grs_deck.specs.Grow.{with_entry, add_job, add_task, add_line, in_jobs, in_tasks, with_setup, with_event, grow_deck};
+ghost use Rattle.grs_deck.specs.Grow.{with_entry, add_job, add_task, add_line, in_jobs, in_tasks, with_setup, grow_deck};
 
+use crate::limits::{DEFAULT_ENTRIES, DEFAULT_LIMIT};
 use crate::places::event_of;
 use deck_form::{Setup, Stmt};
 use grs_base::{Line, List, Lists, NoMemory, RnlEntry, Which};
@@ -119,8 +120,8 @@ fn set_up(deck: &mut Deck, setup: Setup)
     ensures { deck.new ≡ with_setup setup deck.old }
 {
     deck.star = setup.star.unwrap_or(false);
-    deck.entries = setup.entries.unwrap_or(64);
-    deck.limit = setup.limit.unwrap_or(4096);
+    deck.entries = setup.entries.unwrap_or(DEFAULT_ENTRIES);
+    deck.limit = setup.limit.unwrap_or(DEFAULT_LIMIT);
 }
 
 /// Adds what a statement says whose names have the right lengths.

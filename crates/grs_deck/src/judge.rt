@@ -3,7 +3,7 @@ ghost use Rattle.std.specs.Prelude.{◌≡◌, is_some};
 ghost use Rattle.grs_deck.specs.Places.{Fits};
 ghost use Rattle.grs_deck.specs.Judge.{is_too_long, has_long_name, has_bad_name, is_repeated, is_idle, is_misplaced, is_list_full, is_full, is_unknown, verdict};
 
-use crate::limits::{MOST_JOBS, MOST_NAME, MOST_SYSTEMS, MOST_TASKS};
+use crate::limits::{MOST_JOBS, MOST_NAME_BYTES, MOST_SYSTEMS, MOST_TASKS};
 use crate::places::{
     event_of, job_place, jobs_now, system_place, task_count, task_place, tasks_now,
 };
@@ -26,7 +26,7 @@ pub struct Draft {
 fn is_too_long(name: &[u8]) -> bool
     ensures { result ≡ is_too_long name.now }
 {
-    name.len() > MOST_NAME
+    name.len() > MOST_NAME_BYTES
 }
 
 fn has_long_name(act: &Act) -> bool

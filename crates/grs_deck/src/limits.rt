@@ -1,7 +1,8 @@
-//! The limits of a deck, each in one place. (The number of entries of a name list is that of `grs_base`.)
+//! The limits of a deck and what holds without COMPLEX, each in one place. (The number of entries of a name
+//! list is that of `grs_base`.)
 
 /// Bytes of the name of a system, a job or a task.
-pub const MOST_NAME: usize = 8;
+pub const MOST_NAME_BYTES: usize = 8;
 
 /// Systems of a deck. A set of systems has a bit for each.
 pub const MOST_SYSTEMS: usize = 8;
@@ -14,3 +15,9 @@ pub const MOST_TASKS: usize = 64;
 
 /// Task lines of a deck.
 pub const MOST_LINES: u32 = 16_384;
+
+/// Lock entries without ENTRIES.
+pub const DEFAULT_ENTRIES: u32 = 64;
+
+/// Requests that a task may have without LIMIT.
+pub const DEFAULT_LIMIT: u32 = 4096;

@@ -1,6 +1,7 @@
 //! Where systems, jobs and tasks of a deck stand. The last of each is the one that a statement behind
 //! it belongs to.
 ghost use Rattle.std.specs.Prelude.{◌≡◌, ◌<◌, ◌≤◌, length, IfSome};
+ghost use Rattle.grs_deck.specs.Limits.{most_tasks};
 ghost use Rattle.grs_deck.specs.Places.{system_place, job_place, task_place, jobs_now, tasks_now, task_count, IsWithin, Fits, system_at, task_in, choice_of, event_of, seen};
 
 use deck_form::Act;
@@ -56,7 +57,7 @@ pub fn tasks_now(jobs: &[JobDef]) -> &[TaskDef]
 
 /// How many tasks the jobs have together.
 pub fn task_count(jobs: &[JobDef]) -> usize
-    requires { task_count jobs.now ≤ 64 }
+    requires { task_count jobs.now ≤ most_tasks }
     ensures { result ≡ task_count jobs.now }
 {
     let mut count = 0;

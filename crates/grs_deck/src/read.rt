@@ -11,7 +11,7 @@ ghost use Rattle.grs_deck.specs.Reading.{judge_statement, judge, judge_all, ende
 
 use crate::grow::grow_deck;
 use crate::judge::{Draft, verdict};
-use crate::limits::MOST_LINES;
+use crate::limits::{DEFAULT_ENTRIES, DEFAULT_LIMIT, MOST_LINES};
 use deck_form::{FormError, Stmt, statement, statements};
 use deck_scan::{TokenLine, lines, refused};
 use grs_base::{Kind, List, Lists, NoMemory, ReadError};
@@ -86,8 +86,8 @@ fn start(alloc: Global) -> Draft
     Draft {
         deck: Deck {
             star: false,
-            entries: 64,
-            limit: 4096,
+            entries: DEFAULT_ENTRIES,
+            limit: DEFAULT_LIMIT,
             lists: Lists::new(alloc),
             systems: List::new(alloc),
             events: List::new(alloc),

@@ -1,0 +1,42 @@
+-- The limits of a deck, and what holds without COMPLEX.
+use Rattle.std.specs.Prelude.{ℕ}
+
+-- Bytes of the name of a system, a job or a task.
+abbrev pub most_name_bytes : ℕ
+most_name_bytes = 8
+
+-- Bytes of a qname as it is written, trailing blanks too.
+abbrev pub most_qname_bytes : ℕ
+most_qname_bytes = 8
+
+-- Bytes of an rname.
+abbrev pub most_rname_bytes : ℕ
+most_rname_bytes = 255
+
+-- Entries of a name list.
+abbrev pub most_entries : ℕ
+most_entries = 4096
+
+-- Systems of a deck.
+abbrev pub most_systems : ℕ
+most_systems = 8
+
+-- Jobs of a system.
+abbrev pub most_jobs : ℕ
+most_jobs = 64
+
+-- Tasks of a system, of all its jobs together.
+abbrev pub most_tasks : ℕ
+most_tasks = 64
+
+-- Task lines of a deck.
+abbrev pub most_lines : ℕ
+most_lines = 16384
+
+-- Lock entries without ENTRIES.
+abbrev pub default_entries : ℕ
+default_entries = 64
+
+-- Requests that a task may have without LIMIT.
+abbrev pub default_limit : ℕ
+default_limit = 4096
