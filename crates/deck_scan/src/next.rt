@@ -1,7 +1,6 @@
 //! The next token. Each reader takes what it reads from the front of the tokens and hands on the rest;
 //! it is `Bad` where something else stands there, and `NoMemory` only where it copies a name.
 ghost use Rattle.std.specs.Prelude.{◌≡◌, IfErr};
-ghost use Rattle.std.specs.Str.{bytes_eq};
 ghost use Rattle.deck_scan.specs.Next.{Reads, open_at, close_at, comma_at, equals_at, end_at, word_at, any_word_at, value_at, name_at};
 
 use crate::miss::Miss;

@@ -1,7 +1,6 @@
 //! GQSCAN and DISPLAY: which lists are looked at.
-ghost use Rattle.std.specs.Prelude.{◌≡◌, codes};
 ghost use Rattle.deck_scan.specs.Next.{Reads, maybe};
-ghost use Rattle.job_syntax.specs.Display.{no_names, reach_of, with_q, with_r, named_at, want_of, want_at, scan_at, resource_at, shown_at, display_at};
+ghost use Rattle.job_syntax.specs.Display.{reach_of, with_q, with_r, named_at, want_of, want_at, scan_at, resource_at, shown_at, display_at};
 
 use deck_scan::{
     Miss, Token, any_word_at, close_at, comma_at, end_at, equals_at, name_at, open_at, value_at,

@@ -1,7 +1,7 @@
 //! Reads the line of a task from a text of its own.
 ghost use Rattle.grs_base.specs.declared.line.Line.{Line as LineValue};
 ghost use Rattle.deck_scan.specs.Gives.{Gives, IsOkUnlessMemory};
-ghost use Rattle.job_syntax.specs.Reading.{said_by, said_first, said_on, sized_alone, one_line, reading, SpellsLine, Answers};
+ghost use Rattle.job_syntax.specs.Reading.{said_by, said_on, sized_alone, one_line, reading, SpellsLine, Answers};
 
 use crate::line::{has_bad_name, line_of};
 use crate::said::{Said, Verb, said_at, verb_of};

@@ -1,8 +1,8 @@
 //! Reads an RNLDEF from the front of a text of its own.
-ghost use Rattle.std.specs.Prelude.{◌≡◌, ◌≤◌, ◌<◌, length, take, Option, Ok, OnOk, IfOk, ℕ};
+ghost use Rattle.std.specs.Prelude.{◌≡◌, ◌<◌, take, Option, Ok, OnOk, IfOk, ℕ};
 ghost use Rattle.grs_base.specs.declared.rnl.RnlEntry.{RnlEntry as EntryValue};
 ghost use Rattle.deck_scan.specs.Gives.{Gives, IsOkUnlessMemory};
-ghost use Rattle.rnl_syntax.specs.Reading.{first_statement, by_word, by_first, rnldef_on, sized, entry_on, reading, SpellsEntry, Answers, taken_behind, taken, same_which, same_form, same_rname, same_entry, ends_closed, is_front, IsFewest, Found};
+ghost use Rattle.rnl_syntax.specs.Reading.{first_statement, by_word, rnldef_on, sized, entry_on, reading, SpellsEntry, Answers, taken_behind, taken, same_which, same_form, same_rname, same_entry, ends_closed, is_front, IsFewest, Found};
 
 use crate::lines::{goes_on, is_rnldef_word, with_line};
 use crate::operands::{Rnldef, entry_of, has_bad_name, rnldef_at};
@@ -221,9 +221,10 @@ fn read_front(alloc: Global, text: &[u8]) -> Result<(RnlEntry, usize), ReadError
 ///
 /// it makes an entry of the exclusion list for all names of `SYSDSN`, of the first 51 bytes.
 ///
-/// The lines of a fault count from 1. `TooLong` and `BadByte` are told as of a deck, for the whole text. Else: `UnknownStatement` where the
-/// text has no statement (on line 1), or its first word isn't RNLDEF; `BadOperand` where its form is
-/// another; `NameLength` where a name is too short or too long. Want of memory is `NoMemory`.
+/// The lines of a fault count from 1. `TooLong` and `BadByte` are told as of a deck, for the whole text.
+/// Else: `UnknownStatement` where the text has no statement (on line 1), or its first word isn't RNLDEF;
+/// `BadOperand` where its form is another; `NameLength` where a name is too short or too long. Want of
+/// memory is `NoMemory`.
 pub fn read_rnldef(alloc: Global, text: &[u8]) -> Result<(RnlEntry, usize), ReadError>
     // What is read is spelled so; a fault is that of the text.
     ensures exact { Answers result text.now }
