@@ -1,6 +1,6 @@
 //! Resolution by the name lists.
 ghost use Rattle.std.specs.Prelude.{◌≡◌, IfOk};
-ghost use Rattle.scope_resolve.specs.Resolve.{is_listed, unless_excluded, looked_up, scope_of, reserve_looked_up, reserve_kind, kind_of, res_in, resolved};
+ghost use Rattle.scope_resolve.specs.Resolve.{is_listed, unless_excluded, looked_up, reserve_looked_up, kind_of, res_in, resolved};
 
 use grs_base::{Lists, NoMemory, Qname, Res, Rname, RnlList, Scope, SysId};
 use rnl_match::find;

@@ -1,4 +1,3 @@
-use Rattle.std.proofs.Common.{◌≡◌, length}
 use Rattle.rnl_match.proofs.MarkLaws.{end_marked}
 use Rattle.rnl_match.proofs.pattern.at_end.Goals as goal
 

@@ -1,5 +1,4 @@
-use Rattle.std.proofs.Common.{◌≡◌, ◌<◌, ◌≤◌, ◌||◌, ◌-◌, ◌+◌, ℕ, Bool, false, List, length, drop, get_or, arith}
-use Rattle.rnl_match.specs.Matches.{some_rest}
+use Rattle.std.proofs.Common.{◌<◌, ◌-◌, ℕ, length, arith}
 use Rattle.rnl_match.proofs.MarkLaws.{before_kept, rest_behind}
 use Rattle.rnl_match.proofs.pattern.some_rest.Goals as goal
 
