@@ -1,35 +1,15 @@
-//! What GQSCAN and DISPLAY show: which resources pass a filter, and the code of a display. It knows no lists.
+//! What GQSCAN and DISPLAY show: which resources are of a place and pass a filter, and the code. It knows no lists.
 //! (z/OS MVS Programming: Authorized Assembler Services Reference, "GQSCAN".)
 #![tactic(auto)]
 
 ghost use Rattle.std.specs.Prelude.{◌≡◌};
-ghost use Rattle.std.specs.Str.{bytes_eq};
 ghost use Rattle.grs_base.specs.Looks.{is_at as is_at_place, is_named, matches};
-ghost use Rattle.grs_base.specs.ResOrder.{qname_of, rname_of};
 ghost use Rattle.gqscan.specs.Shown.{code_for};
 
 use grs_base::{Code, Filter, Place, Qname, Res, Rname, slice_of};
 
 #[cfg(test)]
 mod tests;
-
-/// The qname of a resource.
-fn qname(res: &Res) -> &Qname
-    ensures { result.now ≡ qname_of res.now }
-{
-    match res {
-        Res::Step { q, .. } | Res::System { q, .. } | Res::Systems { q, .. } => q,
-    }
-}
-
-/// The rname of a resource.
-fn rname(res: &Res) -> &Rname
-    ensures { result.now ≡ rname_of res.now }
-{
-    match res {
-        Res::Step { r, .. } | Res::System { r, .. } | Res::Systems { r, .. } => r,
-    }
-}
 
 /// Whether a qname is the one that is asked for, if one is.
 fn is_qname_named(wanted: &Option<Qname>, name: &Qname) -> bool
@@ -58,7 +38,7 @@ pub fn matches_filter(filter: &Filter, res: &Res, waits: bool) -> bool
     match filter {
         Filter::All => true,
         Filter::Contended => waits,
-        Filter::Named { q, r } => is_qname_named(q, qname(res)) && is_rname_named(r, rname(res)),
+        Filter::Named { q, r } => is_qname_named(q, res.qname()) && is_rname_named(r, res.rname()),
     }
 }
 
@@ -75,7 +55,7 @@ pub fn is_at(place: Place, res: &Res) -> bool
     }
 }
 
-/// The code of a display that found so many resources: 00 where it found any, else 04.
+/// The code of a display that shows the lists of so many resources: 00 where it shows any, else 04.
 pub fn code_of(rows: u32) -> Code
     ensures { result ≡ code_for rows }
 {
