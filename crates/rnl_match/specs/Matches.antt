@@ -42,7 +42,7 @@ matches_every Specific = false
 matches_every Generic = true
 matches_every Pattern = true
 
--- the same where the entry may have no rname
+-- whether an rname is matched by an entry that may have none
 abbrev pub matches_some_rname : Form → Option (List ℕ) → List ℕ → Bool
 matches_some_rname form None r = matches_every form
 matches_some_rname form (Some wanted) r = matches_rname form wanted r

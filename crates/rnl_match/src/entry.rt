@@ -5,6 +5,7 @@ ghost use Rattle.rnl_match.specs.Matches.{matches_qname, matches_rname, matches_
 use super::pattern::matches_pattern;
 use grs_base::{Form, Qname, Rname, RnlEntry, RnlList};
 
+/// Whether a qname is matched.
 fn matches_qname(form: Form, wanted: &Qname, q: &Qname) -> bool
     ensures { result ≡ matches_qname form wanted.now q.now }
 {
@@ -14,6 +15,7 @@ fn matches_qname(form: Form, wanted: &Qname, q: &Qname) -> bool
     }
 }
 
+/// Whether an rname is matched by an entry that has one.
 fn matches_rname(form: Form, wanted: &Rname, r: &Rname) -> bool
     ensures { result ≡ matches_rname form wanted.now r.now }
 {
@@ -34,7 +36,7 @@ fn matches_every(form: Form) -> bool
     }
 }
 
-/// The same where the entry may have no rname.
+/// Whether an rname is matched by an entry that may have none.
 fn matches_some_rname(form: Form, wanted: &Option<Rname>, r: &Rname) -> bool
     ensures { result ≡ matches_some_rname form wanted.now r.now }
 {
