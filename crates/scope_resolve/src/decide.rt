@@ -1,4 +1,4 @@
-//! Resolution by the name lists.
+//! What the name lists make of a request: its scope, its resource, and whether it reserves a device.
 ghost use Rattle.std.specs.Prelude.{◌≡◌, IfOk};
 ghost use Rattle.scope_resolve.specs.Resolve.{is_listed, unless_excluded, looked_up, reserve_looked_up, kind_of, res_in, resolved};
 
@@ -30,7 +30,7 @@ fn is_listed(list: &RnlList, q: &Qname, r: &Rname) -> bool
     find(list, q, r).is_some()
 }
 
-/// A request for the whole complex.
+/// The scope of a request for the whole complex that is looked up.
 fn unless_excluded(lists: &Lists, q: &Qname, r: &Rname) -> Scope
     ensures { result ≡ unless_excluded lists.now q.now r.now }
 {
@@ -41,7 +41,7 @@ fn unless_excluded(lists: &Lists, q: &Qname, r: &Rname) -> Scope
     }
 }
 
-/// A request that is looked up.
+/// The scope of a request that is looked up.
 fn looked_up(lists: &Lists, scope: Scope, q: &Qname, r: &Rname) -> Scope
     ensures { result ≡ looked_up lists.now scope q.now r.now }
 {
@@ -52,7 +52,7 @@ fn looked_up(lists: &Lists, scope: Scope, q: &Qname, r: &Rname) -> Scope
     }
 }
 
-/// A RESERVE that is looked up.
+/// The scope of a RESERVE that is looked up, and whether its device is reserved.
 fn reserve_looked_up(lists: &Lists, q: &Qname, r: &Rname) -> (Scope, bool)
     ensures { result ≡ reserve_looked_up lists.now q.now r.now }
 {
@@ -80,7 +80,7 @@ pub fn resolve_kind(lists: &Lists, ask: &Ask<'_>) -> (Scope, bool)
     }
 }
 
-/// The resource of these names and this scope.
+/// The resource of these names and this scope, as a job of a system asks for it.
 fn res_in(
     alloc: Global,
     scope: Scope,
