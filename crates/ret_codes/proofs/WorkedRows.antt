@@ -1,5 +1,5 @@
 -- Worked rows of the tables of ENQ and DEQ: tasks t, u and v, with lists in order of arrival.
-use Rattle.std.proofs.Common.{◌≡◌, ℕ, Bool, true, false, List, [], ◌∷◌, refl}
+use Rattle.std.proofs.Common.{◌≡◌, ℕ, Bool, true, false, [], ◌∷◌, refl}
 use Rattle.grs_base.specs.Lists.{owners, can_have, decided, decide_enq, deq_code, is_owner, standing_of}
 use Rattle.grs_base.specs.declared.resource.TaskId.{TaskId}
 use Rattle.grs_base.specs.declared.resource.Elem.{Elem}

@@ -1,6 +1,6 @@
 //! How many elements each task has, kept beside the queues so that it needn't be counted. Nothing here
 //! knows of the queues.
-ghost use Rattle.std.specs.Prelude.{◌≡◌, ◌≤◌, ◌<◌, ◌+◌, ◌-◌, cond, OnOk};
+ghost use Rattle.std.specs.Prelude.{◌≡◌, ◌≤◌, ◌<◌, ◌+◌, cond, OnOk};
 ghost use Rattle.grs_base.specs.Same.{same_task};
 ghost use Rattle.grs_base.specs.declared.resource.TaskId.{TaskId as TaskValue};
 ghost use Rattle.indexmap.specs.IndexMap.{spare};
