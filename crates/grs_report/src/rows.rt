@@ -1,5 +1,5 @@
 //! Resources and their lists as lines. Names of resources are printed so that they can be read back.
-ghost use Rattle.std.specs.Prelude.{◌≡◌, ◌<◌, ◌++◌, ◌∷◌, [], map, OnOk, OnErr, IfOk};
+ghost use Rattle.std.specs.Prelude.{◌≡◌, ◌<◌, ◌++◌, map, OnOk, OnErr, IfOk};
 ghost use Rattle.grs_base.specs.Printed.{printed_name};
 ghost use Rattle.std.specs.List.{flat_map};
 ghost use Rattle.grs_report.specs.Lines.{spaced, line};
@@ -96,16 +96,13 @@ fn put_elems(
     Ok(())
 }
 
-/// Puts a row behind a text as a line: a letter, the resource, and its elements in order, the owners with
-/// a star, as in `Q SYSTEM(SYA,A,B) SYA.J1.T1:E* SYA.J1.T2:S`. Where a system, job or task has no name in
-/// `names`, nothing is written for it. Where memory is wanting, a part of the line may stand behind the
-/// text.
+/// Puts a row behind a text, or a part of it where memory is wanting.
 #[tactic(auto, unfolding(crate::specs::Rows::row_line, crate::specs::Lines::line))]
-pub fn print_row(
+fn put_row(
     alloc: Global,
+    names: &Names,
     letter: u8,
     row: &Row,
-    names: &Names,
     out: &mut List<u8>,
 ) -> Result<(), NoMemory>
     ensures { OnOk result (out.new ≡ out.old ++ row_line names.now letter row.now) }
@@ -115,6 +112,24 @@ pub fn print_row(
     put_word(out, res.as_slice())?;
     put_elems(alloc, names, row.owners, row.elems.as_slice(), out)?;
     out.push(b'\n')
+}
+
+/// Puts a row behind a text as a line: a letter, the resource, and its elements in order, the owners with
+/// a star, as in `Q SYSTEM(SYA,A,B) SYA.J1.T1:E* SYA.J1.T2:S`. Where a system, job or task has no name in
+/// `names`, nothing is written for it. Where memory is wanting, the text is as it was.
+pub fn print_row(
+    alloc: Global,
+    letter: u8,
+    row: &Row,
+    names: &Names,
+    out: &mut List<u8>,
+) -> Result<(), NoMemory>
+    ensures ok { OnOk result (out.new ≡ out.old ++ row_line names.now letter row.now) }
+    ensures err { OnErr result (out.new ≡ out.old) }
+{
+    let mut line = List::new(alloc);
+    put_row(alloc, names, letter, row, &mut line)?;
+    out.append(line.as_slice())
 }
 
 /// Puts rows behind a text, each as a line that begins with this letter.
@@ -128,7 +143,7 @@ pub(crate) fn put_rows(
     ensures { OnOk result (out.new ≡ out.old ++ flat_map (row_line names.now letter) rows.now) }
 {
     for row in rows {
-        print_row(alloc, letter, row, names, out)?;
+        put_row(alloc, names, letter, row, out)?;
     }
     Ok(())
 }
