@@ -1,5 +1,5 @@
 //! The history of a run as lines. Entries are numbered from 1, in order.
-ghost use Rattle.std.specs.Prelude.{◌≡◌, ◌++◌, OnOk, IfOk};
+ghost use Rattle.std.specs.Prelude.{◌≡◌, ◌++◌, OnOk};
 ghost use Rattle.grs_report.specs.History.{history_line, history_lines, history_text};
 
 use super::lines::{number, put_line};

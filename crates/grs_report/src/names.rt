@@ -1,6 +1,5 @@
 //! The names of a deck, and the words that are made of them. A place without a name gives no byte.
 ghost use Rattle.std.specs.Prelude.{◌≡◌, ◌++◌, ◌∷◌, [], map, OnOk, IfOk};
-ghost use Rattle.std.specs.List.{flat_map};
 ghost use Rattle.grs_report.specs.Names.{names_of_tasks, names_of_jobs, names_in_jobs, names_of, name_at, name_in, task_in_job, task_word};
 
 use grs_base::{List, NoMemory, TaskId};
@@ -69,7 +68,7 @@ fn all_tasks(alloc: Global, systems: &[SystemDef]) -> Result<List<List<Name>>, N
     Ok(names)
 }
 
-/// The names of the systems of a deck, of their jobs, and of their tasks, each where its number finds it.
+/// The names of the systems of a deck, of their jobs, and of their tasks, each at the place of its number.
 #[tactic(auto, unfolding(crate::specs::Names::names_of))]
 pub fn names_of(alloc: Global, deck: &Deck) -> Result<Names, NoMemory>
     ensures { IfOk result (λ names. names ≡ names_of deck.now) }

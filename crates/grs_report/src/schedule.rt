@@ -1,5 +1,5 @@
 //! The events of a run as lines. They have the form in which a deck gives a schedule.
-ghost use Rattle.std.specs.Prelude.{◌≡◌, ◌++◌, OnOk, IfOk};
+ghost use Rattle.std.specs.Prelude.{◌≡◌, ◌++◌, OnOk};
 ghost use Rattle.std.specs.List.{flat_map};
 ghost use Rattle.grs_report.specs.Schedule.{event_line, schedule_text};
 

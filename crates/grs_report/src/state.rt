@@ -1,6 +1,6 @@
 //! How the lists, the units and the lock words stand at the end of a run. They are printed in the order in
 //! which they are given.
-ghost use Rattle.std.specs.Prelude.{◌≡◌, ◌++◌, OnOk, IfOk};
+ghost use Rattle.std.specs.Prelude.{◌≡◌, ◌++◌, OnOk};
 ghost use Rattle.std.specs.List.{flat_map};
 ghost use Rattle.grs_report.specs.State.{queues_text, unit_line, units_text, mask_of, manager_of, epoch_of, manager_word, word_line, word_lines, words_text, mode_line};
 
