@@ -1,6 +1,6 @@
 //! The lists of a table as they are shown: with their resources, in order, and with their numbers of owners;
 //! all of them, or those of a place that pass a filter.
-ghost use Rattle.std.specs.Prelude.{◌≡◌, ◌++◌, ◌∷◌, [], true, cond, filter, length, map, nat_eq, IfOk, OnOk};
+ghost use Rattle.std.specs.Prelude.{◌≡◌, ◌++◌, ◌∷◌, [], true, cond, filter, map, nat_eq, IfOk, OnOk};
 ghost use Rattle.grs_base.specs.Lists.{is_apart};
 ghost use Rattle.grs_base.specs.State.{list_at, list_of};
 ghost use Rattle.grs_base.specs.Rows.{lists_of, row_of, rows_of};
