@@ -92,7 +92,7 @@ fn process_entry<Q: Queues>(
 }
 
 /// Processes these entries in order on the table of the Systems resources, and tells the tasks of the system
-/// what concerns them. After a refusal the system is to be given up.
+/// what concerns them. After NoMemory some entries may be processed, and the system is to be given up.
 #[tactic(auto, unfolding(crate::specs::Ring::process_all))]
 pub fn on_turn<Q: Queues>(
     alloc: Global,
