@@ -1,7 +1,8 @@
 use super::*;
-use deck_scan::lines;
+use deck_scan::{TokenLine, lines};
 use grs_base::{Ctl, Kind, Ret, Scope};
 use job_syntax::Said;
+use std::alloc::Global;
 use std::test::Fail;
 
 fn kind_of(
@@ -72,21 +73,32 @@ fn forms(rt: HostRuntime) -> Result<(), Fail> {
     Ok(())
 }
 
+/// Whether a statement is `ENQ (A.B,'it''s',S,STEP),RNL=NO,RET=USE`.
+fn is_the_enq(st: &Stmt) -> bool {
+    match st {
+        Stmt::Line(Said::Enq(enq)) => {
+            enq.ctl == Ctl::S
+                && enq.ask.q.as_slice() == b"A.B".as_slice()
+                && enq.ask.r.as_slice() == b"it's".as_slice()
+                && enq.ask.scope == Scope::Step
+                && enq.ask.opts.ret == Some(Ret::RetUse)
+                && enq.ask.opts.rnl == Some(false)
+        }
+        _ => false,
+    }
+}
+
+fn reads_the_enq(alloc: Global, line: &TokenLine) -> bool {
+    match statement(alloc, false, 64, line) {
+        Ok(st) => is_the_enq(&st),
+        Err(_) => false,
+    }
+}
+
 #[test]
 fn an_enq(rt: HostRuntime) -> Result<(), Fail> {
     let all = lines(rt.alloc(), b"ENQ (A.B,'it''s',S,STEP),RNL=NO,RET=USE")?;
     assert!(rt; all.len() == 1);
-    let read = statement(rt.alloc(), false, 64, all.get(0));
-    match &read {
-        Ok(Stmt::Line(Said::Enq(enq))) => {
-            assert!(rt; enq.ctl == Ctl::S);
-            assert!(rt; enq.ask.q.as_slice() == b"A.B".as_slice());
-            assert!(rt; enq.ask.r.as_slice() == b"it's".as_slice());
-            assert!(rt; enq.ask.scope == Scope::Step);
-            assert!(rt; enq.ask.opts.ret == Some(Ret::RetUse));
-            assert!(rt; enq.ask.opts.rnl == Some(false));
-        }
-        _ => assert!(rt; false),
-    }
+    assert!(rt; reads_the_enq(rt.alloc(), all.get(0)));
     Ok(())
 }
