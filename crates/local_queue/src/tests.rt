@@ -1,10 +1,12 @@
-//! A short life of one list of a system, and of a table of the whole complex.
+//! A short life of one list of a system, and of a table of the whole complex. A value that is dear to drop is lent to
+//! the function that looks at it, and so dropped on one path alone.
 use super::Local;
-use grs_base::{Code, Ctl, Filter, List, Qname, Res, Ret, Rname, SysId, TaskId};
+use grs_base::{Code, Ctl, Filter, NameFault, NoMemory, Qname, Res, Ret, Rname, SysId, TaskId};
 use grs_wire::{Answer, Req, Want};
 use queue_table::{Outcome, Table};
 use serial_queue::PlainQueues;
 use std::alloc::Global;
+use std::process::Abort;
 use std::test::Fail;
 
 fn task(number: u16) -> TaskId {
@@ -15,7 +17,8 @@ fn task(number: u16) -> TaskId {
     }
 }
 
-fn res(alloc: Global) -> Result<Res, Fail> {
+/// A resource of the system.
+fn own(alloc: Global) -> Result<Res, NameFault> {
     let q = Qname::new(alloc, b"Q  ")?;
     let r = Rname::new(alloc, b"R")?;
     Ok(Res::System {
@@ -23,6 +26,13 @@ fn res(alloc: Global) -> Result<Res, Fail> {
         q,
         r,
     })
+}
+
+/// A resource of the whole complex, in slice 11.
+fn shared(alloc: Global) -> Result<Res, NameFault> {
+    let q = Qname::new(alloc, b"PAYROLL")?;
+    let r = Rname::new(alloc, b"MASTER")?;
+    Ok(Res::Systems { q, r })
 }
 
 /// What a task asks for.
@@ -33,9 +43,8 @@ enum Ask {
     Release,
 }
 
-fn want(alloc: Global, ask: Ask) -> Result<Want, Fail> {
-    let res = res(alloc)?;
-    Ok(match ask {
+fn want(res: Res, ask: Ask) -> Want {
+    match ask {
         Ask::Enq(ctl) => Want::Enq {
             res,
             ctl,
@@ -44,46 +53,97 @@ fn want(alloc: Global, ask: Ask) -> Result<Want, Fail> {
         },
         Ask::DeqHave => Want::Deq { res, have: true },
         Ask::Release => Want::Release { res },
-    })
-}
-
-/// The code of an outcome whose answer is one, and who got control by it.
-fn told(outcome: Outcome) -> (Option<Code>, List<TaskId>) {
-    let Outcome {
-        answer,
-        rank: _,
-        owners,
-    } = outcome;
-    match answer {
-        Answer::Coded(code) => (Some(code), owners),
-        Answer::Rows(_) => (None, owners),
     }
 }
 
-/// What a task's request leads to.
-fn asked(local: &mut Local, number: u16, want: Want) -> Result<(Option<Code>, List<TaskId>), Fail> {
-    let task = task(number);
-    let req = Req { task, want };
-    Ok(told(local.request(&req)?))
+/// Whether an outcome is this code, and control for these tasks.
+fn is_coded(outcome: &Outcome, wanted: Code, control: &[TaskId]) -> bool {
+    match &outcome.answer {
+        Answer::Coded(code) => *code == wanted && outcome.owners.as_slice() == control,
+        Answer::Rows(_) => false,
+    }
 }
 
-/// The code that an exclusive ENQ of a resource of the whole complex, in slice 11, is answered.
-fn enqueued(
+fn is_answered(
+    local: &mut Local,
+    req: &Req,
+    code: Code,
+    control: &[TaskId],
+) -> Result<bool, NameFault> {
+    let outcome = local.request(req)?;
+    Ok(is_coded(&outcome, code, control))
+}
+
+/// Whether what a task asks is answered by this code, and gives these tasks control.
+fn answers(
+    local: &mut Local,
+    alloc: Global,
+    number: u16,
+    ask: Ask,
+    code: Code,
+    control: &[TaskId],
+) -> Result<bool, NameFault> {
+    let req = Req {
+        task: task(number),
+        want: want(own(alloc)?, ask),
+    };
+    is_answered(local, &req, code, control)
+}
+
+/// How many lists of the system pass a filter.
+fn count_shown(local: &Local, filter: &Filter) -> Result<usize, NoMemory> {
+    let rows = local.look(filter)?;
+    Ok(rows.len())
+}
+
+fn gives_control(rt: &impl Abort, alloc: Global, local: &mut Local) -> Result<(), Fail> {
+    let none: [TaskId; 0] = [];
+    let behind = [task(2), task(3)];
+    for (number, ask, code, control) in [
+        (0, Ask::Enq(Ctl::S), Code::C00, none.as_slice()),
+        (1, Ask::Enq(Ctl::E), Code::Wait, none.as_slice()),
+        (2, Ask::Enq(Ctl::S), Code::Wait, none.as_slice()),
+        (3, Ask::Enq(Ctl::S), Code::Wait, none.as_slice()),
+        (3, Ask::DeqHave, Code::C04, none.as_slice()),
+        (1, Ask::Release, Code::C00, behind.as_slice()),
+        (0, Ask::DeqHave, Code::C00, none.as_slice()),
+        (0, Ask::DeqHave, Code::C08, none.as_slice()),
+    ] {
+        let right = answers(local, alloc, number, ask, code, control)?;
+        assert!(rt; right, "task {number}");
+    }
+    assert_eq!(rt; count_shown(local, &Filter::All)?, 1);
+    assert_eq!(rt; count_shown(local, &Filter::Contended)?, 0);
+    Ok(())
+}
+
+fn has_own_lists(rt: &impl Abort, alloc: Global) -> Result<(), Fail> {
+    let mut local = Local::new(alloc, SysId(0));
+    gives_control(rt, alloc, &mut local)
+}
+
+fn is_settled(
+    alloc: Global,
+    table: &mut Table<PlainQueues>,
+    req: &Req,
+    code: Code,
+) -> Result<bool, NameFault> {
+    let outcome = table.settle(alloc, req)?;
+    Ok(is_coded(&outcome, code, &[]))
+}
+
+/// Whether an exclusive ENQ of the resource of the complex is answered by this code.
+fn enqueues(
     alloc: Global,
     table: &mut Table<PlainQueues>,
     number: u16,
-) -> Result<Option<Code>, Fail> {
-    let q = Qname::new(alloc, b"PAYROLL")?;
-    let r = Rname::new(alloc, b"MASTER")?;
-    let want = Want::Enq {
-        res: Res::Systems { q, r },
-        ctl: Ctl::E,
-        ret: Ret::RetNone,
-        full: false,
+    code: Code,
+) -> Result<bool, NameFault> {
+    let req = Req {
+        task: task(number),
+        want: want(shared(alloc)?, Ask::Enq(Ctl::E)),
     };
-    let task = task(number);
-    let (code, _) = told(table.settle(alloc, &Req { task, want })?);
-    Ok(code)
+    is_settled(alloc, table, &req, code)
 }
 
 /// How many rows an outcome shows.
@@ -95,42 +155,39 @@ fn count_rows(outcome: &Outcome) -> Option<usize> {
 }
 
 /// How many rows looks at two slices show.
-fn shown(alloc: Global, table: &mut Table<PlainQueues>, first: u32) -> Result<Option<usize>, Fail> {
-    let want = Want::Look {
-        first,
-        count: 2,
-        filter: Filter::All,
+fn count_at(
+    alloc: Global,
+    table: &mut Table<PlainQueues>,
+    first: u32,
+) -> Result<Option<usize>, NoMemory> {
+    let req = Req {
+        task: task(0),
+        want: Want::Look {
+            first,
+            count: 2,
+            filter: Filter::All,
+        },
     };
-    let task = task(0);
-    Ok(count_rows(&table.settle(alloc, &Req { task, want })?))
+    let outcome = table.settle(alloc, &req)?;
+    Ok(count_rows(&outcome))
+}
+
+fn settles(rt: &impl Abort, alloc: Global, table: &mut Table<PlainQueues>) -> Result<(), Fail> {
+    assert!(rt; enqueues(alloc, table, 0, Code::C00)?);
+    assert!(rt; enqueues(alloc, table, 1, Code::Wait)?);
+    assert_eq!(rt; count_at(alloc, table, 9)?, Some(0));
+    assert_eq!(rt; count_at(alloc, table, 10)?, Some(1));
+    Ok(())
+}
+
+fn has_lists_of_all(rt: &impl Abort, alloc: Global) -> Result<(), Fail> {
+    let mut table = Table::new(alloc, PlainQueues::new(alloc));
+    settles(rt, alloc, &mut table)
 }
 
 #[test]
 fn gives_control_in_order(rt: HostRuntime) -> Result<(), Fail> {
     let alloc = rt.alloc();
-    let mut local = Local::new(alloc, SysId(0));
-    let none: [TaskId; 0] = [];
-    let behind = [task(2), task(3)];
-    for (number, ask, wanted, control) in [
-        (0, Ask::Enq(Ctl::S), Code::C00, none.as_slice()),
-        (1, Ask::Enq(Ctl::E), Code::Wait, none.as_slice()),
-        (2, Ask::Enq(Ctl::S), Code::Wait, none.as_slice()),
-        (3, Ask::Enq(Ctl::S), Code::Wait, none.as_slice()),
-        (3, Ask::DeqHave, Code::C04, none.as_slice()),
-        (1, Ask::Release, Code::C00, behind.as_slice()),
-        (0, Ask::DeqHave, Code::C00, none.as_slice()),
-        (0, Ask::DeqHave, Code::C08, none.as_slice()),
-    ] {
-        let (code, owners) = asked(&mut local, number, want(alloc, ask)?)?;
-        assert_eq!(rt; code, Some(wanted), "task {number}");
-        assert_eq!(rt; owners.as_slice(), control, "task {number}");
-    }
-    assert_eq!(rt; local.look(&Filter::All)?.len(), 1);
-    assert_eq!(rt; local.look(&Filter::Contended)?.len(), 0);
-    let mut table = Table::new(alloc, PlainQueues::new(alloc));
-    assert_eq!(rt; enqueued(alloc, &mut table, 0)?, Some(Code::C00));
-    assert_eq!(rt; enqueued(alloc, &mut table, 1)?, Some(Code::Wait));
-    assert_eq!(rt; shown(alloc, &mut table, 9)?, Some(0));
-    assert_eq!(rt; shown(alloc, &mut table, 10)?, Some(1));
-    Ok(())
+    has_own_lists(&rt, alloc)?;
+    has_lists_of_all(&rt, alloc)
 }
