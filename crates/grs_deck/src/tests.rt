@@ -1,5 +1,5 @@
 use super::*;
-use grs_base::{Form, Kind, Line, List, NoMemory, ReadError, SysId, TaskId};
+use grs_base::{Form, Kind, Line, List, Lists, NoMemory, ReadError, SysId, TaskId};
 use std::test::Fail;
 
 fn fault_of(rt: &HostRuntime, text: &[u8]) -> Option<(u32, Kind)> {
@@ -69,35 +69,76 @@ fn faults(rt: HostRuntime) {
     }
 }
 
-#[test]
-fn a_deck(rt: HostRuntime) -> Result<(), Fail> {
-    let text =
-        b"COMPLEX ENTRIES(8)\nRNLDEF RNL(INCL) TYPE(\nPATTERN) QNAME('Q ')\nSYSTEM SYA\nJOB J1\nTASK T1\nENQ ('A ','it''s',S,STEP),RET=USE\nJOB J2\nTASK T1\nDEQ (X'4a',B.C,SYSTEM),RET=HAVE\nWAIT (A,B,STEP)\nSCHEDULE\nSYA TASK J2.T1\n";
-    let deck = read_deck(rt.alloc(), text)?;
-    assert!(rt; !deck.star && deck.entries == 8 && deck.limit == 4096);
-    assert!(rt; deck.systems.len() == 1 && deck.events.len() == 1);
-    assert!(rt; deck.lists.incl.len() == 1 && deck.lists.excl.len() == 0);
-    let entry = deck.lists.incl.entry(0);
-    assert!(rt; entry.form == Form::Pattern && entry.q.bytes() == b"Q".as_slice());
+const TEXT: &[u8] =
+    b"COMPLEX ENTRIES(8)\nRNLDEF RNL(INCL) TYPE(\nPATTERN) QNAME('Q ')\nSYSTEM SYA\nJOB J1\nTASK T1\nENQ ('A ','it''s',S,STEP),RET=USE\nJOB J2\nTASK T1\nDEQ (X'4a',B.C,SYSTEM),RET=HAVE\nWAIT (A,B,STEP)\nSCHEDULE\nSYA TASK J2.T1\n";
+
+fn has_lists(lists: &Lists) -> bool {
+    lists.excl.len() == 0
+        && lists.incl.len() == 1
+        && lists.incl.entry(0).form == Form::Pattern
+        && lists.incl.entry(0).q.bytes() == b"Q".as_slice()
+}
+
+fn has_events(events: &[Event]) -> bool {
     let task = TaskId {
         system: SysId(0),
         job: 1,
         task: 1,
     };
-    assert!(rt; deck.events.get(0).choice == Choice::Task(task));
-    let system = deck.systems.get(0);
-    assert!(rt; system.name.as_slice() == b"SYA".as_slice() && system.jobs.len() == 2);
-    let first = system.jobs.get(0);
-    assert!(rt; first.tasks.len() == 1);
-    let lines = first.tasks.get(0).lines.as_slice();
-    assert!(rt; lines.len() == 1);
-    match &lines[0] {
-        Line::Enq { items, .. } => {
-            assert!(rt; items.len() == 1);
-            assert!(rt; items.get(0).q.bytes() == b"A".as_slice());
-        }
-        _ => assert!(rt; false),
+    match events {
+        [event] => event.choice == Choice::Task(task),
+        _ => false,
     }
+}
+
+fn is_enq(line: &Line) -> bool {
+    match line {
+        Line::Enq { items, .. } => match items.as_slice() {
+            [item] => item.q.bytes() == b"A".as_slice(),
+            _ => false,
+        },
+        _ => false,
+    }
+}
+
+fn has_task(job: &JobDef) -> bool {
+    match job.tasks.as_slice() {
+        [task] => match task.lines.as_slice() {
+            [line] => is_enq(line),
+            _ => false,
+        },
+        _ => false,
+    }
+}
+
+fn has_systems(systems: &[SystemDef]) -> bool {
+    match systems {
+        [system] => match system.jobs.as_slice() {
+            [first, _] => system.name.as_slice() == b"SYA".as_slice() && has_task(first),
+            _ => false,
+        },
+        _ => false,
+    }
+}
+
+/// What is right of the deck that `TEXT` spells: its settings, its name lists, its events, its systems.
+fn right(deck: &Deck) -> [bool; 4] {
+    [
+        !deck.star && deck.entries == 8 && deck.limit == 4096,
+        has_lists(&deck.lists),
+        has_events(deck.events.as_slice()),
+        has_systems(deck.systems.as_slice()),
+    ]
+}
+
+fn read_right(rt: &HostRuntime) -> Result<[bool; 4], ReadError> {
+    let deck = read_deck(rt.alloc(), TEXT)?;
+    Ok(right(&deck))
+}
+
+#[test]
+fn a_deck(rt: HostRuntime) -> Result<(), Fail> {
+    assert_eq!(rt; read_right(&rt)?, [true; 4]);
     Ok(())
 }
 
