@@ -1,6 +1,6 @@
 -- A call that isn't said to change the medium leaves it as it was.
 use Rattle.std.proofs.Common.{◌≡◌, ℕ, ◌+◌, Bool, true, false, cond, not, ◌&&◌, ◌||◌, List, [], ◌∷◌, ◌++◌, length, refl, ap, sym, ◌∙◌, subst, eqb, arith, add-zero}
-use Rattle.std.specs.Prelude.{Option, Some, None, map, filter, ◌==◌}
+use Rattle.std.specs.Prelude.{Option, Some, map, filter, ◌==◌}
 use Rattle.std.specs.List.{list_any}
 use Rattle.std.proofs.lemmas.Bool.{eqb-true}
 use Rattle.std.proofs.lemmas.List.{append-nil}
