@@ -1,5 +1,5 @@
 //! What was fixed becomes the entries of a history.
-ghost use Rattle.std.specs.Prelude.{◌≡◌, ◌++◌, ◌∷◌, [], IfOk, OnOk};
+ghost use Rattle.std.specs.Prelude.{◌≡◌, ◌++◌, IfOk, OnOk};
 ghost use Rattle.grs_wire.specs.History.{entries_for, look_entries, fixed_entries, after_fixed, answered};
 ghost use Rattle.grs_base.specs.Looks.{look as looked};
 ghost use Rattle.grs_wire.specs.Wants.{after_want};
@@ -30,22 +30,23 @@ fn look(
     })
 }
 
-/// Puts a look at each of these slices behind a history. There is no memory for slices whose numbers go
-/// past 4,294,967,295.
+/// Puts a look at each of `count` slices, from slice `first` on, behind a history. There is no memory for slices
+/// whose numbers go past 4,294,967,295.
 fn look_slices(
     alloc: Global,
     table: &Table<PlainQueues>,
     task: TaskId,
-    slices: (u32, u32),
+    first: u32,
+    count: u32,
     filter: &Filter,
     hist: &mut List<HistEntry>,
 ) -> Result<(), NoMemory>
-    ensures { OnOk result (hist.new ≡ hist.old ++ look_entries table.now.held task slices.0 slices.1 filter.now) }
+    ensures { OnOk result (hist.new ≡ hist.old ++ look_entries table.now.held task first count filter.now) }
 {
-    let Some(end) = slices.0.checked_add(slices.1) else {
+    let Some(end) = first.checked_add(count) else {
         return Err(NoMemory);
     };
-    for slice in slices.0..end {
+    for slice in first..end {
         hist.push(look(alloc, table, task, Place::Slice(slice), filter)?)?;
     }
     Ok(())
@@ -100,7 +101,7 @@ fn settle(
             first,
             count,
             filter,
-        } => look_slices(alloc, table, task, (*first, *count), filter, hist),
+        } => look_slices(alloc, table, task, *first, *count, filter, hist),
     }
 }
 

@@ -4,5 +4,5 @@ use Rattle.grs_history.proofs.replies.look_slices.Given as goal
 
 abbrev pub invariant-loop-slice : goal.invariant-loop-slice
 invariant-loop-slice l =
-    let last = l.fn.slices.0 + l.fn.slices.1 in
-    l.hist ++ look_entries l.table.held l.task l.slice (last - l.slice) l.filter ≡ l.fn.hist ++ look_entries l.table.held l.task l.fn.slices.0 l.fn.slices.1 l.filter
+    let last = l.fn.first + l.fn.count in
+    l.hist ++ look_entries l.table.held l.task l.slice (last - l.slice) l.filter ≡ l.fn.hist ++ look_entries l.table.held l.task l.fn.first l.fn.count l.filter
