@@ -214,13 +214,13 @@ impl System {
         ensures step { IfOk result (λ fixed. stepped self.new fixed ≡ steps.end_step self.old task code (state_of self.old.tasks task).records) }
         ensures system { self.new.tasks.system ≡ self.old.tasks.system }
     {
-        match self.tasks.state(task).records.as_slice().split_first() {
+        match self.tasks.state(task).records.first() {
             None => {
                 self.tasks.set_phase(task, Phase::Ended);
                 self.tasks.tell(ToldLine::Ended { task, code })?;
                 Ok(List::new(alloc))
             }
-            Some((rec, _)) => {
+            Some(rec) => {
                 let res = rec.res.copy(alloc)?;
                 self.ask(alloc, task, Want::Release { res }, None)
             }

@@ -1,4 +1,5 @@
 pub mod ViewLaws
+pub mod NumberLaws
 pub mod Stays
 pub mod UnitLaws
 pub mod Keeps

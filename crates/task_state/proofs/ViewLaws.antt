@@ -10,12 +10,11 @@ use Rattle.grs_wire.specs.declared.told.ToldLine.{ToldLine}
 use Rattle.task_state.specs.declared.state.Rec.{Rec}
 use Rattle.task_state.specs.declared.state.Phase.{Phase}
 use Rattle.task_state.specs.declared.state.TaskState.{TaskState}
-use Rattle.std.specs.Prelude.{remove, zero, suc, ◌≤◌}
-use Rattle.std.proofs.Common.{add-one, set, zero-add, suc-add, sum, take, sym, append_assoc}
+use Rattle.std.specs.Prelude.{zero, suc}
+use Rattle.std.proofs.Common.{add-one, zero-add, suc-add, sum, take, sym, append_assoc}
 use Rattle.std.proofs.lemmas.Grind.{common_steps}
 use Rattle.std.proofs.lemmas.List.{length-map}
-use Rattle.std.proofs.lemmas.Bool.Decides.{nat_tests}
-use Rattle.task_state.specs.View.{TasksView, new_tasks, record_place, without_first, all_few, on_record, is_task, new_task, state_of, with_state, with_phase, telling}
+use Rattle.task_state.specs.View.{TasksView, new_tasks, on_record, is_task, new_task, state_of, with_state, with_phase, telling}
 
 -- what stands at a place that is there doesn't depend on what stands for a missing one
 pub get_or-read : {A : Type 0} (xs : List A) (i : ℕ) (x d : A) → i < length xs → x ≡ get_or xs i x → x ≡ get_or xs i d
@@ -60,16 +59,6 @@ pub is_task-telling : (v : TasksView) (u : TaskId) (l : ToldLine) → is_task (t
 unfolding telling
 is_task-telling v u l = refl
 
--- a record that is taken out by its place is the first of its resource
-pub remove-record : (xs : List Rec) (r : Res) → remove xs (record_place xs r) ≡ without_first xs r
-remove-record [] r = refl
-remove-record (x ∷ xs) r = grind (arith, nat_tests, remove-record xs r)
-
--- where a resource has no record, nothing is without it
-pub without_first-absent : (xs : List Rec) (r : Res) → length xs ≤ record_place xs r → without_first xs r ≡ xs
-without_first-absent [] r h = refl
-without_first-absent (x ∷ xs) r h = grind (arith, nat_tests, without_first-absent xs r)
-
 -- one more task at the start
 pub new_tasks-push : (n : ℕ) → new_tasks n ++ new_task ∷ [] ≡ new_tasks (suc n)
 new_tasks-push zero = refl
@@ -91,30 +80,10 @@ pub more_jobs : (xs ys : List TaskState) (js : List ℕ) (i : ℕ) → i < lengt
 more_jobs xs ys js i h so_far is =
     is ∙ ap (λ (l : List TaskState). l ++ new_tasks (get_or js i 0)) so_far ∙ sym (new_tasks-add (sum (take i js)) (get_or js i 0)) ∙ ap new_tasks (grind (arith, common_steps, h))
 
--- records stay few
-pub all_few-get : (ts : List TaskState) (i : ℕ) (d : TaskState) → i < length ts → all_few ts ≡ true → length (get_or ts i d).records ≤ 0xffff_ffff
-all_few-get [] i d h a = absurd (omega arith)
-all_few-get (x ∷ ts) zero d h a = grind (arith, nat_tests, a)
-all_few-get (x ∷ ts) (suc i) d h a = grind (arith, nat_tests, a, h, all_few-get ts i d)
-
-pub all_few-set : (ts : List TaskState) (i : ℕ) (x : TaskState) → all_few ts ≡ true → length x.records ≤ 0xffff_ffff → all_few (set ts i x) ≡ true
-all_few-set [] i x a h = grind arith
-all_few-set (y ∷ ts) zero x a h = grind (arith, nat_tests, a, h)
-all_few-set (y ∷ ts) (suc i) x a h = grind (arith, nat_tests, a, h, all_few-set ts i x)
-
-pub all_few-new : (n : ℕ) → all_few (new_tasks n) ≡ true
-all_few-new zero = refl
-all_few-new (suc n) = grind (arith, nat_tests, all_few-new n)
-
-pub length-without_first : (xs : List Rec) (r : Res) → length (without_first xs r) ≤ length xs
-length-without_first [] r = omega arith
-length-without_first (x ∷ xs) r = grind (arith, length-without_first xs r)
-
+-- a change leaves as many records
 pub length-on_record : (r : Res) (f : Rec → Rec) (xs : List Rec) → length (on_record r f xs) ≡ length xs
 length-on_record r f xs = length-map xs _
 
-pub ruleset places = (get_or-read, is_task-place, remove-record, without_first-absent, new_tasks-more)
-
-pub ruleset kept = (get_or-read, is_task-place, all_few-get, all_few-set, all_few-new, length-without_first, length-on_record)
+pub ruleset kept = (get_or-read, is_task-place)
 
 pub ruleset still_asked = (outstanding-phase)

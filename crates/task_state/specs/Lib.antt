@@ -1,3 +1,4 @@
 pub mod View
+pub mod Numbers
 pub mod Units
 pub mod Replies

@@ -1,5 +1,5 @@
 -- What callers see of the tasks of a system, and the words for what changes.
-use Rattle.std.specs.Prelude.{ℕ, suc, zero, Bool, true, ◌&&◌, ◌==◌, nat_lt, nat_le, List, [], ◌∷◌, ◌++◌, length, map, cond, Option, None, Some, slice_get, ◌+◌, get_or, set}
+use Rattle.std.specs.Prelude.{ℕ, suc, zero, Bool, true, ◌&&◌, ◌==◌, nat_lt, List, [], ◌∷◌, ◌++◌, length, map, cond, Option, None, Some, slice_get, ◌+◌, get_or, set}
 use Rattle.grs_base.specs.Same.{same_res}
 use Rattle.grs_base.specs.declared.resource.Ctl.TheVariants.{E}
 use Rattle.grs_base.specs.declared.resource.Res.{Res}
@@ -38,11 +38,6 @@ state_of v t = get_or v.tasks t.task new_task
 -- one task changed
 unfoldable pub with_state : TasksView → TaskId → (TaskState → TaskState) → TasksView
 with_state v t f = record v { tasks = set v.tasks t.task (f (state_of v t)) }
-
--- whether no task has more than 4,294,967,295 requests on record
-abbrev pub all_few : List TaskState → Bool
-all_few [] = true
-all_few (x ∷ xs) = nat_le (length x.records) 0xffff_ffff && all_few xs
 
 -- the place of the first record of a resource, or the number of records
 abbrev pub record_place : List Rec → Res → ℕ

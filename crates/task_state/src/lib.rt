@@ -12,6 +12,7 @@ mod tasks;
 mod tests;
 mod units;
 
+pub use records::Records;
 pub use replies::{replied, settled, tell_code, tell_new};
 pub use state::{Asked, Phase, Rec, TaskState};
 pub use tasks::Tasks;

@@ -1,4 +1,5 @@
 //! How one task stands.
+use super::records::Records;
 use grs_base::{Ctl, List, Res, Row};
 use grs_wire::Req;
 
@@ -48,7 +49,7 @@ pub struct TaskState {
     pub line: u32,
     pub phase: Phase,
     pub code: u16,
-    pub records: List<Rec>,
+    pub records: Records,
     pub outstanding: Option<Asked>,
     pub rows: List<Row>,
 }

@@ -5,7 +5,7 @@ ghost use Rattle.task_state.specs.Units.{is_count, count_at, reserves_of};
 ghost use Rattle.task_state.specs.View as view;
 ghost use Rattle.task_state.specs.View.{TasksView, new_tasks, is_task, code_in, state_of, record_of, with_line, with_phase, with_outstanding, with_record, without_record, with_told, with_exclusive, with_rank, with_rows, without_rows, telling};
 
-use super::records::{find, make_exclusive, mark_told, push_last, set_rank, take_first};
+use super::records::Records;
 use super::state::{Asked, Phase, Rec, TaskState};
 use super::units::count_units;
 use grs_base::{List, NoMemory, Res, Row, SysId, TaskId};
@@ -28,11 +28,6 @@ impl Model for Tasks {
     ghost Value = { TasksView };
 
     ghost view = { λ a. record { system = a.system.0; tasks = a.tasks.items; told = a.told } };
-
-    ghost use Rattle.std.specs.Prelude.{◌≡◌, true};
-    ghost use Rattle.task_state.specs.View.{all_few};
-
-    ghost invariant = { λ a. all_few a.tasks.items ≡ true };
 }
 
 /// A task at the start.
@@ -43,7 +38,7 @@ fn new_task(alloc: Global) -> TaskState
         line: 0,
         phase: Phase::Ready,
         code: 0,
-        records: List::new(alloc),
+        records: Records::new(alloc),
         outstanding: None,
         rows: List::new(alloc),
     }
@@ -182,7 +177,7 @@ impl Tasks {
     }
 
     /// The task's requests on record, in the order in which they were queued.
-    pub fn records(&self, task: TaskId) -> &List<Rec>
+    pub fn records(&self, task: TaskId) -> &Records
         requires { is_task self.now task ≡ true }
         ensures { result.now ≡ (state_of self.now task).records }
     {
@@ -194,7 +189,7 @@ impl Tasks {
         requires { is_task self.now task ≡ true }
         ensures { result ≡ length (state_of self.now task).records }
     {
-        self.tasks[task.task as usize].records.len() as u32
+        self.state(task).records.len() as u32
     }
 
     /// The request that isn't answered yet, if there is one.
@@ -226,7 +221,7 @@ impl Tasks {
         requires { is_task self.now task ≡ true }
         ensures { option_copied result ≡ record_of (state_of self.now task).records res.now }
     {
-        find(self.state(task).records.as_slice(), res)
+        self.state(task).records.find(res)
     }
 
     /// The lines that were told, in the order of telling.
@@ -292,7 +287,7 @@ impl Tasks {
         ensures err { OnErr result (self.new ≡ self.old) }
     {
         let state = &mut self.tasks[task.task as usize];
-        push_last(&mut state.records, rec)
+        state.records.push(self.alloc, rec)
     }
 
     /// Takes the first record of a resource out, where there is one.
@@ -302,10 +297,7 @@ impl Tasks {
         ensures left { self.new ≡ without_record self.old task res.now }
     {
         let state = &mut self.tasks[task.task as usize];
-        let records = std::mem::replace(&mut state.records, List::new(self.alloc));
-        let (taken, left) = take_first(records, res);
-        state.records = left;
-        taken
+        state.records.take(res)
     }
 
     /// The task was told control of a resource.
@@ -314,8 +306,7 @@ impl Tasks {
         ensures { self.new ≡ with_told self.old task res.now }
     {
         let state = &mut self.tasks[task.task as usize];
-        let records = std::mem::replace(&mut state.records, List::new(self.alloc));
-        state.records = mark_told(records, res);
+        state.records.mark_told(res);
     }
 
     /// The task's control of a resource is exclusive.
@@ -324,8 +315,7 @@ impl Tasks {
         ensures { self.new ≡ with_exclusive self.old task res.now }
     {
         let state = &mut self.tasks[task.task as usize];
-        let records = std::mem::replace(&mut state.records, List::new(self.alloc));
-        state.records = make_exclusive(records, res);
+        state.records.make_exclusive(res);
     }
 
     /// The task's request for a resource has this rank.
@@ -334,8 +324,7 @@ impl Tasks {
         ensures { self.new ≡ with_rank self.old task res.now rank }
     {
         let state = &mut self.tasks[task.task as usize];
-        let records = std::mem::replace(&mut state.records, List::new(self.alloc));
-        state.records = set_rank(records, res, rank);
+        state.records.set_rank(res, rank);
     }
 
     /// Puts rows behind those of the task's display so far.

@@ -3,6 +3,7 @@
 ghost use Rattle.std.specs.Prelude.{◌≡◌, ◌+◌, ◌≤◌, ℕ, true, cond, length, insert, slice_get, IfOk, OnOk};
 ghost use Rattle.task_state.specs.Units.{reserves, reserves_in, reserves_of, count_at, is_count, counting, unit_place};
 
+use super::records::Records;
 use super::state::{Rec, TaskState};
 use grs_base::NoMemory;
 use std::alloc::Global;
@@ -76,15 +77,13 @@ fn add_record(counts: &mut Vec<(u16, u32)>, rec: &Rec) -> Result<(), NoMemory>
 
 /// Counts what these records reserve.
 #[tactic(auto, using(crate::proofs::UnitLaws::reserved))]
-fn add_records(counts: &mut Vec<(u16, u32)>, records: &[Rec]) -> Result<(), NoMemory>
+fn add_records(counts: &mut Vec<(u16, u32)>, records: &Records) -> Result<(), NoMemory>
     requires { is_count counts.old.items ≡ true }
     ensures good { OnOk result (is_count counts.new.items ≡ true) }
     ensures counts { OnOk result ((u : ℕ) → count_at u counts.new.items ≡ count_at u counts.old.items + reserves_in u records.now) }
 {
-    let mut rest = records;
-    while let Some((rec, tail)) = rest.split_first() {
+    for rec in records.iter() {
         add_record(counts, rec)?;
-        rest = tail;
     }
     Ok(())
 }
@@ -98,7 +97,7 @@ pub(crate) fn count_units(alloc: Global, tasks: &[TaskState]) -> Result<Vec<(u16
     let mut counts = Vec::new(alloc);
     let mut rest = tasks;
     while let Some((task, tail)) = rest.split_first() {
-        add_records(&mut counts, task.records.as_slice())?;
+        add_records(&mut counts, &task.records)?;
         rest = tail;
     }
     Ok(counts)
