@@ -1,5 +1,5 @@
 //! What a choice of a system comes to. Nothing here changes anything.
-ghost use Rattle.std.specs.Prelude.{◌≡◌, ◌&&◌, take, length, is_some, IfOk};
+ghost use Rattle.std.specs.Prelude.{◌≡◌, take, IfOk};
 ghost use Rattle.std.specs.List.{list_any};
 ghost use Rattle.std.specs.Option.{option_copied};
 ghost use Rattle.grs_node.specs.Node as steps;

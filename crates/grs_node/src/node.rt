@@ -144,8 +144,8 @@ impl<'d> Node<'d> {
 
     /// Finishes a choice: without a reply what was prepared to be done without a call, else with the reply to
     /// the call that was prepared, and whether the call has an entry in the journal. An event goes into the
-    /// log where it made no call, or where its call has such an entry. After a refusal the system is to be
-    /// given up.
+    /// log where it made no call, or where its call has such an entry. After NoMemory the system is to be given
+    /// up.
     #[tactic(auto, unfolding(crate::specs::Log::finished, crate::specs::Node::finish))]
     pub fn finish(&mut self, choice: &Choice, reply: Option<(Reply, bool)>) -> Result<(), NoMemory>
         requires { MayFinish self.old choice.now reply }

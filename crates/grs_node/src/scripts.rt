@@ -1,7 +1,7 @@
 //! Which task has which lines. The lines stay in the deck.
 ghost use Rattle.std.specs.Prelude.{◌≡◌, ◌++◌, map, length, slice_get, sum, option_copied, IfOk};
 ghost use Rattle.grs_node.specs.Scripts.{all_scripts, lines_within};
-ghost use Rattle.grs_legal.specs.Asks.{lines_in, scripts_in, scripts_from, scripts_at, scripts_of};
+ghost use Rattle.grs_legal.specs.Asks.{lines_in, scripts_in, scripts_from, scripts_of};
 
 use grs_base::{Line, List, NoMemory, SysId, TaskId};
 use grs_wire::{Deck, JobDef, SystemDef, TaskDef};

@@ -1,5 +1,5 @@
 //! A system's part of a turn: it reads the entries that it hasn't seen, and its requests are put in.
-ghost use Rattle.std.specs.Prelude.{◌≡◌, ◌≤◌, true, false, filter, take, drop, length, map, IfOk, OnOk};
+ghost use Rattle.std.specs.Prelude.{◌≡◌, true, filter, take, drop, length, map, IfOk, OnOk};
 ghost use Rattle.grs_wire.specs.declared.request.Fixed.TheVariants as fixes;
 ghost use Rattle.grs_node.specs.Node as steps;
 ghost use Rattle.grs_node.specs.Node.{are_of};
