@@ -3,8 +3,7 @@
 ghost use Rattle.std.specs.Prelude.{◌≡◌, ◌<◌, ◌≤◌, ◌^◌, ◌+◌, ◌++◌, ◌∷◌, [], true, length, IfOk, OnOk};
 ghost use Rattle.grs_node.specs.Node.{first_node};
 ghost use Rattle.grs_world.specs.World as runs;
-ghost use Rattle.grs_world.specs.World.{chosen, placed};
-ghost use Rattle.grs_world.specs.Running.{starting, after, ran, nodes_of, AreOf, is_live, node_at, none_pending, at_rest, units_of, end_among};
+ghost use Rattle.grs_world.specs.Running.{starting, after, ran, nodes_of, AreOf, is_live, at_rest, units_of, end_among};
 
 use super::chosen::{Done, choose_at};
 use super::summary;
@@ -16,7 +15,7 @@ use grs_wire::{Deck, Event, Fixed, TaskEnd, Told, ToldLine};
 use std::alloc::Global;
 use std::marker::Model;
 
-/// The most events of a run.
+/// The most events of a run: no memory holds more.
 const MOST_EVENTS: u64 = 1 << 57;
 
 /// A run as far as it has come: its deck, and the world after its events.
@@ -159,7 +158,8 @@ impl<'d> World<'d> {
         add_told(&mut self.told, self.events, event.system, told)
     }
 
-    /// One event happens. A run to which memory was not given, or of 2^57 events, is to be given up.
+    /// One event happens. NoMemory comes where memory is wanting, or there were 2^57 events; the run is then to be
+    /// given up.
     #[tactic(auto, using(crate::proofs::Happens::happening))]
     pub fn step(&mut self, event: &Event) -> Result<(), NoMemory>
         ensures { OnOk result (self.new ≡ after self.old event.now) }
