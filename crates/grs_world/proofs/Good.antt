@@ -1,6 +1,6 @@
 -- A system after a history: its lists are those of the history, and its tasks stand as they should.
-use Rattle.std.proofs.Common.{◌≡◌, ℕ, zero, suc, Bool, true, false, not, ◌&&◌, ◌||◌, List, [], ◌∷◌, ◌++◌, take, Option, Some, None, refl, ap, sym, ◌∙◌, subst, arith}
-use Rattle.std.specs.Prelude.{filter, is_some, ◌==◌}
+use Rattle.std.proofs.Common.{◌≡◌, ℕ, zero, suc, Bool, true, false, not, ◌&&◌, ◌||◌, List, [], ◌∷◌, ◌++◌, take, refl, ap, sym, ◌∙◌, subst, arith}
+use Rattle.std.specs.Prelude.{is_some, ◌==◌}
 use Rattle.std.specs.List.{list_any, list_all}
 use Rattle.std.proofs.lemmas.Bool.{and_parts, cases_Bool, eq-eqb}
 use Rattle.grs_base.specs.Same.{same_res, same_task}
@@ -19,14 +19,14 @@ use Rattle.grs_wire.specs.declared.history.HistEntry.{HistEntry}
 use Rattle.grs_wire.specs.declared.request.Want.{Want}
 use Rattle.grs_wire.specs.declared.told.Verb.{Verb}
 use Rattle.grs_wire.specs.declared.told.ToldLine.{ToldLine}
-use Rattle.grs_wire.specs.History.{is_by, replay, step}
+use Rattle.grs_wire.specs.History.{is_by, replay}
 use Rattle.grs_wire.specs.Wants.{after_want, became_owners}
 use Rattle.grs_wire.proofs.WantLaws.{owns-want, speaks_of, list_of-want_other, by_res}
-use Rattle.grs_wire.proofs.HistoryLaws.{replay_from-append}
 use Rattle.grs_legal.specs.Asks.{lines_of}
 use Rattle.task_state.specs.declared.state.TaskState.{TaskState}
 use Rattle.task_state.specs.View.{TasksView, is_task, state_of}
-use Rattle.grs_world.proofs.Owners.{is_among, is_among-became, owns-front}
+use Rattle.queue_table.proofs.OwnerLemmas.{owns-any}
+use Rattle.grs_world.proofs.Owners.{is_among, is_among-became}
 use Rattle.grs_world.proofs.Entries.{line_entries-other, entries_of-other}
 use Rattle.grs_world.proofs.Invariant.{Past, IsTask}
 use Rattle.grs_world.proofs.Others.{KeepsTask, keeps-want, task-kept, task-told}
@@ -66,7 +66,7 @@ has_task-home p [] r t all h = cc
 has_task-home p (x ∷ s) r t all h = grind (arith, all, h, has_task-home p s r t, same_task-exact t x.1.task, same_res-exact r x.0, cases_Bool (same_res r x.0), cases_Bool (same_task t x.1.task))
 
 pub owns-has : (es : List Elem) (t : TaskId) → owns es t ≡ true → has_task es t ≡ true
-owns-has es t h = any-front es (owners es) t (sym (owns-front es t) ∙ h)
+owns-has es t h = any-front es (owners es) t (sym (owns-any es t) ∙ h)
   where
     any-front : (xs : List Elem) (n : ℕ) (u : TaskId) → list_any (λ e. same_task u e.task) (take n xs) ≡ true → has_task xs u ≡ true
     any-front [] zero u e = cc

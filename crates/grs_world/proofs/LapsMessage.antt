@@ -1,8 +1,7 @@
 -- The message as it goes round: it passes over no system that has still to process an entry.
-use Rattle.std.proofs.Common.{ℕ, zero, suc, ◌≡◌, ◌≢◌, ◌+◌, ◌-◌, ◌%◌, ◌<◌, ◌≤◌, Bool, true, false, cond, not, ◌||◌, List, [], ◌∷◌, ◌++◌, length, map, Option, Some, None, refl, sym, ap, ◌∙◌, subst, arith, add-zero}
+use Rattle.std.proofs.Common.{ℕ, zero, suc, ◌≡◌, ◌≢◌, ◌+◌, ◌-◌, ◌%◌, ◌<◌, ◌≤◌, Bool, true, false, cond, not, List, [], ◌∷◌, ◌++◌, length, map, Option, Some, None, refl, sym, ap, ◌∙◌, subst, arith, add-zero}
 use Rattle.std.specs.Prelude.{filter, ◌==◌}
 use Rattle.std.specs.List.{list_any}
-use Rattle.std.proofs.lemmas.Bool.{eqb-true}
 use Rattle.std.proofs.lemmas.List.Folds.{list_any-append}
 use Rattle.std.proofs.Math.Nat.{mod-eq_of_lt, mod-add-mod}
 use native.Mathlib.Decide.{ℕ_discrete}
@@ -11,8 +10,9 @@ use Rattle.grs_wire.specs.declared.medium.RingEntry.{RingEntry}
 use Rattle.grs_wire.specs.declared.medium.RingBody.TheVariants.{Request}
 use Rattle.grs_wire.specs.declared.request.Req.{Req}
 use Rattle.grs_wire.specs.Masks.{has, without, with_also, only, others}
-use Rattle.grs_wire.proofs.MaskLaws.{has-zero, has-with_same, has-with_other, has-without_same, has-without_other}
+use Rattle.grs_wire.proofs.MaskLaws.{has-zero, has-with_other, has-without_same, has-without_other}
 use Rattle.rsa_message.specs.Message.{Message, is_at, first_after, or_else, is_unseen, any_unseen, left_by, cleared, stamped, is_due, moves, turned_open, turned_closed, turned}
+use Rattle.rsa_message.proofs.OrderLaws.{is_at-exact}
 use Rattle.grs_world.specs.Laps.{LastAtHome}
 use Rattle.grs_world.proofs.LapsRound.{Ahead, home, inside_round, after_some, first_found, first_inside}
 use Rattle.grs_world.proofs.Truths.{or_first, or_second}
@@ -144,10 +144,6 @@ unfolding any_unseen
 passes_back n test xs ys due u low here = due u low (list_any-append (is_unseen (record { 0 = u })) xs ys ∙ or_second (list_any (is_unseen (record { 0 = u })) xs) _ here)
 
 -- ---- a Turn
-at_itself : (h : Option SysId) (c : SysId) → is_at h c ≡ true → h ≡ Some c
-at_itself None c e = absurd cc
-at_itself (Some s) c e = ap (λ (n : ℕ). Some (record { 0 = n })) (eqb-true s.0 c.0 e)
-
 due_all : (n live rest : ℕ) (es : List RingEntry) → live ≡ others n 0 → Passes n (is_due es live rest) es
 due_all n live rest es all u low here = let in_it : has live u ≡ true = subst (λ (x : ℕ). has x u ≡ true) (sym all) (has-others n u low) in rw (in_it, here) refl
 
@@ -179,8 +175,8 @@ turned_round m c out live rest laws all = go (is_at m.holder c) m.closed refl re
   where
     go : (here closed : Bool) → is_at m.holder c ≡ here → m.closed ≡ closed → Round (cond here (cond closed (turned_closed m c) (turned_open m c out live rest)) m)
     go false closed at shut = laws
-    go true false at shut = open_round m c out live rest laws all (at_itself m.holder c at) shut
-    go true true at shut = let none : m.holder ≡ None = laws.shut shut in let some : m.holder ≡ Some c = at_itself m.holder c at in absurd cc
+    go true false at shut = open_round m c out live rest laws all (is_at-exact m.holder c at) shut
+    go true true at shut = let none : m.holder ≡ None = laws.shut shut in let some : m.holder ≡ Some c = is_at-exact m.holder c at in absurd cc
 
 -- ---- where it has come home
 awaited_of : (n : ℕ) (h : SysId) (before behind : List RingEntry) (e : RingEntry) → AllAwaited n h (before ++ e ∷ behind) → Awaited n h e
@@ -189,7 +185,7 @@ awaited_of n h (x ∷ before) behind e a = awaited_of n h before behind e a.1
 
 pub last_at_home : (m : Message) → Round m → LastAtHome m
 last_at_home m laws s before behind e held from here u other =
-    let all : AllAwaited m.systems s (before ++ e ∷ behind) = subst (AllAwaited m.systems s) held (laws.awaited s (at_itself m.holder s here)) in
+    let all : AllAwaited m.systems s (before ++ e ∷ behind) = subst (AllAwaited m.systems s) held (laws.awaited s (is_at-exact m.holder s here)) in
     let ahead : Awaited m.systems s e = awaited_of m.systems s before behind e all in
     go (has e.mask u) refl (λ still. home m.systems s.0 u (subst (λ (x : SysId). Ahead m.systems x.0 s.0 u) from (ahead u still)))
   where

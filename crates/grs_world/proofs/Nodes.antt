@@ -1,5 +1,5 @@
 -- The systems of a run by their places.
-use Rattle.std.proofs.Common.{◌≡◌, ◌<◌, ℕ, zero, suc, Bool, true, false, List, [], ◌∷◌, ◌++◌, length, map, set, get_or, Option, Some, None, refl, ap, sym, ◌∙◌, arith, length-set}
+use Rattle.std.proofs.Common.{◌≡◌, ◌<◌, ℕ, zero, suc, List, [], ◌∷◌, ◌++◌, length, set, get_or, refl, ap, ◌∙◌, arith, length-set}
 use Rattle.std.specs.Prelude.{◌+◌, not, ◌&&◌, ◌||◌, slice_get}
 use Rattle.std.specs.Option.{option_map}
 use Rattle.grs_wire.specs.Masks.{has}

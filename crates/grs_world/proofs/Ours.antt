@@ -15,6 +15,7 @@ use Rattle.grs_legal.specs.Asks.{Script, scripts_of, lines_at, meanings, lines_o
 use Rattle.task_state.specs.declared.state.TaskState.{TaskState}
 use Rattle.task_state.specs.View.{TasksView, is_task, state_of, with_state, telling}
 use Rattle.task_state.proofs.ViewLaws.{state_of-other, is_task-state, state_of-telling, is_task-telling}
+use Rattle.task_state.proofs.Stays.{system-state, system-telling}
 use Rattle.grs_world.specs.Agree.{AgreesOf, LineAgrees, entry_of_line}
 use Rattle.grs_world.proofs.Invariant.{IsEntryOn, has_res, Past, IsTask}
 use Rattle.grs_world.proofs.Others.{is_told_to, recs-knows, task-told}
@@ -56,14 +57,6 @@ pub record IsChanged (v w : TasksView) (t : TaskId) : Type 0 where
   pub here : (u : TaskId) → is_task w u ≡ is_task v u
   pub others : (u : TaskId) → u.task ≢ t.task → state_of w u ≡ state_of v u
   pub system : w.system ≡ v.system
-
-system-state : (v : TasksView) (t : TaskId) (f : TaskState → TaskState) → (with_state v t f).system ≡ v.system
-unfolding with_state
-system-state v t f = refl
-
-system-telling : (v : TasksView) (l : ToldLine) → (telling v l).system ≡ v.system
-unfolding telling
-system-telling v l = refl
 
 pub changed-state : (v : TasksView) (t : TaskId) (f : TaskState → TaskState) → IsChanged v (with_state v t f) t
 changed-state v t f = record { here = λ u. is_task-state v t u f; others = λ u apart. state_of-other v t u f apart; system = system-state v t f }

@@ -3,7 +3,7 @@ use Rattle.std.proofs.Common.{◌≡◌, Bool, true, false, not, ◌&&◌, ◌||
 use Rattle.std.specs.List.{list_any, list_all}
 use Rattle.std.proofs.lemmas.Bool.Decides.{nat_tests}
 use Rattle.grs_base.specs.Same.{same_task}
-use Rattle.grs_base.specs.Lists.{is_shared, shared_front, owners, all_shared, can_have, standing_of, owns, owns_shared, has_task, is_apart, list_exclusive}
+use Rattle.grs_base.specs.Lists.{is_shared, owners, all_shared, can_have, standing_of, owns, owns_shared, has_task, is_apart, list_exclusive}
 use Rattle.grs_base.specs.State.{pick}
 use Rattle.grs_base.specs.declared.resource.TaskId.{TaskId}
 use Rattle.grs_base.specs.declared.resource.Elem.{Elem}
@@ -12,6 +12,7 @@ use Rattle.grs_base.specs.declared.resource.Ctl.TheVariants.{E, S}
 use Rattle.grs_base.specs.declared.decision.Standing.TheVariants.{Exclusive, OnlyShared}
 use Rattle.grs_base.proofs.SameLaws.{same_task-exact, same_task-itself}
 use Rattle.grs_wire.specs.Wants.{became_owners}
+use Rattle.queue_table.proofs.OwnerLemmas.{owns-any}
 
 -- whether a task is among these
 abbrev pub is_among : TaskId → List TaskId → Bool
@@ -34,22 +35,13 @@ pub owns-exclusive : (es : List Elem) (t : TaskId) → standing_of es t ≡ Only
 owns-exclusive [] t h = grind (arith, nat_tests, h)
 owns-exclusive (e ∷ es) t h = grind (arith, nat_tests, h)
 
--- the owners are the tasks of the first elements
-owns_shared-front : (es : List Elem) (t : TaskId) → owns_shared es t ≡ list_any (λ e. same_task t e.task) (take (shared_front es) es)
-owns_shared-front [] t = refl
-owns_shared-front (e ∷ es) t = grind (arith, owns_shared-front es t)
-
-pub owns-front : (es : List Elem) (t : TaskId) → owns es t ≡ list_any (λ e. same_task t e.task) (take (owners es) es)
-owns-front [] t = refl
-owns-front (e ∷ es) t = grind (arith, owns_shared-front es t)
-
 is_among-pick : (p : TaskId → Bool) (es : List Elem) (t : TaskId) → is_among t (pick (λ e. p e.task) (λ e. e.task) es) ≡ (p t && list_any (λ e. same_task t e.task) es)
 is_among-pick p [] t = grind arith
 is_among-pick p (e ∷ es) t = grind (arith, is_among-pick p es t, same_task-exact t e.task)
 
 -- who became owner: who owns afterwards and didn't before
 pub is_among-became : (before after : List Elem) (asker t : TaskId) → is_among t (became_owners before after asker) ≡ ((not (owns before t) && not (same_task asker t)) && owns after t)
-is_among-became before after asker t = is_among-pick (λ u. not (owns before u) && not (same_task asker u)) (take (owners after) after) t ∙ ap (λ b. (not (owns before t) && not (same_task asker t)) && b) (sym (owns-front after t))
+is_among-became before after asker t = is_among-pick (λ u. not (owns before u) && not (same_task asker u)) (take (owners after) after) t ∙ ap (λ b. (not (owns before t) && not (same_task asker t)) && b) (sym (owns-any after t))
 
 -- an exclusive owner's elements are all exclusive
 exclusive_front : (es : List Elem) (t : TaskId) → has_task es t ≡ false → list_all (λ e. not (same_task t e.task) || not (is_shared e.ctl)) es ≡ true

@@ -1,11 +1,11 @@
 -- What a history's entries of one task, or of one resource, tell by themselves.
-use Rattle.std.proofs.Common.{◌≡◌, ◌<◌, ℕ, Bool, true, false, cond, not, ◌&&◌, ◌||◌, Some, List, [], ◌∷◌, ◌++◌, map, length, refl, ap, sym, ◌∙◌, subst, arith}
+use Rattle.std.proofs.Common.{◌≡◌, ◌<◌, ℕ, Bool, true, false, cond, not, ◌&&◌, Some, List, [], ◌∷◌, ◌++◌, map, length, refl, ap, sym, ◌∙◌, subst, arith}
 use Rattle.std.specs.Prelude.{filter, nat_le}
 use Rattle.std.specs.List.{list_any, list_all}
 use Rattle.std.proofs.lemmas.Bool.{and_parts, ltb-true}
 use Rattle.std.proofs.lemmas.Bool.Decides.{nat_tests}
 use Rattle.grs_base.specs.Same.{same_res, same_task}
-use Rattle.grs_base.specs.Lists.{is_shared, has_task, is_apart, is_owner, deq_code, standing_of, can_have, enq_decision, decide_enq, owns, owners, place_of, list_after, list_exclusive, list_without}
+use Rattle.grs_base.specs.Lists.{has_task, is_apart, is_owner, deq_code, standing_of, can_have, enq_decision, decide_enq, owns, owners, place_of, list_after, list_exclusive, list_without}
 use Rattle.grs_base.specs.State.{State, list_of, queued_by, is_full, without, after_effect, enq_code}
 use Rattle.grs_base.specs.declared.resource.Res.{Res}
 use Rattle.grs_base.specs.declared.resource.TaskId.{TaskId}
@@ -19,7 +19,6 @@ use Rattle.grs_base.specs.declared.decision.Effect.{Effect}
 use Rattle.grs_base.specs.declared.decision.Effect.TheVariants.{Nothing, Append, MakeExclusive}
 use Rattle.grs_base.specs.declared.decision.Standing.{Standing}
 use Rattle.grs_base.specs.declared.decision.Standing.TheVariants.{Exclusive, OnlyShared, AmongShared, Waits, Absent}
-use Rattle.grs_base.proofs.Picks.{pick-filter}
 use Rattle.grs_base.proofs.ListLaws.{owns-append, owns-filter, owns-place, same_place, owners-le}
 use Rattle.grs_base.proofs.StateLaws.{only_owner}
 use Rattle.grs_base.proofs.SameLaws.{same_task-exact, same_task-itself, same_res-exact}

@@ -1,9 +1,8 @@
 -- Requests of a system's outbox are put into the message.
-use Rattle.std.proofs.Common.{◌≡◌, true, false, not, ℕ, List, [], ◌∷◌, ◌++◌, Option, Some, refl, ap, sym, ◌∙◌, subst, append-nil, append_assoc}
+use Rattle.std.proofs.Common.{◌≡◌, true, false, ℕ, List, [], ◌∷◌, ◌++◌, Option, Some, refl, ap, sym, ◌∙◌, subst, append-nil, append_assoc}
 use Rattle.std.specs.Prelude.{filter, is_some}
 use Rattle.std.specs.List.{list_all}
-use Rattle.std.proofs.lemmas.Bool.{and_parts, eq-eqb}
-use Rattle.grs_base.specs.Same.{same_task}
+use Rattle.std.proofs.lemmas.Bool.{eq-eqb}
 use Rattle.grs_base.specs.State.{State, is_systems}
 use Rattle.grs_base.specs.declared.resource.Res.{Res}
 use Rattle.grs_base.specs.declared.resource.TaskId.{TaskId}
@@ -25,7 +24,7 @@ use Rattle.grs_world.proofs.Seen.{NodeLaws, MayPut, askers, stand_apart, FullFit
 use Rattle.grs_world.proofs.Tape.{Item, entries, requests, for_all, from, IsItem, At, Tape, entries-append, requests-append}
 use Rattle.grs_world.proofs.Transfer.{Carries, stands-put, fits-carried}
 use Rattle.grs_world.proofs.Views.{waits, waiting, View, view-put}
-use Rattle.grs_world.proofs.Truths.{and_on, not_true, or_false, or_first, task_swap}
+use Rattle.grs_world.proofs.Truths.{and_on, or_first}
 use Rattle.grs_world.proofs.Facts.{filter-append, filter-cons_kept}
 use Rattle.grs_world.proofs.Askers.{apart-before, askers-append}
 

@@ -13,7 +13,6 @@ use Rattle.grs_base.specs.declared.resource.Ret.{Ret}
 use Rattle.grs_base.specs.declared.resource.TaskId.{TaskId}
 use Rattle.grs_base.specs.declared.decision.Code.{Code}
 use Rattle.grs_base.specs.declared.decision.Code.TheVariants.{C00, C08}
-use Rattle.grs_base.proofs.ListLaws.{same_task-sym}
 use Rattle.grs_base.proofs.SameLaws.{same_res-exact, same_res-itself}
 use Rattle.grs_legal.specs.Asks.{AsksEnq, AsksDeq, asks_in, lines_of}
 use Rattle.grs_legal.specs.Legal.{IsLegal, IsLegalOf, MayStand, lets_pass, line_entries}
