@@ -44,8 +44,8 @@ answers_either c old new s (inr e) done = subst (Answers c old new) (sym e) (sub
 
 completes_whole : (c : Command) (old new : Streams) (text out : List ℕ) (s : Status)
     → TakesFirst 1048577 old.left new.left text → IsAnswered c text out s
-    → Appends old.written new.written out → new.reads ≡ old.reads → new.writes ≡ old.writes → Completes c old new s
-completes_whole c old new text out s read answered written reads writes =
+    → Appends old.written new.written out → new.failed_reads ≡ old.failed_reads → new.failed_writes ≡ old.failed_writes → Completes c old new s
+completes_whole c old new text out s read answered written failed_reads failed_writes =
     let short : length text < 1048577 = omega (arith, answered.spelled.short) in
     record {
       text = text;
@@ -53,26 +53,26 @@ completes_whole c old new text out s read answered written reads writes =
       read = takes_all 1048577 old.left new.left text read short;
       answered = answered;
       written = written;
-      reads = reads;
-      writes = writes;
+      failed_reads = failed_reads;
+      failed_writes = failed_writes;
     }
 
 writes_whole : (c : Command) (old new : Streams) (text out : List ℕ) (s : Status)
     → TakesFirst 1048577 old.left new.left text → IsDue c text out s
-    → Appends old.written new.written out → new.reads ≡ old.reads → new.writes ≡ old.writes → Answers c old new s
-writes_whole c old new text out s read (inl refused) written reads writes =
+    → Appends old.written new.written out → new.failed_reads ≡ old.failed_reads → new.failed_writes ≡ old.failed_writes → Answers c old new s
+writes_whole c old new text out s read (inl refused) written failed_reads failed_writes =
     subst (Answers c old new) (sym refused.1)
-    (record { text = text; out = out; read = read; refused = refused.0; written = written; reads = reads; writes = writes })
-writes_whole c old new text out s read (inr answered) written reads writes =
+    (record { text = text; out = out; read = read; refused = refused.0; written = written; failed_reads = failed_reads; failed_writes = failed_writes })
+writes_whole c old new text out s read (inr answered) written failed_reads failed_writes =
     answers_either c old new s (status_either c answered.deck s answered.ends)
-    (completes_whole c old new text out s read answered written reads writes)
+    (completes_whole c old new text out s read answered written failed_reads failed_writes)
 
 -- what is due is written, or a write fails
 pub answers : (c : Command) (old new : Streams) (out : List ℕ) (s result : Status)
-    → ReadsDue c old.left new.left out s → new.reads ≡ old.reads
-    → Writes old.written new.written old.writes new.writes out s result → Answers c old new result
-answers c old new out s result due reads (inl whole) =
-    subst (Answers c old new) (sym whole.2) (writes_whole c old new due.text out s due.read due.due whole.0 reads whole.1)
-answers c old new out s result due reads (inr part) =
+    → ReadsDue c old.left new.left out s → new.failed_reads ≡ old.failed_reads
+    → Writes old.written new.written old.failed_writes new.failed_writes out s result → Answers c old new result
+answers c old new out s result due failed_reads (inl whole) =
+    subst (Answers c old new) (sym whole.2) (writes_whole c old new due.text out s due.read due.due whole.0 failed_reads whole.1)
+answers c old new out s result due failed_reads (inr part) =
     subst (Answers c old new) (sym part.2)
-    (record { text = due.text; out = out; status = s; read = due.read; due = due.due; written = part.0; reads = reads; writes = part.1 })
+    (record { text = due.text; out = out; status = s; read = due.read; due = due.due; written = part.0; failed_reads = failed_reads; failed_writes = part.1 })

@@ -53,6 +53,6 @@ module _
       absurd (not_refused done.text done.refused.first done.refused.is_first
       (spelled done.text d (first_spells 1048577 old.left new.left done.text d room tells done.read)))
   whole c d old new statuses.Words done tells none = absurd done
-  whole c d old new statuses.ReadFault done tells none = absurd (not_risen old.reads new.reads none.reads none.reads_below done.reads)
-  whole c d old new statuses.WriteFault done tells none = absurd (not_risen old.writes new.writes none.writes none.writes_below done.writes)
+  whole c d old new statuses.ReadFault done tells none = absurd (not_risen old.failed_reads new.failed_reads none.failed_reads none.failed_reads_below done.failed_reads)
+  whole c d old new statuses.WriteFault done tells none = absurd (not_risen old.failed_writes new.failed_writes none.failed_writes none.failed_writes_below done.failed_writes)
   whole c d old new statuses.NoMemory done tells none = inr refl

@@ -1,5 +1,5 @@
 -- What the report of a deck shows, and whether it waits.
-use Rattle.std.specs.Prelude.{ℕ, List, [], if◌then◌else◌}
+use Rattle.std.specs.Prelude.{ℕ, List, if◌then◌else◌}
 use Rattle.grs_base.specs.Rows.{rows_of}
 use Rattle.grs_wire.specs.declared.deck.Event.{Event}
 use Rattle.grs_wire.specs.declared.deck.Deck.{Deck as DeckValue}

@@ -16,10 +16,10 @@ Tells (Some text) deck = SpellsDeck text deck
 
 -- No read and no write failed: neither count rose, and neither stands at its last value, where it can't.
 pub record HasNoFault (old new : Streams) : Type 0 where
-  pub reads : new.reads ≡ old.reads
-  pub writes : new.writes ≡ old.writes
-  pub reads_below : old.reads < 18446744073709551615
-  pub writes_below : old.writes < 18446744073709551615
+  pub failed_reads : new.failed_reads ≡ old.failed_reads
+  pub failed_writes : new.failed_writes ≡ old.failed_writes
+  pub failed_reads_below : old.failed_reads < 18446744073709551615
+  pub failed_writes_below : old.failed_writes < 18446744073709551615
 
 -- What the command writes for the deck is written whole, and the status says how the command ends.
 pub record IsWhole (c : Command) (deck : DeckValue) (old new : Streams) (status : Status) : Type 0 where

@@ -1,7 +1,6 @@
 //! The commands: what each does to its source and its sink. All read and write in the same way.
 ghost use Rattle.std.specs.Prelude.{◌≡◌, ◌≢◌, IfOk, OnOk, IfSome, IfNone, Err, map, string_bytes};
 ghost use Rattle.grs_io.specs.Faults.{HasRisen};
-ghost use Rattle.grs_io.specs.Moved.{TakesFirst};
 ghost use Rattle.grs_top.specs.Answers.{streams, Answers, ReadsDue, Writes};
 ghost use Rattle.grs_top.specs.Words.{command_of};
 

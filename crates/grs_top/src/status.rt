@@ -4,7 +4,7 @@ ghost use Rattle.std.specs.Prelude.{◌≡◌};
 /// How a command ended.
 #[derive(Clone, Copy, Debug, PartialEq, Eq)]
 pub enum Status {
-    /// The whole report was written, and each task ended.
+    /// The whole report was written, and each task ended; or the name lists were written.
     Done,
     /// The whole report was written, and some task hasn't ended.
     Waits,

@@ -11,7 +11,7 @@ returns-in-Ok g c =
     c.in-Ok.due.out c.in-Ok.due.status c.write_due.result c.in-Ok.ensures.due c.in-Ok.ensures.kept c.write_due.ensures
 
 pub returns-in-Err-Failed : goal.returns-in-Err-Failed
-returns-in-Err-Failed g c = record { reads = c.in-Err-Failed.ensures.failed (cc); written = refl; writes = refl }
+returns-in-Err-Failed g c = record { failed_reads = c.in-Err-Failed.ensures.failed (cc); written = refl; failed_writes = refl }
 
 pub returns-in-Err-NoMemory : goal.returns-in-Err-NoMemory
-returns-in-Err-NoMemory g c = record { written = refl; reads = c.in-Err-NoMemory.ensures.memory (cc); writes = refl }
+returns-in-Err-NoMemory g c = record { written = refl; failed_reads = c.in-Err-NoMemory.ensures.memory (cc); failed_writes = refl }
