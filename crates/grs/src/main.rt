@@ -1,5 +1,6 @@
 //! The program: the words after its name, standard input as source and standard output as sink. What it
-//! does with them is said where the words are read; the exit status is the status's number.
+//! does with them is said where the words are read; the exit status is the status's number. Wrong words are
+//! answered by it alone.
 #![tactic(auto)]
 
 use grs_io::{StdSink, StdSource};
@@ -36,8 +37,5 @@ fn main(rt: HostRuntime) -> ExitCode {
         }
         Err(error) => status_without_words(&error),
     };
-    if status == Status::Words {
-        let _ = eprintln!(rt; "usage: grs replay < DECK, or grs lists < DECK");
-    }
     ExitCode::from(status.number())
 }
