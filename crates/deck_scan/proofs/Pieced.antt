@@ -14,7 +14,7 @@ use Rattle.deck_scan.specs.Bytes.{begins, is_allowed, bad_line}
 use Rattle.deck_scan.specs.Scan.{step, scan_from, start, lines_of}
 use Rattle.deck_scan.specs.Pieces.{Blank, is_in_comment, followed_by, spelled, without_cr, SpellsLines}
 use Rattle.deck_scan.specs.Gives.{Gives}
-use Rattle.deck_scan.specs.Reading.{max_text, bad_byte, byte_fault, Answers, unless_fault, lines_or_fault}
+use Rattle.deck_scan.specs.Reading.{most_text_bytes, bad_byte, byte_fault, Answers, unless_fault, lines_or_fault}
 use Rattle.deck_scan.proofs.Said.{at_end, all_run}
 use Rattle.deck_scan.proofs.Found.{found_pieces}
 
@@ -74,7 +74,7 @@ pub one_spelled : (text : List ℕ) (a b : List TokenLine) → SpellsLines text 
 one_spelled text a b h k = sym (spelled_is text a h) ∙ spelled_is text b k
 
 pub no_bad : (text : List ℕ) → byte_fault text ≡ None → bad_line 1 text ≡ None
-no_bad text e = go (ltb max_text (length text)) (bad_line 1 text) e
+no_bad text e = go (ltb most_text_bytes (length text)) (bad_line 1 text) e
   where
     go : (x : Bool) (o : Option ℕ) → cond x (Some (record { line = 0; kind = TooLong })) (bad_byte o) ≡ None → o ≡ None
     go true o k = absurd cc

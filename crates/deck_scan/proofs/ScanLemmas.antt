@@ -1,6 +1,7 @@
 -- What a step does to the number of the line.
 use Rattle.std.proofs.Common.{◌≡◌, ℕ, ◌+◌, ◌≤◌, Bool, true, false, cond, eqb, refl}
 use Rattle.std.proofs.lemmas.Bool.{eqb-true}
+use Rattle.deck_scan.specs.Reading.{most_text_bytes}
 use Rattle.deck_scan.specs.declared.token.Token.TheVariants.{Name, Close, Comma, Equals, Stray}
 use Rattle.deck_scan.specs.declared.scan.Scan.{Scan}
 use Rattle.deck_scan.specs.declared.scan.Mode.{Mode}
@@ -72,13 +73,13 @@ step-line s b = step-line_by s b (eqb b 10) refl
 -- where the last comment began
 module _ (n : ℕ) where
   abbrev Low : Scan → Type 0
-  Low x = x.begun + n ≤ 1048577
+  Low x = x.begun + n ≤ most_text_bytes + 1
 
   begin-low : (s : Scan) (b : ℕ) → Low s → Low (begin s b)
   unfolding begin_word put put_open end_line
   begin-low s b h = begun Low s b h h h h h h h h (chosen Low (is_word b) _ _ h h)
 
-  in-low : (m : Mode) (s : Scan) (b : ℕ) → s.line + n ≤ 1048577 → Low s → Low (step_in m s b)
+  in-low : (m : Mode) (s : Scan) (b : ℕ) → s.line + n ≤ most_text_bytes + 1 → Low s → Low (step_in m s b)
   unfolding step_in put put_word end_line break_off
   in-low InBlank s b l h = begin-low s b h
   in-low AfterSlash s b l h = chosen Low (eqb b 42) _ _ l (begin-low (put Stray s) b h)
@@ -91,11 +92,11 @@ module _ (n : ℕ) where
   in-low InComment s b l h = chosen Low (eqb b 42) _ _ h (chosen Low (eqb b 10) _ _ h h)
   in-low AfterStar s b l h = chosen Low (eqb b 47) _ _ h (chosen Low (eqb b 42) _ _ h (chosen Low (eqb b 10) _ _ h h))
 
-pub step-begun : (n : ℕ) (s : Scan) (b : ℕ) → s.line + n ≤ 1048577 → s.begun + n ≤ 1048577 → (step s b).begun + n ≤ 1048577
+pub step-begun : (n : ℕ) (s : Scan) (b : ℕ) → s.line + n ≤ most_text_bytes + 1 → s.begun + n ≤ most_text_bytes + 1 → (step s b).begun + n ≤ most_text_bytes + 1
 unfolding step
 step-begun n s b l h = chosen (Low n) (eqb b 13) _ _ h (in-low n s.mode s b l h)
 
-pub finish-line : (m : Mode) (s : Scan) → s.line ≤ 1048577 → s.begun ≤ 1048577 → (finish_in m s).line ≤ 1048577
+pub finish-line : (m : Mode) (s : Scan) → s.line ≤ most_text_bytes + 1 → s.begun ≤ most_text_bytes + 1 → (finish_in m s).line ≤ most_text_bytes + 1
 unfolding finish_in put put_word
 finish-line InBlank s l h = l
 finish-line AfterSlash s l h = l

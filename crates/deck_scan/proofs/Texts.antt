@@ -8,7 +8,7 @@ use Rattle.deck_scan.specs.Bytes.{bad_line}
 use Rattle.deck_scan.specs.Scan.{lines_of}
 use Rattle.deck_scan.specs.Pieces.{SpellsLines}
 use Rattle.deck_scan.specs.Gives.{◌>>=◌}
-use Rattle.deck_scan.specs.Reading.{max_text, bad_byte, byte_fault, unless_fault, lines_or_fault}
+use Rattle.deck_scan.specs.Reading.{most_text_bytes, bad_byte, byte_fault, unless_fault, lines_or_fault}
 use Rattle.deck_scan.proofs.Pieced.{spelled_is, spelled_found, no_bad}
 
 pub bind_ok : {A B : Type 0} (r : Result A DeckFault) (f : A → Result B DeckFault) (y : B) → (r >>= f) ≡ Ok y → (x : A) × (r ≡ Ok x) × (f x ≡ Ok y)
@@ -17,15 +17,15 @@ bind_ok (Err d) f y e = absurd cc
 
 -- a text that is short enough and spells these lines
 pub record IsText (text : List ℕ) (lines : List TokenLine) : Type 0 where
-  pub short : length text ≤ max_text
+  pub short : length text ≤ most_text_bytes
   pub spelled : SpellsLines text lines
 
-is_short : (text : List ℕ) → byte_fault text ≡ None → length text ≤ max_text
-is_short text h = go (ltb max_text (length text)) refl h
+is_short : (text : List ℕ) → byte_fault text ≡ None → length text ≤ most_text_bytes
+is_short text h = go (ltb most_text_bytes (length text)) refl h
   where
-    go : (b : Bool) → ltb max_text (length text) ≡ b → cond b (Some (record { line = 0; kind = TooLong })) (bad_byte (bad_line 1 text)) ≡ None → length text ≤ max_text
+    go : (b : Bool) → ltb most_text_bytes (length text) ≡ b → cond b (Some (record { line = 0; kind = TooLong })) (bad_byte (bad_line 1 text)) ≡ None → length text ≤ most_text_bytes
     go true is k = absurd cc
-    go false is k = ltb-false max_text (length text) is
+    go false is k = ltb-false most_text_bytes (length text) is
 
 pub text_of : (text : List ℕ) → byte_fault text ≡ None → IsText text (lines_of text)
 text_of text none = record { short = is_short text none; spelled = spelled_found text (no_bad text none) }
@@ -40,6 +40,6 @@ read_text text lines h = go (byte_fault text) refl h
     go (Some f) e k = absurd cc
 
 -- What is spelled is read.
-pub text_read : (text : List ℕ) (lines : List TokenLine) → length text ≤ max_text → SpellsLines text lines → lines_or_fault text ≡ Ok lines
+pub text_read : (text : List ℕ) (lines : List TokenLine) → length text ≤ most_text_bytes → SpellsLines text lines → lines_or_fault text ≡ Ok lines
 unfolding lines_or_fault
-text_read text lines short spelled = rw (le-ltb max_text (length text) short, spelled.allowed, spelled_is text lines spelled) refl
+text_read text lines short spelled = rw (le-ltb most_text_bytes (length text) short, spelled.allowed, spelled_is text lines spelled) refl

@@ -16,7 +16,7 @@ pub use miss::{Miss, or_bad, refused};
 pub use next::{
     any_word_at, close_at, comma_at, end_at, equals_at, name_at, open_at, value_at, word_at,
 };
-pub use scan::lines;
+pub use scan::{MOST_TEXT_BYTES, lines};
 pub use token::{Token, TokenLine};
 
 #[cfg(test)]

@@ -1,7 +1,7 @@
 //! Goes through the bytes once and keeps what stands open between two of them.
 //! It knows no statement; its lines are judged by the crates above.
 ghost use Rattle.std.specs.Prelude.{◌≡◌, ◌<◌, ◌≤◌, ◌+◌, ◌^◌, [], length, OnOk};
-ghost use Rattle.deck_scan.specs.Reading.{lines_or_fault, Answers};
+ghost use Rattle.deck_scan.specs.Reading.{most_text_bytes, lines_or_fault, Answers};
 ghost use Rattle.deck_scan.specs.Gives.{Gives};
 ghost use Rattle.deck_scan.specs.Scan.{put, put_word, put_open, end_line, break_off, begin_word, begin, step_in, step, finish_in, start};
 
@@ -12,8 +12,8 @@ use grs_base::{Kind, List, NoMemory, ReadError};
 use std::alloc::Global;
 use std::mem;
 
-/// How many bytes a deck may have.
-const MAX_TEXT: usize = 1_048_576;
+/// The most bytes of a deck.
+pub const MOST_TEXT_BYTES: usize = 1_048_576;
 
 /// What stands open.
 #[derive(Clone, Copy)]
@@ -385,7 +385,7 @@ impl Scan {
 
 /// The lines of a text that is not too long.
 fn scan_lines(alloc: Global, text: &[u8]) -> Result<List<TokenLine>, ReadError>
-    requires { length text.now ≤ MAX_TEXT }
+    requires { length text.now ≤ most_text_bytes }
     ensures { Gives result (lines_or_fault text.now) }
 {
     let mut scan = Scan::new(alloc);
@@ -422,7 +422,7 @@ pub fn lines(alloc: Global, text: &[u8]) -> Result<List<TokenLine>, ReadError>
     // By the function on lists that the readers above this one are built on.
     ensures read { Gives result (lines_or_fault text.now) }
 {
-    if text.len() > MAX_TEXT {
+    if text.len() > MOST_TEXT_BYTES {
         return Err(refused(0, Kind::TooLong));
     }
     scan_lines(alloc, text)

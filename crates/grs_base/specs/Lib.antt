@@ -1,3 +1,4 @@
+pub mod Limits
 pub mod Same
 pub mod Names
 pub mod Printed

@@ -4,6 +4,7 @@
 
 mod decision;
 mod fault;
+mod limits;
 mod line;
 mod list;
 mod look;
@@ -19,6 +20,7 @@ mod tests;
 
 pub use decision::{Code, Decision, Effect, Standing};
 pub use fault::{DeckFault, Kind, NameFault, NoMemory, ReadError};
+pub use limits::{MOST_ENTRIES, MOST_QNAME_BYTES, MOST_RNAME_BYTES, MOST_SYSTEMS};
 pub use line::{Item, Line, Scope};
 pub use list::{Copied, List, copy_all};
 pub use look::{Filter, Place};
@@ -26,5 +28,5 @@ pub use name::{Qname, Rname, is_qname, is_rname};
 pub use print::{is_plain_byte, is_printable, print_name};
 pub use queues::Queues;
 pub use resource::{Ctl, Elem, Res, Ret, Row, SysId, TaskId, is_same_res, is_same_task};
-pub use rnl::{Form, Lists, MOST_ENTRIES, RnlEntry, RnlList, Which};
+pub use rnl::{Form, Lists, RnlEntry, RnlList, Which};
 pub use slice::{SLICES, entry_of, slice_of};

@@ -1,9 +1,11 @@
 //! The two names of a resource. (z/OS MVS Programming: Authorized Assembler Services Reference, "ENQ".) That a qname may
 //! be shorter than eight bytes, as if blanks stood behind it, is this project's own.
 ghost use Rattle.std.specs.Prelude.{◌≡◌, ◌≤◌, ◌↔◌, length, List, ℕ, IfOk, OnOk, Err, true, false};
+ghost use Rattle.grs_base.specs.Limits.{most_qname_bytes, most_rname_bytes};
 ghost use Rattle.grs_base.specs.Names.{trim_blanks, is_qname, is_rname, IsQname};
 
 use super::fault::{NameFault, NoMemory};
+use super::limits::{MOST_QNAME_BYTES, MOST_RNAME_BYTES};
 use std::alloc::Global;
 use std::hash::{Hash, Hasher};
 use std::marker::Model;
@@ -46,14 +48,14 @@ fn trimmed_len(bytes: &[u8]) -> usize
 pub fn is_qname(bytes: &[u8]) -> bool
     ensures { result ≡ is_qname bytes.now }
 {
-    bytes.len() <= 8 && 1 <= trimmed_len(bytes)
+    bytes.len() <= MOST_QNAME_BYTES && 1 <= trimmed_len(bytes)
 }
 
 /// Whether bytes make an rname: 1 to 255 of them.
 pub fn is_rname(bytes: &[u8]) -> bool
     ensures { result ≡ is_rname bytes.now }
 {
-    1 <= bytes.len() && bytes.len() <= 255
+    1 <= bytes.len() && bytes.len() <= MOST_RNAME_BYTES
 }
 
 /// A copy of bytes.
@@ -76,7 +78,7 @@ impl Qname {
         ensures bad { (result ≡ Err NameFault.BadLength) ↔ (is_qname bytes.now ≡ false) }
     {
         let end = trimmed_len(bytes);
-        if bytes.len() > 8 || end == 0 {
+        if bytes.len() > MOST_QNAME_BYTES || end == 0 {
             return Err(NameFault::BadLength);
         }
         match copy_of(alloc, &bytes[..end]) {
@@ -97,7 +99,7 @@ impl Qname {
     /// The bytes, without trailing blanks.
     pub fn bytes(&self) -> &[u8]
         ensures bytes { result.now ≡ self.now }
-        ensures short { length self.now ≤ 8 }
+        ensures short { length self.now ≤ most_qname_bytes }
         ensures name { IsQname self.now }
     {
         self.bytes.as_slice()
@@ -165,7 +167,7 @@ impl Rname {
         ensures good { OnOk result (is_rname bytes.now ≡ true) }
         ensures bad { (result ≡ Err NameFault.BadLength) ↔ (is_rname bytes.now ≡ false) }
     {
-        if bytes.is_empty() || bytes.len() > 255 {
+        if bytes.is_empty() || bytes.len() > MOST_RNAME_BYTES {
             return Err(NameFault::BadLength);
         }
         match copy_of(alloc, bytes) {
@@ -186,7 +188,7 @@ impl Rname {
     /// The bytes.
     pub fn bytes(&self) -> &[u8]
         ensures bytes { result.now ≡ self.now }
-        ensures short { length self.now ≤ 255 }
+        ensures short { length self.now ≤ most_rname_bytes }
         ensures name { is_rname self.now ≡ true }
     {
         self.bytes.as_slice()

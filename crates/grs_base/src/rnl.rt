@@ -63,9 +63,6 @@ impl Copied for RnlEntry {
     }
 }
 
-/// The most entries of a name list, a limit of this project's own.
-pub const MOST_ENTRIES: usize = 4096;
-
 /// A name list, seen as which one it is and its entries in order.
 #[derive(Drop)]
 pub struct RnlList {
@@ -83,6 +80,7 @@ impl Model for RnlList {
 
 impl RnlList {
     ghost use Rattle.std.specs.Prelude.{◌≡◌, ◌<◌, ◌++◌, ◌∷◌, [], length, OnOk, OnErr, IfOk, slice_get, Some};
+    ghost use Rattle.grs_base.specs.Limits.{most_entries};
     ghost use Rattle.grs_base.specs.Rnl.{no_entries};
 
     /// A list without entries.
@@ -105,7 +103,7 @@ impl RnlList {
     /// Puts an entry of this list last.
     pub fn push(&mut self, entry: RnlEntry) -> Result<(), NoMemory>
         requires which { entry.which ≡ self.old.which }
-        requires room { length self.old.entries < MOST_ENTRIES }
+        requires room { length self.old.entries < most_entries }
         ensures which { self.new.which ≡ self.old.which }
         ensures ok { OnOk result (self.new.entries ≡ self.old.entries ++ entry ∷ []) }
         ensures err { OnErr result (self.new ≡ self.old) }

@@ -16,7 +16,8 @@ use Rattle.deck_form.specs.declared.form.Stmt.{Stmt}
 use Rattle.deck_form.specs.declared.form.Stmt.TheVariants as stmts
 use Rattle.deck_form.specs.Unbuilt.{is_unbuilt}
 use Rattle.grs_deck.specs.declared.judge.Draft.{Draft}
-use Rattle.grs_deck.specs.Limits.{most_name_bytes, most_entries, most_systems, most_jobs, most_tasks}
+use Rattle.grs_base.specs.Limits.{most_systems, most_entries}
+use Rattle.grs_deck.specs.Limits.{most_name_bytes, most_jobs, most_tasks}
 use Rattle.grs_deck.specs.Places.{jobs_now, tasks_now, task_count, system_place, job_place, task_place, event_of}
 
 -- A name of a system, job or task is too long.

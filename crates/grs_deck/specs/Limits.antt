@@ -5,22 +5,6 @@ use Rattle.std.specs.Prelude.{ℕ}
 abbrev pub most_name_bytes : ℕ
 most_name_bytes = 8
 
--- Bytes of a qname as it is written, trailing blanks too.
-abbrev pub most_qname_bytes : ℕ
-most_qname_bytes = 8
-
--- Bytes of an rname.
-abbrev pub most_rname_bytes : ℕ
-most_rname_bytes = 255
-
--- Entries of a name list.
-abbrev pub most_entries : ℕ
-most_entries = 4096
-
--- Systems of a deck.
-abbrev pub most_systems : ℕ
-most_systems = 8
-
 -- Jobs of a system.
 abbrev pub most_jobs : ℕ
 most_jobs = 64

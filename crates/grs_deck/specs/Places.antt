@@ -12,7 +12,8 @@ use Rattle.grs_wire.specs.declared.deck.Choice.TheVariants as choices
 use Rattle.deck_form.specs.declared.event.Act.{Act}
 use Rattle.deck_form.specs.declared.event.Act.TheVariants as acts
 use Rattle.deck_scan.specs.Next.{◌>>=◌}
-use Rattle.grs_deck.specs.Limits.{most_systems, most_jobs, most_tasks}
+use Rattle.grs_base.specs.Limits.{most_systems}
+use Rattle.grs_deck.specs.Limits.{most_jobs, most_tasks}
 
 -- What the last item has.
 abbrev pub at_last : {A B : Type 0} → (A → List B) → List A → List B

@@ -7,7 +7,7 @@ use Rattle.grs_wire.specs.declared.deck.Event.{Event}
 use Rattle.grs_wire.specs.declared.deck.Deck.{Deck}
 use Rattle.deck_scan.specs.declared.token.TokenLine.{TokenLine}
 use Rattle.deck_scan.specs.Pieces.{SpellsLines}
-use Rattle.deck_scan.specs.Reading.{max_text}
+use Rattle.deck_scan.specs.Reading.{most_text_bytes}
 use Rattle.job_syntax.specs.declared.display.Shown.{Shown}
 use Rattle.job_syntax.specs.declared.display.Shown.TheVariants as shown
 use Rattle.job_syntax.specs.declared.said.Said.{Said}
@@ -21,7 +21,8 @@ use Rattle.deck_form.specs.Spelled.{Spells}
 use Rattle.deck_form.specs.Statements.{statements}
 use Rattle.deck_form.specs.Unbuilt.{is_unbuilt}
 use Rattle.grs_deck.specs.declared.judge.Draft.{Draft}
-use Rattle.grs_deck.specs.Limits.{most_name_bytes, most_qname_bytes, most_rname_bytes, most_entries, most_systems, most_jobs, most_tasks}
+use Rattle.grs_base.specs.Limits.{most_systems, most_qname_bytes, most_rname_bytes, most_entries}
+use Rattle.grs_deck.specs.Limits.{most_name_bytes, most_jobs, most_tasks}
 use Rattle.grs_deck.specs.Places.{jobs_now, tasks_now, task_count, system_place, job_place, task_place, event_of}
 use Rattle.grs_deck.specs.Judge.{list_of}
 use Rattle.grs_deck.specs.Grow.{grow}
@@ -98,7 +99,7 @@ Says d (l ∷ ls) e = (st : Stmt) × Spells d.scheduled d.deck.entries l st × I
 -- A text spells a deck: it is short enough, the statements of its lines say the deck, and the deck has a
 -- system.
 pub record SpellsDeck (text : List ℕ) (deck : Deck) : Type 0 where
-  pub short : length text ≤ max_text
+  pub short : length text ≤ most_text_bytes
   pub lines : List TokenLine
   pub spelled : SpellsLines text lines
   pub draft : Draft

@@ -14,7 +14,7 @@ use Rattle.grs_wire.specs.declared.deck.Choice.{Choice}
 use Rattle.grs_wire.specs.declared.deck.Choice.TheVariants as choices
 use Rattle.grs_wire.specs.declared.deck.Deck.{Deck}
 use Rattle.deck_form.specs.Complex.{is_entries, is_limit}
-use Rattle.grs_deck.specs.Limits.{most_entries}
+use Rattle.grs_base.specs.Limits.{most_entries}
 use Rattle.grs_deck.specs.Places.{task_count, Fits}
 
 -- A task of a system: its job stands in the system, and the task in the job, at this place among all

@@ -1,11 +1,8 @@
-//! The limits of a deck and what holds without COMPLEX, each in one place. (The number of entries of a name
-//! list is that of `grs_base`.)
+//! The limits of a deck and what holds without COMPLEX, each in one place. (The limits of a complex and of its
+//! names are those of `grs_base`.)
 
 /// Bytes of the name of a system, a job or a task.
 pub const MOST_NAME_BYTES: usize = 8;
-
-/// Systems of a deck. A set of systems has a bit for each.
-pub const MOST_SYSTEMS: usize = 8;
 
 /// Jobs of a system.
 pub const MOST_JOBS: usize = 64;

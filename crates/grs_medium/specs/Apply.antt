@@ -1,6 +1,7 @@
 -- The calls of the medium, row by row: what each is answered, and what the medium is afterwards.
 use Rattle.std.specs.Prelude.{◌≡◌, ◌≢◌, ◌<◌, ◌≤◌, ℕ, Bool, true, false, cond, not, ◌==◌, nat_lt, ◌&&◌, ◌||◌, List, [], ◌∷◌, length, slice_set, Option, Some, None, is_none}
 use Rattle.std.specs.List.{list_all}
+use Rattle.grs_base.specs.Limits.{most_systems}
 use Rattle.grs_base.specs.declared.resource.SysId.{SysId}
 use Rattle.grs_wire.specs.declared.request.Req.{Req}
 use Rattle.grs_wire.specs.declared.medium.Act.{Act}
@@ -127,7 +128,7 @@ manager_fits systems w None = false
 manager_fits systems w (Some s) = nat_lt s.0 systems && has (interest w) s.0
 
 abbrev pub word_fits : ℕ → ℕ → Bool
-word_fits systems w = (w == 0) || (manager_fits systems w (manager w) && all_others 8 0 (λ s. not (has (interest w) s) || nat_lt s systems))
+word_fits systems w = (w == 0) || (manager_fits systems w (manager w) && all_others most_systems 0 (λ s. not (has (interest w) s) || nat_lt s systems))
 
 -- What a call needs of the medium: its caller is a system, and so is whom a mail goes to; at most 32 requests;
 -- lock entries that are there; as many lock words as entries, each 0 or with a manager; and no system that

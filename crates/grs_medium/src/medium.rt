@@ -1,5 +1,6 @@
 //! The medium and its calls.
 ghost use Rattle.std.specs.Prelude.{◌≡◌, ◌<◌, ◌≤◌, true, [], length, replicate, IfOk, OnOk};
+ghost use Rattle.grs_base.specs.Limits.{most_systems};
 ghost use Rattle.grs_medium.specs.Medium.{first_medium, systems_of, medium_at_end};
 ghost use Rattle.grs_medium.specs.Apply.{turn_row, purge_row, rest_row, reply_to, medium_after, changes, row, row_changes, ActFits, MayCall};
 ghost use Rattle.grs_medium.specs.Room.{is_built, HasRoomFor};
@@ -28,13 +29,14 @@ pub struct Medium {
 
 impl Model for Medium {
     ghost use Rattle.std.specs.Prelude.{◌≡◌, ◌≤◌, length};
+    ghost use Rattle.grs_base.specs.Limits.{most_systems};
     ghost use Rattle.grs_medium.specs.Room.{MediumValue};
 
     ghost Value = { MediumValue };
 
     ghost view = { λ m. record { state = record { star = m.star; message = m.rsa.message; words = m.words; inboxes = m.inboxes.items; removed = m.removed; rest = m.rest }; room = m.rsa.room } };
 
-    ghost invariant = { λ m. (m.systems ≡ m.rsa.message.systems) × (m.systems ≤ 8) × (length m.inboxes.items ≡ m.systems) };
+    ghost invariant = { λ m. (m.systems ≡ m.rsa.message.systems) × (m.systems ≤ most_systems) × (length m.inboxes.items ≡ m.systems) };
 }
 
 /// So many empty inboxes.
@@ -85,7 +87,7 @@ impl Medium {
     /// The medium at the start, of so many systems (1 to 8) and lock entries, in ring mode or in star mode.
     pub fn new(alloc: Global, systems: u32, entries: u32, star: bool) -> Result<Medium, NoMemory>
         requires some { 0 < systems }
-        requires few { systems ≤ 8 }
+        requires few { systems ≤ most_systems }
         ensures { IfOk result (λ medium. medium.state ≡ first_medium systems entries star) }
     {
         let words = empty_words(alloc, entries)?;

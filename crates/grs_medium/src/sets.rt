@@ -1,5 +1,6 @@
 //! What is asked of all systems that aren't removed.
 ghost use Rattle.std.specs.Prelude.{◌≡◌, ◌<◌, ◌≤◌, ◌||◌, [], length, slice_index_or};
+ghost use Rattle.grs_base.specs.Limits.{most_systems};
 ghost use Rattle.grs_wire.specs.Masks.{has, others, all_others};
 ghost use Rattle.grs_medium.specs.Medium.{is_empty};
 
@@ -9,7 +10,7 @@ use grs_wire::masks::{has_system, with_system};
 
 /// The systems that aren't removed.
 pub fn live_of(systems: u32, removed: u32) -> u32
-    requires { systems ≤ 8 }
+    requires { systems ≤ most_systems }
     ensures { result ≡ others systems removed }
 {
     let mut live = 0;
@@ -33,7 +34,7 @@ fn is_removed_or_rests(removed: u32, rest: u32, system: SysId) -> bool
 /// Whether the flag of rest of each system that isn't removed is set.
 #[tactic(auto, using(crate::proofs::SetLaws::all_others_false))]
 pub fn all_at_rest(systems: u32, removed: u32, rest: u32) -> bool
-    requires { systems ≤ 8 }
+    requires { systems ≤ most_systems }
     ensures { result ≡ all_others systems removed (λ s. has rest s) }
 {
     for s in 0..systems {
@@ -48,7 +49,7 @@ pub fn all_at_rest(systems: u32, removed: u32, rest: u32) -> bool
 /// Whether the inbox of each system that isn't removed is empty.
 #[tactic(auto, using(crate::proofs::SetLaws::all_others_false))]
 pub fn all_empty(systems: u32, removed: u32, inboxes: &[List<Mail>]) -> bool
-    requires few { systems ≤ 8 }
+    requires few { systems ≤ most_systems }
     requires boxes { length inboxes.now ≡ systems }
     ensures { result ≡ all_others systems removed (λ s. is_empty (slice_index_or inboxes.now s [])) }
 {

@@ -1,7 +1,8 @@
 -- What stands after a text was read and its answer written.
-use Rattle.std.proofs.Common.{◌≡◌, ◌≤◌, ◌<◌, ◌⊎◌, ℕ, Bool, true, false, List, length, take, sym, subst, inl, inr, arith, if◌then◌else◌, Option, None, Some, ◌∙◌}
+use Rattle.std.proofs.Common.{◌≡◌, ◌≤◌, ◌<◌, ◌⊎◌, ℕ, Bool, true, false, List, length, take, sym, subst, inl, inr, arith, if◌then◌else◌, Option, None, Some, ◌∙◌, ◌+◌}
 use Rattle.std.proofs.lemmas.List.{length-take, take_all, drop_all}
 use Rattle.std.specs.Io.KnownBytes.{Appends}
+use Rattle.deck_scan.specs.Reading.{most_text_bytes}
 use Rattle.grs_io.specs.Moved.{TakesFirst}
 use Rattle.grs_wire.specs.declared.deck.Event.{Event}
 use Rattle.grs_wire.specs.declared.deck.Deck.{Deck as DeckValue}
@@ -43,14 +44,14 @@ answers_either c old new s (inl e) done = subst (Answers c old new) (sym e) (sub
 answers_either c old new s (inr e) done = subst (Answers c old new) (sym e) (subst (Completes c old new) e done)
 
 completes_whole : (c : Command) (old new : Streams) (text out : List ℕ) (s : Status)
-    → TakesFirst 1048577 old.left new.left text → IsAnswered c text out s
+    → TakesFirst (most_text_bytes + 1) old.left new.left text → IsAnswered c text out s
     → Appends old.written new.written out → new.failed_reads ≡ old.failed_reads → new.failed_writes ≡ old.failed_writes → Completes c old new s
 completes_whole c old new text out s read answered written failed_reads failed_writes =
-    let short : length text < 1048577 = omega (arith, answered.spelled.short) in
+    let short : length text < most_text_bytes + 1 = omega (arith, answered.spelled.short) in
     record {
       text = text;
       out = out;
-      read = takes_all 1048577 old.left new.left text read short;
+      read = takes_all (most_text_bytes + 1) old.left new.left text read short;
       answered = answered;
       written = written;
       failed_reads = failed_reads;
@@ -58,7 +59,7 @@ completes_whole c old new text out s read answered written failed_reads failed_w
     }
 
 writes_whole : (c : Command) (old new : Streams) (text out : List ℕ) (s : Status)
-    → TakesFirst 1048577 old.left new.left text → IsDue c text out s
+    → TakesFirst (most_text_bytes + 1) old.left new.left text → IsDue c text out s
     → Appends old.written new.written out → new.failed_reads ≡ old.failed_reads → new.failed_writes ≡ old.failed_writes → Answers c old new s
 writes_whole c old new text out s read (inl refused) written failed_reads failed_writes =
     subst (Answers c old new) (sym refused.1)

@@ -1,12 +1,13 @@
 -- A deck that is told and no fault give the whole text.
-use Rattle.std.proofs.Common.{◌≡◌, ◌≤◌, ◌<◌, ℕ, List, length, refl, sym, subst, inl, inr, arith, Option, None, Some, ◌∙◌}
+use Rattle.std.proofs.Common.{◌≡◌, ◌≤◌, ◌<◌, ℕ, List, length, refl, sym, subst, inl, inr, arith, Option, None, Some, ◌∙◌, ◌+◌}
 use Rattle.std.proofs.lemmas.List.{take_all}
 use Rattle.std.specs.Io.KnownBytes.{Appends}
 use Rattle.grs_base.specs.declared.fault.DeckFault.{DeckFault}
 use Rattle.grs_wire.specs.declared.deck.Deck.{Deck as DeckValue}
+use Rattle.deck_scan.specs.Reading.{most_text_bytes}
 use Rattle.grs_deck.specs.Reading.{fault}
 use Rattle.grs_deck.specs.Spells.{SpellsDeck}
-use Rattle.grs_io.specs.Faults.{HasRisen}
+use Rattle.grs_io.specs.Faults.{last_count, HasRisen}
 use Rattle.grs_io.specs.Moved.{TakesFirst}
 use Rattle.grs_top.specs.declared.status.Status.{Status}
 use Rattle.grs_top.specs.declared.status.Status.TheVariants as statuses
@@ -20,14 +21,14 @@ all_spells None new text d tells read = absurd tells
 all_spells (Some xs) None text d tells read = absurd read
 all_spells (Some xs) (Some ys) text d tells read = subst (λ (t : List ℕ). SpellsDeck t d) (sym read.0) tells
 
-first_spells : (n : ℕ) (old new : Option (List ℕ)) (text : List ℕ) (d : DeckValue) → 1048576 < n → Tells old d → TakesFirst n old new text → SpellsDeck text d
+first_spells : (n : ℕ) (old new : Option (List ℕ)) (text : List ℕ) (d : DeckValue) → most_text_bytes < n → Tells old d → TakesFirst n old new text → SpellsDeck text d
 first_spells n None new text d room tells read = absurd tells
 first_spells n (Some xs) None text d room tells read = absurd read
 first_spells n (Some xs) (Some ys) text d room tells read =
     let short : length xs ≤ n = omega (arith, tells.short) in
     subst (λ (t : List ℕ). SpellsDeck t d) (sym (read.0 ∙ take_all n xs short)) tells
 
-not_risen : (old new : ℕ) → new ≡ old → old < 18446744073709551615 → HasRisen old new → ⊥
+not_risen : (old new : ℕ) → new ≡ old → old < last_count → HasRisen old new → ⊥
 not_risen old new same below (inl more) = omega arith
 not_risen old new same below (inr last) = omega (arith, last.0)
 
@@ -49,9 +50,9 @@ module _
   whole c d old new statuses.Done done tells none = inl (completed c d old new statuses.Done tells done)
   whole c d old new statuses.Waits done tells none = inl (completed c d old new statuses.Waits tells done)
   whole c d old new statuses.Deck done tells none =
-      let room : 1048576 < 1048577 = omega arith in
+      let room : most_text_bytes < most_text_bytes + 1 = omega arith in
       absurd (not_refused done.text done.refused.first done.refused.is_first
-      (spelled done.text d (first_spells 1048577 old.left new.left done.text d room tells done.read)))
+      (spelled done.text d (first_spells (most_text_bytes + 1) old.left new.left done.text d room tells done.read)))
   whole c d old new statuses.Words done tells none = absurd done
   whole c d old new statuses.ReadFault done tells none = absurd (not_risen old.failed_reads new.failed_reads none.failed_reads none.failed_reads_below done.failed_reads)
   whole c d old new statuses.WriteFault done tells none = absurd (not_risen old.failed_writes new.failed_writes none.failed_writes none.failed_writes_below done.failed_writes)

@@ -1,7 +1,7 @@
 -- What a command does to its source and its sink, by the status that it answers.
 use Rattle.std.specs.Prelude.{◌≡◌, ◌+◌, ◌⊎◌, ℕ, List, [], Option, None, Some}
 use Rattle.std.specs.Io.KnownBytes.{Appends}
-use Rattle.deck_scan.specs.Reading.{max_text}
+use Rattle.deck_scan.specs.Reading.{most_text_bytes}
 use Rattle.grs_io.specs.Faults.{HasRisen}
 use Rattle.grs_io.specs.Moved.{TakesFirst, AppendsPart}
 use Rattle.grs_top.specs.declared.status.Status.{Status}
@@ -29,7 +29,7 @@ TakesAll (Some xs) (Some ys) text = (text ≡ xs) × (ys ≡ [])
 -- What is due for the text that was read.
 pub record ReadsDue (c : Command) (old new : Option (List ℕ)) (out : List ℕ) (status : Status) : Type 0 where
   pub text : List ℕ
-  pub read : TakesFirst (max_text + 1) old new text
+  pub read : TakesFirst (most_text_bytes + 1) old new text
   pub due : IsDue c text out status
 
 -- What is due is written whole, and answered by its status, or a write failed and only a part is written.
@@ -54,7 +54,7 @@ pub record Completes (c : Command) (old new : Streams) (status : Status) : Type 
 pub record Refuses (old new : Streams) : Type 0 where
   pub text : List ℕ
   pub out : List ℕ
-  pub read : TakesFirst (max_text + 1) old.left new.left text
+  pub read : TakesFirst (most_text_bytes + 1) old.left new.left text
   pub refused : IsRefused text out
   pub written : Appends old.written new.written out
   pub failed_reads : new.failed_reads ≡ old.failed_reads
@@ -72,7 +72,7 @@ pub record FailsToWrite (c : Command) (old new : Streams) : Type 0 where
   pub text : List ℕ
   pub out : List ℕ
   pub status : Status
-  pub read : TakesFirst (max_text + 1) old.left new.left text
+  pub read : TakesFirst (most_text_bytes + 1) old.left new.left text
   pub due : IsDue c text out status
   pub written : AppendsPart old.written new.written out
   pub failed_reads : new.failed_reads ≡ old.failed_reads

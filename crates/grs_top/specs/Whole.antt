@@ -1,6 +1,7 @@
 -- When a command writes all that it has to.
 use Rattle.std.specs.Prelude.{◌≡◌, ◌<◌, ◌⊎◌, ℕ, List, Option, None, Some}
 use Rattle.std.specs.Io.KnownBytes.{Appends}
+use Rattle.grs_io.specs.Faults.{last_count}
 use Rattle.grs_wire.specs.declared.deck.Deck.{Deck as DeckValue}
 use Rattle.grs_deck.specs.Spells.{SpellsDeck}
 use Rattle.grs_top.specs.declared.status.Status.{Status}
@@ -18,8 +19,8 @@ Tells (Some text) deck = SpellsDeck text deck
 pub record HasNoFault (old new : Streams) : Type 0 where
   pub failed_reads : new.failed_reads ≡ old.failed_reads
   pub failed_writes : new.failed_writes ≡ old.failed_writes
-  pub failed_reads_below : old.failed_reads < 18446744073709551615
-  pub failed_writes_below : old.failed_writes < 18446744073709551615
+  pub failed_reads_below : old.failed_reads < last_count
+  pub failed_writes_below : old.failed_writes < last_count
 
 -- What the command writes for the deck is written whole, and the status says how the command ends.
 pub record IsWhole (c : Command) (deck : DeckValue) (old new : Streams) (status : Status) : Type 0 where

@@ -7,11 +7,9 @@ ghost use Rattle.grs_top.specs.Words.{command_of};
 use super::Status;
 use super::due::{Due, due_for};
 use super::words::{Command, command_of};
+use deck_scan::MOST_TEXT_BYTES;
 use grs_io::{ReadFailure, Sink, Source, read_all, write_all};
 use std::alloc::Global;
-
-/// How many bytes a deck may have.
-const MOST: usize = 1_048_576;
 
 /// Reads a text, up to one byte more than a deck may have, and builds what it is answered by.
 fn read_due<S: Source>(alloc: Global, command: Command, source: &mut S) -> Result<Due, ReadFailure>
@@ -21,7 +19,7 @@ fn read_due<S: Source>(alloc: Global, command: Command, source: &mut S) -> Resul
         → HasRisen (S.faults source.old) (S.faults source.new) }
     ensures memory { result ≡ Err ReadFailure.NoMemory → S.faults source.new ≡ S.faults source.old }
 {
-    let text = read_all(alloc, source, MOST)?;
+    let text = read_all(alloc, source, MOST_TEXT_BYTES)?;
     let due = due_for(alloc, command, text.as_slice())?;
     Ok(due)
 }

@@ -1,5 +1,6 @@
 //! What is seen of the systems of a run. Nothing here changes anything.
 ghost use Rattle.std.specs.Prelude.{◌≡◌, ◌≤◌, ◌++◌, map, length, IfOk, OnOk};
+ghost use Rattle.grs_base.specs.Limits.{most_systems};
 ghost use Rattle.grs_node.specs.Units.{units_at};
 ghost use Rattle.grs_world.specs.Running.{nodes_of, none_pending_at, units_of, end_of, end_among};
 
@@ -11,7 +12,7 @@ use std::alloc::Global;
 
 /// Whether nothing is pending at these systems, but at removed ones.
 pub(crate) fn none_pending(removed: u32, nodes: &[Node<'_>]) -> bool
-    requires { length nodes.now ≤ 8 }
+    requires { length nodes.now ≤ most_systems }
     ensures { result ≡ none_pending_at removed 0 nodes.now }
 {
     for (place, node) in nodes.iter().enumerate() {

@@ -1,6 +1,7 @@
 //! The world of a run: the medium, the systems that share it, what the events fixed and what was told. Each event
 //! is one system's; one of a system that isn't there, or was removed, does nothing.
 ghost use Rattle.std.specs.Prelude.{◌≡◌, ◌<◌, ◌≤◌, ◌^◌, ◌+◌, ◌++◌, ◌∷◌, [], true, length, IfOk, OnOk};
+ghost use Rattle.grs_base.specs.Limits.{most_systems};
 ghost use Rattle.grs_node.specs.Node.{first_node};
 ghost use Rattle.grs_world.specs.World as runs;
 ghost use Rattle.grs_world.specs.Running.{starting, after, ran, nodes_of, AreOf, is_live, at_rest, units_of, end_among};
@@ -32,6 +33,7 @@ pub struct World<'d> {
 
 impl<'d> Model for World<'d> {
     ghost use Rattle.std.specs.Prelude.{◌≡◌, ◌≤◌, length};
+    ghost use Rattle.grs_base.specs.Limits.{most_systems};
     ghost use Rattle.grs_medium.specs.Medium.{systems_of};
     ghost use Rattle.grs_world.specs.Running.{Running, AreOf, nodes_of};
 
@@ -39,7 +41,7 @@ impl<'d> Model for World<'d> {
 
     ghost view = { λ a. record { deck = a.deck.now; world = record { medium = a.medium.state; nodes = nodes_of a.nodes.items; events = a.events; fixed = a.fixed; told = a.told } } };
 
-    ghost invariant = { λ a. AreOf a.deck.now a.nodes.items × (systems_of a.medium.state ≡ length a.nodes.items) × (length a.nodes.items ≤ 8) };
+    ghost invariant = { λ a. AreOf a.deck.now a.nodes.items × (systems_of a.medium.state ≡ length a.nodes.items) × (length a.nodes.items ≤ most_systems) };
 }
 
 /// Adds a system of a deck before its first event.
@@ -63,7 +65,7 @@ fn add_node<'d>(
 /// The systems of a deck before their first events.
 #[tactic(auto, using(crate::proofs::First::first))]
 fn first_nodes<'d>(alloc: Global, deck: &'d Deck) -> Result<Vec<Node<'d>>, NoMemory>
-    requires { length deck.now.systems ≤ 8 }
+    requires { length deck.now.systems ≤ most_systems }
     ensures nodes { IfOk result (λ nodes. nodes_of nodes.items ≡ runs.first_nodes deck.now 0 deck.now.systems) }
     ensures deck { IfOk result (λ nodes. AreOf deck.now nodes.items) }
     ensures count { IfOk result (λ nodes. length nodes.items ≡ length deck.now.systems) }
@@ -113,7 +115,7 @@ impl<'d> World<'d> {
     #[tactic(auto, using(crate::proofs::First::first), unfolding(crate::specs::World::first_world))]
     pub fn new(alloc: Global, deck: &'d Deck) -> Result<World<'d>, NoMemory>
         requires some { 0 < length deck.now.systems }
-        requires few { length deck.now.systems ≤ 8 }
+        requires few { length deck.now.systems ≤ most_systems }
         ensures { IfOk result (λ w. w ≡ starting deck.now) }
     {
         let systems = deck.systems.len() as u32;
@@ -231,7 +233,7 @@ impl<'d> World<'d> {
 #[tactic(auto, using(crate::proofs::Happens::runs))]
 pub fn replay<'d>(alloc: Global, deck: &'d Deck, events: &[Event]) -> Result<World<'d>, NoMemory>
     requires some { 0 < length deck.now.systems }
-    requires few { length deck.now.systems ≤ 8 }
+    requires few { length deck.now.systems ≤ most_systems }
     ensures { IfOk result (λ w. w ≡ ran deck.now events.now) }
 {
     let mut world = World::new(alloc, deck)?;

@@ -10,7 +10,7 @@ use Rattle.deck_scan.specs.declared.token.Token.TheVariants.{Word, Unclosed}
 use Rattle.deck_scan.specs.declared.token.TokenLine.{TokenLine}
 use Rattle.deck_scan.specs.Gives.{◌>>=◌, refused, or_bad}
 use Rattle.deck_scan.specs.Pieces.{SpellsLines}
-use Rattle.deck_scan.specs.Reading.{max_text, lines_or_fault}
+use Rattle.deck_scan.specs.Reading.{most_text_bytes, lines_or_fault}
 use Rattle.job_syntax.specs.declared.said.Said.{Said}
 use Rattle.job_syntax.specs.declared.said.Verb.{Verb}
 use Rattle.job_syntax.specs.Said.{verb, said_at}
@@ -54,7 +54,7 @@ reading text = lines_or_fault text >>= λ ls. one_line ls
 -- A text spells a line of a task: it is short enough, it has one line of tokens, and that spells the task
 -- line, whose names are right.
 pub record SpellsLine (text : List ℕ) (line : Line) : Type 0 where
-  pub short : length text ≤ max_text
+  pub short : length text ≤ most_text_bytes
   pub tokens : TokenLine
   pub spelled : SpellsLines text (tokens ∷ [])
   pub apart : tokens.joined ≡ false

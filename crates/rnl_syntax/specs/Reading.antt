@@ -16,7 +16,7 @@ use Rattle.deck_scan.specs.declared.token.Token.TheVariants.{Word, Unclosed}
 use Rattle.deck_scan.specs.declared.token.TokenLine.{TokenLine}
 use Rattle.deck_scan.specs.Gives.{◌>>=◌, refused, or_bad, Fails}
 use Rattle.deck_scan.specs.Pieces.{SpellsLines}
-use Rattle.deck_scan.specs.Reading.{max_text, lines_or_fault}
+use Rattle.deck_scan.specs.Reading.{most_text_bytes, lines_or_fault}
 use Rattle.rnl_syntax.specs.declared.operands.Rnldef.{Rnldef}
 use Rattle.rnl_syntax.specs.declared.read.Front.{Front}
 use Rattle.rnl_syntax.specs.Lines.{is_rnldef_word, goes_on, with_line}
@@ -66,7 +66,7 @@ reading text = lines_or_fault text >>= λ ls. entry_on (first_statement ls)
 
 -- The first statement of a text, which is short enough, is an RNLDEF of this entry.
 pub record MakesEntry (text : List ℕ) (entry : RnlEntry) : Type 0 where
-  pub short : length text ≤ max_text
+  pub short : length text ≤ most_text_bytes
   pub lines : List TokenLine
   pub spelled : SpellsLines text lines
   pub statement : TokenLine

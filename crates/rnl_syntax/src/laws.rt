@@ -2,7 +2,7 @@
 //! the bytes of its statement.
 ghost use Rattle.std.specs.Prelude.{◌++◌, ◌≤◌, ℕ, List, length};
 ghost use Rattle.grs_base.specs.declared.rnl.RnlEntry.{RnlEntry as EntryValue};
-ghost use Rattle.deck_scan.specs.Reading.{max_text};
+ghost use Rattle.deck_scan.specs.Reading.{most_text_bytes};
 ghost use Rattle.rnl_syntax.specs.Printed.{printed_rnldef};
 ghost use Rattle.rnl_syntax.specs.Reading.{SpellsEntry};
 ghost use Rattle.rnl_syntax.specs.Laws.{IsEntry, MayFollow, AreStatement};
@@ -15,5 +15,5 @@ pub fn used_bytes()
 /// A text that begins with the printed form of an entry spells that entry, where nothing follows, or a
 /// line whose first token goes on with no operand. The bytes used are those of the printed form.
 pub fn printed_entries()
-    ensures again { (e : EntryValue) (behind : List ℕ) → IsEntry e → MayFollow behind → length (printed_rnldef e ++ behind) ≤ max_text → SpellsEntry (printed_rnldef e ++ behind) e (length (printed_rnldef e)) }
+    ensures again { (e : EntryValue) (behind : List ℕ) → IsEntry e → MayFollow behind → length (printed_rnldef e ++ behind) ≤ most_text_bytes → SpellsEntry (printed_rnldef e ++ behind) e (length (printed_rnldef e)) }
 {}

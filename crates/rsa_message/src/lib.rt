@@ -7,4 +7,4 @@ mod entries;
 mod order;
 mod rsa;
 
-pub use rsa::{LAST_NUMBER, MAX_SYSTEMS, Rsa};
+pub use rsa::{LAST_NUMBER, Rsa};

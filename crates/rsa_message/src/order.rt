@@ -1,5 +1,6 @@
 //! To which system the message goes next: upwards by number and round.
 ghost use Rattle.std.specs.Prelude.{◌≡◌, ◌+◌, ◌%◌, ◌<◌, ◌≤◌};
+ghost use Rattle.grs_base.specs.Limits.{most_systems};
 ghost use Rattle.grs_wire.specs.Masks.{has};
 ghost use Rattle.rsa_message.specs.Message.{is_at, is_due, first_after, moved_on, or_else, number_of};
 
@@ -21,8 +22,8 @@ pub fn stands_at(holder: Option<SysId>, system: SysId) -> bool
 /// The system so many places after another.
 fn system_after(systems: u32, system: SysId, places: u32) -> SysId
     requires some { 0 < systems }
-    requires few { systems ≤ 8 }
-    requires places { places ≤ 8 }
+    requires few { systems ≤ most_systems }
+    requires places { places ≤ most_systems }
     ensures system { result ≡ record { 0 = (system.0 + places) % systems } }
     ensures below { result.0 < systems }
 {
@@ -33,7 +34,7 @@ fn system_after(systems: u32, system: SysId, places: u32) -> SysId
 #[tactic(auto, using(crate::proofs::OrderLaws::find_step), unfolding(crate::specs::Message::first_after))]
 pub fn first_in(systems: u32, system: SysId, set: u32) -> Option<SysId>
     requires some { 0 < systems }
-    requires few { systems ≤ 8 }
+    requires few { systems ≤ most_systems }
     ensures first { result ≡ first_after systems system (λ s. has set s.0) }
     ensures below { number_of result < systems }
 {
@@ -58,7 +59,7 @@ fn has_to_come(entries: &[RingEntry], live: u32, rest: u32, system: SysId) -> bo
 #[tactic(auto, using(crate::proofs::OrderLaws::find_step), unfolding(crate::specs::Message::first_after))]
 pub fn next_due(systems: u32, system: SysId, entries: &[RingEntry], live: u32, rest: u32) -> SysId
     requires system { system.0 < systems }
-    requires few { systems ≤ 8 }
+    requires few { systems ≤ most_systems }
     ensures next { result ≡ or_else (first_after systems system (is_due entries.now live rest)) system }
     ensures below { result.0 < systems }
 {
@@ -75,7 +76,7 @@ pub fn next_due(systems: u32, system: SysId, entries: &[RingEntry], live: u32, r
 /// them, else at the first of them after that; nowhere if there is none.
 pub fn moved_to(systems: u32, holder: Option<SysId>, set: u32) -> Option<SysId>
     requires holder { number_of holder < systems }
-    requires few { systems ≤ 8 }
+    requires few { systems ≤ most_systems }
     ensures moved { result ≡ moved_on systems holder set }
     ensures below { number_of result < systems }
 {

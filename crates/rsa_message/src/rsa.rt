@@ -1,5 +1,6 @@
 //! The message as a whole.
 ghost use Rattle.std.specs.Prelude.{◌≡◌, ◌+◌, ◌<◌, ◌≤◌, ◌^◌, length, if◌then◌else◌, None, IfOk, OnOk};
+ghost use Rattle.grs_base.specs.Limits.{most_systems};
 ghost use Rattle.rsa_message.specs.Message.{opened, never_opened, unseen, first_number, turn_reply, turned, turned_open, turned_closed, turn_changes, wakes, dropped, closed_by, message_at_end};
 ghost use Rattle.rsa_message.specs.Room.{HasRoom};
 
@@ -10,9 +11,6 @@ use grs_wire::masks::without_system;
 use grs_wire::{Reply, Req, RingBody, RingEntry};
 use std::alloc::Global;
 use std::marker::Model;
-
-/// How many systems there may be.
-pub const MAX_SYSTEMS: u32 = 8;
 
 /// The last number that an entry may have: no memory holds so many.
 pub const LAST_NUMBER: u64 = 0x200_0000_0000_0000;
@@ -35,6 +33,7 @@ pub struct Rsa {
 
 impl Model for Rsa {
     ghost use Rattle.std.specs.Prelude.{◌≡◌, ◌+◌, ◌<◌, ◌≤◌, ◌^◌, vec_len, vec_capacity};
+    ghost use Rattle.grs_base.specs.Limits.{most_systems};
     ghost use Rattle.rsa_message.specs.Message.{number_of};
     ghost use Rattle.rsa_message.specs.Room.{RsaValue, given_to};
 
@@ -42,7 +41,7 @@ impl Model for Rsa {
 
     ghost view = { λ r. record { message = record { systems = r.systems; holder = r.holder; closed = r.closed; still = r.still; entries = r.entries.items; next = r.next }; room = record { caller = r.ready; entries = r.room } } };
 
-    ghost invariant = { λ r. (r.systems ≤ 8) × (number_of r.holder < r.systems) × (r.next + r.room ≤ 2 ^ 57 + 1) × (vec_len r.entries + r.room ≤ vec_capacity r.entries) × (r.given ≡ given_to r.ready r.entries.items) };
+    ghost invariant = { λ r. (r.systems ≤ most_systems) × (number_of r.holder < r.systems) × (r.next + r.room ≤ 2 ^ 57 + 1) × (vec_len r.entries + r.room ≤ vec_capacity r.entries) × (r.given ≡ given_to r.ready r.entries.items) };
 }
 
 impl Rsa {
@@ -50,7 +49,7 @@ impl Rsa {
     /// the number of systems, from 1 to 8.
     pub fn new(alloc: Global, systems: u32, star: bool) -> Rsa
         requires some { 0 < systems }
-        requires few { systems ≤ 8 }
+        requires few { systems ≤ most_systems }
         ensures { result.message ≡ (if star then never_opened systems else opened systems) }
     {
         Rsa {
