@@ -1,6 +1,9 @@
--- How a resource's name is printed: plain, between quotes, or as hexadecimal digits.
-use Rattle.std.specs.Prelude.{ℕ, Bool, ◌&&◌, ◌||◌, ◌==◌, ◌+◌, ◌/◌, ◌%◌, nat_le, nat_lt, List, [], ◌∷◌, ◌++◌, if◌then◌else◌}
+-- How names, controls and units are printed, in decks and in reports alike. A name is printed plain, between
+-- quotes, or as hexadecimal digits.
+use Rattle.std.specs.Prelude.{ℕ, Bool, ◌&&◌, ◌||◌, ◌==◌, ◌+◌, ◌/◌, ◌%◌, nat_le, nat_lt, List, [], ◌∷◌, ◌++◌, codes, if◌then◌else◌}
 use Rattle.std.specs.List.{list_all}
+use Rattle.grs_base.specs.declared.resource.Ctl.{Ctl}
+use Rattle.grs_base.specs.declared.resource.Ctl.TheVariants.{E, S}
 
 abbrev pub is_between : ℕ → ℕ → ℕ → Bool
 is_between low high b = nat_le low b && nat_le b high
@@ -40,3 +43,11 @@ hexed bs = 88 ∷ 39 ∷ (hex_digits bs ++ 39 ∷ [])
 -- plain where each byte is, else between quotes where each byte is printable, else as hexadecimal digits
 abbrev pub printed_name : List ℕ → List ℕ
 printed_name bs = if list_all is_plain_byte bs then bs else (if list_all is_printable bs then quoted bs else hexed bs)
+
+abbrev pub ctl_word : Ctl → List ℕ
+ctl_word E = codes "E"
+ctl_word S = codes "S"
+
+-- a unit's four hexadecimal digits
+abbrev pub unit_digits : ℕ → List ℕ
+unit_digits n = hex_digit (n / 4096 % 16) ∷ hex_digit (n / 256 % 16) ∷ hex_digit (n / 16 % 16) ∷ hex_digit (n % 16) ∷ []

@@ -25,7 +25,7 @@ pub use line::{Item, Line, Scope};
 pub use list::{Copied, List, copy_all};
 pub use look::{Filter, Place};
 pub use name::{Qname, Rname, is_qname, is_rname};
-pub use print::{is_plain_byte, is_printable, print_name};
+pub use print::{ctl_word, is_plain_byte, is_printable, print_name, unit_digits};
 pub use queues::Queues;
 pub use resource::{Ctl, Elem, Res, Ret, Row, SysId, TaskId, is_same_res, is_same_task};
 pub use rnl::{Form, Lists, RnlEntry, RnlList, Which};

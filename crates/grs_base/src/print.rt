@@ -1,10 +1,11 @@
-//! How the name of a resource is printed, in decks and in reports alike. The forms are this project's own.
+//! How names, controls and units are printed, in decks and in reports alike. The forms are this project's own.
 ghost use Rattle.std.specs.Prelude.{◌≡◌, ◌<◌, ◌++◌, length, OnOk, OnErr, IfOk};
 ghost use Rattle.std.specs.List.{list_all};
-ghost use Rattle.grs_base.specs.Printed.{is_plain_byte, is_printable, hex_digit, quoted, hexed, printed_name};
+ghost use Rattle.grs_base.specs.Printed.{is_plain_byte, is_printable, hex_digit, quoted, hexed, printed_name, ctl_word, unit_digits};
 
 use super::NoMemory;
 use super::list::List;
+use super::resource::Ctl;
 use std::alloc::Global;
 
 /// Whether a byte may stand in a plain name: a letter, a digit or one of `$ # @ . _ - * ?`.
@@ -84,4 +85,27 @@ pub fn print_name(alloc: Global, bytes: &[u8], out: &mut List<u8>) -> Result<(),
         hexed(alloc, bytes)?
     };
     out.append(text.as_slice())
+}
+
+/// The word of a control: `E` or `S`.
+pub fn ctl_word(ctl: Ctl) -> &'static [u8]
+    ensures { result.now ≡ ctl_word ctl }
+{
+    match ctl {
+        Ctl::E => b"E",
+        Ctl::S => b"S",
+    }
+}
+
+/// The four hexadecimal digits of a unit, 0 to 9 or A to F.
+pub fn unit_digits(unit: u16) -> [u8; 4]
+    ensures { result ≡ unit_digits unit }
+{
+    let [high, low] = unit.to_be_bytes();
+    [
+        hex_digit(high / 16),
+        hex_digit(high % 16),
+        hex_digit(low / 16),
+        hex_digit(low % 16),
+    ]
 }

@@ -40,7 +40,8 @@ use Rattle.grs_report.specs.Rows.{names_word, res_word, elem_word, row_line, pla
 use Rattle.grs_report.specs.Schedule.{choice_words, event_line, schedule_text}
 use Rattle.grs_report.specs.History.{history_line, history_text}
 use Rattle.grs_report.specs.Told.{told_line, task_text, system_text, told_text}
-use Rattle.grs_report.specs.State.{queues_text, unit_line, units_text, manager_word, mask_of, manager_of, epoch_of, word_line, words_text, mode_line}
+use Rattle.grs_wire.specs.LockWords.{manager}
+use Rattle.grs_report.specs.State.{queues_text, unit_line, units_text, word_line, words_text, mode_line}
 use Rattle.grs_report.specs.Report.{head_line, end_line, report}
 
 -- a line with its end
@@ -114,7 +115,7 @@ reported_one :
     ++ ended (codes "WORDS")
     ++ ended (codes "MODE RING")
     ++ ended (codes "END DONE")
-unfolding digits line names_of name_at name_in task_in_job task_word names_word res_word elem_word row_line choice_words event_line schedule_text history_line history_text told_line task_text system_text told_text queues_text unit_line units_text manager_word mask_of manager_of epoch_of word_line words_text mode_line head_line end_line report
+unfolding digits line names_of name_at name_in task_in_job task_word names_word res_word elem_word row_line choice_words event_line schedule_text history_line history_text told_line task_text system_text told_text queues_text unit_line units_text manager word_line words_text mode_line head_line end_line report
 reported_one = refl
 
 -- two tasks hold what the other one asks for
@@ -178,7 +179,7 @@ reported_two :
     ++ ended (codes "WORDS")
     ++ ended (codes "MODE RING")
     ++ ended (codes "END WAITS")
-unfolding digits line names_of name_at name_in task_in_job task_word names_word res_word elem_word row_line choice_words event_line schedule_text history_line history_text told_line task_text system_text told_text queues_text unit_line units_text manager_word mask_of manager_of epoch_of word_line words_text mode_line head_line end_line report
+unfolding digits line names_of name_at name_in task_in_job task_word names_word res_word elem_word row_line choice_words event_line schedule_text history_line history_text told_line task_text system_text told_text queues_text unit_line units_text manager word_line words_text mode_line head_line end_line report
 reported_two = refl
 
 -- the names of three systems with a job of two tasks each
@@ -206,7 +207,7 @@ parts :
     × (history_line three 5 (entries.Deq (task_of 0 1) (local_res (codes "C")) true replies.C08) ≡ ended (codes "H 5 SYA.J1.T2 DEQ SYSTEM(SYA,A,C) HAVE 08"))
     × (history_line three 6 (entries.Enq (task_of 0 1) (local_res (codes "B")) E rets.RetChng (replies.End 138)) ≡ ended (codes "H 6 SYA.J1.T2 ENQ SYSTEM(SYA,A,B) E CHNG 138"))
     × (history_line three 12 (entries.Release (task_of 0 1) (local_res (codes "B"))) ≡ ended (codes "H 12 SYA.J1.T2 RELEASE SYSTEM(SYA,A,B)"))
-unfolding digits line name_at name_in task_in_job task_word names_word res_word elem_word row_line choice_words event_line history_line told_line unit_line units_text manager_word mask_of manager_of epoch_of word_line words_text
+unfolding digits line name_at name_in task_in_job task_word names_word res_word elem_word row_line choice_words event_line history_line told_line unit_line units_text manager word_line words_text
 parts = (refl, refl, refl, refl, refl, refl, refl, refl, refl, refl, refl)
 
 -- (A,B) held exclusively by the first task

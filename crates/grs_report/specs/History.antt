@@ -8,7 +8,8 @@ use Rattle.grs_wire.specs.declared.history.HistEntry.TheVariants.{Enq, Deq, Rele
 use Rattle.grs_report.specs.Lines.{line}
 use Rattle.grs_report.specs.Names.{name_at, task_word}
 use Rattle.grs_report.specs.Rows.{res_word, row_line, place_word, filter_word}
-use Rattle.grs_report.specs.Spelled.{ctl_word, ret_word, have_word, code_word}
+use Rattle.grs_base.specs.Printed.{ctl_word}
+use Rattle.grs_report.specs.Spelled.{ret_word, have_word, code_word}
 
 -- the entry of this number; that of a look goes on with the rows that it showed
 unfoldable pub history_line : Names → ℕ → HistEntry → List ℕ

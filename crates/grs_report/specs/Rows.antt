@@ -13,7 +13,7 @@ use Rattle.grs_base.specs.declared.resource.Row.{Row}
 use Rattle.grs_wire.specs.declared.seen.Names.{Names}
 use Rattle.grs_report.specs.Lines.{line}
 use Rattle.grs_report.specs.Names.{name_at, name_in, task_word}
-use Rattle.grs_report.specs.Spelled.{ctl_word}
+use Rattle.grs_base.specs.Printed.{ctl_word}
 
 -- the two names of a resource, behind its other ones
 unfoldable pub names_word : List ℕ → List ℕ → List ℕ

@@ -1,9 +1,6 @@
--- How controls, answers and numbers are written.
+-- How answers and numbers are written.
 use Rattle.std.specs.Prelude.{ℕ, ◌+◌, ◌/◌, ◌%◌, Bool, List, [], ◌∷◌, codes, if◌then◌else◌}
 use Rattle.std.specs.Fmt.{decimal}
-use Rattle.grs_base.specs.Printed.{hex_digit}
-use Rattle.grs_base.specs.declared.resource.Ctl.{Ctl}
-use Rattle.grs_base.specs.declared.resource.Ctl.TheVariants.{E, S}
 use Rattle.grs_base.specs.declared.resource.Ret.{Ret}
 use Rattle.grs_base.specs.declared.resource.Ret.TheVariants.{RetNone, RetUse, RetHave, RetTest, RetChng, RetEcb}
 use Rattle.grs_base.specs.declared.decision.Code.{Code}
@@ -14,10 +11,6 @@ use Rattle.grs_wire.specs.declared.told.Said.{Said}
 use Rattle.grs_wire.specs.declared.told.Said.TheVariants.{StarDone, StarAlready, VaryDone, VaryNoSuch, VaryInStar}
 use Rattle.grs_wire.specs.declared.seen.TaskEnd.{TaskEnd}
 use Rattle.grs_wire.specs.declared.seen.TaskEnd.TheVariants as ends
-
-abbrev pub ctl_word : Ctl → List ℕ
-ctl_word E = codes "E"
-ctl_word S = codes "S"
 
 abbrev pub ret_word : Ret → List ℕ
 ret_word RetNone = codes "NONE"
@@ -78,7 +71,3 @@ event_word e = 64 ∷ decimal e
 -- the last three digits of a number
 abbrev pub three_digits : ℕ → List ℕ
 three_digits n = (48 + (n / 100) % 10) ∷ (48 + (n / 10) % 10) ∷ (48 + n % 10) ∷ []
-
--- a unit's four hexadecimal digits
-abbrev pub unit_word : ℕ → List ℕ
-unit_word n = hex_digit ((n / 4096) % 16) ∷ hex_digit ((n / 256) % 16) ∷ hex_digit ((n / 16) % 16) ∷ hex_digit (n % 16) ∷ []

@@ -5,8 +5,8 @@ ghost use Rattle.grs_report.specs.History.{history_line, history_lines, history_
 use super::lines::{number, put_line};
 use super::names::{name_at, task_word};
 use super::rows::{filter_word, place_word, put_line_with_rows, res_word};
-use super::spelled::{code_word, ctl_word, have_word, ret_word};
-use grs_base::{List, NoMemory};
+use super::spelled::{code_word, have_word, ret_word};
+use grs_base::{List, NoMemory, ctl_word};
 use grs_wire::{HistEntry, Names};
 use std::alloc::Global;
 

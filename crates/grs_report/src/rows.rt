@@ -7,8 +7,7 @@ ghost use Rattle.grs_report.specs.Rows.{names_word, res_word, elem_word, elem_wo
 
 use super::lines::{number, put_line, put_word};
 use super::names::{name_at, name_in, task_word};
-use super::spelled::ctl_word;
-use grs_base::{Elem, Filter, List, NoMemory, Place, Qname, Res, Rname, Row, print_name};
+use grs_base::{Elem, Filter, List, NoMemory, Place, Qname, Res, Rname, Row, ctl_word, print_name};
 use grs_wire::Names;
 use std::alloc::Global;
 

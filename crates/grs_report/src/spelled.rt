@@ -1,21 +1,11 @@
-//! How controls, answers and numbers are written. No names are known here.
-ghost use Rattle.std.specs.Prelude.{◌≡◌, ◌<◌, IfOk};
-ghost use Rattle.grs_base.specs.Printed.{hex_digit};
-ghost use Rattle.grs_report.specs.Spelled.{ctl_word, ret_word, have_word, code_word, verb_word, order_word, said_word, end_word, event_word, three_digits, unit_word};
+//! How answers and numbers are written. No names are known here.
+ghost use Rattle.std.specs.Prelude.{◌≡◌, IfOk};
+ghost use Rattle.grs_report.specs.Spelled.{ret_word, have_word, code_word, verb_word, order_word, said_word, end_word, event_word, three_digits};
 
 use super::lines::number;
-use grs_base::{Code, Ctl, List, NoMemory, Ret};
+use grs_base::{Code, List, NoMemory, Ret};
 use grs_wire::{Said, TaskEnd, Verb};
 use std::alloc::Global;
-
-pub(crate) fn ctl_word(ctl: Ctl) -> &'static [u8]
-    ensures { result.now ≡ ctl_word ctl }
-{
-    match ctl {
-        Ctl::E => b"E",
-        Ctl::S => b"S",
-    }
-}
 
 pub(crate) fn ret_word(ret: Ret) -> &'static [u8]
     ensures { result.now ≡ ret_word ret }
@@ -116,29 +106,5 @@ pub(crate) fn three_digits(n: u16) -> [u8; 3]
         b'0' + hundreds as u8,
         b'0' + tens as u8,
         b'0' + (n % 10) as u8,
-    ]
-}
-
-fn hex_digit(n: u16) -> u8
-    requires { n < 16 }
-    ensures { result ≡ hex_digit n }
-{
-    let digit = n as u8;
-    if digit < 10 {
-        b'0' + digit
-    } else {
-        b'A' - 10 + digit
-    }
-}
-
-/// A unit's four hexadecimal digits.
-pub(crate) fn unit_word(n: u16) -> [u8; 4]
-    ensures { result ≡ unit_word n }
-{
-    [
-        hex_digit((n / 4096) % 16),
-        hex_digit((n / 256) % 16),
-        hex_digit((n / 16) % 16),
-        hex_digit(n % 16),
     ]
 }

@@ -2,13 +2,13 @@
 //! which they are given.
 ghost use Rattle.std.specs.Prelude.{◌≡◌, ◌++◌, OnOk};
 ghost use Rattle.std.specs.List.{flat_map};
-ghost use Rattle.grs_report.specs.State.{queues_text, unit_line, units_text, mask_of, manager_of, epoch_of, manager_word, word_line, word_lines, words_text, mode_line};
+ghost use Rattle.grs_wire.specs.LockWords.{interest, manager, epoch};
+ghost use Rattle.grs_report.specs.State.{queues_text, unit_line, units_text, manager_word, word_line, word_lines, words_text, mode_line};
 
 use super::lines::{number, put_line};
 use super::names::name_at;
 use super::rows::put_rows;
-use super::spelled::unit_word;
-use grs_base::{List, NoMemory, Row, SysId};
+use grs_base::{List, NoMemory, Row, SysId, unit_digits};
 use grs_wire::Names;
 use std::alloc::Global;
 
@@ -36,7 +36,7 @@ fn put_unit(
     ensures { OnOk result (out.new ≡ out.old ++ unit_line names.now unit) }
 {
     let system = name_at(&names.systems, usize::from(unit.0.0));
-    let digits = unit_word(unit.1);
+    let digits = unit_digits(unit.1);
     let count = number(alloc, u64::from(unit.2))?;
     put_line(out, &[b"U".as_slice(), system, &digits, count.as_slice()])
 }
@@ -69,40 +69,40 @@ pub(crate) fn put_units(
     put_unit_lines(alloc, names, units, out)
 }
 
-/// The name of a lock word's manager, whose number plus one is given.
-#[tactic(auto, unfolding(crate::specs::State::manager_word))]
-fn manager_word(names: &Names, manager: u32) -> &[u8]
-    ensures { result.now ≡ manager_word names.now manager }
-{
-    if manager == 0 {
-        b"NONE"
-    } else {
-        name_at(&names.systems, (manager - 1) as usize)
-    }
-}
-
-/// The set of interested systems in a lock word.
-#[tactic(auto, unfolding(crate::specs::State::mask_of))]
-fn mask_of(word: u32) -> u64
-    ensures { result ≡ mask_of word }
+/// The systems that have interest, as a lock word has them.
+fn interest(word: u32) -> u64
+    ensures { result ≡ interest word }
 {
     u64::from(word % 256)
 }
 
-/// The number of a lock word's manager plus one, 0 where it has none.
-#[tactic(auto, unfolding(crate::specs::State::manager_of))]
-fn manager_of(word: u32) -> u32
-    ensures { result ≡ manager_of word }
+/// The manager that a lock word has.
+#[tactic(auto, unfolding(grs_wire::specs::LockWords::manager))]
+fn manager(word: u32) -> Option<SysId>
+    ensures { result ≡ manager word }
 {
-    (word / 256) % 16
+    let number = (word / 256) % 16;
+    if number == 0 {
+        None
+    } else {
+        Some(SysId((number - 1) as u8))
+    }
 }
 
 /// The epoch of a lock word.
-#[tactic(auto, unfolding(crate::specs::State::epoch_of))]
-fn epoch_of(word: u32) -> u64
-    ensures { result ≡ epoch_of word }
+fn epoch(word: u32) -> u64
+    ensures { result ≡ epoch word }
 {
-    u64::from((word / 4096) % 16)
+    u64::from(word / 4096)
+}
+
+fn manager_word(names: &Names, manager: Option<SysId>) -> &[u8]
+    ensures { result.now ≡ manager_word names.now manager }
+{
+    match manager {
+        None => b"NONE",
+        Some(system) => name_at(&names.systems, usize::from(system.0)),
+    }
 }
 
 /// Puts a lock word behind a text.
@@ -117,9 +117,9 @@ fn put_lock_word(
     ensures { OnOk result (out.new ≡ out.old ++ word_line names.now entry word) }
 {
     let entry = number(alloc, entry)?;
-    let mask = number(alloc, mask_of(word))?;
-    let manager = manager_word(names, manager_of(word));
-    let epoch = number(alloc, epoch_of(word))?;
+    let mask = number(alloc, interest(word))?;
+    let manager = manager_word(names, manager(word));
+    let epoch = number(alloc, epoch(word))?;
     put_line(
         out,
         &[

@@ -26,7 +26,8 @@ use Rattle.job_syntax.specs.Options.{no_opts, ret_of, rnl_of, chosen, option_at,
 use Rattle.job_syntax.specs.Ask.{ctl_at, scope_at, names_at, place_at, controlled_at, uncontrolled_at, enq_at, reserve_at, deq_at, wait_at}
 use Rattle.job_syntax.specs.Display.{no_names, reach_of, want_of, want_at, scan_at, resource_at, shown_at, display_at}
 use Rattle.job_syntax.specs.Said.{verb, said_at}
-use Rattle.job_syntax.specs.Spelled.{ctl_word, scope_word, reach_word, Opt, WithRet, WithRnl, WithUcb, option, IsFree, set, IsAsk, Want, WithQname, WithRname, want, IsFreeWant, set_want, IsScan, IsShown, IsBehind, verb_for, IsWord}
+use Rattle.grs_base.specs.Printed.{ctl_word}
+use Rattle.job_syntax.specs.Spelled.{scope_word, reach_word, Opt, WithRet, WithRnl, WithUcb, option, IsFree, set, IsAsk, Want, WithQname, WithRname, want, IsFreeWant, set_want, IsScan, IsShown, IsBehind, verb_for, IsWord}
 
 names_again : (q r : Token) (qname rname : List ℕ) (rest : List Token) → Names q qname → Names r rname → names_at (Open ∷ q ∷ Comma ∷ r ∷ Comma ∷ rest) ≡ Some (qname, rname, rest)
 unfolding names_at

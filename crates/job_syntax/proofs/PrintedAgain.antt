@@ -4,8 +4,8 @@ use Rattle.std.specs.Prelude.{codes, ◌&&◌, ◌||◌, is_none}
 use Rattle.std.specs.List.{flat_map}
 use Rattle.std.proofs.lemmas.Bool.{and_from, and_parts, leb-true}
 use Rattle.std.proofs.lemmas.Bool.Decides.{nat_tests}
-use Rattle.grs_base.specs.Names.{is_qname, is_rname, IsQname}
-use Rattle.grs_base.specs.Printed.{hex_digit}
+use Rattle.grs_base.specs.Names.{is_rname, IsQname}
+use Rattle.grs_base.specs.Printed.{hex_digit, ctl_word, unit_digits}
 use Rattle.grs_base.specs.declared.line.Scope.{Scope}
 use Rattle.grs_base.specs.declared.line.Scope.TheVariants as scopes
 use Rattle.grs_base.specs.declared.resource.Ctl.{Ctl}
@@ -34,9 +34,9 @@ use Rattle.job_syntax.specs.declared.said.Said.TheVariants as said
 use Rattle.job_syntax.specs.Unit.{hex_of, unit_of}
 use Rattle.job_syntax.specs.Options.{no_opts}
 use Rattle.job_syntax.specs.Ask.{is_deq_ret}
-use Rattle.job_syntax.specs.Spelled.{ctl_word, scope_word, reach_word, Opt, WithRet, WithRnl, WithUcb, option, IsFree, set, IsAsk, Want, WithQname, WithRname, IsScan, IsResource, IsBehind, verb_for, IsWord}
+use Rattle.job_syntax.specs.Spelled.{scope_word, reach_word, Opt, WithRet, WithRnl, WithUcb, option, IsFree, set, IsAsk, Want, WithQname, WithRname, IsScan, IsResource, IsBehind, verb_for, IsWord}
 use Rattle.job_syntax.specs.Lines.{are_bad_names, has_bad_name, ret_or_none, rnl_or_yes, is_have, filter_of, line_of}
-use Rattle.job_syntax.specs.Printed.{printed_ret, printed_have, printed_rnl, printed_unit, maybe_unit, printed_line}
+use Rattle.job_syntax.specs.Printed.{printed_ret, printed_have, printed_rnl, maybe_unit, printed_line}
 use Rattle.job_syntax.specs.Reading.{SpellsLine}
 use Rattle.job_syntax.specs.Laws.{AreNames, IsFilter, IsMaybeUnit, IsDeckLine}
 
@@ -45,7 +45,7 @@ use Rattle.job_syntax.specs.Laws.{AreNames, IsFilter, IsMaybeUnit, IsDeckLine}
 hex_again : (n : ℕ) → n < 16 → hex_of (hex_digit n) ≡ Some n
 hex_again n h = grind (arith, nat_tests)
 
-pub unit_again : (n : ℕ) → n < 65536 → unit_of (printed_unit n) ≡ Some n
+pub unit_again : (n : ℕ) → n < 65536 → unit_of (unit_digits n) ≡ Some n
 unfolding unit_of
 unit_again n h = rw (hex_again (n / 4096 % 16) (omega arith), hex_again (n / 256 % 16) (omega arith), hex_again (n / 16 % 16) (omega arith), hex_again (n % 16) (omega arith)) (ap (λ (x : ℕ). Some x) (omega (arith, h)))
 
@@ -53,7 +53,7 @@ digit_word : (n : ℕ) → n < 16 → is_word (hex_digit n) ≡ true
 unfolding is_word
 digit_word n h = grind (arith, nat_tests)
 
-unit_word : (n : ℕ) → is_piece (Plain (printed_unit n)) ≡ true
+unit_word : (n : ℕ) → is_piece (Plain (unit_digits n)) ≡ true
 unit_word n = rw (digit_word (n / 4096 % 16) (omega arith), digit_word (n / 256 % 16) (omega arith), digit_word (n / 16 % 16) (omega arith), digit_word (n % 16) (omega arith)) refl
 
 -- ---- the bits of options
@@ -75,7 +75,7 @@ have_bits true rest = Mark Comma ∷ Of (codes "RET") ∷ Mark Equals ∷ Of (co
 have_bits false rest = rest
 
 abbrev unit_bits : ℕ → List Bit → List Bit
-unit_bits unit rest = Mark Comma ∷ Of (codes "UCB") ∷ Mark Equals ∷ Of (printed_unit unit) ∷ rest
+unit_bits unit rest = Mark Comma ∷ Of (codes "UCB") ∷ Mark Equals ∷ Of (unit_digits unit) ∷ rest
 
 maybe_bits : Option ℕ → List Bit → List Bit
 maybe_bits None rest = rest
@@ -164,7 +164,7 @@ have_given false rest = rest
 
 maybe_given : Option ℕ → List Opt → List Opt
 maybe_given None rest = rest
-maybe_given (Some unit) rest = WithUcb (printed_unit unit) unit ∷ rest
+maybe_given (Some unit) rest = WithUcb (unit_digits unit) unit ∷ rest
 
 rnl_tokens : (b : Bool) → tokens_of (rnl_bits b) ≡ flat_map option (rnl_given b)
 unfolding rnl_bits rnl_given
@@ -222,7 +222,7 @@ enq_set RetChng false = (refl, (refl, refl))
 enq_set RetEcb true = (refl, refl)
 enq_set RetEcb false = (refl, (refl, refl))
 
-reserve_set : (r : Ret) (b : Bool) (unit : ℕ) → unit < 65536 → Sets IsFree set no_opts (WithUcb (printed_unit unit) unit ∷ ret_given r (rnl_given b)) (record { ret = ret_option r; rnl = rnl_option b; unit = Some unit })
+reserve_set : (r : Ret) (b : Bool) (unit : ℕ) → unit < 65536 → Sets IsFree set no_opts (WithUcb (unit_digits unit) unit ∷ ret_given r (rnl_given b)) (record { ret = ret_option r; rnl = rnl_option b; unit = Some unit })
 unfolding ret_given rnl_given
 reserve_set RetNone true unit h = ((refl, unit_again unit h), refl)
 reserve_set RetNone false unit h = ((refl, unit_again unit h), (refl, refl))
@@ -418,8 +418,8 @@ reserve_again q r ctl unit ret rnl h lt =
     let rest = unit_bits unit (enq_rest ret rnl) in
     let bits = controlled_are q r ctl scopes.Systems rest n (reserve_options unit ret rnl) in
     let opts : Opts = record { ret = ret_option ret; rnl = rnl_option rnl; unit = Some unit } in
-    let tokens : tokens_of rest ≡ flat_map option (WithUcb (printed_unit unit) unit ∷ ret_given ret (rnl_given rnl)) = rw (ret_tokens ret (rnl_bits rnl) (rnl_given rnl) (rnl_tokens rnl)) refl in
-    let ask = ask_of q r ctl scopes.Systems opts rest (WithUcb (printed_unit unit) unit ∷ ret_given ret (rnl_given rnl)) tokens (reserve_set ret rnl unit lt) in
+    let tokens : tokens_of rest ≡ flat_map option (WithUcb (unit_digits unit) unit ∷ ret_given ret (rnl_given rnl)) = rw (ret_tokens ret (rnl_bits rnl) (rnl_given rnl) (rnl_tokens rnl)) refl in
+    let ask = ask_of q r ctl scopes.Systems opts rest (WithUcb (unit_digits unit) unit ∷ ret_given ret (rnl_given rnl)) tokens (reserve_set ret rnl unit lt) in
     spells_so (lines.Reserve q r ctl unit ret rnl) (codes "RESERVE") (controlled q r ctl scopes.Systems rest) (said.Reserve (record { ctl = ctl; ask = record { q = q; r = r; scope = scopes.Systems; opts = opts } })) verb_words.1 bits.are (omega (arith, bits.few)) (reserve_text q r ctl unit ret rnl) refl (ask, refl) n.good
     (rw (h.qname.trimmed, ret_back ret, rnl_back rnl) refl)
 

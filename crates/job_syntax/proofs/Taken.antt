@@ -29,7 +29,8 @@ use Rattle.job_syntax.specs.Options.{no_opts, ret_of, rnl_of, with_ret, with_rnl
 use Rattle.job_syntax.specs.Ask.{ctl_at, scope_at, names_at, place_at, enq_may, reserve_may, deq_may, wait_may, controlled_at, uncontrolled_at, enq_at, reserve_at, deq_at, wait_at}
 use Rattle.job_syntax.specs.Display.{no_names, reach_of, with_q, with_r, named_at, want_of, want_at, scan_at, resource_at, shown_at, display_at}
 use Rattle.job_syntax.specs.Said.{verb, said_at}
-use Rattle.job_syntax.specs.Spelled.{ctl_word, scope_word, rnl_word, reach_word, Opt, WithRet, WithRnl, WithUcb, valued, option, IsFree, set, IsAsk, WithQname, WithRname, want, IsFreeWant, set_want, IsScan, IsShown, IsBehind, verb_for, IsWord, IsSaid}
+use Rattle.grs_base.specs.Printed.{ctl_word}
+use Rattle.job_syntax.specs.Spelled.{scope_word, rnl_word, reach_word, Opt, WithRet, WithRnl, WithUcb, valued, option, IsFree, set, IsAsk, WithQname, WithRname, want, IsFreeWant, set_want, IsScan, IsShown, IsBehind, verb_for, IsWord, IsSaid}
 
 -- ---- options
 

@@ -1,8 +1,8 @@
 -- How the line of a task is printed: one blank behind its first word and no other outside names; UCB first,
 -- then RET, left out for NONE, or ECB, then RNL=NO where the name lists are not looked at.
-use Rattle.std.specs.Prelude.{ℕ, Bool, true, false, ◌/◌, ◌%◌, List, [], ◌∷◌, ◌++◌, codes, Option, Some, None}
+use Rattle.std.specs.Prelude.{ℕ, Bool, true, false, List, [], ◌++◌, codes, Option, Some, None}
 use Rattle.std.specs.List.{flat_map}
-use Rattle.grs_base.specs.Printed.{hex_digit, printed_name}
+use Rattle.grs_base.specs.Printed.{ctl_word, unit_digits, printed_name}
 use Rattle.grs_base.specs.declared.line.Scope.{Scope}
 use Rattle.grs_base.specs.declared.resource.Ctl.{Ctl}
 use Rattle.grs_base.specs.declared.resource.Ret.{Ret}
@@ -12,7 +12,7 @@ use Rattle.grs_base.specs.declared.look.Filter.TheVariants as filters
 use Rattle.grs_base.specs.declared.line.Item.{Item}
 use Rattle.grs_base.specs.declared.line.Line.{Line}
 use Rattle.grs_base.specs.declared.line.Line.TheVariants as lines
-use Rattle.job_syntax.specs.Spelled.{ctl_word, scope_word, reach_word}
+use Rattle.job_syntax.specs.Spelled.{scope_word, reach_word}
 
 abbrev pub printed_names : List ℕ → List ℕ → List ℕ
 printed_names q r = printed_name q ++ codes "," ++ printed_name r
@@ -33,13 +33,9 @@ abbrev pub printed_rnl : Bool → List ℕ
 printed_rnl true = []
 printed_rnl false = codes ",RNL=NO"
 
--- Four digits of 0 to 9 or A to F.
-abbrev pub printed_unit : ℕ → List ℕ
-printed_unit n = hex_digit (n / 4096 % 16) ∷ hex_digit (n / 256 % 16) ∷ hex_digit (n / 16 % 16) ∷ hex_digit (n % 16) ∷ []
-
 abbrev pub maybe_unit : Option ℕ → List ℕ
 maybe_unit None = []
-maybe_unit (Some n) = codes ",UCB=" ++ printed_unit n
+maybe_unit (Some n) = codes ",UCB=" ++ unit_digits n
 
 abbrev pub printed_item : Item → List ℕ
 printed_item i = codes "(" ++ printed_names i.q i.r ++ codes "," ++ ctl_word i.ctl ++ codes "," ++ scope_word i.scope ++ codes ")"
@@ -76,7 +72,7 @@ printed_resource q r = codes "DISPLAY GRS,RES=(" ++ printed_names q r ++ codes "
 
 abbrev pub printed_line : Line → List ℕ
 printed_line (lines.Enq items ret rnl) = printed_enq items ret rnl
-printed_line (lines.Reserve q r ctl unit ret rnl) = printed_reserve q r ctl ++ printed_unit unit ++ printed_ret ret ++ printed_rnl rnl
+printed_line (lines.Reserve q r ctl unit ret rnl) = printed_reserve q r ctl ++ unit_digits unit ++ printed_ret ret ++ printed_rnl rnl
 printed_line (lines.Deq q r scope have unit rnl) = printed_place (codes "DEQ") q r scope ++ maybe_unit unit ++ printed_have have ++ printed_rnl rnl
 printed_line (lines.Wait q r scope rnl) = printed_place (codes "WAIT") q r scope ++ printed_rnl rnl
 printed_line (lines.Gqscan global filter) = printed_gqscan global filter

@@ -3,8 +3,7 @@ use Rattle.std.specs.Prelude.{◌≡◌, ℕ, Bool, true, false, ◌⊎◌, List
 use Rattle.std.specs.List.{flat_map}
 use Rattle.grs_base.specs.declared.line.Scope.{Scope}
 use Rattle.grs_base.specs.declared.line.Scope.TheVariants as scopes
-use Rattle.grs_base.specs.declared.resource.Ctl.{Ctl}
-use Rattle.grs_base.specs.declared.resource.Ctl.TheVariants.{E, S}
+use Rattle.grs_base.specs.Printed.{ctl_word}
 use Rattle.grs_base.specs.declared.resource.Ret.{Ret}
 use Rattle.grs_base.specs.declared.resource.Ret.TheVariants.{RetNone, RetUse, RetHave, RetTest, RetChng, RetEcb}
 use Rattle.deck_scan.specs.declared.token.Token.{Token}
@@ -24,10 +23,6 @@ use Rattle.job_syntax.specs.Unit.{unit_of}
 use Rattle.job_syntax.specs.Options.{no_opts}
 use Rattle.job_syntax.specs.Ask.{enq_may, reserve_may, deq_may, wait_may}
 use Rattle.job_syntax.specs.Display.{no_names}
-
-abbrev pub ctl_word : Ctl → List ℕ
-ctl_word E = codes "E"
-ctl_word S = codes "S"
 
 abbrev pub scope_word : Scope → List ℕ
 scope_word scopes.Step = codes "STEP"

@@ -1,21 +1,15 @@
 //! Prints the line of a task, so that it is read back as the same line.
 ghost use Rattle.std.specs.Prelude.{◌≡◌, ◌<◌, ◌++◌, OnOk, OnErr, IfOk};
 ghost use Rattle.std.specs.List.{flat_map};
-ghost use Rattle.grs_base.specs.Printed.{hex_digit};
-ghost use Rattle.job_syntax.specs.Spelled.{ctl_word, scope_word, reach_word};
-ghost use Rattle.job_syntax.specs.Printed.{printed_names, printed_ret, printed_have, printed_rnl, printed_unit, maybe_unit, printed_item, printed_q, printed_r, printed_filter, printed_enq, printed_reserve, printed_place, printed_gqscan, printed_resource, printed_line};
+ghost use Rattle.grs_base.specs.Printed.{unit_digits};
+ghost use Rattle.job_syntax.specs.Spelled.{scope_word, reach_word};
+ghost use Rattle.job_syntax.specs.Printed.{printed_names, printed_ret, printed_have, printed_rnl, maybe_unit, printed_item, printed_q, printed_r, printed_filter, printed_enq, printed_reserve, printed_place, printed_gqscan, printed_resource, printed_line};
 
-use grs_base::{Ctl, Filter, Item, Line, List, NoMemory, Qname, Ret, Rname, Scope, print_name};
+use grs_base::{
+    Ctl, Filter, Item, Line, List, NoMemory, Qname, Ret, Rname, Scope, ctl_word, print_name,
+    unit_digits,
+};
 use std::alloc::Global;
-
-fn ctl_word(ctl: Ctl) -> &'static [u8]
-    ensures { result.now ≡ ctl_word ctl }
-{
-    match ctl {
-        Ctl::E => b"E",
-        Ctl::S => b"S",
-    }
-}
 
 fn scope_word(scope: Scope) -> &'static [u8]
     ensures { result.now ≡ scope_word scope }
@@ -67,29 +61,6 @@ fn rnl_text(rnl: bool) -> &'static [u8]
     }
 }
 
-fn hex_digit(n: u16) -> u8
-    requires { n < 16 }
-    ensures { result ≡ hex_digit n }
-{
-    if n < 10 {
-        b'0' + n as u8
-    } else {
-        b'A' - 10 + n as u8
-    }
-}
-
-/// Four hexadecimal digits.
-fn print_unit(unit: u16, out: &mut List<u8>) -> Result<(), NoMemory>
-    ensures { OnOk result (out.new ≡ out.old ++ printed_unit unit) }
-{
-    out.append(&[
-        hex_digit(unit / 4096 % 16),
-        hex_digit(unit / 256 % 16),
-        hex_digit(unit / 16 % 16),
-        hex_digit(unit % 16),
-    ])
-}
-
 fn print_maybe_unit(unit: Option<u16>, out: &mut List<u8>) -> Result<(), NoMemory>
     ensures { OnOk result (out.new ≡ out.old ++ maybe_unit unit) }
 {
@@ -97,7 +68,7 @@ fn print_maybe_unit(unit: Option<u16>, out: &mut List<u8>) -> Result<(), NoMemor
         None => Ok(()),
         Some(unit) => {
             out.append(b",UCB=")?;
-            print_unit(unit, out)
+            out.append(&unit_digits(unit))
         }
     }
 }
@@ -246,7 +217,7 @@ fn line_text(alloc: Global, line: &Line) -> Result<List<u8>, NoMemory>
             rnl,
         } => {
             let mut text = reserve_text(alloc, q, r, *ctl)?;
-            print_unit(*unit, &mut text)?;
+            text.append(&unit_digits(*unit))?;
             text.append(ret_text(*ret))?;
             text.append(rnl_text(*rnl))?;
             Ok(text)
