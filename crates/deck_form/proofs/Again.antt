@@ -23,11 +23,11 @@ use Rattle.deck_form.specs.declared.event.Act.TheVariants as acts
 use Rattle.deck_form.specs.declared.form.Stmt.{Stmt}
 use Rattle.deck_form.specs.declared.form.Stmt.TheVariants as stmts
 use Rattle.deck_form.specs.declared.form.Key.TheVariants as keys
-use Rattle.deck_form.specs.Words.{is_name_byte, all_name, is_name, short_at, parted, dotted_at, number_of}
+use Rattle.deck_form.specs.Words.{is_name_byte, all_name, is_name, short_at, parted, dotted_at, number_of, named_at}
 use Rattle.deck_form.specs.Complex.{no_setup, mode_of, entries_of, limit_of, with_operand, operand_at, complex_at}
-use Rattle.deck_form.specs.Event.{verb as event_verb, pair_at, entry_at, other_at, act_at, event_at}
+use Rattle.deck_form.specs.Event.{verb as event_verb, pair_at, entry_at, act_at, event_at}
 use Rattle.deck_form.specs.UnbuiltWord.{is_unbuilt_word}
-use Rattle.deck_form.specs.Form.{named_at, key, plain_form, keyed, first_form, event_form, form}
+use Rattle.deck_form.specs.Form.{key, plain_form, keyed, first_form, event_form, form}
 use Rattle.deck_form.specs.Spelled.{IsName, Operand, Mode, Entries, Limit, operand, IsFreeOperand, set_operand, IsComplex, IsFirst, IsAct, IsEvent, Spells}
 
 named_again : (n : List ℕ) → IsName n → named_at (Word n ∷ []) ≡ Some n
@@ -161,10 +161,6 @@ entry_again : (entries : ℕ) (w : List ℕ) (e : ℕ) → number_of w ≡ Some 
 unfolding entry_at
 entry_again entries w e h lt = rw (h, lt-ltb e entries lt) refl
 
-other_again : (n : List ℕ) → IsName n → other_at (Word n ∷ []) ≡ Some n
-unfolding other_at short_at
-other_again n h = rw h refl
-
 -- the word of an event and what stands behind it
 abbrev acted : ℕ → List Token → Option Act
 acted entries (Word w ∷ ts) = act_at entries (event_verb w) ts
@@ -180,7 +176,7 @@ act_again entries ts acts.Settle h = rw h refl
 act_again entries ts (acts.Tell e) h = rw (h.1, entry_again entries h.0 e h.2 h.3) refl
 act_again entries ts (acts.Leave e) h = rw (h.1, entry_again entries h.0 e h.2 h.3) refl
 act_again entries ts acts.Switch h = rw h refl
-act_again entries ts (acts.Purge n) h = rw (h.0, other_again n h.1) refl
+act_again entries ts (acts.Purge n) h = rw (h.0, named_again n h.1) refl
 act_again entries ts acts.Rest h = rw h refl
 
 event_tail : (entries : ℕ) (s : List ℕ) (rest : List Token) (a : Act) → IsName s → acted entries rest ≡ Some a → event_form entries (Word s ∷ rest) ≡ Some (stmts.Event s a)

@@ -26,11 +26,11 @@ use Rattle.deck_form.specs.declared.form.Stmt.{Stmt}
 use Rattle.deck_form.specs.declared.form.Stmt.TheVariants as stmts
 use Rattle.deck_form.specs.declared.form.Key.{Key}
 use Rattle.deck_form.specs.declared.form.Key.TheVariants as keys
-use Rattle.deck_form.specs.Words.{is_name, short_at, parted, dotted_at, number_of}
+use Rattle.deck_form.specs.Words.{is_name, short_at, parted, dotted_at, number_of, named_at}
 use Rattle.deck_form.specs.Complex.{no_setup, mode_of, is_entries, is_limit, entries_of, limit_of, with_star, with_entries, with_limit, with_operand, operand_at, complex_at}
-use Rattle.deck_form.specs.Event.{verb, pair_at, entry_at, other_at, alone_at, act_at, event_at}
+use Rattle.deck_form.specs.Event.{verb, pair_at, entry_at, alone_at, act_at, event_at}
 use Rattle.deck_form.specs.UnbuiltWord.{is_unbuilt_word}
-use Rattle.deck_form.specs.Form.{named_at, line_key, key, plain_form, or_bad, keyed, first_form, event_form, form}
+use Rattle.deck_form.specs.Form.{line_key, key, plain_form, or_bad, keyed, first_form, event_form, form}
 use Rattle.deck_form.specs.Spelled.{IsName, mode_word, Operand, Mode, Entries, Limit, enclosed, operand, IsFreeOperand, set_operand, IsComplex, IsFirst, IsAct, IsEvent, Spells}
 
 short_taken : (ts : List Token) (x : List ℕ × List Token) → short_at ts ≡ Some x → (ts ≡ Word x.0 ∷ x.1) × IsName x.0
@@ -175,16 +175,6 @@ entry_taken entries ts e h =
     let g = guard_some (ltb n.0 entries) n.0 e z.2 in
     subst (λ (m : ℕ). (w : List ℕ) × (ts ≡ Word w ∷ []) × (number_of w ≡ Some m) × (m < entries)) g.1 (w.0.0, any_word_taken ts w.0 w.1 ∙ front w.0.0 _ w.0.1 _ refl (end_taken w.0.1 z.0 z.1), n.1, ltb-true n.0 entries g.0)
 
-other_taken : (ts : List Token) (n : List ℕ) → other_at ts ≡ Some n → (ts ≡ Word n ∷ []) × IsName n
-unfolding other_at
-other_taken ts n e =
-    let b = bind_some (short_at ts) (λ n. end_at n.1 >>= λ end. Some n.0) n e in
-    let d = bind_some (end_at b.0.1) (λ end. Some b.0.0) n b.2 in
-    let s = short_taken ts b.0 b.1 in
-    let none = end_taken b.0.1 d.0 d.1 in
-    let is = some_is b.0.0 n d.2 in
-    (s.0 ∙ rw (none, is) refl, rw is at s.1)
-
 -- the word of a verb
 abbrev SaysVerb : List ℕ → Verb → Type 0
 SaysVerb w verbs.Task = w ≡ codes "TASK"
@@ -246,8 +236,8 @@ act_taken entries verbs.Leave w ts act is e =
     let d = entry_taken entries ts p.0 p.1 in
     subst (IsAct entries (Word w ∷ ts)) (some_is (acts.Leave p.0) act p.2) (d.0, front w _ ts _ is d.1, d.2, d.3)
 act_taken entries verbs.Purge w ts act is e =
-    let p = bind_some (other_at ts) (λ n. Some (acts.Purge n)) act e in
-    let d = other_taken ts p.0 p.1 in
+    let p = bind_some (named_at ts) (λ n. Some (acts.Purge n)) act e in
+    let d = named_taken ts p.0 p.1 in
     subst (IsAct entries (Word w ∷ ts)) (some_is (acts.Purge p.0) act p.2) (front w _ ts _ is d.0, d.1)
 act_taken entries verbs.Unknown w ts act is e = absurd cc
 

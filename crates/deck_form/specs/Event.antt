@@ -7,7 +7,7 @@ use Rattle.deck_form.specs.declared.event.Act.TheVariants as acts
 use Rattle.deck_form.specs.declared.event.Verb.{Verb}
 use Rattle.deck_form.specs.declared.event.Verb.TheVariants as verbs
 use Rattle.deck_scan.specs.Next.{◌>>=◌, end_at, any_word_at}
-use Rattle.deck_form.specs.Words.{short_at, dotted_at, number_of}
+use Rattle.deck_form.specs.Words.{short_at, named_at, dotted_at, number_of}
 
 unfoldable pub verb : List ℕ → Verb
 verb w =
@@ -38,13 +38,6 @@ entry_at entries ts = do
   end ← end_at w.1
   if nat_lt n entries then Some n else None
 
--- The name of a system, and nothing after it.
-unfoldable pub other_at : List Token → Option (List ℕ)
-other_at ts = do
-  n ← short_at ts
-  end ← end_at n.1
-  Some n.0
-
 -- Nothing more.
 abbrev pub alone_at : Act → List Token → Option Act
 alone_at act ts = do
@@ -61,7 +54,7 @@ act_at entries verbs.Settle ts = alone_at acts.Settle ts
 act_at entries verbs.Tell ts = entry_at entries ts >>= λ e. Some (acts.Tell e)
 act_at entries verbs.Leave ts = entry_at entries ts >>= λ e. Some (acts.Leave e)
 act_at entries verbs.Switch ts = alone_at acts.Switch ts
-act_at entries verbs.Purge ts = other_at ts >>= λ n. Some (acts.Purge n)
+act_at entries verbs.Purge ts = named_at ts >>= λ n. Some (acts.Purge n)
 act_at entries verbs.Rest ts = alone_at acts.Rest ts
 act_at entries verbs.Unknown ts = None
 

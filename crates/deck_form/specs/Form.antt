@@ -17,7 +17,7 @@ use Rattle.job_syntax.specs.declared.said.Verb.{Verb}
 use Rattle.job_syntax.specs.Said.{verb, said_at}
 use Rattle.rnl_syntax.specs.Lines.{is_rnldef_word}
 use Rattle.rnl_syntax.specs.Operands.{rnldef_at}
-use Rattle.deck_form.specs.Words.{short_at}
+use Rattle.deck_form.specs.Words.{named_at}
 use Rattle.deck_form.specs.Complex.{complex_at}
 use Rattle.deck_form.specs.Event.{event_at}
 use Rattle.deck_form.specs.UnbuiltWord.{is_unbuilt_word}
@@ -30,13 +30,6 @@ FormFails (errors.Kind k) read = read ≡ Err k
 abbrev pub Forms : Result Stmt FormError → Result Stmt Kind → Type 0
 Forms (Ok x) read = read ≡ Ok x
 Forms (Err e) read = FormFails e read
-
--- A name of a system, job or task, and nothing after it.
-unfoldable pub named_at : List Token → Option (List ℕ)
-named_at ts = do
-  n ← short_at ts
-  end ← end_at n.1
-  Some n.0
 
 abbrev pub line_key : Option Verb → Key
 line_key None = keys.Unknown

@@ -1,7 +1,7 @@
 -- Names of systems, jobs and tasks, and numbers.
 use Rattle.std.specs.Prelude.{ℕ, Bool, true, false, not, ◌&&◌, ◌||◌, ◌==◌, ◌+◌, ◌-◌, ◌*◌, nat_le, nat_lt, List, [], ◌∷◌, length, take, drop, position, Option, Some, None, if◌then◌else◌}
 use Rattle.deck_scan.specs.declared.token.Token.{Token}
-use Rattle.deck_scan.specs.Next.{◌>>=◌, any_word_at}
+use Rattle.deck_scan.specs.Next.{◌>>=◌, end_at, any_word_at}
 
 abbrev pub is_digit : ℕ → Bool
 is_digit b = nat_le 48 b && nat_le b 57
@@ -23,6 +23,13 @@ unfoldable pub short_at : List Token → Option (List ℕ × List Token)
 short_at ts = do
   w ← any_word_at ts
   if is_name w.0 then Some (w.0, w.1) else None
+
+-- A name of a system, job or task, and nothing after it.
+unfoldable pub named_at : List Token → Option (List ℕ)
+named_at ts = do
+  n ← short_at ts
+  end ← end_at n.1
+  Some n.0
 
 abbrev pub parted : Option ℕ → List ℕ → Option (List ℕ × List ℕ)
 parted None w = None

@@ -1,9 +1,9 @@
 //! Event lines: a system, what it does, and on what.
 ghost use Rattle.std.specs.Prelude.{◌≡◌};
 ghost use Rattle.deck_scan.specs.Next.{Reads};
-ghost use Rattle.deck_form.specs.Event.{verb, pair_at, alone_at, entry_at, other_at, act_at, event_at};
+ghost use Rattle.deck_form.specs.Event.{verb, pair_at, alone_at, entry_at, act_at, event_at};
 
-use crate::words::{dotted_at, number_of, short_at};
+use crate::words::{dotted_at, named_at, number_of, short_at};
 use deck_scan::{Miss, Token, any_word_at, end_at};
 use grs_base::List;
 use std::alloc::Global;
@@ -100,16 +100,6 @@ fn entry_at(entries: u32, ts: &[Token]) -> Result<u32, Miss>
     }
 }
 
-/// A name of a system, and nothing after it.
-#[tactic(auto, unfolding(crate::specs::Event::other_at))]
-fn other_at(alloc: Global, ts: &[Token]) -> Result<List<u8>, Miss>
-    ensures { Reads (λ x. x) result (other_at ts.now) }
-{
-    let (name, ts) = short_at(alloc, ts)?;
-    end_at(ts)?;
-    Ok(name)
-}
-
 fn alone_at(act: Act, ts: &[Token]) -> Result<Act, Miss>
     ensures { Reads (λ x. x) result (alone_at act ts.now) }
 {
@@ -137,7 +127,7 @@ fn act_at(alloc: Global, entries: u32, verb: Verb, ts: &[Token]) -> Result<Act, 
         Verb::Tell => Ok(Act::Tell(entry_at(entries, ts)?)),
         Verb::Leave => Ok(Act::Leave(entry_at(entries, ts)?)),
         Verb::Switch => alone_at(Act::Switch, ts),
-        Verb::Purge => Ok(Act::Purge(other_at(alloc, ts)?)),
+        Verb::Purge => Ok(Act::Purge(named_at(alloc, ts)?)),
         Verb::Rest => alone_at(Act::Rest, ts),
         Verb::Unknown => Err(Miss::Bad),
     }

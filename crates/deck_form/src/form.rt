@@ -1,14 +1,14 @@
 //! The statement of a line: by its first word before SCHEDULE, an event behind it.
 ghost use Rattle.std.specs.Prelude.{◌≡◌, Option};
 ghost use Rattle.deck_scan.specs.Next.{Reads};
-ghost use Rattle.deck_form.specs.Form.{named_at, plain_form, first_form, event_form, form, line_key, key, or_bad, Forms};
+ghost use Rattle.deck_form.specs.Form.{plain_form, first_form, event_form, form, line_key, key, or_bad, Forms};
 ghost use Rattle.deck_form.specs.Spelled.{Answers};
 ghost use Rattle.deck_form.specs.declared.form.Stmt.{Stmt as StmtValue};
 
 use crate::complex::{Setup, complex_at};
 use crate::event::{Act, event_at};
 use crate::unbuilt::is_unbuilt_word;
-use crate::words::short_at;
+use crate::words::named_at;
 use deck_scan::{Miss, Token, TokenLine, end_at};
 use grs_base::{Kind, List};
 use job_syntax::{Said, Verb, said_at, verb_of};
@@ -60,16 +60,6 @@ pub enum Key {
     Schedule,
     Unbuilt,
     Unknown,
-}
-
-/// A name and nothing after it.
-#[tactic(auto, unfolding(crate::specs::Form::named_at))]
-fn named_at(alloc: Global, ts: &[Token]) -> Result<List<u8>, Miss>
-    ensures { Reads (λ x. x) result (named_at ts.now) }
-{
-    let (name, ts) = short_at(alloc, ts)?;
-    end_at(ts)?;
-    Ok(name)
 }
 
 /// What is read, or BadOperand.

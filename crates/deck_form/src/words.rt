@@ -1,9 +1,9 @@
 //! Names of systems, jobs and tasks, and numbers, as the bytes of a word.
 ghost use Rattle.std.specs.Prelude.{◌≡◌, ◌<◌, ◌==◌, length, position, IfErr, IfSome};
 ghost use Rattle.deck_scan.specs.Next.{Reads};
-ghost use Rattle.deck_form.specs.Words.{is_digit, is_name_byte, is_name, all_name, short_at, dotted_at, parted, digits, number_of};
+ghost use Rattle.deck_form.specs.Words.{is_digit, is_name_byte, is_name, all_name, short_at, named_at, dotted_at, parted, digits, number_of};
 
-use deck_scan::{Miss, Token, any_word_at};
+use deck_scan::{Miss, Token, any_word_at, end_at};
 use grs_base::List;
 use std::alloc::Global;
 
@@ -58,6 +58,16 @@ pub fn short_at(alloc: Global, ts: &[Token]) -> Result<(List<u8>, &[Token]), Mis
     } else {
         Err(Miss::Bad)
     }
+}
+
+/// The name of a system, job or task, of any length, and nothing after it.
+#[tactic(auto, unfolding(crate::specs::Words::named_at))]
+pub fn named_at(alloc: Global, ts: &[Token]) -> Result<List<u8>, Miss>
+    ensures { Reads (λ x. x) result (named_at ts.now) }
+{
+    let (name, ts) = short_at(alloc, ts)?;
+    end_at(ts)?;
+    Ok(name)
 }
 
 /// Where the first point stands.
