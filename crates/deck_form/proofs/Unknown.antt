@@ -1,6 +1,7 @@
 -- Why a line is no statement.
 use Rattle.std.proofs.Common.{◌≡◌, inl, inr, ◌⊎◌, ℕ, Bool, true, false, cond, List, [], ◌∷◌, Option, Some, None, Result, Ok, Err, refl, sym, ap, subst, ◌∙◌}
-use Rattle.std.specs.Prelude.{codes, ◌||◌, is_some}
+use Rattle.std.proofs.lemmas.Bool.{or_parts}
+use Rattle.std.specs.Prelude.{codes, is_some}
 use Rattle.std.specs.Str.{bytes_eq}
 use Rattle.grs_base.specs.declared.fault.Kind.{Kind}
 use Rattle.grs_base.specs.declared.fault.Kind.TheVariants.{TooLong, BadByte, UnknownStatement, BadOperand, NameLength, Repeated, OutOfPlace, TooMany, UnknownName, NoSystem, NotBuilt}
@@ -63,20 +64,16 @@ key_unknown w h =
     let g = test_fails (is_unbuilt_word w) keys.Unbuilt _ (λ e. cc) f.1 in
     rw (a.0, r.0, b.0, c.0, d.0, f.0, g.0, no_line (verb w) g.1) refl
 
-neither : (a b : Bool) → (a || b) ≡ false → (a ≡ false) × (b ≡ false)
-neither true b h = absurd cc
-neither false b h = (refl, h)
-
 unknown_key : (w : List ℕ) → is_statement_word w ≡ false → key w ≡ keys.Unknown
 unfolding key
 unknown_key w h =
-    let a = neither (bytes_eq w (codes "COMPLEX")) _ h in
-    let r = neither (is_rnldef_word w) _ a.1 in
-    let b = neither (bytes_eq w (codes "SYSTEM")) _ r.1 in
-    let c = neither (bytes_eq w (codes "JOB")) _ b.1 in
-    let d = neither (bytes_eq w (codes "TASK")) _ c.1 in
-    let f = neither (bytes_eq w (codes "SCHEDULE")) _ d.1 in
-    let g = neither (is_unbuilt_word w) (is_some (verb w)) f.1 in
+    let a = or_parts (bytes_eq w (codes "COMPLEX")) _ h in
+    let r = or_parts (is_rnldef_word w) _ a.1 in
+    let b = or_parts (bytes_eq w (codes "SYSTEM")) _ r.1 in
+    let c = or_parts (bytes_eq w (codes "JOB")) _ b.1 in
+    let d = or_parts (bytes_eq w (codes "TASK")) _ c.1 in
+    let f = or_parts (bytes_eq w (codes "SCHEDULE")) _ d.1 in
+    let g = or_parts (is_unbuilt_word w) (is_some (verb w)) f.1 in
     rw (a.0, r.0, b.0, c.0, d.0, f.0, g.0) (line_none (verb w) g.1)
 
 bad_not_unknown : (o : Option Stmt) → or_bad o ≡ failed UnknownStatement → ⊥

@@ -5,6 +5,7 @@ use Rattle.std.proofs.lemmas.Bool.{and_from, and_parts, ltb-true}
 use Rattle.std.proofs.lemmas.Bool.Decides.{nat_tests}
 use Rattle.std.proofs.lemmas.List.{append-nil}
 use Rattle.std.proofs.lemmas.List.Folds.{list_all-append}
+use Rattle.grs_base.specs.Names.{is_qname, is_rname}
 use Rattle.grs_base.specs.Printed.{is_plain_byte, is_printable, quotes_doubled, hex_digit, hex_digits, printed_name}
 use Rattle.deck_scan.specs.declared.token.Token.TheVariants.{Word, Name}
 use Rattle.deck_scan.specs.Bytes.{is_allowed, bad_line, is_word, is_hex, digit}
@@ -122,6 +123,15 @@ printed-printable bs bytes = go (list_all is_plain_byte bs) (list_all is_printab
     go true y e f = all_kept is_plain_byte is_printable plain_printable bs e
     go false true e f = closed_printable (quotes_doubled bs) (doubled_printable bs f)
     go false false e f = closed_printable (hex_digits bs) (all_kept is_between_quotes is_printable (λ b h. (and_parts (is_printable b) (not (eqb b 39)) h).0) (hex_digits bs) (digits-between bs bytes))
+
+-- A name has a byte.
+pub qname_nonempty : (q : List ℕ) → is_qname q ≡ true → is_nonempty q ≡ true
+qname_nonempty [] h = absurd cc
+qname_nonempty (b ∷ bs) h = refl
+
+pub rname_nonempty : (r : List ℕ) → is_rname r ≡ true → is_nonempty r ≡ true
+rname_nonempty [] h = absurd cc
+rname_nonempty (b ∷ bs) h = refl
 
 -- A text that is one printed name spells one line of that name.
 pub printed_spells : (bs : List ℕ) → is_nonempty bs ≡ true → are_bytes bs ≡ true → SpellsLines (printed_name bs) (name_line bs ∷ [])

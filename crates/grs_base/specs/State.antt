@@ -88,6 +88,10 @@ is_systems (Step _ _ _ _) = false
 is_systems (System _ _ _) = false
 is_systems (Systems _ _) = true
 
+-- whether an element is of a task of another system
+abbrev pub is_of_other : ℕ → Elem → Bool
+is_of_other n e = not (n == e.task.system.0)
+
 -- without the elements of a system's tasks on Systems resources
 abbrev pub remove_state : State → ℕ → State
 remove_state s n = filter (λ h. not (is_systems h.0 && (n == h.1.task.system.0))) s

@@ -1,7 +1,7 @@
 -- What is read is spelled, and what is spelled is read.
-use Rattle.std.proofs.Common.{◌≡◌, ℕ, ◌<◌, ◌≤◌, Bool, true, false, cond, not, eqb, ltb, leb, List, [], ◌∷◌, length, Option, Some, None, Result, Ok, Err, refl, sym, ap, subst, ◌∙◌, arith}
+use Rattle.std.proofs.Common.{◌≡◌, ℕ, ◌<◌, ◌≤◌, Bool, true, false, cond, not, eqb, leb, List, [], ◌∷◌, length, Option, Some, None, Result, Ok, Err, refl, sym, ap, subst, ◌∙◌, arith}
 use Rattle.std.specs.Prelude.{◌||◌, is_some, is_none}
-use Rattle.std.proofs.lemmas.Bool.{ltb-false, le-ltb, lt-leb, eqb-false, eqb-true, ne_eqb, leb-true, le-leb, leb-false, and_parts}
+use Rattle.std.proofs.lemmas.Bool.{ltb-false, le-ltb, lt-leb, eqb-false, eqb-true, ne_eqb, leb-true, le-leb, leb-false, and_parts, or_parts}
 use Rattle.grs_base.specs.declared.fault.DeckFault.{DeckFault}
 use Rattle.grs_base.specs.declared.fault.Kind.TheVariants.{NoSystem}
 use Rattle.grs_base.specs.declared.fault.ReadError.{ReadError}
@@ -37,10 +37,6 @@ use Rattle.grs_deck.specs.Spells.{IsShort, IsShortAct, IsQname, IsRname, IsMaybe
 use Rattle.grs_deck.proofs.FitsLaws.{NoFault, tests_of, judged}
 
 -- ---- tests and facts
-
-neither : (a b : Bool) → (a || b) ≡ false → (a ≡ false) × (b ≡ false)
-neither true b h = absurd cc
-neither false b h = (refl, h)
 
 both_false : (a b : Bool) → a ≡ false → b ≡ false → (a || b) ≡ false
 both_false a b h k = rw (h, k) refl
@@ -100,8 +96,8 @@ of_rname : (r : List ℕ) → IsRname r → is_rname r ≡ true
 of_rname r h = let some : 1 ≤ length r = omega (arith, h.0) in rw (le-leb 1 (length r) some, le-leb (length r) 255 h.1) refl
 
 short_act : (a : Act) → has_long_name a ≡ false → IsShortAct a
-short_act (acts.Task j t) h = let k = neither (is_too_long j) (is_too_long t) h in (short_of j k.0, short_of t k.1)
-short_act (acts.Send j t) h = let k = neither (is_too_long j) (is_too_long t) h in (short_of j k.0, short_of t k.1)
+short_act (acts.Task j t) h = let k = or_parts (is_too_long j) (is_too_long t) h in (short_of j k.0, short_of t k.1)
+short_act (acts.Send j t) h = let k = or_parts (is_too_long j) (is_too_long t) h in (short_of j k.0, short_of t k.1)
 short_act (acts.Purge n) h = short_of n h
 short_act acts.Turn h = tt
 short_act acts.Take h = tt
@@ -127,7 +123,7 @@ act_short acts.Rest h = refl
 
 both_names : (q r : List ℕ) → are_bad_names q r ≡ false → IsQname q × IsRname r
 both_names q r h =
-    let k = neither (not (is_qname q)) (not (is_rname r)) h in
+    let k = or_parts (not (is_qname q)) (not (is_rname r)) h in
     (qname_of q (passed (is_qname q) k.0), rname_of r (passed (is_rname r) k.1))
 
 maybe_qname : (q : Option (List ℕ)) → is_bad_qname q ≡ false → IsMaybeQname q
@@ -143,7 +139,7 @@ names_by (said.Enq e) h = both_names e.ask.q e.ask.r h
 names_by (said.Reserve e) h = both_names e.ask.q e.ask.r h
 names_by (said.Deq a) h = both_names a.q a.r h
 names_by (said.Wait a) h = both_names a.q a.r h
-names_by (said.Gqscan s) h = let k = neither (is_bad_qname s.names.q) (is_bad_rname s.names.r) h in (maybe_qname s.names.q k.0, maybe_rname s.names.r k.1)
+names_by (said.Gqscan s) h = let k = or_parts (is_bad_qname s.names.q) (is_bad_rname s.names.r) h in (maybe_qname s.names.q k.0, maybe_rname s.names.r k.1)
 names_by (said.Display shown.Contended) h = tt
 names_by (said.Display (shown.Resource q r)) h = both_names q r h
 
@@ -156,7 +152,7 @@ none_yet (x ∷ xs) h = absurd (omega (arith, h))
 
 define_by : (d : Draft) (r : Rnldef) → rnldef_has_bad_name r ≡ false → not (eqb (length d.deck.systems) 0) ≡ false → leb 4096 (length (list_of r.which d.deck.lists).entries) ≡ false → MayDefine d r
 define_by d r long misplaced full =
-    let k = neither (not (is_qname r.q)) (is_bad_rname r.r) long in
+    let k = or_parts (not (is_qname r.q)) (is_bad_rname r.r) long in
     let none = eqb-true (length d.deck.systems) 0 (passed (eqb (length d.deck.systems) 0) misplaced) in
     (qname_of r.q (passed (is_qname r.q) k.0), maybe_rname r.r k.1, none_yet d.deck.systems none, fewer 4096 (length (list_of r.which d.deck.lists).entries) full)
 
@@ -169,7 +165,7 @@ may_by d (stmts.Task n) h = (short_of n h.long, none_of (task_place (tasks_now (
 may_by d (stmts.Line s) h = say_by d s h.long h.misplaced h.full
 may_by d (stmts.Rnldef r) h = define_by d r h.long h.misplaced h.full
 may_by d stmts.Schedule h = there (length d.deck.systems) h.misplaced
-may_by d (stmts.Event s a) h = let k = neither (is_too_long s) (has_long_name a) h.long in (short_of s k.0, short_act a k.1, some_of (event_of d.deck.systems s a) h.unknown)
+may_by d (stmts.Event s a) h = let k = or_parts (is_too_long s) (has_long_name a) h.long in (short_of s k.0, short_act a k.1, some_of (event_of d.deck.systems s a) h.unknown)
 
 pub right_of : (d : Draft) (st : Stmt) → verdict d st ≡ None → IsRight d st
 right_of d st h = let t = tests_of d st h in (may_by d st t, t.unbuilt)

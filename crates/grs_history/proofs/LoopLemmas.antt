@@ -1,5 +1,6 @@
 -- What the loops over slices, entries and what was fixed have come to.
-use Rattle.std.proofs.Common.{◌≡◌, ◌<◌, ◌≤◌, ◌+◌, ◌-◌, ℕ, zero, suc, List, [], ◌∷◌, ◌++◌, length, drop, refl, ap, sym, ◌∙◌, arith, append_assoc}
+use Rattle.std.proofs.Common.{◌≡◌, ◌<◌, ◌≤◌, ◌+◌, ◌-◌, ℕ, suc, List, [], ◌∷◌, ◌++◌, length, drop, ap, sym, ◌∙◌, arith, append_assoc}
+use Rattle.std.proofs.Math.ListN.{drop_of_length-le}
 use Rattle.grs_base.specs.State.{State}
 use Rattle.grs_base.specs.Looks.{look}
 use Rattle.grs_base.specs.declared.look.Filter.{Filter}
@@ -22,11 +23,5 @@ entries-more s t slice last f hist more all b h is =
     rw next step
 
 -- when all entries are passed
-drop_past : {X : Type 0} (xs : List X) (i : ℕ) → length xs ≤ i → drop i xs ≡ []
-drop_past [] zero h = refl
-drop_past [] (suc i) h = refl
-drop_past (x ∷ xs) zero h = absurd (omega arith)
-drop_past (x ∷ xs) (suc i) h = drop_past xs i (omega arith)
-
 pub replay-end : (limit : ℕ) (s all : State) (hs : List HistEntry) (i : ℕ) → length hs ≤ i → replay_from limit s (drop i hs) ≡ all → s ≡ all
-replay-end limit s all hs i past h = ap (replay_from limit s) (sym (drop_past hs i past)) ∙ h
+replay-end limit s all hs i past h = ap (replay_from limit s) (sym (drop_of_length-le hs past)) ∙ h

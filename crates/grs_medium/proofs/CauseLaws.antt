@@ -1,7 +1,7 @@
 -- When each answer of the medium comes.
 use Rattle.std.proofs.Common.{◌≡◌, ℕ, Bool, true, false, cond, not, ◌&&◌, List, [], ◌∷◌, refl, ap, sym, ◌∙◌, eqb}
 use Rattle.std.specs.Prelude.{◌↔◌, Option, Some, None, ◌==◌}
-use Rattle.std.proofs.lemmas.Bool.{eq-eqb}
+use Rattle.std.proofs.lemmas.Bool.{eq-eqb, true≢false, false≢true}
 use Rattle.grs_base.specs.declared.resource.SysId.{SysId}
 use Rattle.grs_wire.specs.declared.request.Req.{Req}
 use Rattle.grs_wire.specs.declared.medium.Act.{Act}
@@ -16,12 +16,6 @@ use Rattle.rsa_message.specs.Message.{unseen, first_number, turn_reply, is_at}
 use Rattle.grs_medium.specs.Apply.{turn_row, switch_ring, switch_row, submit_to, submit_row, take_from, take_row, mail_row, leave_row, is_live, without_system, purge_row, resting, rest_row, row, apply, reply_to}
 use Rattle.grs_medium.specs.Medium.{MediumState, inbox, word, all_rest, medium_at_end}
 use Rattle.grs_medium.specs.Causes.{is_removed, is_heard, turns_elsewhere, purges_in_star, purges_nobody, rests_last, rests_early, RemovedComes, StaleComes, NotYoursComes, InStarComes, NoSuchComes, OverComes, RestingComes}
-
-true_apart : true ≡ false → ⊥
-true_apart e = absurd cc
-
-false_apart : false ≡ true → ⊥
-false_apart e = absurd cc
 
 -- which act a reply belongs to: 1 a Turn, 2 a Purge, 3 a Rest, 4 none yet, 0 another
 abbrev kind : Reply → ℕ
@@ -44,7 +38,7 @@ kind_of act = 0
 
 -- replies of two kinds are two
 apart : (x y : Reply) (n k : ℕ) → kind x ≡ n → kind y ≡ k → eqb n k ≡ false → ¬ (x ≡ y)
-apart x y n k a b h e = true_apart (sym (eq-eqb n k (sym a ∙ ap kind e ∙ b)) ∙ h)
+apart x y n k a b h e = true≢false (sym (eq-eqb n k (sym a ∙ ap kind e ∙ b)) ∙ h)
 
 -- each act is answered by a reply of its kind
 turn_kind : (m : MediumState) (c : SysId) (out : List Req) → kind (turn_row m c out).0 ≡ 1
@@ -119,43 +113,43 @@ neither a b = (λ x. absurd (a x), λ y. absurd (b y))
 
 -- an act is never answered by a reply of another kind
 never : (m : MediumState) (c : SysId) (act : Act) (reply : Reply) (n k : ℕ) → kind_of act ≡ n → kind reply ≡ k → eqb n k ≡ false → ((row m c act).0 ≡ reply) ↔ (false ≡ true)
-never m c act reply n k of is h = neither (apart (row m c act).0 reply n k (row_kind m c act ∙ of) is h) false_apart
+never m c act reply n k of is h = neither (apart (row m c act).0 reply n k (row_kind m c act ∙ of) is h) false≢true
 
 -- the rows of a Turn, a Purge and a Rest
 turn_not_yours : (here : Bool) (entries : List RingEntry) (taken : ℕ) (closed : Bool) (holder at : Option SysId) → (cond here (Turned entries taken closed) (NotYours holder) ≡ NotYours at) ↔ ((not here ≡ true) × (at ≡ holder))
-turn_not_yours true entries taken closed holder at = neither (λ e. absurd cc) (λ p. false_apart p.0)
+turn_not_yours true entries taken closed holder at = neither (λ e. absurd cc) (λ p. false≢true p.0)
 turn_not_yours false entries taken closed holder at = (λ e. (refl, cc), λ p. ap NotYours (sym p.1))
 
 purge_in_star : {M : Type 0} (star living : Bool) (m gone : M) → ((cond {A = Reply × M} star (InStar, m) (cond living (Purged, gone) (NoSuch, m))).0 ≡ InStar) ↔ (star ≡ true)
 purge_in_star true living m gone = (λ e. refl, λ e. refl)
-purge_in_star false true m gone = neither (λ e. absurd cc) false_apart
-purge_in_star false false m gone = neither (λ e. absurd cc) false_apart
+purge_in_star false true m gone = neither (λ e. absurd cc) false≢true
+purge_in_star false false m gone = neither (λ e. absurd cc) false≢true
 
 purge_no_such : {M : Type 0} (star living : Bool) (m gone : M) → ((cond {A = Reply × M} star (InStar, m) (cond living (Purged, gone) (NoSuch, m))).0 ≡ NoSuch) ↔ ((not star && not living) ≡ true)
-purge_no_such true living m gone = neither (λ e. absurd cc) false_apart
-purge_no_such false true m gone = neither (λ e. absurd cc) false_apart
+purge_no_such true living m gone = neither (λ e. absurd cc) false≢true
+purge_no_such false true m gone = neither (λ e. absurd cc) false≢true
 purge_no_such false false m gone = (λ e. refl, λ e. refl)
 
 rest_over : (b : Bool) → (cond b Over Resting ≡ Over) ↔ (b ≡ true)
 rest_over true = (λ e. refl, λ e. refl)
-rest_over false = neither (λ e. absurd cc) false_apart
+rest_over false = neither (λ e. absurd cc) false≢true
 
 rest_resting : (b : Bool) → (cond b Over Resting ≡ Resting) ↔ (not b ≡ true)
-rest_resting true = neither (λ e. absurd cc) false_apart
+rest_resting true = neither (λ e. absurd cc) false≢true
 rest_resting false = (λ e. refl, λ e. refl)
 
 -- each reply to an act
 row_not_yours : (m : MediumState) (c : SysId) (act : Act) (at : Option SysId) → ((row m c act).0 ≡ NotYours at) ↔ ((turns_elsewhere m c act ≡ true) × (at ≡ m.message.holder))
 unfolding row turn_row turn_reply
 row_not_yours m c (Turn out) at = turn_not_yours (is_at m.message.holder c) (unseen c m.message.entries) _ m.message.closed m.message.holder at
-row_not_yours m c (Switch words) at = neither (apart (row m c (Switch words)).0 (NotYours at) 0 1 (row_kind m c (Switch words)) refl refl) (λ p. false_apart p.0)
-row_not_yours m c (Submit entry req) at = neither (apart (row m c (Submit entry req)).0 (NotYours at) 0 1 (row_kind m c (Submit entry req)) refl refl) (λ p. false_apart p.0)
-row_not_yours m c Take at = neither (apart (row m c Take).0 (NotYours at) 0 1 (row_kind m c Take) refl refl) (λ p. false_apart p.0)
-row_not_yours m c (Settle to mail) at = neither (apart (row m c (Settle to mail)).0 (NotYours at) 0 1 (row_kind m c (Settle to mail)) refl refl) (λ p. false_apart p.0)
-row_not_yours m c (Tell to mail) at = neither (apart (row m c (Tell to mail)).0 (NotYours at) 0 1 (row_kind m c (Tell to mail)) refl refl) (λ p. false_apart p.0)
-row_not_yours m c (Leave entry) at = neither (apart (row m c (Leave entry)).0 (NotYours at) 0 1 (row_kind m c (Leave entry)) refl refl) (λ p. false_apart p.0)
-row_not_yours m c (Purge t) at = neither (apart (row m c (Purge t)).0 (NotYours at) 2 1 (row_kind m c (Purge t)) refl refl) (λ p. false_apart p.0)
-row_not_yours m c Rest at = neither (apart (row m c Rest).0 (NotYours at) 3 1 (row_kind m c Rest) refl refl) (λ p. false_apart p.0)
+row_not_yours m c (Switch words) at = neither (apart (row m c (Switch words)).0 (NotYours at) 0 1 (row_kind m c (Switch words)) refl refl) (λ p. false≢true p.0)
+row_not_yours m c (Submit entry req) at = neither (apart (row m c (Submit entry req)).0 (NotYours at) 0 1 (row_kind m c (Submit entry req)) refl refl) (λ p. false≢true p.0)
+row_not_yours m c Take at = neither (apart (row m c Take).0 (NotYours at) 0 1 (row_kind m c Take) refl refl) (λ p. false≢true p.0)
+row_not_yours m c (Settle to mail) at = neither (apart (row m c (Settle to mail)).0 (NotYours at) 0 1 (row_kind m c (Settle to mail)) refl refl) (λ p. false≢true p.0)
+row_not_yours m c (Tell to mail) at = neither (apart (row m c (Tell to mail)).0 (NotYours at) 0 1 (row_kind m c (Tell to mail)) refl refl) (λ p. false≢true p.0)
+row_not_yours m c (Leave entry) at = neither (apart (row m c (Leave entry)).0 (NotYours at) 0 1 (row_kind m c (Leave entry)) refl refl) (λ p. false≢true p.0)
+row_not_yours m c (Purge t) at = neither (apart (row m c (Purge t)).0 (NotYours at) 2 1 (row_kind m c (Purge t)) refl refl) (λ p. false≢true p.0)
+row_not_yours m c Rest at = neither (apart (row m c Rest).0 (NotYours at) 3 1 (row_kind m c Rest) refl refl) (λ p. false≢true p.0)
 
 row_in_star : (m : MediumState) (c : SysId) (act : Act) → ((row m c act).0 ≡ InStar) ↔ (purges_in_star m act ≡ true)
 unfolding row purge_row
@@ -208,18 +202,18 @@ row_resting m c Rest = rest_resting (all_rest (resting m c) && medium_at_end m)
 -- the two checks before the act is looked at
 first_check : {M : Type 0} (b k : Bool) (m : M) (x : Reply × M) (set : ℕ) → ¬ (x.0 ≡ Removed) → ((cond {A = Reply × M} b (Removed, m) (cond k x (Stale set, m))).0 ≡ Removed) ↔ (b ≡ true)
 first_check true k m x set other = (λ e. refl, λ e. refl)
-first_check false true m x set other = neither other false_apart
-first_check false false m x set other = neither (λ e. absurd cc) false_apart
+first_check false true m x set other = neither other false≢true
+first_check false false m x set other = neither (λ e. absurd cc) false≢true
 
 second_check : {M : Type 0} (b k : Bool) (m : M) (x : Reply × M) (given set : ℕ) → ¬ (x.0 ≡ Stale set) → ((cond {A = Reply × M} b (Removed, m) (cond k x (Stale given, m))).0 ≡ Stale set) ↔ ((b ≡ false) × ((not k ≡ true) × (set ≡ given)))
-second_check true k m x given set other = neither (λ e. absurd cc) (λ p. true_apart p.0)
-second_check false true m x given set other = neither other (λ p. false_apart p.1.0)
+second_check true k m x given set other = neither (λ e. absurd cc) (λ p. true≢false p.0)
+second_check false true m x given set other = neither other (λ p. false≢true p.1.0)
 second_check false false m x given set other = (λ e. (refl, (refl, cc)), λ p. ap Stale (sym p.1.1))
 
 behind_checks : {M C : Type 0} (b k : Bool) (m : M) (x : Reply × M) (set : ℕ) (reply : Reply) → ¬ (Removed ≡ reply) → ¬ (Stale set ≡ reply) → ((x.0 ≡ reply) ↔ C) → ((cond {A = Reply × M} b (Removed, m) (cond k x (Stale set, m))).0 ≡ reply) ↔ (((not b && not (not k)) ≡ true) × C)
-behind_checks true k m x set reply other stale is = neither other (λ p. false_apart p.0)
+behind_checks true k m x set reply other stale is = neither other (λ p. false≢true p.0)
 behind_checks false true m x set reply other stale is = (λ e. (refl, is.0 e), λ p. is.1 p.1)
-behind_checks false false m x set reply other stale is = neither stale (λ p. false_apart p.0)
+behind_checks false false m x set reply other stale is = neither stale (λ p. false≢true p.0)
 
 -- a reply of this kind is none of the checks
 heard : {C : Type 0} (m : MediumState) (c : SysId) (call : Call) (reply : Reply) (k : ℕ) → kind reply ≡ k → eqb 4 k ≡ false → (((row m c call.act).0 ≡ reply) ↔ C) → (reply_to m c call ≡ reply) ↔ ((is_heard m c call ≡ true) × C)

@@ -2,6 +2,7 @@
 use Rattle.std.proofs.Common.{◌≡◌, ℕ, ◌+◌, Bool, true, false, cond, not, ◌&&◌, ◌||◌, List, [], ◌∷◌, length, refl, ap, sym, ◌∙◌, subst, arith}
 use Rattle.std.specs.Prelude.{Option, Some, map, filter, ◌==◌, nat_lt}
 use Rattle.std.specs.List.{list_any}
+use Rattle.std.proofs.lemmas.Bool.{and_parts, true≢false}
 use Rattle.std.proofs.lemmas.List.{append-nil}
 use Rattle.grs_base.specs.declared.resource.SysId.{SysId}
 use Rattle.grs_wire.specs.declared.request.Req.{Req}
@@ -23,20 +24,13 @@ behind_checks true k r m x y z moves h = absurd cc
 behind_checks false true r m x y z moves h = moves h
 behind_checks false false r m x y z moves h = absurd cc
 
-both_parts : (a b : Bool) → (a && b) ≡ true → (a ≡ true) × (b ≡ true)
-both_parts true b h = (refl, h)
-both_parts false b h = absurd cc
-
 is_false : (b : Bool) → not b ≡ true → b ≡ false
 is_false true e = absurd cc
 is_false false e = refl
 
-true_apart : true ≡ false → ⊥
-true_apart e = absurd cc
-
 -- a test tells two values apart
 apart_by : {A : Type 0} (test : A → Bool) (x y : A) → test x ≡ true → test y ≡ false → ¬ (x ≡ y)
-apart_by test x y holds fails e = let same : test x ≡ test y = ap test e in let clash : true ≡ false = sym holds ∙ same ∙ fails in true_apart clash
+apart_by test x y holds fails e = let same : test x ≡ test y = ap test e in let clash : true ≡ false = sym holds ∙ same ∙ fails in true≢false clash
 
 -- nothing is unseen by s once s has left all masks
 pub unseen-cleared : (s : SysId) (es : List RingEntry) → any_unseen s (cleared s es) ≡ false
@@ -75,7 +69,7 @@ turned_moves : (m : Message) (c : SysId) (out : List Req) (lives rest : ℕ) →
     → turn_changes m c (length out) lives rest ≡ true → ¬ (turned m c out lives rest ≡ m)
 unfolding turned turn_changes
 turned_moves m c out lives rest waits h =
-    let parts = both_parts (is_at m.holder c) _ h in
+    let parts = and_parts (is_at m.holder c) _ h in
     rw parts.0 (by_closed m.closed refl parts.0 parts.1)
   where
     by_closed : (b : Bool) → m.closed ≡ b → is_at m.holder c ≡ true
@@ -93,8 +87,8 @@ row_moves : (m : MediumState) (c : SysId) (act : Act) → is_built act ≡ true 
 unfolding row row_changes turn_row purge_row rest_row
 row_moves m c (Turn out) built waits h = λ e. turned_moves m.message c out (live m) m.rest waits h (ap (λ (x : MediumState). x.message) e)
 row_moves m c (Purge t) built waits h =
-    let living = both_parts (not m.star) (is_live m t) h in
-    let there = both_parts (nat_lt t.0 (systems_of m)) (not (has m.removed t.0)) living.1 in
+    let living = and_parts (not m.star) (is_live m t) h in
+    let there = and_parts (nat_lt t.0 (systems_of m)) (not (has m.removed t.0)) living.1 in
     purge_moves m.star (is_live m t) m _ _ _ h (λ e. apart_by (λ (x : MediumState). has x.removed t.0) (without_system m c t) m (has-with_same m.removed t.0) (is_false (has m.removed t.0) there.1) e)
 row_moves m c Rest built waits h = λ e. apart_by (λ (x : MediumState). has x.rest c.0) _ m (has-with_same m.rest c.0) (is_false (has m.rest c.0) h) e
 row_moves m c (Switch words) built waits h = absurd cc

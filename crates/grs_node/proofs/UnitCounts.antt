@@ -6,7 +6,7 @@ use Rattle.std.proofs.lemmas.Bool.Decides.{nat_tests}
 use Rattle.task_state.specs.declared.state.Rec.{Rec}
 use Rattle.task_state.specs.declared.state.TaskState.{TaskState}
 use Rattle.task_state.specs.Units.{is_unit, reserves, reserves_in, reserves_of, count_at, begins_above, is_count}
-use Rattle.task_state.proofs.UnitLaws.{is_count-counting, count_at-counting}
+use Rattle.task_state.proofs.UnitLaws.{none_below, is_count-counting, count_at-counting}
 use Rattle.grs_node.specs.Units.{reserved_by, reserved_in, reserved_of, counted}
 
 -- how often a unit stands among these
@@ -49,12 +49,6 @@ times-of : (u : ℕ) (ts : List TaskState) → reserves_of u ts ≡ times u (res
 times-of u [] = refl
 times-of u (t ∷ ts) = omega (arith, times-in u t.records, times-of u ts, times-append u (reserved_in t.records) (reserved_of ts))
 
--- a unit below all counts has none
-below : (u : ℕ) (cs : List (ℕ × ℕ)) → is_count cs ≡ true → begins_above u cs ≡ true → count_at u cs ≡ 0
-below u [] h a = refl
-below u (c ∷ []) h a = grind (arith, nat_tests, h, a)
-below u (c ∷ d ∷ cs) h a = grind (arith, nat_tests, h, a, below u (d ∷ cs))
-
 -- the first count is that of its unit, and above 0
 first_count : (c : ℕ × ℕ) (cs : List (ℕ × ℕ)) → is_count (c ∷ cs) ≡ true → (0 < count_at c.0 (c ∷ cs)) × (count_at c.0 (c ∷ cs) ≡ c.1)
 first_count c cs h = (grind (arith, nat_tests, h), grind (arith, nat_tests))
@@ -64,7 +58,7 @@ not_above : (c : ℕ × ℕ) (cs ds : List (ℕ × ℕ)) → is_count (c ∷ cs)
 not_above c cs ds h k same = go (begins_above c.0 ds) refl
   where
     go : (b : Bool) → begins_above c.0 ds ≡ b → b ≡ false
-    go true e = absurd (omega (arith, (first_count c cs h).0, same c.0, below c.0 ds k e))
+    go true e = absurd (omega (arith, (first_count c cs h).0, same c.0, none_below c.0 ds k e))
     go false e = refl
 
 pub one_count : (cs ds : List (ℕ × ℕ)) → is_count cs ≡ true → is_count ds ≡ true → ((u : ℕ) → count_at u cs ≡ count_at u ds) → cs ≡ ds
@@ -86,7 +80,7 @@ one_count (c ∷ cs) (d ∷ ds) h k same =
     tails u unit = go (u == c.0) refl
       where
         go : (b : Bool) → (u == c.0) ≡ b → count_at u cs ≡ count_at u ds
-        go true e = grind (arith, nat_tests, e, unit, h, k, below u cs, below u ds)
+        go true e = grind (arith, nat_tests, e, unit, h, k, none_below u cs, none_below u ds)
         go false e = grind (arith, nat_tests, e, unit, same u)
 
 -- counts by unit that give each unit its count are the units of these tasks

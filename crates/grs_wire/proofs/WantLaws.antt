@@ -47,7 +47,8 @@ list_of-want_other s t (Deq r have) q h = cond_both (is_owner (standing_of (list
 list_of-want_other s t (Release r) q h = list_at-without_other same_res res_equality s q r t h
 list_of-want_other s t (Look first count f) q h = refl
 
-only_shared-place : (es : List Elem) (u : TaskId) → standing_of es u ≡ OnlyShared → (place_of es u ≡ 0) × (owners es ≡ 1)
+-- an only owner with shared control stands first and owns alone
+pub only_shared-place : (es : List Elem) (u : TaskId) → standing_of es u ≡ OnlyShared → (place_of es u ≡ 0) × (owners es ≡ 1)
 only_shared-place es u h = grind (arith, nat_tests, h)
 
 sole : (es : List Elem) (t u : TaskId) → same_task t u ≡ false → standing_of es u ≡ OnlyShared → owns es t ≡ true → ⊥
@@ -81,7 +82,8 @@ owns-want s u (Deq r have) q t apart own = cond_both (is_owner (standing_of (lis
 owns-want s u (Release r) q t apart own = owns-without s q r t u apart own
 owns-want s u (Look first count f) q t apart own = own
 
-absent-has : (es : List Elem) (u : TaskId) → standing_of es u ≡ Absent → has_task es u ≡ false
+-- a task that is absent has no element
+pub absent-has : (es : List Elem) (u : TaskId) → standing_of es u ≡ Absent → has_task es u ≡ false
 absent-has es u h = grind (arith, nat_tests, h, has_task-place es u)
 
 apart-after : (es : List Elem) (u : TaskId) (c : Ctl) (e : Effect) → (e ≡ Append → standing_of es u ≡ Absent) → is_apart es ≡ true → is_apart (list_after es u c e) ≡ true

@@ -11,7 +11,6 @@ use Rattle.grs_base.specs.declared.resource.Res.{Res}
 use Rattle.grs_base.specs.declared.resource.Ctl.{Ctl}
 use Rattle.grs_base.specs.declared.resource.Ctl.TheVariants as ctls
 use Rattle.grs_base.specs.declared.resource.Ret.{Ret}
-use Rattle.grs_base.specs.declared.resource.Elem.{Elem}
 use Rattle.grs_base.specs.declared.resource.Row.{Row}
 use Rattle.grs_base.specs.declared.resource.TaskId.{TaskId}
 use Rattle.grs_base.specs.declared.decision.Code.{Code}
@@ -23,7 +22,7 @@ use Rattle.grs_base.specs.declared.decision.Standing.{Standing}
 use Rattle.grs_base.specs.declared.decision.Standing.TheVariants.{Exclusive, OnlyShared, AmongShared, Waits, Absent}
 use Rattle.grs_legal.specs.declared.meaning.Meaning.{Meaning}
 use Rattle.grs_base.proofs.SameLaws.{same_task-itself}
-use Rattle.grs_base.proofs.ListLaws.{has_task-place, is_owner-standing}
+use Rattle.grs_base.proofs.ListLaws.{is_owner-standing}
 use Rattle.grs_base.proofs.StateLaws.{list_of-effect, list_of-effect_other, list_at-without_other, res_equality}
 use Rattle.grs_wire.specs.declared.history.HistEntry.{HistEntry}
 use Rattle.grs_wire.specs.declared.history.HistEntry.TheVariants.{Enq, Deq}
@@ -31,7 +30,7 @@ use Rattle.task_state.specs.declared.state.Asked.{Asked}
 use Rattle.grs_wire.specs.declared.told.Verb.TheVariants as verbs
 use Rattle.grs_wire.specs.declared.told.ToldLine.{ToldLine}
 use Rattle.grs_wire.specs.declared.told.ToldLine.TheVariants.{Coded, Shown, Post, Ended, Desk}
-use Rattle.grs_wire.proofs.WantLaws.{by_res}
+use Rattle.grs_wire.proofs.WantLaws.{by_res, absent-has}
 use Rattle.grs_legal.specs.Asks.{AsksEnq, AsksDeq}
 use Rattle.task_state.specs.declared.state.Rec.{Rec}
 use Rattle.task_state.specs.declared.state.Phase.TheVariants as phases
@@ -46,9 +45,6 @@ use Rattle.grs_world.proofs.EnqCases.{EnqCase, enq_case, now, waits, ecb, change
 use Rattle.grs_world.proofs.Keys.{has_res-task, keys-push, distinct-push, keys-exclusive, distinct-exclusive, own-exclusive_already, keys-without, distinct-without, gone-without, each-without, each-push, each-exclusive}
 use Rattle.grs_world.proofs.Asked.{told_after, Asks, recs-asked, of_new_line, task-asked}
 use Rattle.grs_world.proofs.Facts.{any-last, none-more}
-
-absent-has : (es : List Elem) (u : TaskId) → standing_of es u ≡ Absent → has_task es u ≡ false
-absent-has es u h = grind (arith, nat_tests, h, has_task-place es u)
 
 -- no ECB of a line after all those posted was posted
 unposted-new : (t : TaskId) (k : ℕ) (T : List ToldLine) → list_all (is_post_before t k) T ≡ true → list_any (is_post_of t k) T ≡ false

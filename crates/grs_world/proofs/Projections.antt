@@ -3,7 +3,6 @@ use Rattle.std.proofs.Common.{◌≡◌, ◌<◌, ℕ, Bool, true, false, cond, 
 use Rattle.std.specs.Prelude.{filter, nat_le}
 use Rattle.std.specs.List.{list_any, list_all}
 use Rattle.std.proofs.lemmas.Bool.{and_parts, ltb-true}
-use Rattle.std.proofs.lemmas.Bool.Decides.{nat_tests}
 use Rattle.grs_base.specs.Same.{same_res, same_task}
 use Rattle.grs_base.specs.Lists.{has_task, is_apart, is_owner, deq_code, standing_of, can_have, enq_decision, decide_enq, owns, owners, place_of, list_after, list_exclusive, list_without}
 use Rattle.grs_base.specs.State.{State, list_of, queued_by, is_full, without, after_effect, enq_code}
@@ -32,7 +31,7 @@ use Rattle.grs_wire.specs.declared.request.Answer.TheVariants.{Coded, Rows}
 use Rattle.grs_wire.specs.declared.request.Want.{Want}
 use Rattle.grs_wire.specs.declared.request.Want.TheVariants as wants
 use Rattle.grs_wire.proofs.HistoryLaws.{apart-step, keeps_other_lists, steps_by_lists}
-use Rattle.grs_wire.proofs.WantLaws.{cond_both}
+use Rattle.grs_wire.proofs.WantLaws.{cond_both, only_shared-place}
 use Rattle.grs_legal.specs.Legal.{entries_of}
 use Rattle.task_state.specs.Replies.{is_granted, is_queued, is_changed, gives_up}
 use Rattle.grs_world.proofs.Own.{own, exclusive_on, queued_by-own, has_task-own, own-want_other, own-push, own-without, own-exclusive}
@@ -256,9 +255,6 @@ is_leave_of t (Look u place f rows) = false
 is_leave_of t (Remove by target) = false
 
 -- an owner stays one where the only owner's control becomes exclusive
-only_shared-place : (es : List Elem) (u : TaskId) → standing_of es u ≡ OnlyShared → (place_of es u ≡ 0) × (owners es ≡ 1)
-only_shared-place es u h = grind (arith, nat_tests, h)
-
 owns-made_exclusive : (es : List Elem) (t u : TaskId) → standing_of es u ≡ OnlyShared → owns es t ≡ true → owns (list_exclusive es u) t ≡ true
 owns-made_exclusive es t u only h =
     let first = only_shared-place es u only in

@@ -283,18 +283,10 @@ some_bytes : (bs : List ℕ) → 0 < length bs → is_nonempty bs ≡ true
 some_bytes [] h = absurd (omega (arith, h))
 some_bytes (b ∷ bs) h = refl
 
-q_some : (q : List ℕ) → is_qname q ≡ true → is_nonempty q ≡ true
-q_some [] h = absurd cc
-q_some (b ∷ bs) h = refl
-
-r_some : (r : List ℕ) → is_rname r ≡ true → is_nonempty r ≡ true
-r_some [] h = absurd cc
-r_some (b ∷ bs) h = refl
-
 names_are : (q r : List ℕ) → AreNames q r → NamesAre q r
 names_are q r h = record {
-  q_bit = and_from (is_nonempty q) (are_bytes q) (q_some q h.qname.made) h.q_bytes;
-  r_bit = and_from (is_nonempty r) (are_bytes r) (r_some r h.rname) h.r_bytes;
+  q_bit = and_from (is_nonempty q) (are_bytes q) (qname_nonempty q h.qname.made) h.q_bytes;
+  r_bit = and_from (is_nonempty r) (are_bytes r) (rname_nonempty r h.rname) h.r_bytes;
   q_few = leb-true (length q) 8 (and_parts _ _ h.qname.made).0;
   r_few = leb-true (length r) 255 (and_parts _ _ h.rname).1;
   good = rw (h.qname.made, h.rname) refl;
@@ -487,10 +479,10 @@ unfolding is_word
 scan_words = (refl, refl, refl, refl, refl, refl)
 
 q_is : (q : List ℕ) → IsQname q × (are_bytes q ≡ true) → (is_bit (Called q) ≡ true) × (length q ≤ 8)
-q_is q h = (and_from (is_nonempty q) (are_bytes q) (q_some q h.0.made) h.1, leb-true (length q) 8 (and_parts _ _ h.0.made).0)
+q_is q h = (and_from (is_nonempty q) (are_bytes q) (qname_nonempty q h.0.made) h.1, leb-true (length q) 8 (and_parts _ _ h.0.made).0)
 
 r_is : (r : List ℕ) → (is_rname r ≡ true) × (are_bytes r ≡ true) → (is_bit (Called r) ≡ true) × (length r ≤ 255)
-r_is r h = (and_from (is_nonempty r) (are_bytes r) (r_some r h.0) h.1, leb-true (length r) 255 (and_parts _ _ h.0).1)
+r_is r h = (and_from (is_nonempty r) (are_bytes r) (rname_nonempty r h.0) h.1, leb-true (length r) 255 (and_parts _ _ h.0).1)
 
 scan_are : (global : Bool) (q r : Option (List ℕ)) → IsMaybeQname q → IsMaybeRname r → AreBits (scan_bits global q r)
 scan_are global None None hq hr = record { are = rw (scan_words.0, reach_bit global) refl; few = omega (arith, reach_few global) }

@@ -1,5 +1,6 @@
 -- Who owns before and after a change of the list.
 use Rattle.std.proofs.Common.{◌≡◌, ◌≤◌, ◌-◌, ℕ, zero, suc, Bool, true, false, cond, not, ◌&&◌, ◌||◌, List, [], ◌∷◌, ◌++◌, take, drop, length, refl, ap, sym, ◌∙◌, arith}
+use Rattle.std.proofs.Math.ListN.{drop_of_length-le}
 use Rattle.std.specs.List.{list_all, list_any}
 use Rattle.std.specs.Prelude.{filter, map}
 use Rattle.std.proofs.lemmas.Bool.Decides.{nat_tests}
@@ -212,15 +213,9 @@ owners-behind es rest own t k apart is_rest is_own is_k =
     ∙ ap (λ (l : List Elem). map (λ (e : Elem). e.task) (drop (length (list_without (take (owners es) es) t)) l)) (is_own ∙ ap (λ (l : List Elem). take (owners l) l) is_rest)
     ∙ sym (became_owners-without es t apart)
 
-drop_past : {X : Type 0} (xs : List X) (k : ℕ) → length xs ≤ k → drop k xs ≡ []
-drop_past [] zero h = refl
-drop_past [] (suc k) h = refl
-drop_past (x ∷ xs) zero h = absurd (omega arith)
-drop_past (x ∷ xs) (suc k) h = drop_past xs k (omega arith)
-
 -- and where no owners are behind those
 pub owners-none : (es rest own : List Elem) (t : TaskId) (k : ℕ) → is_apart es ≡ true → rest ≡ list_without es t → own ≡ take (owners rest) rest → k ≡ length (list_without (take (owners es) es) t) → length own ≤ k → [] ≡ became_owners es (list_without es t) t
 owners-none es rest own t k apart is_rest is_own is_k past =
-    ap (map (λ (e : Elem). e.task)) (sym (drop_past own k past) ∙ sym (rest_slice own k)) ∙ owners-behind es rest own t k apart is_rest is_own is_k
+    ap (map (λ (e : Elem). e.task)) (sym (drop_of_length-le own past) ∙ sym (rest_slice own k)) ∙ owners-behind es rest own t k apart is_rest is_own is_k
 
 pub ruleset outcomes = (owns-any, became_owners-same, became_owners-enq, list_of-deq, list_of-release)

@@ -6,13 +6,13 @@ use Rattle.std.proofs.lemmas.Bool.{eqb-true, eq-eqb}
 use Rattle.std.proofs.lemmas.Bool.Decides.{nat_tests}
 use Rattle.grs_base.specs.Same.{same_task}
 use Rattle.grs_base.specs.Lists.{list_without}
-use Rattle.grs_base.specs.State.{Held, list_at, is_at, without, is_systems, remove_state}
+use Rattle.grs_base.specs.State.{Held, list_at, is_at, without, is_systems, remove_state, is_of_other}
 use Rattle.grs_base.specs.declared.resource.Res.{Res}
 use Rattle.grs_base.specs.declared.resource.Elem.{Elem}
 use Rattle.grs_base.proofs.SameLaws.{same_task-exact, same_task-itself, IsEquality}
 use Rattle.grs_base.proofs.StateLaws.{list_at-without}
 use Rattle.queue_table.specs.Names.{Numbers, name_of, named, is_paired, all_numbers, all_named, IsTable}
-use Rattle.queue_table.specs.Purge.{is_of_other, purge_queue, purge, is_systems_number}
+use Rattle.queue_table.specs.Purge.{purge_queue, purge, is_systems_number}
 use Rattle.queue_table.proofs.NameLemmas.{named-filter, all_numbers-more, all_named-filter}
 
 -- a filter that drops what a filter leaves alone

@@ -1,5 +1,6 @@
 -- Lists in the order in which they are shown.
 use Rattle.std.proofs.Common.{◌≡◌, ◌≢◌, ◌≤◌, ◌+◌, ℕ, zero, suc, Bool, true, false, cond, T, List, [], ◌∷◌, ◌++◌, ◌&&◌, map, length, drop, Option, Some, None, refl, ap, sym, ◌∙◌, arith, nat_eq, append_assoc}
+use Rattle.std.proofs.Math.ListN.{drop_of_length-le}
 use Rattle.std.specs.Prelude.{slice_get, filter}
 use Rattle.std.specs.declared.cmp.Ordering.{Ordering}
 use Rattle.std.specs.Ordering.{on, eq_by_cmp}
@@ -185,15 +186,9 @@ pub with_list-none : (r : Res) (xs : List Elem) (m : Lists) → length xs ≡ 0 
 with_list-none r [] m none = refl
 with_list-none r (x ∷ xs) m none = absurd (omega arith)
 
-drop_past : {X : Type 0} (xs : List X) (i : ℕ) → length xs ≤ i → drop i xs ≡ []
-drop_past [] zero h = refl
-drop_past [] (suc i) h = refl
-drop_past (x ∷ xs) zero h = absurd (omega arith)
-drop_past (x ∷ xs) (suc i) h = drop_past xs i (omega arith)
-
 -- when all numbers are passed
 pub with_lists-end : (t : Res → Bool) (es : Numbers) (i : ℕ) (hs : Held ℕ) (m all : Lists) → length es ≤ i → with_lists t (drop i es) hs m ≡ all → m ≡ all
-with_lists-end t es i hs m all past h = ap (λ (l : Numbers). with_lists t l hs m) (sym (drop_past es i past)) ∙ h
+with_lists-end t es i hs m all past h = ap (λ (l : Numbers). with_lists t l hs m) (sym (drop_of_length-le es past)) ∙ h
 
 -- rows that pass of lists that may be shown
 matches_true : (f : Filter) (r : Res) (w : Bool) → matches f r w ≡ true → matches f r true ≡ true

@@ -9,7 +9,6 @@ use Rattle.rnl_syntax.proofs.Exact.{all_closes, some, rnldef_closes}
 use Rattle.rnl_syntax.proofs.Used.{no_shorter}
 use Rattle.std.proofs.lemmas.List.Folds.{list_all-append}
 use Rattle.grs_base.specs.Printed.{is_printable, printed_name}
-use Rattle.grs_base.specs.Names.{is_qname, is_rname}
 use Rattle.grs_base.specs.declared.rnl.Which.{Which}
 use Rattle.grs_base.specs.declared.rnl.Which.TheVariants.{Incl, Excl, Con}
 use Rattle.grs_base.specs.declared.rnl.Form.{Form}
@@ -117,15 +116,6 @@ close_followed (x ∷ xs) = refl
 close_on : (ps : List Piece) → are_pieces ps ≡ true → are_pieces (Sign Close ∷ ps) ≡ true
 close_on ps h = piece_on (Sign Close) ps refl (close_followed (spelled ps)) h
 
--- a name has a byte
-rname_some : (r : List ℕ) → is_rname r ≡ true → is_nonempty r ≡ true
-rname_some [] h = absurd cc
-rname_some (b ∷ bs) h = refl
-
-qname_some : (q : List ℕ) → is_qname q ≡ true → is_nonempty q ≡ true
-qname_some [] h = absurd cc
-qname_some (b ∷ bs) h = refl
-
 close_byte : is_word 41 ≡ false
 unfolding is_word
 close_byte = refl
@@ -139,7 +129,7 @@ rname_are None rest h all = all
 rname_are (Some r) rest h all =
     piece_on Blank (Plain (codes "RNAME") ∷ Sign Open ∷ name_piece r ∷ Sign Close ∷ rest) refl refl
     (piece_on (Plain (codes "RNAME")) (Sign Open ∷ name_piece r ∷ Sign Close ∷ rest) refl refl
-    (open_on (name_piece r ∷ Sign Close ∷ rest) (name_on r rest (rname_some r h.0) h.1 all)))
+    (open_on (name_piece r ∷ Sign Close ∷ rest) (name_on r rest (rname_nonempty r h.0) h.1 all)))
   where
     followed : (xs : List ℕ) → followed_by (Sign Open) xs ≡ true
     followed [] = refl
@@ -175,7 +165,7 @@ literal = (refl, refl, refl, refl)
 entry_are : (e : RnlEntry) (rest : List Piece) → IsEntry e → are_pieces rest ≡ true → are_pieces (entry_pieces e rest) ≡ true
 unfolding entry_pieces is_word
 entry_are e rest h all =
-    let last = name_on e.q (rname_pieces e.r rest) (qname_some e.q h.q.made) h.q_bytes (rname_are e.r rest h.r all) in
+    let last = name_on e.q (rname_pieces e.r rest) (qname_nonempty e.q h.q.made) h.q_bytes (rname_are e.r rest h.r all) in
     let third = operand_on (codes "QNAME") (name_piece e.q) (rname_pieces e.r rest) literal.3 last in
     let names : List Piece = Blank ∷ Plain (codes "QNAME") ∷ Sign Open ∷ name_piece e.q ∷ Sign Close ∷ rname_pieces e.r rest in
     let second = operand_on (codes "TYPE") (Plain (form_word e.form)) names literal.2 (value_on (form_word e.form) names (form_piece e.form) third) in

@@ -29,7 +29,7 @@ is_count-counting u [] h = refl
 is_count-counting u (c ∷ cs) h = grind (arith, nat_tests, h, is_count-counting u cs, above-counting c.0 u cs)
 
 -- a unit below all counts has none
-none_below : (u : ℕ) (cs : List (ℕ × ℕ)) → is_count cs ≡ true → begins_above u cs ≡ true → count_at u cs ≡ 0
+pub none_below : (u : ℕ) (cs : List (ℕ × ℕ)) → is_count cs ≡ true → begins_above u cs ≡ true → count_at u cs ≡ 0
 none_below u [] h a = refl
 none_below u (c ∷ []) h a = grind (arith, nat_tests, h, a)
 none_below u (c ∷ d ∷ cs) h a = grind (arith, nat_tests, h, a, none_below u (d ∷ cs))
