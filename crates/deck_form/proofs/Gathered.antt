@@ -1,9 +1,9 @@
 -- One pass over the lines gathers their statements.
-use Rattle.std.proofs.Common.{◌≡◌, Bool, true, false, cond, List, [], ◌∷◌, ◌++◌, Option, Some, None, refl, sym, ap, ◌∙◌, append_assoc, append-nil}
+use Rattle.std.proofs.Common.{◌≡◌, Bool, true, false, List, [], ◌∷◌, ◌++◌, Some, None, refl, sym, ap, ◌∙◌, append_assoc}
 use Rattle.deck_scan.specs.declared.token.TokenLine.{TokenLine}
 use Rattle.rnl_syntax.specs.Lines.{goes_on, with_line}
 use Rattle.deck_form.specs.declared.grouping.Gathering.{Gathering}
-use Rattle.deck_form.specs.Statements.{is_schedule, statements_from, statements, after, gathered_from, gathered, gather_all, no_statements, finished}
+use Rattle.deck_form.specs.Statements.{is_schedule, statements_from, statements, after, gathered, gather_all, no_statements, finished}
 
 pub gather_all-snoc : (g : Gathering) (ls : List TokenLine) (l : TokenLine) → gather_all g (ls ++ l ∷ []) ≡ gathered (gather_all g ls) l
 unfolding gather_all
