@@ -3,10 +3,14 @@
 //! answered by it alone.
 #![tactic(auto)]
 
+ghost use Rattle.std.specs.Prelude.{◌≡◌, ◌≢◌, ◌↔◌};
+ghost use Rattle.std.specs.IoError.{error_kind};
+
 use grs_io::{StdSink, StdSource};
 use grs_top::{Status, grs};
 use std::alloc::Alloc;
 use std::env::Env;
+use std::io::ErrorKind;
 use std::process::ExitCode;
 use std::{env, io};
 
@@ -20,11 +24,13 @@ fn words<R: Env + Alloc>(rt: &R) -> io::Result<Vec<String<R::A>, R::A>> {
 }
 
 /// A word that is no UTF-8 is a wrong word; all other failures to tell the words are want of memory.
-fn status_without_words(error: &io::Error) -> Status {
-    if error.kind() == io::ErrorKind::InvalidData {
-        Status::Words
-    } else {
-        Status::NoMemory
+fn status_without_words(error: &io::Error) -> Status
+    ensures words { (result ≡ Status.Words) ↔ (error_kind error.now ≡ ErrorKind.InvalidData) }
+    ensures memory { (result ≡ Status.NoMemory) ↔ (error_kind error.now ≢ ErrorKind.InvalidData) }
+{
+    match error.kind() {
+        ErrorKind::InvalidData => Status::Words,
+        _ => Status::NoMemory,
     }
 }
 
