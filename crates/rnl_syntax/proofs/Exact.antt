@@ -13,6 +13,7 @@ use Rattle.deck_scan.specs.Bytes.{is_word, is_hex}
 use Rattle.deck_scan.specs.Next.{Names, Sets}
 use Rattle.deck_scan.specs.Pieces.{lines_with}
 use Rattle.deck_scan.specs.Scan.{put, put_word, put_open, end_line, break_off, begin_word, begin, step_in, step, scan_from, finish_in, start, lines_of}
+use Rattle.deck_scan.proofs.Said.{at_end}
 use Rattle.rnl_syntax.specs.declared.operands.Operands.{Operands}
 use Rattle.rnl_syntax.specs.declared.operands.Rnldef.{Rnldef}
 use Rattle.rnl_syntax.specs.Lines.{goes_on, with_line}
@@ -133,9 +134,6 @@ module _ (n : ℕ) where
   has-scan s (b ∷ bs) h = has-scan (step s b) bs (has-step s b h)
 
 -- the end of the text adds none
-abbrev at_end : Scan → List TokenLine
-at_end s = (end_line (finish_in s.mode s)).lines
-
 end_closes : (s : Scan) → all_closes (end_line s).lines ≡ count s
 unfolding end_line
 end_closes s = lines_closes s.line s.tokens s.joined s.lines
@@ -191,7 +189,7 @@ begin_close : (s : Scan) → count (begin s 41) ≡ suc (count s)
 unfolding begin
 begin_close s = let h = count-put Close s in omega (arith, h)
 
-word_not : is_word 41 ≡ false
+pub word_not : is_word 41 ≡ false
 unfolding is_word
 word_not = refl
 

@@ -5,7 +5,7 @@ use Rattle.std.specs.List.{list_all}
 use Rattle.std.proofs.Math.Seq.{take-append_seam}
 use Rattle.std.proofs.lemmas.List.{append-nil}
 use Rattle.rnl_syntax.proofs.Closed.{ends_closed-snoc, line_closes}
-use Rattle.rnl_syntax.proofs.Exact.{all_closes, some, rnldef_closes}
+use Rattle.rnl_syntax.proofs.Exact.{all_closes, some, word_not, rnldef_closes}
 use Rattle.rnl_syntax.proofs.Used.{no_shorter}
 use Rattle.std.proofs.lemmas.List.Folds.{list_all-append}
 use Rattle.grs_base.specs.Printed.{is_printable, printed_name}
@@ -116,12 +116,8 @@ close_followed (x ∷ xs) = refl
 close_on : (ps : List Piece) → are_pieces ps ≡ true → are_pieces (Sign Close ∷ ps) ≡ true
 close_on ps h = piece_on (Sign Close) ps refl (close_followed (spelled ps)) h
 
-close_byte : is_word 41 ≡ false
-unfolding is_word
-close_byte = refl
-
 name_on : (n : List ℕ) (ps : List Piece) → is_nonempty n ≡ true → are_bytes n ≡ true → are_pieces ps ≡ true → are_pieces (name_piece n ∷ Sign Close ∷ ps) ≡ true
-name_on n ps some bytes h = piece_on (name_piece n) (Sign Close ∷ ps) (piece-is n some bytes) (name_followed n (spelled ps) 41 close_byte refl) (close_on ps h)
+name_on n ps some bytes h = piece_on (name_piece n) (Sign Close ∷ ps) (piece-is n some bytes) (name_followed n (spelled ps) 41 word_not refl) (close_on ps h)
 
 rname_are : (r : Option (List ℕ)) (rest : List Piece) → IsMaybeRname r → are_pieces rest ≡ true → are_pieces (rname_pieces r rest) ≡ true
 unfolding rname_pieces is_word
