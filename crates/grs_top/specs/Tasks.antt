@@ -8,7 +8,7 @@ use Rattle.grs_wire.specs.declared.deck.SystemDef.{SystemDef}
 use Rattle.grs_wire.specs.declared.deck.Deck.{Deck}
 use Rattle.grs_wire.specs.declared.seen.TaskEnd.{TaskEnd}
 use Rattle.grs_node.specs.Node.{Node}
-use Rattle.grs_world.specs.Running.{end_among}
+use Rattle.grs_world.specs.Running.{task_end}
 
 -- so many tasks of one job, of which the first has this place in its system
 abbrev pub tasks_in : SysId → ℕ → ℕ → List TaskDef → List TaskId
@@ -31,4 +31,4 @@ tasks_of deck = tasks_of_systems 0 deck.systems
 
 -- each of these tasks with its end at its system
 abbrev pub ends_at : List Node → List TaskId → List (TaskId × TaskEnd)
-ends_at ns ts = map (λ t. (t, end_among ns t)) ts
+ends_at ns ts = map (λ t. (t, task_end ns t)) ts

@@ -77,5 +77,6 @@ abbrev pub end_at : TaskId → Option Node → TaskEnd
 end_at t None = ends.Open
 end_at t (Some n) = end_of n.tasks t
 
-abbrev pub end_among : List Node → TaskId → TaskEnd
-end_among ns t = end_at t (slice_get ns t.system.0)
+-- the end of a task at these systems
+abbrev pub task_end : List Node → TaskId → TaskEnd
+task_end ns t = end_at t (slice_get ns t.system.0)

@@ -2,7 +2,7 @@
 ghost use Rattle.std.specs.Prelude.{◌≡◌, ◌≤◌, ◌++◌, map, length, IfOk, OnOk};
 ghost use Rattle.grs_base.specs.Limits.{most_systems};
 ghost use Rattle.grs_node.specs.Units.{units_at};
-ghost use Rattle.grs_world.specs.Running.{nodes_of, none_pending_at, units_of, end_of, end_among};
+ghost use Rattle.grs_world.specs.Running.{nodes_of, none_pending_at, units_of, end_of, task_end};
 
 use grs_base::{List, NoMemory, SysId, TaskId};
 use grs_node::Node;
@@ -72,8 +72,8 @@ fn end_at(node: &Node<'_>, task: TaskId) -> TaskEnd
 
 /// The end of a task. One that isn't there is open.
 #[tactic(auto, using(crate::proofs::Nodes::nodes))]
-pub(crate) fn end_among(nodes: &[Node<'_>], task: TaskId) -> TaskEnd
-    ensures { result ≡ end_among (nodes_of nodes.now) task }
+pub(crate) fn task_end(nodes: &[Node<'_>], task: TaskId) -> TaskEnd
+    ensures { result ≡ task_end (nodes_of nodes.now) task }
 {
     match nodes.get(task.system.0 as usize) {
         None => TaskEnd::Open,

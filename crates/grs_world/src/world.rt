@@ -4,7 +4,7 @@ ghost use Rattle.std.specs.Prelude.{◌≡◌, ◌<◌, ◌≤◌, ◌^◌, ◌+
 ghost use Rattle.grs_base.specs.Limits.{most_systems};
 ghost use Rattle.grs_node.specs.Node.{first_node};
 ghost use Rattle.grs_world.specs.World as runs;
-ghost use Rattle.grs_world.specs.Running.{starting, after, ran, nodes_of, AreOf, is_live, at_rest, units_of, end_among};
+ghost use Rattle.grs_world.specs.Running.{starting, after, ran, nodes_of, AreOf, is_live, at_rest, units_of, task_end};
 
 use super::chosen::{Done, choose_at};
 use super::summary;
@@ -223,9 +223,9 @@ impl<'d> World<'d> {
 
     /// How a task stands. One that isn't there is open.
     pub fn ended(&self, task: TaskId) -> TaskEnd
-        ensures { result ≡ end_among self.now.world.nodes task }
+        ensures { result ≡ task_end self.now.world.nodes task }
     {
-        summary::end_among(self.nodes.as_slice(), task)
+        summary::task_end(self.nodes.as_slice(), task)
     }
 }
 
