@@ -1,9 +1,10 @@
 -- What an event of a system fixed and told, as the code hands it on.
-use Rattle.std.specs.Prelude.{Bool, true, [], length, drop, Option, Some, None}
+use Rattle.std.specs.Prelude.{Bool, true, [], Option, Some, None}
 use Rattle.grs_wire.specs.declared.log.StepDone.{StepDone}
 use Rattle.grs_wire.specs.declared.medium.Reply.{Reply}
 use Rattle.grs_node.specs.Node.{Node, Step}
 use Rattle.grs_world.specs.declared.chosen.Done.{Done}
+use Rattle.grs_world.specs.World.{told_in}
 
 -- what a kept event fixed and told, if there is one
 abbrev pub done_in : Option StepDone → Done
@@ -12,7 +13,7 @@ done_in (Some s) = record { fixed = s.fixed; told = s.told }
 
 -- what a system's step fixed and told
 abbrev pub done_by : Node → Step → Done
-done_by n s = record { fixed = s.fixed; told = drop (length n.tasks.told) s.node.tasks.told }
+done_by n s = record { fixed = s.fixed; told = told_in n s }
 
 -- a reply to a call, which has an entry in the journal
 abbrev pub journalled : Option Reply → Option (Reply × Bool)

@@ -64,6 +64,10 @@ fixed_by s fs = map (λ f. (s, f)) fs
 abbrev pub told_by : ℕ → SysId → List ToldLine → List Told
 told_by e s ls = map (λ l. record { event = e; system = s; line = l }) ls
 
+-- what a system told in a step
+abbrev pub told_in : Node → Step → List ToldLine
+told_in n step = drop (length n.tasks.told) step.node.tasks.told
+
 -- the world after this came of an event of a system
 unfoldable pub placed : World → SysId → Node → Turnout → World
 placed w s n out = record {
@@ -71,7 +75,7 @@ placed w s n out = record {
   nodes = set w.nodes s.0 out.step.node;
   events = w.events + 1;
   fixed = w.fixed ++ fixed_by s out.step.fixed;
-  told = w.told ++ told_by (w.events + 1) s (drop (length n.tasks.told) out.step.node.tasks.told);
+  told = w.told ++ told_by (w.events + 1) s (told_in n out.step);
 }
 
 -- an event that changes nothing, but is counted
