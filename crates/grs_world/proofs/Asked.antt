@@ -1,8 +1,9 @@
 -- A task after one of its lines was answered: what holds of it, and that the line told agrees.
-use Rattle.std.proofs.Common.{◌≡◌, ◌-◌, ◌+◌, ℕ, suc, Bool, true, false, not, ◌&&◌, List, [], ◌∷◌, ◌++◌, map, length, take, Option, Some, None, refl, ap, sym, ◌∙◌, subst, arith, inl, inr, add-one, length-append}
+use Rattle.std.proofs.Common.{◌≡◌, ◌-◌, ◌+◌, ℕ, zero, suc, Bool, true, false, not, ◌&&◌, List, [], ◌∷◌, ◌++◌, map, length, take, drop, Option, Some, None, refl, ap, sym, ◌∙◌, subst, arith, inl, inr, add-one, length-append}
 use Rattle.std.specs.Prelude.{slice_get, ◌⊎◌, unwrap_or}
 use Rattle.std.specs.List.{list_any, list_all}
-use Rattle.std.proofs.lemmas.Bool.{cases_Bool}
+use Rattle.std.proofs.Math.Seq.{drop-length}
+use Rattle.std.proofs.lemmas.Bool.{and_parts, and_from, cases_Bool}
 use Rattle.std.proofs.lemmas.Bool.Decides.{nat_tests}
 use Rattle.grs_base.specs.Same.{same_res, same_task}
 use Rattle.grs_base.specs.State.{State}
@@ -27,7 +28,7 @@ use Rattle.task_state.specs.declared.state.Phase.{Phase}
 use Rattle.task_state.specs.declared.state.Phase.TheVariants as phases
 use Rattle.task_state.specs.View.{code_in}
 use Rattle.task_state.specs.Replies.{is_held, phase_after}
-use Rattle.grs_world.specs.Agree.{entry_of_line, tells_control, is_control_of, is_code_before, is_code_of, is_post_of, is_end_of}
+use Rattle.grs_world.specs.Agree.{entry_of_line, entries_behind, queues, queues_at, queued_last, is_control, tells_control, is_code_before, is_code_of, is_post_of, is_end_of}
 use Rattle.grs_world.proofs.Own.{own}
 use Rattle.grs_world.proofs.Entries.{asked_at-grows, end_among-push}
 use Rattle.grs_world.proofs.Lines.{asks-more, passed-none}
@@ -107,26 +108,40 @@ unfolding Grows
 grows-ecb None o' g h = absurd h
 grows-ecb (Some e) o' g h = subst IsEcb (sym (g e refl)) h
 
-grows-control : (r : Res) (c : Code) (o o' : Option HistEntry) → Grows o o' → is_control_of r c o ≡ true → is_control_of r c o' ≡ true
+grows-queues : (r : Res) (o o' : Option HistEntry) → Grows o o' → queues_at r o ≡ true → queues_at r o' ≡ true
 unfolding Grows
-grows-control r c None o' g h = absurd (cc)
-grows-control r c (Some e) o' g h = ap (is_control_of r c) (g e refl) ∙ h
+grows-queues r None o' g h = absurd (cc)
+grows-queues r (Some e) o' g h = ap (queues_at r) (g e refl) ∙ h
+
+-- behind the same items there is one more that doesn't pass
+none_behind : {X : Type 0} (p : X → Bool) (x : X) → p x ≡ false → (m : ℕ) (xs : List X) → not (list_any p (drop m xs)) ≡ true → not (list_any p (drop m (xs ++ x ∷ []))) ≡ true
+none_behind p x e zero [] h = grind (arith, e)
+none_behind p x e (suc zero) [] h = refl
+none_behind p x e (suc (suc m)) [] h = refl
+none_behind p x e zero (y ∷ ys) h = ap not (none-more p (y ∷ ys) x (not_true (list_any p (y ∷ ys)) h) e)
+  where
+    not_true : (b : Bool) → not b ≡ true → b ≡ false
+    not_true true f = cc
+    not_true false f = refl
+none_behind p x e (suc m) (y ∷ ys) h = none_behind p x e m ys h
 
 module _ (ls : List Meaning) (E : List HistEntry) (h : HistEntry) (t : TaskId) where
   grows-line : (k : ℕ) → Grows (entry_of_line ls E k) (entry_of_line ls (E ++ h ∷ []) k)
   unfolding Grows
   grows-line k e f = asked_at-grows (slice_get ls (k - 1)) E (h ∷ []) (length (asks_of (take (k - 1) ls))) e f
 
-  grows-tells : (r : Res) (l : ToldLine) → tells_control t ls E r l ≡ true → tells_control t ls (E ++ h ∷ []) r l ≡ true
-  grows-tells r (Coded u k part verbs.Enq code) e = and_kept (same_task t u) _ _ (grows-control r code (entry_of_line ls E k) (entry_of_line ls (E ++ h ∷ []) k) (grows-line k)) e
-  grows-tells r (Coded u k part verbs.Deq code) e = e
-  grows-tells r (Coded u k part verbs.Wait code) e = e
-  grows-tells r (Coded u k part verbs.Gqscan code) e = e
-  grows-tells r (Coded u k part verbs.Display code) e = e
-  grows-tells r (Shown u k verb code rows) e = e
-  grows-tells r (Post u k) e = and_kept (same_task t u) _ _ (grows-control r C00 (entry_of_line ls E k) (entry_of_line ls (E ++ h ∷ []) k) (grows-line k)) e
-  grows-tells r (Ended u code) e = e
-  grows-tells r (Desk k said) e = e
+  -- the last line that queued an element on a resource stays so, where the next one queues none there
+  grows-latest : (r : Res) (k : ℕ) → queues r h ≡ false → queued_last ls E r k ≡ true → queued_last ls (E ++ h ∷ []) r k ≡ true
+  grows-latest r k none q =
+      let both = and_parts (queues_at r (entry_of_line ls E k)) (not (list_any (queues r) (entries_behind ls E k))) q in
+      and_from (queues_at r (entry_of_line ls (E ++ h ∷ []) k)) _ (grows-queues r (entry_of_line ls E k) (entry_of_line ls (E ++ h ∷ []) k) (grows-line k) both.0) (none_behind (queues r) h none (length (asks_of (take k ls))) E both.1)
+
+  grows-tells : (r : Res) → queues r h ≡ false → (l : ToldLine) → tells_control t ls E r l ≡ true → tells_control t ls (E ++ h ∷ []) r l ≡ true
+  grows-tells r none (Coded u k part verb code) e = and_kept (same_task t u) _ _ (and_kept (is_control verb code) (queued_last ls E r k) (queued_last ls (E ++ h ∷ []) r k) (grows-latest r k none)) e
+  grows-tells r none (Shown u k verb code rows) e = e
+  grows-tells r none (Post u k) e = and_kept (same_task t u) (queued_last ls E r k) (queued_last ls (E ++ h ∷ []) r k) (grows-latest r k none) e
+  grows-tells r none (Ended u code) e = e
+  grows-tells r none (Desk k said) e = e
 
   any-kept : {X : Type 0} (p q : X → Bool) → ((x : X) → p x ≡ true → q x ≡ true) → (xs : List X) → list_any p xs ≡ true → list_any q xs ≡ true
   any-kept p q k [] e = e
@@ -134,22 +149,26 @@ module _ (ls : List Meaning) (E : List HistEntry) (h : HistEntry) (t : TaskId) w
 
   -- records that stood before, when the next line was answered
   pub recs-asked : (T : List ToldLine) (knows knows' : Res → Bool × Bool) (n k : ℕ) (verb : Verb) (c : Code) (ph : Phase) (xs : List Rec) →
-      ((r : Res) → has_res r xs ≡ true → knows' r ≡ knows r) → Each (IsRec ls E T knows t n phases.Ready) xs → Each (IsRec ls (E ++ h ∷ []) (told_after T t k verb c) knows' t (suc n) ph) xs
-  recs-asked T knows knows' n k verb c ph [] same e = tt
-  recs-asked T knows knows' n k verb c ph (x ∷ xs) same e = (
+      ((r : Res) → has_res r xs ≡ true → knows' r ≡ knows r) → ((r : Res) → has_res r xs ≡ true → queues r h ≡ false) → Each (IsRec ls E T knows t n phases.Ready) xs → Each (IsRec ls (E ++ h ∷ []) (told_after T t k verb c) knows' t (suc n) ph) xs
+  recs-asked T knows knows' n k verb c ph [] same none e = tt
+  recs-asked T knows knows' n k verb c ph (x ∷ xs) same none e = (
     record {
       entry = grows-on x.res (entry_of_line ls E x.line) _ (grows-line x.line) e.0.entry;
+      latest = grows-latest x.res x.line (none x.res among) e.0.latest;
       low = e.0.low;
       high = omega (arith, e.0.high);
       known = e.0.known ∙ sym (ap (λ z. z.0) here);
-      control = λ f. any-after (tells_control t ls (E ++ h ∷ []) x.res) T t k verb c (any-kept (tells_control t ls E x.res) (tells_control t ls (E ++ h ∷ []) x.res) (grows-tells x.res) T (e.0.control (ap (λ z. z.1) (sym here) ∙ f)));
+      control = λ f. any-after (tells_control t ls (E ++ h ∷ []) x.res) T t k verb c (any-kept (tells_control t ls E x.res) (tells_control t ls (E ++ h ∷ []) x.res) (grows-tells x.res (none x.res among)) T (e.0.control (ap (λ z. z.1) (sym here) ∙ f)));
       due = λ f. still (e.0.due f);
     },
-    recs-asked T knows knows' n k verb c ph xs (λ r f. same r (or_second (same_res r x.res) (has_res r xs) f)) e.1,
+    recs-asked T knows knows' n k verb c ph xs (λ r f. same r (or_second (same_res r x.res) (has_res r xs) f)) (λ r f. none r (or_second (same_res r x.res) (has_res r xs) f)) e.1,
   )
     where
+      among : has_res x.res (x ∷ xs) ≡ true
+      among = grind (arith, same_res-itself x.res)
+
       here : knows' x.res ≡ knows x.res
-      here = same x.res (grind (arith, same_res-itself x.res))
+      here = same x.res among
 
       still : ((is_held phases.Ready ≡ true) × (x.line ≡ n)) ⊎ IsDue ls E T t x.line → ((is_held ph ≡ true) × (x.line ≡ suc n)) ⊎ IsDue ls (E ++ h ∷ []) (told_after T t k verb c) t x.line
       still (inl a) = absurd (cc (a.0))
@@ -174,6 +193,10 @@ module _ (ls : List Meaning) (p : Past) (T : List ToldLine) (knows : Res → Boo
 
   count_new : length (p.asked ++ h ∷ []) ≡ length (asks_of (take (suc n) ls))
   count_new = length-append p.asked (h ∷ []) ∙ ap (λ m. m + 1) (k.before.count refl) ∙ sym (length-append (asks_of (take n ls)) (a ∷ [])) ∙ sym (ap length (asks-more ls n l a k.at k.asks)) ∙ ap (λ m. length (asks_of (take m ls))) (add-one n)
+
+  -- where it queues an element, its line is the last that did
+  pub latest_new : (r : Res) → queues r h ≡ true → queued_last ls (p.asked ++ h ∷ []) r (suc n) ≡ true
+  latest_new r q = and_from (queues_at r (entry_of_line ls (p.asked ++ h ∷ []) (suc n))) _ (ap (queues_at r) of_new_line ∙ q) (ap (λ zs. not (list_any (queues r) zs)) (ap (λ m. drop m (p.asked ++ h ∷ [])) (sym count_new) ∙ drop-length (p.asked ++ h ∷ [])))
 
   passed_new : Passed ls (record { lists = s'; asked = p.asked ++ h ∷ []; last = Some h }) t (suc n)
   passed_new =

@@ -23,11 +23,10 @@ use Rattle.grs_wire.specs.declared.request.Want.TheVariants as wants
 use Rattle.grs_wire.specs.declared.told.ToldLine.{ToldLine}
 use Rattle.grs_wire.specs.declared.told.ToldLine.TheVariants as told
 use Rattle.task_state.specs.Replies.{gives_up}
-use Rattle.grs_world.specs.Agree.{Agrees}
 use Rattle.grs_world.proofs.Owners.{is_among}
 use Rattle.grs_world.proofs.Projections.{on_res, is_leave_of, list_of-same, owns-stays, leave-by, leave-for}
 use Rattle.grs_world.proofs.Replied.{Replied}
-use Rattle.grs_world.proofs.Seen.{is_res_of, askers, none_leaves, Clears, ToldBy, none, more, is_line_of}
+use Rattle.grs_world.proofs.Seen.{AgreesBehind, is_res_of, askers, none_leaves, Clears, ToldBy, none, more, is_line_of}
 use Rattle.grs_world.proofs.Tape.{Item, entries, requests, by, on, for_all, from, home, IsItem, Items, items-append, At, filter-within, entries-append, entries_of-items, on_res-items, by-item, on-item}
 use Rattle.grs_world.proofs.Transfer.{Carries, CarriesLine, line-carried, fits-carried}
 use Rattle.grs_world.proofs.Views.{waits, local, waiting, Blocked, View, two_homes, local-home, from-home, by-from}
@@ -213,11 +212,11 @@ module _ (deck : Deck) (s : ℕ) (front rest Q : List Item) (v : View deck s fro
 -- ---- lines that are told
 abbrev pub LinesAgree : Deck → List HistEntry → List ToldLine → List ToldLine → Type 0
 LinesAgree deck P before [] = Unit {0}
-LinesAgree deck P before (l ∷ ls) = Agrees deck P before l × LinesAgree deck P (before ++ l ∷ []) ls
+LinesAgree deck P before (l ∷ ls) = AgreesBehind deck P before l × LinesAgree deck P (before ++ l ∷ []) ls
 
-lines-push : (deck : Deck) (P : List HistEntry) (before ls : List ToldLine) (l : ToldLine) → LinesAgree deck P before ls → Agrees deck P (before ++ ls) l → LinesAgree deck P before (ls ++ l ∷ [])
-lines-push deck P before [] l all one = (subst (λ T. Agrees deck P T l) (append-nil before) one, tt)
-lines-push deck P before (m ∷ ls) l all one = (all.0, lines-push deck P (before ++ m ∷ []) ls l all.1 (subst (λ T. Agrees deck P T l) (sym (append_assoc before (m ∷ []) ls)) one))
+lines-push : (deck : Deck) (P : List HistEntry) (before ls : List ToldLine) (l : ToldLine) → LinesAgree deck P before ls → AgreesBehind deck P (before ++ ls) l → LinesAgree deck P before (ls ++ l ∷ [])
+lines-push deck P before [] l all one = (subst (λ T. AgreesBehind deck P T l) (append-nil before) one, tt)
+lines-push deck P before (m ∷ ls) l all one = (all.0, lines-push deck P (before ++ m ∷ []) ls l all.1 (subst (λ T. AgreesBehind deck P T l) (sym (append_assoc before (m ∷ []) ls)) one))
 
 lines-append : (deck : Deck) (P : List HistEntry) (before ls ms : List ToldLine) → LinesAgree deck P before ls → LinesAgree deck P (before ++ ls) ms → LinesAgree deck P before (ls ++ ms)
 lines-append deck P before [] ms a b = subst (λ T. LinesAgree deck P T ms) (append-nil before) b

@@ -1,12 +1,10 @@
 -- Telling a task control that it got by another's request.
 use Rattle.std.proofs.Common.{◌≡◌, ℕ, suc, Bool, true, false, cond, ◌&&◌, ◌||◌, List, [], ◌∷◌, ◌++◌, map, Option, Some, None, refl, ap, sym, ◌∙◌, subst, arith, inl, inr}
 use Rattle.std.specs.Prelude.{slice_get, ◌⊎◌, ◌==◌}
-use Rattle.std.proofs.lemmas.Bool.{cases_Bool, eqb-true}
+use Rattle.std.proofs.lemmas.Bool.{and_from, cases_Bool, eqb-true}
 use Rattle.grs_base.specs.Same.{same_res, same_task}
 use Rattle.grs_base.specs.declared.resource.Res.{Res}
-use Rattle.grs_base.specs.declared.resource.Ret.TheVariants.{RetNone, RetUse, RetHave, RetTest, RetChng, RetEcb}
 use Rattle.grs_base.specs.declared.resource.TaskId.{TaskId}
-use Rattle.grs_base.specs.declared.decision.Code.TheVariants.{C00, C04, C08, C14, C18, Wait, End}
 use Rattle.grs_legal.specs.declared.meaning.Meaning.{Meaning}
 use Rattle.grs_base.proofs.SameLaws.{same_res-exact, same_res-itself, same_task-itself}
 use Rattle.grs_wire.specs.declared.history.HistEntry.{HistEntry}
@@ -18,7 +16,7 @@ use Rattle.task_state.specs.declared.state.Phase.{Phase}
 use Rattle.task_state.specs.declared.state.Phase.TheVariants as phases
 use Rattle.task_state.specs.View.{record_place, record_of, on_record}
 use Rattle.task_state.specs.Replies.{is_held}
-use Rattle.grs_world.specs.Agree.{entry_of_line, tells_control, is_control_of, is_code_of, is_post_of}
+use Rattle.grs_world.specs.Agree.{entry_of_line, queued_last, tells_control, is_code_of, is_post_of}
 use Rattle.grs_world.proofs.Invariant.{Each, key, has_res, is_distinct, IsEntryOn, IsRec, IsDue}
 use Rattle.grs_world.proofs.Truths.{or_off, or_second}
 use Rattle.grs_world.proofs.Facts.{any-last, any-more, none-more}
@@ -70,26 +68,6 @@ also knows r q = ((knows q).0 || same_res r q, (knows q).1 || same_res r q)
 abbrev pub marked : (Res → Bool × Bool) → Res → Res → Bool × Bool
 marked knows r q = ((knows q).0 || same_res r q, (knows q).1)
 
--- an entry that is queued gives control by 00
-pub queued_control : (r : Res) (o : Option HistEntry) → IsEntryOn r o → is_control_of r C00 o ≡ true
-queued_control r None h = absurd h
-queued_control r (Some (Enq u q c RetNone code)) h = grind (arith, h.0, same_res-itself r)
-queued_control r (Some (Enq u q c RetUse code)) h = grind (arith, h.0, same_res-itself r)
-queued_control r (Some (Enq u q c RetHave code)) h = grind (arith, h.0, same_res-itself r)
-queued_control r (Some (Enq u q c RetTest C00)) h = absurd (cc (h.1))
-queued_control r (Some (Enq u q c RetTest C04)) h = absurd (cc (h.1))
-queued_control r (Some (Enq u q c RetTest C08)) h = absurd (cc (h.1))
-queued_control r (Some (Enq u q c RetTest C14)) h = absurd (cc (h.1))
-queued_control r (Some (Enq u q c RetTest C18)) h = absurd (cc (h.1))
-queued_control r (Some (Enq u q c RetTest Wait)) h = absurd (cc (h.1))
-queued_control r (Some (Enq u q c RetTest (End n))) h = absurd (cc (h.1))
-queued_control r (Some (Enq u q c RetChng code)) h = grind (arith, h.0, same_res-itself r)
-queued_control r (Some (Enq u q c RetEcb code)) h = grind (arith, h.0, same_res-itself r)
-queued_control r (Some (Deq u q have code)) h = absurd h
-queued_control r (Some (Release u q)) h = absurd h
-queued_control r (Some (Look u place filter rows)) h = absurd h
-queued_control r (Some (Remove by target)) h = absurd h
-
 module _ (ls : List Meaning) (E : List HistEntry) (T : List ToldLine) (knows : Res → Bool × Bool) (t : TaskId) (r : Res) (k : ℕ) (on : IsEntryOn r (entry_of_line ls E k)) where
   -- no other record is of that line
   other_line : (line : ℕ) (ph : Phase) (y : Rec) → IsRec ls E T knows t line ph y → same_res r y.res ≡ false → y.line ≡ k → ⊥
@@ -110,6 +88,7 @@ module _ (ls : List Meaning) (E : List HistEntry) (T : List ToldLine) (knows : R
       go : (b : Bool) → same_res r y.res ≡ b → IsRec ls E (T ++ l ∷ []) (also knows r) t k phases.Ready (cond b (record y { told = true }) y)
       go true s = record {
         entry = h.0.entry;
+        latest = h.0.latest;
         low = h.0.low;
         high = h.0.high;
         known = sym (or_second (knows y.res).0 (same_res r y.res) s);
@@ -118,6 +97,7 @@ module _ (ls : List Meaning) (E : List HistEntry) (T : List ToldLine) (knows : R
       }
       go false s = record {
         entry = h.0.entry;
+        latest = h.0.latest;
         low = h.0.low;
         high = h.0.high;
         known = h.0.known ∙ sym (or_off (knows y.res).0 (same_res r y.res) s);
@@ -126,13 +106,13 @@ module _ (ls : List Meaning) (E : List HistEntry) (T : List ToldLine) (knows : R
       }
 
   -- records after the ECB of line k is posted
-  pub recs-posted : (line : ℕ) (ph : Phase) (xs : List Rec) → Each (IsRec ls E T knows t line ph) xs →
+  pub recs-posted : queued_last ls E r k ≡ true → (line : ℕ) (ph : Phase) (xs : List Rec) → Each (IsRec ls E T knows t line ph) xs →
       Each (IsRec ls E (T ++ Post t k ∷ []) (also knows r) t line ph) (on_record r (λ y. record y { told = true }) xs)
-  recs-posted line ph [] h = tt
-  recs-posted line ph (y ∷ ys) h = (go (same_res r y.res) refl, recs-posted line ph ys h.1)
+  recs-posted latest line ph [] h = tt
+  recs-posted latest line ph (y ∷ ys) h = (go (same_res r y.res) refl, recs-posted latest line ph ys h.1)
     where
       posts : tells_control t ls E r (Post t k) ≡ true
-      posts = grind (arith, same_task-itself t, queued_control r (entry_of_line ls E k) on)
+      posts = and_from (same_task t t) _ (same_task-itself t) latest
 
       other : same_res r y.res ≡ false → is_post_of t y.line (Post t k) ≡ false
       other apart = go (k == y.line) refl
@@ -148,6 +128,7 @@ module _ (ls : List Meaning) (E : List HistEntry) (T : List ToldLine) (knows : R
       go : (b : Bool) → same_res r y.res ≡ b → IsRec ls E (T ++ Post t k ∷ []) (also knows r) t line ph (cond b (record y { told = true }) y)
       go true s = record {
         entry = h.0.entry;
+        latest = h.0.latest;
         low = h.0.low;
         high = h.0.high;
         known = sym (or_second (knows y.res).0 (same_res r y.res) s);
@@ -156,6 +137,7 @@ module _ (ls : List Meaning) (E : List HistEntry) (T : List ToldLine) (knows : R
       }
       go false s = record {
         entry = h.0.entry;
+        latest = h.0.latest;
         low = h.0.low;
         high = h.0.high;
         known = h.0.known ∙ sym (or_off (knows y.res).0 (same_res r y.res) s);
@@ -172,6 +154,7 @@ recs-marked ls E T knows t r line ph (y ∷ ys) h = (go (same_res r y.res) refl,
     go : (b : Bool) → same_res r y.res ≡ b → IsRec ls E T (marked knows r) t line ph (cond b (record y { told = true }) y)
     go true s = record {
       entry = h.0.entry;
+      latest = h.0.latest;
       low = h.0.low;
       high = h.0.high;
       known = sym (or_second (knows y.res).0 (same_res r y.res) s);
@@ -180,6 +163,7 @@ recs-marked ls E T knows t r line ph (y ∷ ys) h = (go (same_res r y.res) refl,
     }
     go false s = record {
       entry = h.0.entry;
+      latest = h.0.latest;
       low = h.0.low;
       high = h.0.high;
       known = h.0.known ∙ sym (or_off (knows y.res).0 (same_res r y.res) s);

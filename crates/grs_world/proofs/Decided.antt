@@ -1,8 +1,8 @@
 -- A task after its own request was decided by the lists.
-use Rattle.std.proofs.Common.{◌≡◌, ℕ, suc, Bool, true, false, cond, not, List, [], ◌∷◌, ◌++◌, map, Option, Some, None, ◌||◌, refl, ap, sym, ◌∙◌, subst, arith, inl, inr}
+use Rattle.std.proofs.Common.{◌≡◌, ℕ, suc, Bool, true, false, cond, not, ◌&&◌, List, [], ◌∷◌, ◌++◌, map, Option, Some, None, ◌||◌, refl, ap, sym, ◌∙◌, subst, arith, inl, inr}
 use Rattle.std.specs.Prelude.{filter, ◌⊎◌, slice_get}
 use Rattle.std.specs.List.{list_any, list_all}
-use Rattle.std.proofs.lemmas.Bool.{cases_Bool, eq-eqb}
+use Rattle.std.proofs.lemmas.Bool.{and_from, cases_Bool, eq-eqb}
 use Rattle.std.proofs.lemmas.Bool.Decides.{nat_tests}
 use Rattle.grs_base.specs.Same.{same_res, same_task}
 use Rattle.grs_base.specs.Lists.{owns, has_task, standing_of, can_have, decide_enq, is_owner, deq_code, is_apart}
@@ -21,7 +21,7 @@ use Rattle.grs_base.specs.declared.decision.Effect.TheVariants.{Nothing, Append,
 use Rattle.grs_base.specs.declared.decision.Standing.{Standing}
 use Rattle.grs_base.specs.declared.decision.Standing.TheVariants.{Exclusive, OnlyShared, AmongShared, Waits, Absent}
 use Rattle.grs_legal.specs.declared.meaning.Meaning.{Meaning}
-use Rattle.grs_base.proofs.SameLaws.{same_task-itself}
+use Rattle.grs_base.proofs.SameLaws.{same_res-itself, same_task-itself}
 use Rattle.grs_base.proofs.ListLaws.{is_owner-standing}
 use Rattle.grs_base.proofs.StateLaws.{list_of-effect, list_of-effect_other, list_at-without_other, res_equality}
 use Rattle.grs_wire.specs.declared.history.HistEntry.{HistEntry}
@@ -36,14 +36,13 @@ use Rattle.task_state.specs.declared.state.Rec.{Rec}
 use Rattle.task_state.specs.declared.state.Phase.TheVariants as phases
 use Rattle.task_state.specs.View.{on_record, record_of, record_place, with_last_by, with_last, without_first, code_in}
 use Rattle.task_state.specs.Replies.{is_held, is_queued, is_changed, is_granted, phase_after}
-use Rattle.grs_world.specs.Agree.{tells_control, is_control_of, gets_control, is_code_of, is_post_of}
+use Rattle.grs_world.specs.Agree.{queues, queued_last, tells_control, gets_control, is_code_of, is_post_of}
 use Rattle.grs_world.proofs.Own.{own, exclusive_on, own-push, own-without, own-exclusive}
 use Rattle.grs_world.proofs.Owners.{owns-push, owns-exclusive, all_exclusive}
 use Rattle.grs_world.proofs.Invariant.{Each, key, has_res, is_distinct, IsEntryOn, IsEcb, IsRec, IsDue, Past, IsTask, is_post_before}
-use Rattle.grs_world.proofs.Control.{queued_control}
 use Rattle.grs_world.proofs.EnqCases.{EnqCase, enq_case, now, waits, ecb, changes, keeps, refused}
 use Rattle.grs_world.proofs.Keys.{has_res-task, keys-push, distinct-push, keys-exclusive, distinct-exclusive, own-exclusive_already, keys-without, distinct-without, gone-without, each-without, each-push, each-exclusive}
-use Rattle.grs_world.proofs.Asked.{told_after, Asks, recs-asked, of_new_line, task-asked}
+use Rattle.grs_world.proofs.Asked.{told_after, Asks, recs-asked, of_new_line, latest_new, task-asked}
 use Rattle.grs_world.proofs.Facts.{any-last, none-more}
 
 -- no ECB of a line after all those posted was posted
@@ -105,6 +104,26 @@ module _ (ls : List Meaning) (p : Past) (T : List ToldLine) (t : TaskId) (n code
   owns_pushed : standing_of (list_of p.lists r) t ≡ Absent → (b : Bool) → can_have (list_of p.lists r) c ≡ b → owns (list_of (after_effect p.lists r t c Append) r) t ≡ b
   owns_pushed absent b can = ap (λ es. owns es t) (list_of-effect p.lists r t c Append) ∙ owns-push (list_of p.lists r) t c (absent-has (list_of p.lists r) t absent) ∙ can
 
+  -- an ENQ that isn't queued, or is on another resource than the records
+  unqueued : (code : Code) → is_queued ret code ≡ false → (q : Res) → queues q (Enq t r c ret code) ≡ false
+  unqueued code e q = rw e (and_off (same_res q r))
+    where
+      and_off : (b : Bool) → (b && false) ≡ false
+      and_off true = refl
+      and_off false = refl
+
+  elsewhere : standing_of (list_of p.lists r) t ≡ Absent → (code : Code) (q : Res) → has_res q xs ≡ true → queues q (Enq t r c ret code) ≡ false
+  elsewhere absent code q has = by_res q r _
+      (λ same. absurd (no_both (ap (λ z. has_res z xs) same ∙ absent_record absent) has))
+      (λ apart. ap (λ b. b && is_queued ret code) apart)
+    where
+      no_both : has_res q xs ≡ false → has_res q xs ≡ true → ⊥
+      no_both a b = let e : false ≡ true = sym a ∙ b in absurd (cc)
+
+  -- the line of an ENQ that is queued is the last that queued an element on its resource
+  latest : (e : Effect) (code : Code) → is_queued ret code ≡ true → queued_last ls (p.asked ++ Enq t r c ret code ∷ []) r (suc n) ≡ true
+  latest e code q = latest_new ls p T (by_lists p.lists t) t n code0 xs o ws l (AsksEnq r c ret) k (after_effect p.lists r t c e) (Enq t r c ret code) r (and_from (same_res r r) _ (same_res-itself r) q)
+
   -- the task with one record more
   pushed : (code : Code) → is_queued ret code ≡ true → standing_of (list_of p.lists r) t ≡ Absent → can_have (list_of p.lists r) c ≡ is_granted code →
       (is_granted code ≡ true → list_any (tells_control t ls (p.asked ++ Enq t r c ret code ∷ []) r) (told_after T t (suc n) verbs.Enq code) ≡ true) →
@@ -118,6 +137,7 @@ module _ (ls : List Meaning) (p : Past) (T : List ToldLine) (t : TaskId) (n code
       let own_new : owns (list_of s' r) t ≡ is_granted code = owns_pushed absent (is_granted code) can in
       let rec : IsRec ls (p.asked ++ h ∷ []) (told_after T t (suc n) verbs.Enq code) (by_lists s' t) t (suc n) (phase_after code) y = record {
         entry = subst (IsEntryOn r) (sym (of_new_line ls p T (by_lists p.lists t) t n code0 xs o ws l (AsksEnq r c ret) k s' h)) (refl, queued);
+        latest = latest Append code queued;
         low = omega arith;
         high = omega arith;
         known = sym own_new;
@@ -125,7 +145,7 @@ module _ (ls : List Meaning) (p : Past) (T : List ToldLine) (t : TaskId) (n code
         due = due;
       } in
       let task = task-asked ls p T (by_lists p.lists t) t n code0 xs o ws l (AsksEnq r c ret) k s' h verbs.Enq code (by_lists s' t) (xs ++ y ∷ []) refl (keys_pushed y refl) (distinct-push xs y k.before.distinct (absent_record absent))
-      (each-push (IsRec ls (p.asked ++ h ∷ []) (told_after T t (suc n) verbs.Enq code) (by_lists s' t) t (suc n) (phase_after code)) xs y (recs-asked ls p.asked h t T (by_lists p.lists t) (by_lists s' t) n (suc n) verbs.Enq code (phase_after code) xs (other-push absent) k.before.records) rec) in (
+      (each-push (IsRec ls (p.asked ++ h ∷ []) (told_after T t (suc n) verbs.Enq code) (by_lists s' t) t (suc n) (phase_after code)) xs y (recs-asked ls p.asked h t T (by_lists p.lists t) (by_lists s' t) n (suc n) verbs.Enq code (phase_after code) xs (other-push absent) (elsewhere absent code) k.before.records) rec) in (
         subst (λ b. IsTask ls (record { lists = s'; asked = p.asked ++ h ∷ []; last = Some h }) (told_after T t (suc n) verbs.Enq code) (by_lists s' t) t
             (record { line = suc n; phase = phase_after code; code = code_in (phase_after code) code0; records = cond b (with_last xs y) (cond (is_changed ret code) (on_record r (λ z. record z { ctl = ctls.E }) xs) xs); outstanding = o; rows = ws })) (sym queued)
             (subst (λ f. IsTask ls (record { lists = s'; asked = p.asked ++ h ∷ []; last = Some h }) (told_after T t (suc n) verbs.Enq code) (by_lists s' t) t
@@ -148,7 +168,7 @@ module _ (ls : List Meaning) (p : Past) (T : List ToldLine) (t : TaskId) (n code
 
   exclusive_rec : (code : Code) (e : Effect) (z : Rec) → IsRec ls (p.asked ++ Enq t r c ret code ∷ []) (told_after T t (suc n) verbs.Enq code) (by_lists (after_effect p.lists r t c e) t) t (suc n) (phase_after code) z →
       IsRec ls (p.asked ++ Enq t r c ret code ∷ []) (told_after T t (suc n) verbs.Enq code) (by_lists (after_effect p.lists r t c e) t) t (suc n) (phase_after code) (record z { ctl = ctls.E })
-  exclusive_rec code e z q = record { entry = q.entry; low = q.low; high = q.high; known = q.known; control = q.control; due = q.due }
+  exclusive_rec code e z q = record { entry = q.entry; latest = q.latest; low = q.low; high = q.high; known = q.known; control = q.control; due = q.due }
 
   owner_by : (st : Standing) → standing_of (list_of p.lists r) t ≡ st → is_owner st ≡ true → owns (list_of p.lists r) t ≡ true
   owner_by st e own = sym (is_owner-standing (list_of p.lists r) t) ∙ ap is_owner e ∙ own
@@ -168,7 +188,7 @@ module _ (ls : List Meaning) (p : Past) (T : List ToldLine) (t : TaskId) (n code
       (λ f. absurd (cc)) (λ g. refl)))
     where
       tells : is_queued ret C00 ≡ true → tells_control t ls (p.asked ++ Enq t r c ret C00 ∷ []) r (Coded t (suc n) 0 verbs.Enq C00) ≡ true
-      tells q = grind (arith, same_task-itself t, ap (is_control_of r C00) (of_new_line ls p T (by_lists p.lists t) t n code0 xs o ws l (AsksEnq r c ret) k (after_effect p.lists r t c Append) (Enq t r c ret C00)) ∙ queued_control r (Some (Enq t r c ret C00)) (refl, q))
+      tells q = and_from (same_task t t) _ (same_task-itself t) (latest Append C00 q)
   by_case d apart (waits code effect absent can queued) = subst (λ z. AfterEnq z d.effect) (sym code) (subst (λ z. AfterEnq Wait z) (sym effect)
       (pushed Wait queued absent can (λ g. absurd (cc)) (λ f. inl (refl, refl)) (λ g. absurd (no_wait ret g))))
     where
@@ -189,20 +209,20 @@ module _ (ls : List Meaning) (p : Past) (T : List ToldLine) (t : TaskId) (n code
       (kept C00 MakeExclusive (on_record r (λ z. record z { ctl = ctls.E }) xs)
       (keys-exclusive r xs ∙ ap (map (exclusive_on r)) k.before.keys ∙ sym (own-exclusive p.lists r t))
       (distinct-exclusive r xs ∙ k.before.distinct)
-      (each-exclusive _ (exclusive_rec C00 MakeExclusive) r xs (recs-asked ls p.asked (Enq t r c ret C00) t T (by_lists p.lists t) (by_lists (after_effect p.lists r t c MakeExclusive) t) n (suc n) verbs.Enq C00 phases.Ready xs (other-exclusive only) k.before.records))
+      (each-exclusive _ (exclusive_rec C00 MakeExclusive) r xs (recs-asked ls p.asked (Enq t r c ret C00) t T (by_lists p.lists t) (by_lists (after_effect p.lists r t c MakeExclusive) t) n (suc n) verbs.Enq C00 phases.Ready xs (other-exclusive only) (λ q e. unqueued C00 (ap (λ z. is_queued z C00) chng) q) k.before.records))
       (ap (λ z. enq_records r c unit z C00 (suc n) xs) (sym chng))
       (λ g. still_owns only)))
   by_case d apart (keeps code effect exclusive chng) = subst (λ z. AfterEnq z d.effect) (sym code) (subst (λ z. AfterEnq C00 z) (sym effect)
       (kept C00 Nothing (on_record r (λ z. record z { ctl = ctls.E }) xs)
       (keys-exclusive r xs ∙ ap (map (exclusive_on r)) k.before.keys ∙ own-exclusive_already p.lists t r (all_exclusive (list_of p.lists r) t apart exclusive))
       (distinct-exclusive r xs ∙ k.before.distinct)
-      (each-exclusive _ (exclusive_rec C00 Nothing) r xs (recs-asked ls p.asked (Enq t r c ret C00) t T (by_lists p.lists t) (by_lists p.lists t) n (suc n) verbs.Enq C00 phases.Ready xs (λ q e. refl) k.before.records))
+      (each-exclusive _ (exclusive_rec C00 Nothing) r xs (recs-asked ls p.asked (Enq t r c ret C00) t T (by_lists p.lists t) (by_lists p.lists t) n (suc n) verbs.Enq C00 phases.Ready xs (λ q e. refl) (λ q e. unqueued C00 (ap (λ z. is_queued z C00) chng) q) k.before.records))
       (ap (λ z. enq_records r c unit z C00 (suc n) xs) (sym chng))
       (λ g. owner_by Exclusive exclusive refl)))
-  by_case d apart (refused effect unqueued unchanged as_told no_control) = subst (λ z. AfterEnq d.code z) (sym effect)
+  by_case d apart (refused effect unqueued_code unchanged as_told no_control) = subst (λ z. AfterEnq d.code z) (sym effect)
       (kept d.code Nothing xs k.before.keys k.before.distinct
-      (recs-asked ls p.asked (Enq t r c ret d.code) t T (by_lists p.lists t) (by_lists p.lists t) n (suc n) verbs.Enq d.code (phase_after d.code) xs (λ q e. refl) k.before.records)
-      (sym (rw (unqueued, unchanged) refl))
+      (recs-asked ls p.asked (Enq t r c ret d.code) t T (by_lists p.lists t) (by_lists p.lists t) n (suc n) verbs.Enq d.code (phase_after d.code) xs (λ q e. refl) (λ q e. unqueued d.code unqueued_code q) k.before.records)
+      (sym (rw (unqueued_code, unchanged) refl))
       (λ g. absurd (let e : false ≡ true = sym no_control ∙ g in cc)))
 
   -- the task after its ENQ was decided
@@ -243,11 +263,11 @@ module _ (ls : List Meaning) (p : Past) (T : List ToldLine) (t : TaskId) (n code
   after_deq : (code : Code) (taken : Bool) → is_owner (standing_of (list_of p.lists r) t) ≡ taken → AfterDeq code taken
   after_deq code true own = task-asked ls p T knows t n code0 xs o ws l (AsksDeq r have) k (without same_res p.lists r t) (Deq t r have code) verbs.Deq code (by_lists (without same_res p.lists r t) t) (without_first xs r) refl
       (keys_taken p.lists t r xs k.before.keys k.before.distinct) (distinct-without r xs k.before.distinct)
-      (recs-asked ls p.asked (Deq t r have code) t T knows (by_lists (without same_res p.lists r t) t) n (suc n) verbs.Deq code (phase_after code) (without_first xs r) (other-without p.lists t knows r xs k.before.distinct others)
+      (recs-asked ls p.asked (Deq t r have code) t T knows (by_lists (without same_res p.lists r t) t) n (suc n) verbs.Deq code (phase_after code) (without_first xs r) (other-without p.lists t knows r xs k.before.distinct others) (λ q e. refl)
       (each-without (IsRec ls p.asked T knows t n phases.Ready) r xs k.before.records))
   after_deq code false own = task-asked ls p T knows t n code0 xs o ws l (AsksDeq r have) k p.lists (Deq t r have code) verbs.Deq code (by_lists p.lists t) xs refl
       k.before.keys k.before.distinct
-      (recs-asked ls p.asked (Deq t r have code) t T knows (by_lists p.lists t) n (suc n) verbs.Deq code (phase_after code) xs (λ q e. by_res q r _ (λ same. subst (λ z. by_lists p.lists t z ≡ knows z) (sym same) (sym (unowned own))) (λ apart. sym (others q apart))) k.before.records)
+      (recs-asked ls p.asked (Deq t r have code) t T knows (by_lists p.lists t) n (suc n) verbs.Deq code (phase_after code) xs (λ q e. by_res q r _ (λ same. subst (λ z. by_lists p.lists t z ≡ knows z) (sym same) (sym (unowned own))) (λ apart. sym (others q apart))) (λ q e. refl) k.before.records)
 
   -- the task after its DEQ was decided
   pub task-deq :

@@ -2,7 +2,7 @@
 use Rattle.std.proofs.Common.{◌≡◌, ◌-◌, ◌+◌, ℕ, suc, Bool, true, false, not, List, [], ◌∷◌, ◌++◌, length, take, Option, Some, None, refl, ap, sym, ◌∙◌, subst, arith, inl, inr}
 use Rattle.std.specs.Prelude.{slice_get, ◌⊎◌, IfSome, nat_lt}
 use Rattle.std.specs.List.{list_any, list_all}
-use Rattle.std.proofs.lemmas.Bool.{lt-ltb}
+use Rattle.std.proofs.lemmas.Bool.{and_from, lt-ltb}
 use Rattle.std.proofs.lemmas.Bool.Decides.{nat_tests}
 use Rattle.grs_base.specs.Same.{same_res, same_task}
 use Rattle.grs_base.specs.Lists.{owns}
@@ -29,12 +29,12 @@ use Rattle.task_state.specs.declared.state.Phase.TheVariants as phases
 use Rattle.task_state.specs.declared.state.TaskState.{TaskState}
 use Rattle.task_state.specs.View.{on_record}
 use Rattle.task_state.specs.Replies.{is_held}
-use Rattle.grs_world.specs.Agree.{entry_of_line, tells_control, is_code_before, is_end_of, TellsEnq, TellsWait, Posts, LineAgrees}
+use Rattle.grs_world.specs.Agree.{entry_of_line, queued_last, tells_control, is_code_before, is_end_of, TellsEnq, TellsWait, Posts, LineAgrees}
 use Rattle.grs_world.proofs.Own.{own}
 use Rattle.grs_world.proofs.Lines.{asks-same, passed-more}
 use Rattle.grs_world.proofs.Invariant.{Each, IsEntryOn, IsEcb, IsRec, IsDue, Past, Passed, IsWaitFor, IsInPhase, IsTask, is_post_before, has_ended, code_bound}
 use Rattle.grs_world.proofs.Others.{recs-told, phase-told}
-use Rattle.grs_world.proofs.Control.{also, marked, recs-marked, keys-told, distinct-told, queued_control, recs-coded, recs-posted}
+use Rattle.grs_world.proofs.Control.{also, marked, recs-marked, keys-told, distinct-told, recs-coded, recs-posted}
 use Rattle.grs_world.proofs.Truths.{or_second}
 use Rattle.grs_world.proofs.Facts.{all-kept, all-more, none-more, some_value, take-more}
 
@@ -84,6 +84,10 @@ codes_later t n T h = all-kept (is_code_before t n) (is_code_before t (suc n)) (
 pub lt_suc : (n : ℕ) → nat_lt n (suc n) ≡ true
 lt_suc n = lt-ltb n (suc n) (omega arith)
 
+-- the line of a record is the last that queued an element on its resource
+pub latest-on : (ls : List Meaning) (E : List HistEntry) (T : List ToldLine) (knows : Res → Bool × Bool) (t : TaskId) (r : Res) (y : Rec) (line : ℕ) (ph : Phase) → same_res r y.res ≡ true → IsRec ls E T knows t line ph y → queued_last ls E r y.line ≡ true
+latest-on ls E T knows t r y line ph same rec = subst (λ q. queued_last ls E q y.line ≡ true) (sym (same_res-exact r y.res same)) rec.latest
+
 -- a task held by its last answer is told it
 pub task-coded : (limit : ℕ) (ls : List Meaning) (P : List HistEntry) (T : List ToldLine) (knows : Res → Bool × Bool) (t : TaskId) (r : Res) (y : Rec) (n code : ℕ) (xs : List Rec) (o : Option Asked) (ws : List Row) →
     IsTask ls (past limit P t) T knows t (record { line = n; phase = phases.HeldAnswer; code = code; records = xs; outstanding = o; rows = ws }) →
@@ -96,7 +100,8 @@ task-coded limit ls P T knows t r y n code xs o ws h rec same at own =
     let of_line : entry_of_line ls (line_entries t P) y.line ≡ Some h.phase.last = ap (λ k. entry_of_line ls (line_entries t P) k) at ∙ h.phase.of_line in
     let codes_at : list_all (is_code_before t y.line) T ≡ true = subst (λ k. list_all (is_code_before t k) T ≡ true) (sym at) h.codes in
     let last_code : is_code_before t (suc n) (Coded t y.line 0 verbs.Enq C00) ≡ true = or_second (not (same_task t t)) _ (subst (λ k. nat_lt k (suc n) ≡ true) (sym at) (lt_suc n)) in
-    let control : tells_control t ls (line_entries t P) r (Coded t n 0 verbs.Enq C00) ≡ true = grind (arith, same_task-itself t, queued_control r (entry_of_line ls (line_entries t P) n) on_n) in (
+    let latest : queued_last ls (line_entries t P) r n ≡ true = subst (λ k. queued_last ls (line_entries t P) r k ≡ true) at (latest-on ls (line_entries t P) T knows t r y n phases.HeldAnswer same rec) in
+    let control : tells_control t ls (line_entries t P) r (Coded t n 0 verbs.Enq C00) ≡ true = and_from (same_task t t) _ (same_task-itself t) latest in (
       record {
         keys = keys-told r xs ∙ h.keys;
         distinct = distinct-told r xs ∙ h.distinct;
@@ -139,7 +144,7 @@ task-posted limit ls P T knows t r y x h rec due going same own =
         distinct = distinct-told r x.records ∙ h.distinct;
         within = h.within;
         count = h.count;
-        records = recs-posted ls (line_entries t P) T knows t r y.line on x.line x.phase x.records h.records;
+        records = recs-posted ls (line_entries t P) T knows t r y.line on (latest-on ls (line_entries t P) T knows t r y x.line x.phase same rec) x.line x.phase x.records h.records;
         codes = all-more (is_code_before t (code_bound x.phase x.line)) T _ h.codes refl;
         posts = all-more (is_post_before t (suc x.line)) T _ h.posts (or_second (not (same_task t t)) _ (lt-ltb y.line (suc x.line) (omega (arith, rec.high))));
         phase = phase-told ls (past limit P t) T t x.line x.phase (Post t y.line) refl h.phase;
@@ -167,6 +172,7 @@ recs-phase ls E T knows t n ph ph' e [] h = tt
 recs-phase ls E T knows t n ph ph' e (x ∷ xs) h = (
   record {
     entry = h.0.entry;
+    latest = h.0.latest;
     low = h.0.low;
     high = h.0.high;
     known = h.0.known;

@@ -23,7 +23,7 @@ use Rattle.task_state.specs.declared.state.Phase.{Phase}
 use Rattle.task_state.specs.declared.state.Phase.TheVariants as phases
 use Rattle.task_state.specs.declared.state.TaskState.{TaskState}
 use Rattle.task_state.specs.Replies.{is_queued, is_held}
-use Rattle.grs_world.specs.Agree.{entry_of_line, tells_control, is_code_before, is_code_of, is_post_of, is_end_of}
+use Rattle.grs_world.specs.Agree.{entry_of_line, queued_last, tells_control, is_code_before, is_code_of, is_post_of, is_end_of}
 use Rattle.grs_world.proofs.Own.{own}
 
 -- each of these records is so
@@ -103,6 +103,8 @@ pub record IsDue (ls : List Meaning) (E : List HistEntry) (T : List ToldLine) (t
 -- A record of task t. By resource `knows` tells whether its control is marked as told, and whether a line told it.
 pub record IsRec (ls : List Meaning) (E : List HistEntry) (T : List ToldLine) (knows : Res → Bool × Bool) (t : TaskId) (line : ℕ) (p : Phase) (x : Rec) : Type 0 where
   pub entry : IsEntryOn x.res (entry_of_line ls E x.line)
+  -- and no later line queued another element there
+  pub latest : queued_last ls E x.res x.line ≡ true
   pub low : 0 < x.line
   pub high : x.line ≤ line
   pub known : x.told ≡ (knows x.res).0

@@ -46,6 +46,7 @@ pub mod Putting
 pub mod Outcomes
 pub mod Runs
 pub mod Messages
+pub mod Removals
 pub mod Sound
 pub mod Fronts
 pub mod Complex
@@ -55,3 +56,4 @@ pub mod Nodes
 pub mod First
 pub mod Happens
 pub mod Samples
+pub mod AgreeSamples

@@ -75,7 +75,7 @@ phase-kept ls s' p T t line phases.Ended k h = h
 
 module _ (ls : List Meaning) (E : List HistEntry) (T : List ToldLine) (t : TaskId) (line : ℕ) (ph : Phase) where
   rec-knows : (knows knows' : Res → Bool × Bool) (x : Rec) → knows' x.res ≡ knows x.res → IsRec ls E T knows t line ph x → IsRec ls E T knows' t line ph x
-  rec-knows knows knows' x e h = record { entry = h.entry; low = h.low; high = h.high; known = h.known ∙ sym (ap (λ z. z.0) e); control = λ c. h.control (ap (λ z. z.1) (sym e) ∙ c); due = h.due }
+  rec-knows knows knows' x e h = record { entry = h.entry; latest = h.latest; low = h.low; high = h.high; known = h.known ∙ sym (ap (λ z. z.0) e); control = λ c. h.control (ap (λ z. z.1) (sym e) ∙ c); due = h.due }
 
   pub recs-knows : (knows knows' : Res → Bool × Bool) (xs : List Rec) → ((r : Res) → has_res r xs ≡ true → knows' r ≡ knows r) → Each (IsRec ls E T knows t line ph) xs → Each (IsRec ls E T knows' t line ph) xs
   recs-knows knows knows' [] same h = tt
@@ -152,6 +152,7 @@ recs-told ls E T knows t line ph l [] e h = tt
 recs-told ls E T knows t line ph l (x ∷ xs) e h = (
   record {
     entry = h.0.entry;
+    latest = h.0.latest;
     low = h.0.low;
     high = h.0.high;
     known = h.0.known;

@@ -1,10 +1,11 @@
 -- What holds of the world at every moment of a run, and how an event of a system keeps it.
-use Rattle.std.proofs.Common.{◌≡◌, ◌≢◌, ◌≤◌, ◌+◌, cond, Bool, true, false, eqb, ◌&&◌, ℕ, suc, List, [], ◌∷◌, ◌++◌, map, length, take, drop, Some, None, refl, ap, sym, ◌∙◌, subst, arith, append-nil, append_assoc, length-append}
+use Rattle.std.proofs.Common.{◌≡◌, ◌≢◌, ◌≤◌, ◌+◌, ◌-◌, cond, Bool, true, false, eqb, ◌&&◌, ℕ, suc, List, [], ◌∷◌, ◌++◌, map, length, take, drop, Some, None, refl, ap, sym, ◌∙◌, subst, arith, append-nil, append_assoc, length-append}
 use Rattle.std.specs.Prelude.{filter, slice_get, set, ◌==◌}
 use Rattle.std.specs.List.{list_all}
 use Rattle.std.proofs.lemmas.Bool.{and_parts, eqb-true, eq-eqb, eqb-false}
 use Rattle.grs_base.specs.State.{State}
 use Rattle.grs_base.specs.declared.resource.SysId.{SysId}
+use Rattle.grs_base.specs.declared.resource.TaskId.{TaskId}
 use Rattle.grs_legal.specs.Legal.{Legal, LegalFrom}
 use Rattle.grs_medium.specs.Medium.{MediumState, live}
 use Rattle.grs_node.specs.Node.{Node, Step}
@@ -20,12 +21,12 @@ use Rattle.grs_wire.specs.declared.request.Req.{Req}
 use Rattle.grs_wire.specs.declared.told.Told.{Told}
 use Rattle.grs_wire.specs.declared.told.ToldLine.{ToldLine}
 use Rattle.grs_wire.specs.declared.told.ToldLine.TheVariants as lines
-use Rattle.grs_world.specs.Agree.{Agrees, AllAgree}
+use Rattle.grs_world.specs.Agree.{Agrees, AgreesBy, AllAgree, Moment, moment, lines_of_told}
 use Rattle.grs_world.specs.World.{World, placed, fixed_by, told_by, happens, run_from, run, hist, first_world}
 use Rattle.grs_world.proofs.Carried.{LinesAgree, ToldNews, filter-ours}
 use Rattle.grs_world.proofs.Outcomes.{Outcome}
 use Rattle.grs_world.proofs.Replied.{replay-push, step-for}
-use Rattle.grs_world.proofs.Seen.{is_line_of}
+use Rattle.grs_world.proofs.Seen.{AgreesBehind, is_line_of}
 use Rattle.grs_world.proofs.Stands.{Stands, waits_for}
 use Rattle.grs_world.proofs.Tape.{Item, entries, requests, for_all, from, Items, items-tape, At, Tape, entries-append, requests-append, tape-append}
 use Rattle.grs_world.proofs.Views.{waits, waiting, View, view-other, not_from}
@@ -69,9 +70,6 @@ legal-append : (deck : Deck) (P hs gs : List HistEntry) → LegalFrom deck P hs 
 legal-append deck P [] gs a b = subst (λ Q. LegalFrom deck Q gs) (append-nil P) b
 legal-append deck P (h ∷ hs) gs a b = (a.0, legal-append deck (P ++ h ∷ []) hs gs a.1 (subst (λ Q. LegalFrom deck Q gs) (sym (append_assoc P (h ∷ []) hs)) b))
 
-abbrev pub lines_of_told : List Told → List ToldLine
-lines_of_told xs = map (λ x. x.line) xs
-
 lines_of_told-append : (xs ys : List Told) → lines_of_told (xs ++ ys) ≡ lines_of_told xs ++ lines_of_told ys
 lines_of_told-append [] ys = refl
 lines_of_told-append (x ∷ xs) ys = ap (λ zs. x.line ∷ zs) (lines_of_told-append xs ys)
@@ -80,9 +78,9 @@ lines-told_by : (n : ℕ) (c : SysId) (ls : List ToldLine) → lines_of_told (to
 lines-told_by n c [] = refl
 lines-told_by n c (l ∷ ls) = ap (λ zs. l ∷ zs) (lines-told_by n c ls)
 
-agree-append : (deck : Deck) (es : List Event) (before : List ToldLine) (xs ys : List Told) → AllAgree deck es before xs → AllAgree deck es (before ++ lines_of_told xs) ys → AllAgree deck es before (xs ++ ys)
+agree-append : (deck : Deck) (es : List Event) (before xs ys : List Told) → AllAgree deck es before xs → AllAgree deck es (before ++ xs) ys → AllAgree deck es before (xs ++ ys)
 agree-append deck es before [] ys a b = subst (λ T. AllAgree deck es T ys) (append-nil before) b
-agree-append deck es before (x ∷ xs) ys a b = (a.0, agree-append deck es (before ++ x.line ∷ []) xs ys a.1 (subst (λ T. AllAgree deck es T ys) (sym (append_assoc before (x.line ∷ []) (lines_of_told xs))) b))
+agree-append deck es before (x ∷ xs) ys a b = (a.0, agree-append deck es (before ++ x ∷ []) xs ys a.1 (subst (λ T. AllAgree deck es T ys) (sym (append_assoc before (x ∷ []) xs)) b))
 
 -- each line was told by now
 abbrev pub AllBy : ℕ → List Told → Type 0
@@ -101,16 +99,38 @@ by-told : (n : ℕ) (c : SysId) (ls : List ToldLine) → AllBy n (told_by n c ls
 by-told n c [] = tt
 by-told n c (l ∷ ls) = (omega arith, by-told n c ls)
 
+-- the moment between these events
+abbrev between : Deck → List Event → List Event → List Told → Moment
+between deck up_to earlier before = record { history = hist deck up_to; fixed = drop (length (run deck earlier).fixed) (run deck up_to).fixed; before = before }
+
 -- lines told before an event agree with it as before
-pub agree-longer : (deck : Deck) (es : List Event) (e : Event) (before : List ToldLine) (xs : List Told) → AllBy (length es) xs → AllAgree deck es before xs → AllAgree deck (es ++ e ∷ []) before xs
+pub agree-longer : (deck : Deck) (es : List Event) (e : Event) (before xs : List Told) → AllBy (length es) xs → AllAgree deck es before xs → AllAgree deck (es ++ e ∷ []) before xs
 agree-longer deck es e before [] n a = tt
-agree-longer deck es e before (x ∷ xs) n a = (subst (λ z. Agrees deck (hist deck z) before x.line) (sym (take-front x.event es (e ∷ []) n.0)) a.0, agree-longer deck es e (before ++ x.line ∷ []) xs n.1 a.1)
+agree-longer deck es e before (x ∷ xs) n a =
+    let same : moment deck (es ++ e ∷ []) x.event before ≡ moment deck es x.event before =
+    ap (λ us. between deck us (take (x.event - 1) (es ++ e ∷ [])) before) (take-front x.event es (e ∷ []) n.0)
+    ∙ ap (λ us. between deck (take x.event es) us before) (take-front (x.event - 1) es (e ∷ []) (omega (arith, n.0))) in
+    (subst (λ m. Agrees deck m x) (sym same) a.0, agree-longer deck es e (before ++ x ∷ []) xs n.1 a.1)
+
+of_system : (c : SysId) (t : TaskId) → (t.system.0 == c.0) ≡ true → c ≡ t.system
+of_system c t e = ap (λ n. record { 0 = n }) (sym (eqb-true t.system.0 c.0 e))
+
+-- a line that a system tells its own task agrees
+told-agrees : (deck : Deck) (m : Moment) (n : ℕ) (c : SysId) (l : ToldLine) → is_line_of c.0 l ≡ true → AgreesBehind deck m.history (lines_of_told m.before) l → AgreesBy deck m n c l
+told-agrees deck m n c (lines.Coded t k part verb code) ours a = (of_system c t ours, a)
+told-agrees deck m n c (lines.Shown t k verb code rows) ours a = a
+told-agrees deck m n c (lines.Post t k) ours a = (of_system c t ours, a)
+told-agrees deck m n c (lines.Ended t code) ours a = (of_system c t ours, a)
+told-agrees deck m n c (lines.Desk k said) ours a = absurd a
 
 -- lines told in the last event
-agree-new : (deck : Deck) (es : List Event) (n : ℕ) (c : SysId) (before ls : List ToldLine) → n ≡ length es → LinesAgree deck (hist deck es) before ls → AllAgree deck es before (told_by n c ls)
-agree-new deck es n c before [] e a = tt
-agree-new deck es n c before (l ∷ ls) e a =
-    (subst (λ z. Agrees deck (hist deck z) before l) (sym (ap (λ m. take m es) e ∙ take-whole es)) a.0, agree-new deck es n c (before ++ l ∷ []) ls e a.1)
+agree-new : (deck : Deck) (es : List Event) (n : ℕ) (c : SysId) (before : List Told) (ls : List ToldLine) → n ≡ length es → list_all (is_line_of c.0) ls ≡ true → LinesAgree deck (hist deck es) (lines_of_told before) ls → AllAgree deck es before (told_by n c ls)
+agree-new deck es n c before [] e ours a = tt
+agree-new deck es n c before (l ∷ ls) e ours a =
+    let x : Told = record { event = n; system = c; line = l } in (
+      told-agrees deck (moment deck es n before) n c l (and_parts _ _ ours).0 (subst (λ us. AgreesBehind deck (hist deck us) (lines_of_told before) l) (sym (ap (λ m. take m es) e ∙ take-whole es)) a.0),
+      agree-new deck es n c (before ++ x ∷ []) ls e (and_parts _ _ ours).1 (subst (λ T. LinesAgree deck (hist deck es) T ls) (sym (lines_of_told-append before (x ∷ []))) a.1),
+    )
 
 other_number : (a s u : ℕ) → u ≢ s → (a == s) ≡ true → (a == u) ≡ false
 other_number a s u ne e = false_by (a == u) (λ f. absurd (ne (sym (eqb-true a u f) ∙ eqb-true a s e)))
@@ -266,7 +286,7 @@ module _ (deck : Deck) (Seen : ℕ → List HistEntry → List Req → Node → 
             (subst (λ k. AllBy k (told_by (w.events + 1) e.system news.lines)) number (by-told (w.events + 1) e.system news.lines)));
         agree = subst (λ xs. AllAgree deck (es ++ e ∷ []) [] xs) (sym told_now)
             (agree-append deck (es ++ e ∷ []) [] w.told (told_by (w.events + 1) e.system news.lines) (agree-longer deck es e [] w.told g.by_now g.agree)
-            (agree-new deck (es ++ e ∷ []) (w.events + 1) e.system (lines_of_told w.told) news.lines number
+            (agree-new deck (es ++ e ∷ []) (w.events + 1) e.system w.told news.lines number news.ours
             (subst (λ P. LinesAgree deck P (lines_of_told w.told) news.lines) (sym hist_run) (news.agree (lines_of_told w.told) (g.same_lines s n at)))));
       }
     where

@@ -42,31 +42,31 @@ use Rattle.task_state.specs.View.{state_of, with_state, with_line, with_phase, w
 use Rattle.grs_node.specs.Node.{first_node}
 use Rattle.grs_world.specs.World.{World, first_world, carry_out, chosen, placed, happens_at, happens, run, hist, told}
 
-abbrev system : ℕ → SysId
+abbrev pub system : ℕ → SysId
 system s = record { 0 = s }
 
 -- a task of this system's only job
-abbrev task_of : ℕ → ℕ → TaskId
+abbrev pub task_of : ℕ → ℕ → TaskId
 task_of s n = record { system = system s; job = 0; task = n }
 
 -- the resource (A, r) of a system, and of the whole complex
-abbrev own : ℕ → Res
+abbrev pub own : ℕ → Res
 own r = kinds.System (system 0) (65 ∷ []) (r ∷ [])
 
-abbrev shared : ℕ → Res
+abbrev pub shared : ℕ → Res
 shared r = kinds.Systems (65 ∷ []) (r ∷ [])
 
-abbrev enq : ℕ → Ctl → Scope → Ret → Line
+abbrev pub enq : ℕ → Ctl → Scope → Ret → Line
 enq r c scope ret = lines.Enq (record { q = 65 ∷ []; r = r ∷ []; ctl = c; scope = scope } ∷ []) ret true
 
-abbrev deq : ℕ → Scope → Line
+abbrev pub deq : ℕ → Scope → Line
 deq r scope = lines.Deq (65 ∷ []) (r ∷ []) scope false None true
 
-abbrev wait_for : ℕ → Line
+abbrev pub wait_for : ℕ → Line
 wait_for r = lines.Wait (65 ∷ []) (r ∷ []) System true
 
 -- a deck of one job a system, with tasks of these lines
-abbrev deck_of : List (List (List Line)) → Deck
+abbrev pub deck_of : List (List (List Line)) → Deck
 deck_of systems = record {
   star = false;
   entries = 1;
@@ -77,17 +77,17 @@ deck_of systems = record {
 }
 
 -- events: a task goes on, or a system takes its turn of the message, or comes to rest
-abbrev goes : ℕ → ℕ → Event
+abbrev pub goes : ℕ → ℕ → Event
 goes s n = record { system = system s; choice = choices.Task (task_of s n) }
 
-abbrev turn : ℕ → Event
+abbrev pub turn : ℕ → Event
 turn s = record { system = system s; choice = choices.Turn }
 
-abbrev rest : ℕ → Event
+abbrev pub rest : ℕ → Event
 rest s = record { system = system s; choice = choices.Rest }
 
 -- a line that is told in this event by this system
-abbrev at : ℕ → ℕ → ToldLine → Told
+abbrev pub at : ℕ → ℕ → ToldLine → Told
 at e s l = record { event = e; system = system s; line = l }
 
 -- the requests that are on record, for each task of each system

@@ -26,7 +26,7 @@ use Rattle.grs_wire.specs.declared.told.ToldLine.{ToldLine}
 use Rattle.grs_wire.specs.declared.told.ToldLine.TheVariants as told
 use Rattle.ring_mode.specs.Ring.{Side, process}
 use Rattle.task_state.specs.Replies.{gives_up}
-use Rattle.grs_world.specs.Agree.{Agrees, entry_of_line}
+use Rattle.grs_world.specs.Agree.{AgreesOf, entry_of_line}
 use Rattle.grs_world.proofs.Owners.{is_among}
 
 -- the elements on resources that pass
@@ -84,6 +84,14 @@ IsEnqOf r (Some (entries.Release u q)) = ⊥
 IsEnqOf r (Some (entries.Look u place filter rows)) = ⊥
 IsEnqOf r (Some (entries.Remove by target)) = ⊥
 
+-- a line that is told to a task agrees with a history, behind lines told before
+abbrev pub AgreesBehind : Deck → List HistEntry → List ToldLine → ToldLine → Type 0
+AgreesBehind deck Q T (told.Coded t k part verb code) = AgreesOf deck.limit (lines_of deck t) Q T (told.Coded t k part verb code)
+AgreesBehind deck Q T (told.Shown t k verb code rows) = ⊥
+AgreesBehind deck Q T (told.Post t k) = AgreesOf deck.limit (lines_of deck t) Q T (told.Post t k)
+AgreesBehind deck Q T (told.Ended t code) = AgreesOf deck.limit (lines_of deck t) Q T (told.Ended t code)
+AgreesBehind deck Q T (told.Desk k said) = ⊥
+
 -- A line that was told stays right while the open requests of the system (those that wait and those that were
 -- sent) are answered by others later: its task has none of them, or, behind a post, none that gives the posted
 -- resource up.
@@ -106,7 +114,7 @@ is_line_of s (told.Desk k said) = false
 -- stays right
 pub data ToldBy (deck : Deck) (s : ℕ) (opens : List Req) (Q : List HistEntry) (T0 : List ToldLine) : List ToldLine → Type 0 where
   none : ToldBy deck s opens Q T0 T0
-  more : (T : List ToldLine) (l : ToldLine) → ToldBy deck s opens Q T0 T → is_line_of s l ≡ true → Agrees deck Q T l → Clears deck opens Q l → ToldBy deck s opens Q T0 (T ++ l ∷ [])
+  more : (T : List ToldLine) (l : ToldLine) → ToldBy deck s opens Q T0 T → is_line_of s l ≡ true → AgreesBehind deck Q T l → Clears deck opens Q l → ToldBy deck s opens Q T0 (T ++ l ∷ [])
 
 -- a request of the outbox may be put into the message now
 pub record MayPut (deck : Deck) (s : ℕ) (Q : List HistEntry) (q : Req) : Type 0 where

@@ -1,5 +1,5 @@
 -- Every run is sound.
-use Rattle.std.proofs.Common.{◌≡◌, ◌<◌, ◌+◌, cond, Bool, true, false, ◌&&◌, ℕ, zero, suc, List, [], ◌∷◌, ◌++◌, length, take, Option, Some, None, refl, ap, sym, ◌∙◌, subst, arith, append-nil, append_assoc, length-append}
+use Rattle.std.proofs.Common.{◌≡◌, ◌<◌, ◌+◌, ◌-◌, cond, Bool, true, false, ◌&&◌, ℕ, zero, suc, List, [], ◌∷◌, ◌++◌, length, take, Option, Some, None, refl, ap, sym, ◌∙◌, subst, arith, append-nil, append_assoc, length-append}
 use Rattle.std.specs.Prelude.{slice_get, ◌==◌}
 use Rattle.grs_base.specs.declared.resource.SysId.{SysId}
 use Rattle.grs_base.specs.declared.resource.TaskId.{TaskId}
@@ -26,6 +26,7 @@ use Rattle.grs_world.specs.Agree.{Sound}
 use Rattle.grs_world.specs.World.{World, Turnout, idle, carry_out, chosen, placed, counted, happens_at, happens, run, first_nodes, first_world}
 use Rattle.grs_world.proofs.Messages.{message-same, message-turned, given-rest}
 use Rattle.grs_world.proofs.Outcomes.{Outcome, quiet_outcome, still_outcome, turn_outcome}
+use Rattle.grs_world.proofs.Removals.{none_purged}
 use Rattle.grs_world.proofs.Replied.{Replied, replied_none}
 use Rattle.grs_world.proofs.Runs.{GoodWorld, GoodMessage, push, run-push, seen_at, message_log, updated, by-later, agree-longer}
 use Rattle.grs_world.proofs.Seen.{NodeLaws}
@@ -267,4 +268,12 @@ good_run deck Seen laws es = good_run_from deck Seen laws [] es (first_good deck
 pub sound : (deck : Deck) (Seen : ℕ → List HistEntry → List Req → Node → Type 0) → NodeLaws deck Seen → (es : List Event) → Sound deck es
 sound deck Seen laws es =
     let g = good_run deck Seen laws es in
-    record { legal = subst (Legal deck) (sym g.hist_is) g.legal; agree = g.agree }
+    record {
+      legal = subst (Legal deck) (sym g.hist_is) g.legal;
+      agree = record {
+        lines = g.agree;
+        removals = λ e s target h.
+            let now = good_run deck Seen laws (take e es) in
+            absurd (none_purged s target deck (run deck (take e es)).fixed (subst (Legal deck) (sym now.hist_is) now.legal) (length (run deck (take (e - 1) es)).fixed) h);
+      };
+    }

@@ -87,6 +87,7 @@ recs-line ls E T knows t n ph [] h = tt
 recs-line ls E T knows t n ph (x ∷ xs) h = (
   record {
     entry = h.0.entry;
+    latest = h.0.latest;
     low = h.0.low;
     high = omega (arith, h.0.high);
     known = h.0.known;

@@ -2,7 +2,7 @@
 use Rattle.std.proofs.Common.{◌≡◌, ℕ, Bool, true, false, cond, not, ◌&&◌, ◌||◌, List, [], ◌∷◌, ◌++◌, Option, Some, None, refl, ap, sym, ◌∙◌, subst, arith, inl, inr}
 use Rattle.std.specs.Prelude.{◌⊎◌, ◌==◌}
 use Rattle.std.specs.List.{list_any}
-use Rattle.std.proofs.lemmas.Bool.{and_parts, cases_Bool, eqb-true, eq-eqb}
+use Rattle.std.proofs.lemmas.Bool.{and_parts, and_from, cases_Bool, eqb-true, eq-eqb}
 use Rattle.grs_base.specs.Same.{same_res, same_task}
 use Rattle.grs_base.specs.Lists.{owns}
 use Rattle.grs_base.specs.State.{list_of}
@@ -26,14 +26,14 @@ use Rattle.task_state.specs.declared.state.TaskState.{TaskState}
 use Rattle.task_state.specs.View.{TasksView, is_task, state_of, with_phase, with_told, telling, record_of, on_record, code_in}
 use Rattle.task_state.proofs.ViewLaws.{state_of-same, told-state, state_of-telling, told-telling}
 use Rattle.task_state.specs.Replies.{is_leaving, is_held, is_held_for, tell_control, tell_untold, tell_line, passes_wait, tell_all}
-use Rattle.grs_world.specs.Agree.{Agrees, tells_control, entry_of_line}
+use Rattle.grs_world.specs.Agree.{queued_last, tells_control, entry_of_line}
 use Rattle.grs_world.proofs.Invariant.{IsRec, IsDue, IsEntryOn, IsTask, has_res, has_ended, is_unsent}
 use Rattle.grs_world.proofs.Others.{is_told_to}
 use Rattle.grs_world.proofs.Owners.{is_among}
-use Rattle.grs_world.proofs.Control.{found, not_found, also, marked, queued_control}
+use Rattle.grs_world.proofs.Control.{found, not_found, also, marked}
 use Rattle.grs_base.proofs.ListLaws.{same_task-sym}
-use Rattle.grs_world.proofs.Granted.{past, task-coded, task-posted, task-marked, task-passed}
-use Rattle.grs_world.proofs.Seen.{stand_apart, ToldBy, more, is_line_of, Clears}
+use Rattle.grs_world.proofs.Granted.{past, latest-on, task-coded, task-posted, task-marked, task-passed}
+use Rattle.grs_world.proofs.Seen.{stand_apart, AgreesBehind, ToldBy, more, is_line_of, Clears}
 use Rattle.grs_world.proofs.Asking.{unasked, unasked-told, unasked-none, records-unasked, held-none, unheld, Opens, IsOpenBy, open-told, IsAskedBy, asked-none, asked-leaves, sent-kept}
 use Rattle.ring_mode.specs.Ring.{is_sent}
 use Rattle.grs_world.proofs.Ours.{IsOurs, Holds, IsHere, said, IsChanged, changed-state, changed-telling, changed-then, changed-none, holds-changed, ours-line, agrees-ours, clears-post, learns, learns-own, learns-other, learns-also, learns-marked, task-knows, here-knows, here-told}
@@ -104,7 +104,7 @@ module _ (deck : Deck) (s : ℕ) (os : Opens) (P : List HistEntry) (T0 : List To
 
   -- one line told, after which the task stands as x
   learned-by : (v w : TasksView) (l : ToldLine) (x : TaskState) → Holds deck s os P knows v → IsOurs deck s v t ls → ToldBy deck s os.all P T0 v.told → ((u : TaskId) → is_told_to u l ≡ same_task u t) →
-      is_line_of s l ≡ true → Agrees deck P v.told l → Clears deck os.all P l →
+      is_line_of s l ≡ true → AgreesBehind deck P v.told l → Clears deck os.all P l →
       IsChanged v w t → w.told ≡ v.told ++ l ∷ [] → state_of w t ≡ x →
       IsHere deck os P (learns knows r t) (v.told ++ l ∷ []) t ls x →
       Learned deck s os P T0 knows v w r t
@@ -255,10 +255,8 @@ module _ (deck : Deck) (s : ℕ) (os : Opens) (P : List HistEntry) (T0 : List To
       (λ free. record { changed = changed-none v t; holds = h; agreed = agreed })
 
 module _ (deck : Deck) (s : ℕ) (os : Opens) (P : List HistEntry) (T0 : List ToldLine) (knows : Res → TaskId → Bool) (r : Res) (t : TaskId) (ls : List Meaning) where
-  posts_control : (E : List HistEntry) (T : List ToldLine) (y : Rec) → IsEntryOn y.res (entry_of_line ls E y.line) → same_res r y.res ≡ true → list_any (tells_control t ls E r) (T ++ Post t y.line ∷ []) ≡ true
-  posts_control E T y on same =
-      let on_r : IsEntryOn r (entry_of_line ls E y.line) = subst (λ q. IsEntryOn q (entry_of_line ls E y.line)) (sym (same_res-exact r y.res same)) on in
-      any-last (tells_control t ls E r) T (Post t y.line) (grind (arith, same_task-itself t, queued_control r (entry_of_line ls E y.line) on_r))
+  posts_control : (E : List HistEntry) (T : List ToldLine) (k : ℕ) → queued_last ls E r k ≡ true → list_any (tells_control t ls E r) (T ++ Post t k ∷ []) ≡ true
+  posts_control E T k latest = any-last (tells_control t ls E r) T (Post t k) (and_from (same_task t t) _ (same_task-itself t) latest)
 
   -- an untold record is told
   learned-record : (v : TasksView) (y : Rec) → Holds deck s os P knows v → IsOurs deck s v t ls → ToldBy deck s os.all P T0 v.told → owns (list_of (replay deck.limit P) r) t ≡ true → is_leaving r (state_of v t).outstanding ≡ false →
@@ -282,7 +280,7 @@ module _ (deck : Deck) (s : ℕ) (os : Opens) (P : List HistEntry) (T0 : List To
           let v1 : TasksView = telling (with_told v t r) (Post t y.line) in
           let ours1 : IsOurs deck s v1 t ls = record { lines = ours.lines; home = ours.home; here = m.changed.here t ∙ ours.here } in
           let told1 : v1.told ≡ v.told ++ Post t y.line ∷ [] = told-telling _ _ ∙ ap (λ T. T ++ Post t y.line ∷ []) (told-told v t r) in
-          let p = passes deck s os P T0 (learns knows r t) r t ls v1 m.holds ours1 m.agreed own (subst (λ T. list_any (tells_control t ls (line_entries t P) r) T ≡ true) (sym told1) (posts_control (line_entries t P) v.told y rec.entry same)) in
+          let p = passes deck s os P T0 (learns knows r t) r t ls v1 m.holds ours1 m.agreed own (subst (λ T. list_any (tells_control t ls (line_entries t P) r) T ≡ true) (sym told1) (posts_control (line_entries t P) v.told y.line (latest-on ls (line_entries t P) v.told (knows_of knows t (state_of v t)) t r y (unasked (state_of v t)).line (unasked (state_of v t)).phase same rec))) in
           record { changed = changed-then v v1 _ t m.changed p.changed; holds = p.holds; agreed = p.agreed }
 
   going-of : (v : TasksView) (y : Rec) → Holds deck s os P knows v → IsOurs deck s v t ls → record_of (unasked (state_of v t)).records r ≡ Some y → has_ended (unasked (state_of v t)).phase ≡ false

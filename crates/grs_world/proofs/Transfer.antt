@@ -29,9 +29,9 @@ use Rattle.grs_legal.specs.Asks.{Ask, AsksEnq, AsksDeq, AsksRelease, asks_of, li
 use Rattle.grs_legal.specs.Legal.{ask_in, entries_of, is_of_line, line_entries, end_among, release_next, or_else, next_ask, passed_behind, passed_lines, lets_pass, last_entry, HasControl, IsLegalOf, MayAsk, MayStand}
 use Rattle.grs_legal.specs.declared.meaning.Meaning.{Meaning}
 use Rattle.grs_legal.specs.declared.meaning.Meaning.TheVariants as meanings
-use Rattle.grs_world.specs.Agree.{Agrees, AgreesOf, CodeAgrees, TellsEnq, TellsDeq, TellsWait, TellsWaitOf, Posts, entry_of_line, tells_control, is_code_before, is_code_of, is_post_of, is_end_of}
+use Rattle.grs_world.specs.Agree.{AgreesOf, CodeAgrees, TellsEnq, TellsDeq, TellsWait, TellsWaitOf, Posts, entry_of_line, tells_control, is_code_before, is_code_of, is_post_of, is_end_of}
 use Rattle.grs_world.proofs.Entries.{asked_at-grows}
-use Rattle.grs_world.proofs.Seen.{FullFits, ask_of, MayPut, is_line_of, IsEnqOf}
+use Rattle.grs_world.proofs.Seen.{AgreesBehind, FullFits, ask_of, MayPut, is_line_of, IsEnqOf}
 use Rattle.grs_world.proofs.Replied.{Replied, only_entry, by-for}
 use Rattle.grs_world.proofs.Projections.{queued_by-same, is_full-same, has_task-same}
 use Rattle.grs_world.proofs.Facts.{filter-append}
@@ -159,11 +159,7 @@ line-home : (n : ℕ) (t u : TaskId) → t.system.0 ≡ n → same_task t u ≡ 
 line-home n t u home same = grind (arith, eq-eqb, home, same_task-exact t u same)
 
 tells_control-home : (n : ℕ) (t : TaskId) (ls : List Meaning) (entries : List HistEntry) (r : Res) → t.system.0 ≡ n → (l : ToldLine) → tells_control t ls entries r l ≡ true → is_line_of n l ≡ true
-tells_control-home n t ls entries r home (Coded u k part verbs.Enq code) h = line-home n t u home (and_parts _ _ h).0
-tells_control-home n t ls entries r home (Coded u k part verbs.Deq code) h = absurd (cc)
-tells_control-home n t ls entries r home (Coded u k part verbs.Wait code) h = absurd (cc)
-tells_control-home n t ls entries r home (Coded u k part verbs.Gqscan code) h = absurd (cc)
-tells_control-home n t ls entries r home (Coded u k part verbs.Display code) h = absurd (cc)
+tells_control-home n t ls entries r home (Coded u k part verb code) h = line-home n t u home (and_parts _ _ h).0
 tells_control-home n t ls entries r home (Shown u k verb code rows) h = absurd (cc)
 tells_control-home n t ls entries r home (Post u k) h = line-home n t u home (and_parts _ _ h).0
 tells_control-home n t ls entries r home (Ended u code) h = absurd (cc)
@@ -266,7 +262,7 @@ coded-carried_of limit n P Q before after t j part verb code (Some ls) k lines h
 
 -- a code that was told by Q agrees with P
 pub coded-carried : (deck : Deck) (n : ℕ) (P Q : List HistEntry) (before after : List ToldLine) (t : TaskId) (k part : ℕ) (verb : Verb) (code : Code)
-    → Carries deck.limit t P Q → t.system.0 ≡ n → before ≡ filter (is_line_of n) after → Agrees deck Q before (Coded t k part verb code) → Agrees deck P after (Coded t k part verb code)
+    → Carries deck.limit t P Q → t.system.0 ≡ n → before ≡ filter (is_line_of n) after → AgreesBehind deck Q before (Coded t k part verb code) → AgreesBehind deck P after (Coded t k part verb code)
 coded-carried deck n P Q before after t k part verb code carries home theirs a =
     coded-carried_of deck.limit n P Q before after t k part verb code (lines_of deck t) carries (record { theirs = theirs }) home a
 
@@ -282,7 +278,7 @@ ended-carried_of limit n P Q before after t code (Some ls) here there same lines
 
 -- so does an end
 pub ended-carried : (deck : Deck) (n : ℕ) (P Q : List HistEntry) (before after : List ToldLine) (t : TaskId) (code : ℕ)
-    → Replied deck.limit P → Replied deck.limit Q → entries_of t P ≡ entries_of t Q → t.system.0 ≡ n → before ≡ filter (is_line_of n) after → Agrees deck Q before (Ended t code) → Agrees deck P after (Ended t code)
+    → Replied deck.limit P → Replied deck.limit Q → entries_of t P ≡ entries_of t Q → t.system.0 ≡ n → before ≡ filter (is_line_of n) after → AgreesBehind deck Q before (Ended t code) → AgreesBehind deck P after (Ended t code)
 ended-carried deck n P Q before after t code here there same home theirs a =
     ended-carried_of deck.limit n P Q before after t code (lines_of deck t) here there same (record { theirs = theirs }) home a
 
@@ -318,7 +314,7 @@ post-carried_of limit n P Q more before after t k (Some ls) same owning lines ho
 pub post-carried : (deck : Deck) (n : ℕ) (P Q more : List HistEntry) (before after : List ToldLine) (t : TaskId) (k : ℕ)
     → entries_of t P ≡ entries_of t Q ++ more
     → ((ls : List Meaning) → lines_of deck t ≡ Some ls → (r : Res) → IsEnqOf r (entry_of_line ls (line_entries t Q) k) → owns (list_of (replay deck.limit Q) r) t ≡ true → owns (list_of (replay deck.limit P) r) t ≡ true)
-    → t.system.0 ≡ n → before ≡ filter (is_line_of n) after → Agrees deck Q before (Post t k) → Agrees deck P after (Post t k)
+    → t.system.0 ≡ n → before ≡ filter (is_line_of n) after → AgreesBehind deck Q before (Post t k) → AgreesBehind deck P after (Post t k)
 post-carried deck n P Q more before after t k same owning home theirs a =
     post-carried_of deck.limit n P Q more before after t k (lines_of deck t) same owning (record { theirs = theirs }) home a
 
@@ -334,7 +330,7 @@ CarriesLine deck P Q (Desk k said) = ⊥
 
 -- a line that was told by Q agrees with P
 pub line-carried : (deck : Deck) (n : ℕ) (P Q : List HistEntry) (before after : List ToldLine) (l : ToldLine)
-    → CarriesLine deck P Q l → is_line_of n l ≡ true → before ≡ filter (is_line_of n) after → Agrees deck Q before l → Agrees deck P after l
+    → CarriesLine deck P Q l → is_line_of n l ≡ true → before ≡ filter (is_line_of n) after → AgreesBehind deck Q before l → AgreesBehind deck P after l
 line-carried deck n P Q before after (Coded t k part verb code) c home theirs a = coded-carried deck n P Q before after t k part verb code c (eqb-true _ _ home) theirs a
 line-carried deck n P Q before after (Shown t k verb code rows) c home theirs a = a
 line-carried deck n P Q before after (Post t k) c home theirs a = post-carried deck n P Q c.0 before after t k c.1 c.2 (eqb-true _ _ home) theirs a

@@ -117,7 +117,7 @@ recs-less : (ls : List Meaning) (E : List HistEntry) (T : List ToldLine) (t : Ta
     Each (IsRec ls E T knows t n ph) xs → Each (IsRec ls E T knows' t n ph) xs
 recs-less ls E T t n ph knows knows' [] less h = tt
 recs-less ls E T t n ph knows knows' (x ∷ xs) less h = (
-  record { entry = h.0.entry; low = h.0.low; high = h.0.high; known = h.0.known ∙ sym (less x.res).0; control = λ c. h.0.control ((less x.res).1 c); due = h.0.due },
+  record { entry = h.0.entry; latest = h.0.latest; low = h.0.low; high = h.0.high; known = h.0.known ∙ sym (less x.res).0; control = λ c. h.0.control ((less x.res).1 c); due = h.0.due },
   recs-less ls E T t n ph knows knows' xs less h.1,
 )
 

@@ -1,10 +1,11 @@
 -- What is told agrees with the history.
-use Rattle.std.specs.Prelude.{◌≡◌, ◌<◌, ℕ, Bool, true, false, not, ◌&&◌, ◌||◌, ◌==◌, nat_lt, ◌-◌, List, [], ◌∷◌, ◌++◌, length, take, cond, Option, Some, None, slice_get, unwrap_or}
+use Rattle.std.specs.Prelude.{◌≡◌, ◌<◌, ℕ, Bool, true, false, not, ◌&&◌, ◌||◌, ◌==◌, nat_lt, ◌-◌, List, [], ◌∷◌, ◌++◌, length, map, take, drop, cond, Option, Some, None, slice_get, unwrap_or}
 use Rattle.std.specs.List.{list_all, list_any}
 use Rattle.grs_base.specs.Same.{same_res, same_task}
 use Rattle.grs_base.specs.Lists.{owns, has_task}
 use Rattle.grs_base.specs.State.{State, list_of, queued_by}
 use Rattle.grs_base.specs.declared.resource.Res.{Res}
+use Rattle.grs_base.specs.declared.resource.SysId.{SysId}
 use Rattle.grs_base.specs.declared.resource.Ret.{Ret}
 use Rattle.grs_base.specs.declared.resource.Ret.TheVariants.{RetNone, RetUse, RetHave, RetTest, RetChng, RetEcb}
 use Rattle.grs_base.specs.declared.resource.TaskId.{TaskId}
@@ -13,9 +14,17 @@ use Rattle.grs_base.specs.declared.decision.Code.TheVariants.{C00, C04, C08, C14
 use Rattle.grs_legal.specs.declared.meaning.Meaning.{Meaning}
 use Rattle.grs_legal.specs.declared.meaning.Meaning.TheVariants as lines
 use Rattle.grs_wire.specs.declared.deck.Deck.{Deck}
+use Rattle.grs_wire.specs.declared.deck.Desk.{Desk as DeskLine}
 use Rattle.grs_wire.specs.declared.deck.Event.{Event}
+use Rattle.grs_wire.specs.declared.deck.Order.{Order}
+use Rattle.grs_wire.specs.declared.deck.Order.TheVariants.{Star, Vary}
+use Rattle.grs_wire.specs.declared.deck.SystemDef.{SystemDef}
 use Rattle.grs_wire.specs.declared.history.HistEntry.{HistEntry}
-use Rattle.grs_wire.specs.declared.history.HistEntry.TheVariants.{Enq, Deq}
+use Rattle.grs_wire.specs.declared.history.HistEntry.TheVariants.{Enq, Deq, Release, Look, Remove}
+use Rattle.grs_wire.specs.declared.request.Fixed.{Fixed}
+use Rattle.grs_wire.specs.declared.request.Fixed.TheVariants.{Purged}
+use Rattle.grs_wire.specs.declared.told.Said.{Said}
+use Rattle.grs_wire.specs.declared.told.Said.TheVariants.{StarDone, StarAlready, VaryDone, VaryNoSuch, VaryInStar}
 use Rattle.grs_wire.specs.declared.told.Verb.{Verb}
 use Rattle.grs_wire.specs.declared.told.Verb.TheVariants as verbs
 use Rattle.grs_wire.specs.declared.told.Told.{Told}
@@ -24,7 +33,8 @@ use Rattle.grs_wire.specs.declared.told.ToldLine.TheVariants.{Coded, Shown, Post
 use Rattle.grs_wire.specs.History.{replay}
 use Rattle.grs_legal.specs.Asks.{asks_of, is_silent, lines_of}
 use Rattle.grs_legal.specs.Legal.{Legal, line_entries, end_code, next_ask}
-use Rattle.grs_world.specs.World.{hist, told}
+use Rattle.task_state.specs.Replies.{is_queued}
+use Rattle.grs_world.specs.World.{run, hist, told}
 
 -- the entry at a place among these, where the line is there and asks something
 abbrev pub asked_at : Option Meaning → Option HistEntry → Option HistEntry
@@ -67,18 +77,43 @@ abbrev pub TellsDeq : Code → Option HistEntry → Type 0
 TellsDeq code (Some (Deq u r have reply)) = reply ≡ code
 TellsDeq code _ = ⊥
 
--- whether an ENQ entry is of this resource, and its task gets control when it is told this code
-abbrev pub is_control_of : Res → Code → Option HistEntry → Bool
-is_control_of r code (Some (Enq u q c ret reply)) = same_res r q && gets_control ret code
-is_control_of r code _ = false
+-- whether an entry queued an element of its task on a resource
+abbrev pub queues : Res → HistEntry → Bool
+queues r (Enq u q c ret reply) = same_res r q && is_queued ret reply
+queues r (Deq u q have reply) = false
+queues r (Release u q) = false
+queues r (Look u place filter rows) = false
+queues r (Remove by target) = false
 
--- whether a line tells a task control of a resource
+-- the same of an entry that may not be there
+abbrev pub queues_at : Res → Option HistEntry → Bool
+queues_at r None = false
+queues_at r (Some h) = queues r h
+
+-- the entries that the lines behind a task's line asked for
+abbrev pub entries_behind : List Meaning → List HistEntry → ℕ → List HistEntry
+entries_behind ls entries k = drop (length (asks_of (take k ls))) entries
+
+-- whether a task's line is the last one whose entry queued an element on a resource: so that element, and no
+-- earlier one, is what the task has there now
+abbrev pub queued_last : List Meaning → List HistEntry → Res → ℕ → Bool
+queued_last ls entries r k = queues_at r (entry_of_line ls entries k) && not (list_any (queues r) (entries_behind ls entries k))
+
+-- whether this code of a line of this kind tells control
+abbrev pub is_control : Verb → Code → Bool
+is_control verbs.Enq C00 = true
+is_control _ _ = false
+
+-- whether a line tells a task control of the element that it has on a resource: it is the code or the post of
+-- the line that queued this element
 abbrev pub tells_control : TaskId → List Meaning → List HistEntry → Res → ToldLine → Bool
-tells_control t ls entries r (Coded u k part verbs.Enq code) = same_task t u && is_control_of r code (entry_of_line ls entries k)
-tells_control t ls entries r (Post u k) = same_task t u && is_control_of r C00 (entry_of_line ls entries k)
-tells_control t ls entries r _ = false
+tells_control t ls entries r (Coded u k part verb code) = same_task t u && (is_control verb code && queued_last ls entries r k)
+tells_control t ls entries r (Shown u k verb code rows) = false
+tells_control t ls entries r (Post u k) = same_task t u && queued_last ls entries r k
+tells_control t ls entries r (Ended u code) = false
+tells_control t ls entries r (Desk k said) = false
 
--- a WAIT is told 00 by an owner that was told control before, and 08 by a task without an element
+-- a WAIT is told 00 to an owner that was told control of its element before, and 08 to a task without an element
 abbrev pub TellsWaitOf : TaskId → List Meaning → List HistEntry → List ToldLine → State → Res → Code → Type 0
 TellsWaitOf t ls entries before s r C00 = (owns (list_of s r) t ≡ true) × (list_any (tells_control t ls entries r) before ≡ true)
 TellsWaitOf t ls entries before s r C08 = has_task (list_of s r) t ≡ false
@@ -144,24 +179,124 @@ abbrev pub AgreesOf : ℕ → Option (List Meaning) → List HistEntry → List 
 AgreesOf limit None history before line = ⊥
 AgreesOf limit (Some ls) history before line = LineAgrees limit ls history before line
 
--- a line that is told agrees, by the task to which it is told; no display is shown and no desk is told yet
-abbrev pub Agrees : Deck → List HistEntry → List ToldLine → ToldLine → Type 0
-Agrees deck history before (Coded t k part verb code) = AgreesOf deck.limit (lines_of deck t) history before (Coded t k part verb code)
-Agrees deck history before (Shown t k verb code rows) = ⊥
-Agrees deck history before (Post t k) = AgreesOf deck.limit (lines_of deck t) history before (Post t k)
-Agrees deck history before (Ended t code) = AgreesOf deck.limit (lines_of deck t) history before (Ended t code)
-Agrees deck history before (Desk k said) = ⊥
+-- The moment at which a line is told: the history up to its event, what that very event fixed, each with the
+-- system that fixed it, and all that was told before.
+pub record Moment : Type 0 where
+  pub history : List HistEntry
+  pub fixed : List (SysId × Fixed)
+  pub before : List Told
 
--- each of these lines agrees with the history up to its event, behind those told before
-abbrev pub AllAgree : Deck → List Event → List ToldLine → List Told → Type 0
+-- lines that were told, without their systems and events
+abbrev pub lines_of_told : List Told → List ToldLine
+lines_of_told xs = map (λ x. x.line) xs
+
+-- the lines of a system's desk
+abbrev pub desk_of : Option SystemDef → List DeskLine
+desk_of None = []
+desk_of (Some d) = d.desk
+
+-- the command of a desk line that may not be there
+abbrev pub order_in : Option DeskLine → Option Order
+order_in None = None
+order_in (Some l) = Some l.order
+
+-- the command of a line of a system's desk, lines numbered from 1
+abbrev pub order_of : Deck → SysId → ℕ → Option Order
+order_of deck s k = order_in (slice_get (desk_of (slice_get deck.systems s.0)) (k - 1))
+
+-- whether a line is none of a desk, or tells of an earlier desk line
+abbrev pub is_desk_before : ℕ → ToldLine → Bool
+is_desk_before k (Desk j said) = nat_lt j k
+is_desk_before k _ = true
+
+-- whether a line tells that the complex changed to star mode
+abbrev pub tells_star : ToldLine → Bool
+tells_star (Desk k StarDone) = true
+tells_star _ = false
+
+-- whether the complex was in star mode before an event: from the start on, or as an earlier event told
+abbrev pub was_star : Deck → ℕ → List Told → Bool
+was_star deck e before = deck.star || list_any (λ x. nat_lt x.event e && tells_star x.line) before
+
+-- whether the removal of a system is what was fixed
+abbrev pub is_purge : SysId → Fixed → Bool
+is_purge target (Purged removed) = target.0 == removed.0
+is_purge target _ = false
+
+-- whether a system fixed the removal of another
+abbrev pub purges : SysId → SysId → List (SysId × Fixed) → Bool
+purges s target fixed = list_any (λ x. (x.0.0 == s.0) && is_purge target x.1) fixed
+
+-- whether an entry removes a system
+abbrev pub removes : SysId → HistEntry → Bool
+removes target (Remove by removed) = target.0 == removed.0
+removes target _ = false
+
+-- What is said of a command has its cause. The complex changes to star mode once. A system is removed by the
+-- event that tells it, and there is none any more where it was removed.
+abbrev pub HasCause : Deck → Moment → ℕ → SysId → Option Order → Said → Type 0
+HasCause deck m e s (Some Star) StarDone = list_any (λ x. tells_star x.line) m.before ≡ false
+HasCause deck m e s (Some Star) StarAlready = was_star deck e m.before ≡ true
+HasCause deck m e s (Some (Vary target)) VaryDone = purges s target m.fixed ≡ true
+HasCause deck m e s (Some (Vary target)) VaryNoSuch = list_any (removes target) m.history ≡ true
+HasCause deck m e s (Some (Vary target)) VaryInStar = was_star deck e m.before ≡ true
+HasCause deck m e s _ _ = ⊥
+
+-- a line told at a desk agrees: it comes behind those of earlier desk lines, and has its cause
+abbrev pub DeskAgrees : Deck → Moment → ℕ → SysId → ℕ → Said → Type 0
+DeskAgrees deck m e s k said =
+    (0 < k) × (list_all (λ x. not (x.system.0 == s.0) || is_desk_before k x.line) m.before ≡ true)
+    × HasCause deck m e s (order_of deck s k) said
+
+-- a line that system s tells a task agrees: the task is one of its own
+abbrev pub TaskAgrees : Deck → Moment → SysId → TaskId → ToldLine → Type 0
+TaskAgrees deck m s t line = (s ≡ t.system) × AgreesOf deck.limit (lines_of deck t) m.history (lines_of_told m.before) line
+
+-- a line that event e of system s tells agrees; no display is shown yet
+abbrev pub AgreesBy : Deck → Moment → ℕ → SysId → ToldLine → Type 0
+AgreesBy deck m e s (Coded t k part verb code) = TaskAgrees deck m s t (Coded t k part verb code)
+AgreesBy deck m e s (Shown t k verb code rows) = ⊥
+AgreesBy deck m e s (Post t k) = TaskAgrees deck m s t (Post t k)
+AgreesBy deck m e s (Ended t code) = TaskAgrees deck m s t (Ended t code)
+AgreesBy deck m e s (Desk k said) = DeskAgrees deck m e s k said
+
+-- what was told at this moment agrees
+abbrev pub Agrees : Deck → Moment → Told → Type 0
+Agrees deck m x = AgreesBy deck m x.event x.system x.line
+
+-- what one event fixed, events numbered from 1
+abbrev pub fixed_in : Deck → List Event → ℕ → List (SysId × Fixed)
+fixed_in deck es e = drop (length (run deck (take (e - 1) es)).fixed) (run deck (take e es)).fixed
+
+-- the moment at which an event tells a line, behind what was told before
+abbrev pub moment : Deck → List Event → ℕ → List Told → Moment
+moment deck es e before = record { history = hist deck (take e es); fixed = fixed_in deck es e; before = before }
+
+-- each of these agrees at its moment, the first behind what was told before
+abbrev pub AllAgree : Deck → List Event → List Told → List Told → Type 0
 AllAgree deck es before [] = Unit {0}
-AllAgree deck es before (x ∷ xs) =
-    Agrees deck (hist deck (take x.event es)) before x.line
-    × AllAgree deck es (before ++ x.line ∷ []) xs
+AllAgree deck es before (x ∷ xs) = Agrees deck (moment deck es x.event before) x × AllAgree deck es (before ++ x ∷ []) xs
+
+-- whether a command is to remove this system
+abbrev pub is_vary : SysId → Option Order → Bool
+is_vary target (Some (Vary named)) = target.0 == named.0
+is_vary target _ = false
+
+-- whether a line tells, at the desk of a system, that it removed another
+abbrev pub tells_removal : Deck → SysId → SysId → ToldLine → Bool
+tells_removal deck s target (Desk k VaryDone) = is_vary target (order_of deck s k)
+tells_removal deck s target _ = false
+
+-- whether event e of system s told that it removed another
+abbrev pub is_removal : Deck → ℕ → SysId → SysId → Told → Bool
+is_removal deck e s target x = (x.event == e) && ((x.system.0 == s.0) && tells_removal deck s target x.line)
 
 -- What a run tells agrees with its history.
-abbrev pub Agree : Deck → List Event → Type 0
-Agree deck es = AllAgree deck es [] (told deck es)
+pub record Agree (deck : Deck) (es : List Event) : Type 0 where
+  -- each line that is told agrees
+  pub lines : AllAgree deck es [] (told deck es)
+  -- and each removal is told by the event that makes it
+  pub removals : (e : ℕ) (s target : SysId) → purges s target (fixed_in deck es e) ≡ true → list_any (is_removal deck e s target) (told deck es) ≡ true
 
 -- A run is sound: its history is legal, and what it tells agrees with that history.
 pub record Sound (deck : Deck) (es : List Event) : Type 0 where
