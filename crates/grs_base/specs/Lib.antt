@@ -9,3 +9,4 @@ pub mod Rows
 pub mod Slices
 pub mod Looks
 pub mod Rnl
+pub mod NameBytes

@@ -3,6 +3,7 @@
 ghost use Rattle.std.specs.Prelude.{◌≡◌, ◌≤◌, ◌↔◌, length, List, ℕ, IfOk, OnOk, Err, true, false};
 ghost use Rattle.grs_base.specs.Limits.{most_qname_bytes, most_rname_bytes};
 ghost use Rattle.grs_base.specs.Names.{trim_blanks, is_qname, is_rname, IsQname};
+ghost use Rattle.grs_base.specs.NameBytes.{bytes_of, HasPlace};
 
 use super::fault::{NameFault, NoMemory};
 use super::limits::{MOST_QNAME_BYTES, MOST_RNAME_BYTES};
@@ -10,22 +11,24 @@ use std::alloc::Global;
 use std::hash::{Hash, Hasher};
 use std::marker::Model;
 
-/// The first name of a resource, of 1 to 8 bytes, seen as its bytes without trailing blanks.
+/// The first name of a resource, of 1 to 8 bytes, seen as its bytes without trailing blanks. They are kept in place:
+/// the first `len` of `kept`.
 #[derive(Drop)]
 pub struct Qname {
-    bytes: Vec<u8>,
+    len: u8,
+    kept: [u8; MOST_QNAME_BYTES],
 }
 
 impl Model for Qname {
-    ghost use Rattle.std.specs.Prelude.{List, ℕ};
+    ghost use Rattle.std.specs.Prelude.{List, ℕ, take, ◌≤◌};
+    ghost use Rattle.grs_base.specs.Limits.{most_qname_bytes};
+    ghost use Rattle.grs_base.specs.Names.{IsQname};
 
     ghost Value = { List ℕ };
 
-    ghost view = { λ a. a.bytes.items };
+    ghost view = { λ a. take a.len a.kept };
 
-    ghost use Rattle.grs_base.specs.Names.{IsQname};
-
-    ghost invariant = { λ a. IsQname a.bytes.items };
+    ghost invariant = { λ a. (a.len ≤ most_qname_bytes) × IsQname (take a.len a.kept) };
 }
 
 /// How many bytes stand before the trailing blanks.
@@ -58,21 +61,11 @@ pub fn is_rname(bytes: &[u8]) -> bool
     1 <= bytes.len() && bytes.len() <= MOST_RNAME_BYTES
 }
 
-/// A copy of bytes.
-fn copy_of(alloc: Global, bytes: &[u8]) -> Result<Vec<u8>, NoMemory>
-    ensures { IfOk result (λ v. v.items ≡ bytes.now) }
-{
-    match Vec::from_slice(alloc, bytes) {
-        Ok(v) => Ok(v),
-        Err(_) => Err(NoMemory),
-    }
-}
-
 impl Qname {
     /// The qname of bytes, without their trailing blanks. Answers BadLength exactly where there are more than 8
-    /// bytes, trailing blanks counted, or none but blanks; NoMemory where there is none for the name.
+    /// bytes, trailing blanks counted, or none but blanks. It takes no memory.
     #[tactic(auto, using(crate::proofs::NameLaws::trims))]
-    pub fn new(alloc: Global, bytes: &[u8]) -> Result<Qname, NameFault>
+    pub fn new(_alloc: Global, bytes: &[u8]) -> Result<Qname, NameFault>
         ensures value { IfOk result (λ q. q ≡ trim_blanks bytes.now) }
         ensures good { OnOk result (is_qname bytes.now ≡ true) }
         ensures bad { (result ≡ Err NameFault.BadLength) ↔ (is_qname bytes.now ≡ false) }
@@ -81,18 +74,21 @@ impl Qname {
         if bytes.len() > MOST_QNAME_BYTES || end == 0 {
             return Err(NameFault::BadLength);
         }
-        match copy_of(alloc, &bytes[..end]) {
-            Ok(bytes) => Ok(Qname { bytes }),
-            Err(_) => Err(NameFault::NoMemory),
-        }
+        let mut kept = [b' '; MOST_QNAME_BYTES];
+        kept[..end].copy_from_slice(&bytes[..end]);
+        Ok(Qname {
+            len: end as u8,
+            kept,
+        })
     }
 
-    /// An equal name.
-    pub fn copy(&self, alloc: Global) -> Result<Qname, NoMemory>
+    /// An equal name. It takes no memory.
+    pub fn copy(&self, _alloc: Global) -> Result<Qname, NoMemory>
         ensures { IfOk result (λ q. q ≡ self.now) }
     {
         Ok(Qname {
-            bytes: copy_of(alloc, self.bytes())?,
+            len: self.len,
+            kept: self.kept,
         })
     }
 
@@ -102,7 +98,7 @@ impl Qname {
         ensures short { length self.now ≤ most_qname_bytes }
         ensures name { IsQname self.now }
     {
-        self.bytes.as_slice()
+        &self.kept[..usize::from(self.len)]
     }
 }
 
@@ -141,27 +137,58 @@ impl Hash for Qname {
     }
 }
 
+/// How many bytes of an rname are kept in place: with the tag and the length before them they take no more than
+/// a vector and its tag do.
+const MOST_IN_PLACE: usize = 23;
+
+/// The bytes of an rname, in memory of their own only where they are many.
+#[derive(Drop)]
+pub(crate) enum NameBytes {
+    /// The first `len` of `kept`.
+    InPlace { len: u8, kept: [u8; MOST_IN_PLACE] },
+    Owned(Vec<u8>),
+}
+
+/// Bytes as they are kept.
+fn kept(alloc: Global, bytes: &[u8]) -> Result<NameBytes, NoMemory>
+    ensures bytes { IfOk result (λ held. bytes_of held ≡ bytes.now) }
+    ensures place { IfOk result HasPlace }
+{
+    if bytes.len() <= MOST_IN_PLACE {
+        let mut kept = [0; MOST_IN_PLACE];
+        kept[..bytes.len()].copy_from_slice(bytes);
+        return Ok(NameBytes::InPlace {
+            len: bytes.len() as u8,
+            kept,
+        });
+    }
+    match Vec::from_slice(alloc, bytes) {
+        Ok(bytes) => Ok(NameBytes::Owned(bytes)),
+        Err(_) => Err(NoMemory),
+    }
+}
+
 /// The second name of a resource, of 1 to 255 bytes, seen as its bytes.
 #[derive(Drop)]
 pub struct Rname {
-    bytes: Vec<u8>,
+    held: NameBytes,
 }
 
 impl Model for Rname {
     ghost use Rattle.std.specs.Prelude.{List, ℕ, ◌≡◌, true};
+    ghost use Rattle.grs_base.specs.Names.{is_rname};
+    ghost use Rattle.grs_base.specs.NameBytes.{bytes_of, HasPlace};
 
     ghost Value = { List ℕ };
 
-    ghost view = { λ a. a.bytes.items };
+    ghost view = { λ a. bytes_of a.held };
 
-    ghost use Rattle.grs_base.specs.Names.{is_rname};
-
-    ghost invariant = { λ a. is_rname a.bytes.items ≡ true };
+    ghost invariant = { λ a. HasPlace a.held × (is_rname (bytes_of a.held) ≡ true) };
 }
 
 impl Rname {
-    /// The rname of bytes. Answers BadLength exactly where there are none or more than 255; NoMemory where there is
-    /// none for the name.
+    /// The rname of bytes. Answers BadLength exactly where there are none or more than 255; NoMemory where they
+    /// are too many to be kept in place, and there is none for them.
     pub fn new(alloc: Global, bytes: &[u8]) -> Result<Rname, NameFault>
         ensures value { IfOk result (λ r. r ≡ bytes.now) }
         ensures good { OnOk result (is_rname bytes.now ≡ true) }
@@ -170,18 +197,18 @@ impl Rname {
         if bytes.is_empty() || bytes.len() > MOST_RNAME_BYTES {
             return Err(NameFault::BadLength);
         }
-        match copy_of(alloc, bytes) {
-            Ok(bytes) => Ok(Rname { bytes }),
+        match kept(alloc, bytes) {
+            Ok(held) => Ok(Rname { held }),
             Err(_) => Err(NameFault::NoMemory),
         }
     }
 
-    /// An equal name.
+    /// An equal name. It takes memory only for bytes that are too many to be kept in place.
     pub fn copy(&self, alloc: Global) -> Result<Rname, NoMemory>
         ensures { IfOk result (λ r. r ≡ self.now) }
     {
         Ok(Rname {
-            bytes: copy_of(alloc, self.bytes())?,
+            held: kept(alloc, self.bytes())?,
         })
     }
 
@@ -191,7 +218,10 @@ impl Rname {
         ensures short { length self.now ≤ most_rname_bytes }
         ensures name { is_rname self.now ≡ true }
     {
-        self.bytes.as_slice()
+        match &self.held {
+            NameBytes::InPlace { len, kept } => &kept[..usize::from(*len)],
+            NameBytes::Owned(bytes) => bytes.as_slice(),
+        }
     }
 }
 
