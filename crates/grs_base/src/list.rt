@@ -20,7 +20,7 @@ impl<T> Model for List<T> {
 }
 
 impl<T> List<T> {
-    ghost use Rattle.std.specs.Prelude.{◌≡◌, ◌<◌, ◌++◌, ◌∷◌, [], length, OnOk, OnErr, slice_get, Some, IfSome, IfNone};
+    ghost use Rattle.std.specs.Prelude.{◌≡◌, ◌<◌, ◌++◌, ◌∷◌, [], length, IfOk, OnOk, OnErr, slice_get, Some, IfSome, IfNone};
 
     /// A list without items.
     pub fn new(alloc: Global) -> Self
@@ -28,6 +28,16 @@ impl<T> List<T> {
     {
         List {
             items: Vec::new(alloc),
+        }
+    }
+
+    /// A list without items, with room for so many.
+    pub fn with_room(alloc: Global, room: usize) -> Result<Self, NoMemory>
+        ensures { IfOk result (λ list. list ≡ []) }
+    {
+        match Vec::with_capacity(alloc, room) {
+            Ok(items) => Ok(List { items }),
+            Err(_) => Err(NoMemory),
         }
     }
 
@@ -140,7 +150,7 @@ pub trait Copied: Drop {
 pub fn copy_all<T: Copied>(alloc: Global, items: &[T]) -> Result<List<T>, NoMemory>
     ensures { IfOk result (λ list. list ≡ items.now) }
 {
-    let mut list = List::new(alloc);
+    let mut list = List::with_room(alloc, items.len())?;
     for item in items {
         list.push(item.copied(alloc)?)?;
     }
