@@ -47,9 +47,7 @@ pub(crate) fn count_less(counts: &mut IndexMap<TaskId, usize>, task: TaskId)
     requires { 1 ≤ counted counts.old.entries task }
     ensures { (t : TaskValue) → counted counts.new.entries t + cond (same_task task t) 1 0 ≡ counted counts.old.entries t }
 {
-    let count = count_of(counts, task) - 1;
-    match counts.insert(task, count) {
-        Ok(_) => {}
-        Err(_) => unreachable!(),
+    if let Some(count) = counts.get_mut(&task) {
+        *count -= 1;
     }
 }
