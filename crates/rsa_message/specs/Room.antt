@@ -1,8 +1,8 @@
 -- The room that a call of the message was given beforehand, so that it takes no memory.
-use Rattle.std.specs.Prelude.{◌≡◌, ℕ, ◌≤◌, max, List, [], Option, Some, None}
+use Rattle.std.specs.Prelude.{◌≡◌, ℕ, ◌≤◌, cond, max, List, [], Option, Some, None}
 use Rattle.grs_base.specs.declared.resource.SysId.{SysId}
 use Rattle.grs_wire.specs.declared.medium.RingEntry.{RingEntry}
-use Rattle.rsa_message.specs.Message.{Message, unseen}
+use Rattle.rsa_message.specs.Message.{Message, is_at, unseen}
 
 -- For whose Turn there is room, if for any, and for how many new entries.
 pub record Room : Type 0 where
@@ -18,7 +18,7 @@ pub record RsaValue : Type 0 where
   pub message : Message
   pub room : Room
 
--- the copies that are kept for the reply
-abbrev pub given_to : Option SysId → List RingEntry → List RingEntry
-given_to None es = []
-given_to (Some s) es = unseen s es
+-- the copies that are kept for the reply: those that it gives, where the message stands at its caller
+abbrev pub given_to : Option SysId → Option SysId → List RingEntry → List RingEntry
+given_to None holder es = []
+given_to (Some s) holder es = cond (is_at holder s) (unseen s es) []

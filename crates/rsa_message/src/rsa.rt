@@ -1,8 +1,8 @@
 //! The message as a whole.
-ghost use Rattle.std.specs.Prelude.{◌≡◌, ◌+◌, ◌<◌, ◌≤◌, ◌^◌, length, if◌then◌else◌, None, IfOk, OnOk};
+ghost use Rattle.std.specs.Prelude.{◌≡◌, ◌+◌, ◌<◌, ◌≤◌, ◌^◌, true, length, if◌then◌else◌, Some, None, IfOk, OnOk};
 ghost use Rattle.grs_base.specs.Limits.{most_systems};
-ghost use Rattle.rsa_message.specs.Message.{opened, never_opened, unseen, first_number, turn_reply, turned, turned_open, turned_closed, turn_changes, wakes, dropped, closed_by, message_at_end};
-ghost use Rattle.rsa_message.specs.Room.{HasRoom};
+ghost use Rattle.rsa_message.specs.Message.{is_at, opened, never_opened, unseen, first_number, turn_reply, turned, turned_open, turned_closed, turn_changes, wakes, dropped, closed_by, message_at_end};
+ghost use Rattle.rsa_message.specs.Room.{HasRoom, given_to};
 
 use crate::entries::{clear, copy_unseen, first_of_unseen, has_unseen, put};
 use crate::order::{first_in, moved_to, next_due, stands_at};
@@ -41,7 +41,7 @@ impl Model for Rsa {
 
     ghost view = { λ r. record { message = record { systems = r.systems; holder = r.holder; closed = r.closed; still = r.still; entries = r.entries.items; next = r.next }; room = record { caller = r.ready; entries = r.room } } };
 
-    ghost invariant = { λ r. (r.systems ≤ most_systems) × (number_of r.holder < r.systems) × (r.next + r.room ≤ 2 ^ 57 + 1) × (vec_len r.entries + r.room ≤ vec_capacity r.entries) × (r.given ≡ given_to r.ready r.entries.items) };
+    ghost invariant = { λ r. (r.systems ≤ most_systems) × (number_of r.holder < r.systems) × (r.next + r.room ≤ 2 ^ 57 + 1) × (vec_len r.entries + r.room ≤ vec_capacity r.entries) × (r.given ≡ given_to r.ready r.holder r.entries.items) };
 }
 
 impl Rsa {
@@ -66,6 +66,18 @@ impl Rsa {
         }
     }
 
+    /// Copies of what the reply to a Turn gives: of nothing, where the message isn't at the caller.
+    fn copies_for(&self, caller: SysId) -> Result<List<RingEntry>, NoMemory>
+        requires { caller.0 < self.now.message.systems }
+        ensures { IfOk result (λ given. given ≡ given_to (Some caller) self.now.message.holder self.now.message.entries) }
+    {
+        if stands_at(self.holder, caller) {
+            copy_unseen(self.alloc, self.entries.as_slice(), caller)
+        } else {
+            Ok(List::new(self.alloc))
+        }
+    }
+
     /// Makes room for one Turn of the system with at most `out` requests, or for one removal. The copies that the
     /// reply gives are made here. No entry may have a number above `LAST_NUMBER`: the call that would need one
     /// answers NoMemory.
@@ -81,8 +93,7 @@ impl Rsa {
         if self.entries.reserve(wanted as usize).is_err() {
             return Err(NoMemory);
         }
-        let given = copy_unseen(self.alloc, self.entries.as_slice(), caller)?;
-        self.given = given;
+        self.given = self.copies_for(caller)?;
         self.ready = Some(caller);
         self.room = wanted;
         Ok(())
@@ -90,7 +101,8 @@ impl Rsa {
 
     /// The copies for a reply, of which there are none afterwards.
     fn take_given(&mut self, caller: SysId) -> List<RingEntry>
-        requires { self.old.room.caller ≡ Some caller }
+        requires caller { self.old.room.caller ≡ Some caller }
+        requires here { is_at self.old.message.holder caller ≡ true }
         ensures given { result ≡ unseen caller self.old.message.entries }
         ensures message { self.new.message ≡ self.old.message }
         ensures caller { self.new.room.caller ≡ None }
@@ -247,6 +259,8 @@ impl Rsa {
         requires { caller.0 < self.old.message.systems }
         ensures { self.new.message ≡ closed_by self.old.message caller live }
     {
+        self.ready = None;
+        self.given = List::new(self.alloc);
         let systems = self.systems;
         let still = without_system(live, caller);
         self.holder = moved_to(systems, self.holder, still);
