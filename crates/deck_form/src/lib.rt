@@ -17,5 +17,3 @@ pub use grouping::statements;
 pub use laws::one_statement;
 pub use unbuilt::is_unbuilt;
 
-#[cfg(test)]
-mod tests;

@@ -19,5 +19,3 @@ pub use next::{
 pub use scan::{MOST_TEXT_BYTES, lines};
 pub use token::{Token, TokenLine};
 
-#[cfg(test)]
-mod tests;

@@ -15,8 +15,6 @@ mod queues;
 mod resource;
 mod rnl;
 mod slice;
-#[cfg(test)]
-mod tests;
 
 pub use decision::{Code, Decision, Effect, Standing};
 pub use fault::{DeckFault, Kind, NameFault, NoMemory, ReadError};

@@ -13,5 +13,3 @@ pub use grs_wire::{Choice, Deck, Event, JobDef, Name, SystemDef, TaskDef};
 pub use laws::one_deck;
 pub use read::read_deck;
 
-#[cfg(test)]
-mod tests;

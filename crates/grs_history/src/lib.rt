@@ -4,8 +4,6 @@
 
 mod queues;
 mod replies;
-#[cfg(test)]
-mod tests;
 
 pub use queues::queues_after;
 pub use replies::answers;

@@ -8,8 +8,6 @@ mod sink;
 mod source;
 mod standard;
 mod sure;
-#[cfg(test)]
-mod tests;
 mod whole;
 
 pub use fault::{Failed, ReadFailure};

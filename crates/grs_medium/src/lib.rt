@@ -6,7 +6,5 @@
 pub mod laws;
 mod medium;
 mod sets;
-#[cfg(test)]
-mod tests;
 
 pub use medium::Medium;

@@ -10,8 +10,6 @@ mod rows;
 mod schedule;
 mod spelled;
 mod state;
-#[cfg(test)]
-mod tests;
 mod told;
 mod told_line;
 mod whole;

@@ -10,8 +10,6 @@ pub mod laws;
 mod lists;
 mod seen;
 mod status;
-#[cfg(test)]
-mod tests;
 mod words;
 
 pub use command::{grs, lists_command, replay_command};

@@ -10,8 +10,6 @@ pub mod masks;
 mod medium;
 mod request;
 mod seen;
-#[cfg(test)]
-mod tests;
 mod told;
 
 pub use deck::{Choice, Deck, Desk, Event, JobDef, Name, Order, SystemDef, TaskDef};

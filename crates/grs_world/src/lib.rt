@@ -5,8 +5,6 @@
 mod chosen;
 pub mod laws;
 mod summary;
-#[cfg(test)]
-mod tests;
 mod world;
 
 pub use world::{World, replay};

@@ -23,5 +23,3 @@ pub use print::print_line;
 pub use read::read_line;
 pub use said::{Said, Verb, said_at, verb_of};
 
-#[cfg(test)]
-mod tests;

@@ -3,7 +3,5 @@
 #![tactic(auto)]
 
 mod local;
-#[cfg(test)]
-mod tests;
 
 pub use local::Local;

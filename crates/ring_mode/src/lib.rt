@@ -5,7 +5,5 @@
 
 mod ring;
 mod same;
-#[cfg(test)]
-mod tests;
 
 pub use ring::{is_for_all, on_turn, res_of};

@@ -5,8 +5,6 @@
 
 mod entry;
 mod pattern;
-#[cfg(test)]
-mod tests;
 
 pub use entry::{find, matches};
 pub use pattern::matches_pattern;

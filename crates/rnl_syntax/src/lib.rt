@@ -14,5 +14,3 @@ pub use operands::{Operands, Rnldef, entry_of, has_bad_name, rnldef_at};
 pub use print::print_rnldef;
 pub use read::read_rnldef;
 
-#[cfg(test)]
-mod tests;

@@ -5,7 +5,5 @@
 #![tactic(auto)]
 
 mod decide;
-#[cfg(test)]
-mod tests;
 
 pub use decide::{Ask, Resolved, resolve, resolve_kind};

@@ -8,8 +8,6 @@ mod records;
 mod replies;
 mod state;
 mod tasks;
-#[cfg(test)]
-mod tests;
 mod units;
 
 pub use records::Records;

@@ -1,0 +1,14 @@
+//! Tests of the library's calls that no deck of the program reaches, and of streams of which some calls fail. They
+//! stand together in one crate above all others, since a crate with a test is proved twice; here is nothing else.
+#![tactic(auto)]
+
+#[cfg(test)]
+mod commands;
+#[cfg(test)]
+mod copies;
+#[cfg(test)]
+mod looks;
+#[cfg(test)]
+mod medium;
+#[cfg(test)]
+mod readers;
