@@ -2,7 +2,7 @@
 //! copy is equal is in the contracts; that one is made, where there is memory, is in none. A value that is dear to
 //! drop is dropped on one path alone.
 use grs_base::{
-    Code, Ctl, Elem, Filter, List, NameFault, NoMemory, Place, Qname, Res, Ret, Rname, Row, SysId,
+    Code, Ctl, Elem, Filter, List, NameFault, Place, Qname, ReadError, Res, Ret, Rname, Row, SysId,
     TaskId,
 };
 use grs_deck::read_deck;
@@ -29,15 +29,14 @@ const TASK: TaskId = TaskId {
     task: 3,
 };
 
-fn copy_deck(alloc: Global, deck: &Deck) -> Result<usize, NoMemory> {
+fn copy_deck(alloc: Global, deck: &Deck) -> Result<usize, ReadError> {
     let copied = deck.copy(alloc)?;
     Ok(copied.systems.len())
 }
 
-fn copies_decks(alloc: Global) -> Result<usize, Fail> {
+fn copies_decks(alloc: Global) -> Result<usize, ReadError> {
     let deck = read_deck(alloc, TEXT)?;
-    let systems = copy_deck(alloc, &deck)?;
-    Ok(systems)
+    copy_deck(alloc, &deck)
 }
 
 fn res(alloc: Global) -> Result<Res, NameFault> {
@@ -46,19 +45,25 @@ fn res(alloc: Global) -> Result<Res, NameFault> {
     Ok(Res::Systems { q, r })
 }
 
-/// A list of one row with one element.
-fn rows(alloc: Global) -> Result<List<Row>, NameFault> {
+fn row(alloc: Global) -> Result<Row, NameFault> {
+    let res = res(alloc)?;
     let mut elems = List::new(alloc);
     elems.push(Elem {
         task: TASK,
         ctl: Ctl::S,
     })?;
-    let mut rows = List::new(alloc);
-    rows.push(Row {
-        res: res(alloc)?,
+    Ok(Row {
+        res,
         elems,
         owners: 1,
-    })?;
+    })
+}
+
+/// A list of one row with one element.
+fn rows(alloc: Global) -> Result<List<Row>, NameFault> {
+    let row = row(alloc)?;
+    let mut rows = List::new(alloc);
+    rows.push(row)?;
     Ok(rows)
 }
 
@@ -84,37 +89,34 @@ fn shown(alloc: Global) -> Result<ToldLine, NameFault> {
     })
 }
 
-fn copy_look(alloc: Global, entry: &HistEntry) -> Result<(), NoMemory> {
+fn copy_look(alloc: Global, entry: &HistEntry) -> Result<(), NameFault> {
     let _copied = entry.copy(alloc)?;
     Ok(())
 }
 
 fn copies_looks(alloc: Global) -> Result<(), NameFault> {
+    let q = Some(Qname::new(alloc, b"A")?);
+    let rows = rows(alloc)?;
     let look = HistEntry::Look {
         task: TASK,
         place: Place::Slice(7),
-        filter: Filter::Named {
-            q: Some(Qname::new(alloc, b"A")?),
-            r: None,
-        },
-        rows: rows(alloc)?,
+        filter: Filter::Named { q, r: None },
+        rows,
     };
-    copy_look(alloc, &look)?;
-    Ok(())
+    copy_look(alloc, &look)
 }
 
-fn copy_answer(alloc: Global, answer: &Answer) -> Result<(), NoMemory> {
+fn copy_answer(alloc: Global, answer: &Answer) -> Result<(), NameFault> {
     let _copied = answer.copy(alloc)?;
     Ok(())
 }
 
 fn copies_answers(alloc: Global) -> Result<(), NameFault> {
     let answer = Answer::Rows(rows(alloc)?);
-    copy_answer(alloc, &answer)?;
-    Ok(())
+    copy_answer(alloc, &answer)
 }
 
-fn copy_mail(alloc: Global, mail: &Mail) -> Result<(), NoMemory> {
+fn copy_mail(alloc: Global, mail: &Mail) -> Result<(), NameFault> {
     let _copied = mail.copy(alloc)?;
     Ok(())
 }
@@ -125,13 +127,13 @@ fn copies_mail(alloc: Global) -> Result<(), NameFault> {
         from: SysId(2),
         req: request(alloc)?,
     };
-    copy_mail(alloc, &mail)?;
-    Ok(())
+    copy_mail(alloc, &mail)
 }
 
 fn call(alloc: Global) -> Result<Call, NameFault> {
+    let req = request(alloc)?;
     let mut out = List::new(alloc);
-    out.push(request(alloc)?)?;
+    out.push(req)?;
     Ok(Call {
         known: 3,
         act: Act::Turn { out },
@@ -139,11 +141,12 @@ fn call(alloc: Global) -> Result<Call, NameFault> {
 }
 
 fn reply(alloc: Global) -> Result<Reply, NameFault> {
+    let body = RingBody::Request(request(alloc)?);
     let mut entries = List::new(alloc);
     entries.push(RingEntry {
         number: 9,
         from: SysId(1),
-        body: RingBody::Request(request(alloc)?),
+        body,
         mask: 6,
     })?;
     Ok(Reply::Turned {
@@ -153,7 +156,7 @@ fn reply(alloc: Global) -> Result<Reply, NameFault> {
     })
 }
 
-fn copy_line(alloc: Global, line: &JEntry) -> Result<(), NoMemory> {
+fn copy_line(alloc: Global, line: &JEntry) -> Result<(), NameFault> {
     let _copied = line.copy(alloc)?;
     Ok(())
 }
@@ -166,11 +169,10 @@ fn copies_calls(alloc: Global) -> Result<(), NameFault> {
         call,
         reply: reply(alloc)?,
     };
-    copy_line(alloc, &line)?;
-    Ok(())
+    copy_line(alloc, &line)
 }
 
-fn copy_told(alloc: Global, told: &Told) -> Result<(), NoMemory> {
+fn copy_told(alloc: Global, told: &Told) -> Result<(), NameFault> {
     let _copied = told.copy(alloc)?;
     Ok(())
 }
@@ -181,15 +183,26 @@ fn copies_told(alloc: Global) -> Result<(), NameFault> {
         system: SysId(1),
         line: shown(alloc)?,
     };
-    copy_told(alloc, &told)?;
-    Ok(())
+    copy_told(alloc, &told)
+}
+
+fn fixed(alloc: Global) -> Result<List<Fixed>, NameFault> {
+    let req = request(alloc)?;
+    let mut fixed = List::new(alloc);
+    fixed.push(Fixed::Asked(req))?;
+    Ok(fixed)
+}
+
+fn told(alloc: Global) -> Result<List<ToldLine>, NameFault> {
+    let line = shown(alloc)?;
+    let mut told = List::new(alloc);
+    told.push(line)?;
+    Ok(told)
 }
 
 fn log(alloc: Global) -> Result<NodeLog, NameFault> {
-    let mut fixed = List::new(alloc);
-    fixed.push(Fixed::Asked(request(alloc)?))?;
-    let mut told = List::new(alloc);
-    told.push(shown(alloc)?)?;
+    let fixed = fixed(alloc)?;
+    let told = told(alloc)?;
     let mut steps = List::new(alloc);
     steps.push(StepDone {
         choice: Choice::Take,
@@ -200,15 +213,14 @@ fn log(alloc: Global) -> Result<NodeLog, NameFault> {
     Ok(NodeLog { steps })
 }
 
-fn copy_log(alloc: Global, log: &NodeLog) -> Result<(), NoMemory> {
+fn copy_log(alloc: Global, log: &NodeLog) -> Result<(), NameFault> {
     let _copied = log.copy(alloc)?;
     Ok(())
 }
 
 fn copies_logs(alloc: Global) -> Result<(), NameFault> {
     let log = log(alloc)?;
-    copy_log(alloc, &log)?;
-    Ok(())
+    copy_log(alloc, &log)
 }
 
 #[test]

@@ -1,8 +1,6 @@
 //! Looks, which no deck can ask for yet: at the lists of a system, at slices, and in a history; and the line of a row.
 //! A value that is dear to drop is dropped on one path alone.
-use grs_base::{
-    Ctl, Elem, Filter, List, NameFault, NoMemory, Qname, Res, Ret, Rname, Row, SysId, TaskId,
-};
+use grs_base::{Ctl, Elem, Filter, List, NameFault, Qname, Res, Ret, Rname, Row, SysId, TaskId};
 use grs_deck::read_deck;
 use grs_history::{answers, queues_after};
 use grs_report::{names_of, print_row};
@@ -54,20 +52,19 @@ fn look(first: u32) -> Req {
     Req { task: TASK, want }
 }
 
-fn request(local: &mut Local, req: &Req) -> Result<(), NoMemory> {
+fn request(local: &mut Local, req: &Req) -> Result<(), NameFault> {
     let _outcome = local.request(req)?;
     Ok(())
 }
 
-/// How many rows a look at the lists of a system shows, and whether its task can keep them.
-fn shown(alloc: Global, local: &Local) -> Result<usize, NoMemory> {
-    let rows = local.look(&Filter::All)?;
-    kept(alloc, rows)
+/// A task of the system has control of its resource.
+fn ask(alloc: Global, local: &mut Local) -> Result<(), NameFault> {
+    let req = enq(own(alloc)?);
+    request(local, &req)
 }
 
-/// How many rows a task keeps of its display.
-fn kept(alloc: Global, rows: List<Row>) -> Result<usize, NoMemory> {
-    let mut tasks = Tasks::new(alloc, SysId(0), &[1])?;
+/// How many rows a task keeps of a display.
+fn kept(tasks: &mut Tasks, rows: List<Row>) -> Result<usize, NameFault> {
     if tasks.has(TASK) {
         tasks.add_rows(TASK, rows)?;
     }
@@ -78,14 +75,24 @@ fn kept(alloc: Global, rows: List<Row>) -> Result<usize, NoMemory> {
     })
 }
 
-fn looks_at_a_system(alloc: Global) -> Result<usize, NameFault> {
-    let req = enq(own(alloc)?);
-    let mut local = Local::new(alloc, SysId(0));
-    request(&mut local, &req)?;
-    let count = shown(alloc, &local)?;
-    Ok(count)
+fn kept_of_one(alloc: Global, rows: List<Row>) -> Result<usize, NameFault> {
+    let mut tasks = Tasks::new(alloc, SysId(0), &[1])?;
+    kept(&mut tasks, rows)
 }
 
+/// How many rows a look at the lists of a system shows.
+fn shown(alloc: Global, local: &mut Local) -> Result<usize, NameFault> {
+    ask(alloc, local)?;
+    let rows = local.look(&Filter::All)?;
+    kept_of_one(alloc, rows)
+}
+
+fn looks_at_a_system(alloc: Global) -> Result<usize, NameFault> {
+    let mut local = Local::new(alloc, SysId(0));
+    shown(alloc, &mut local)
+}
+
+/// How many rows an outcome shows, 9 for a code.
 fn rows_of(outcome: &Outcome) -> usize {
     match &outcome.answer {
         Answer::Coded(_) => 9,
@@ -93,20 +100,37 @@ fn rows_of(outcome: &Outcome) -> usize {
     }
 }
 
-/// How many rows an outcome shows, 9 for a code.
-fn settled(alloc: Global, table: &mut Table<PlainQueues>, req: &Req) -> Result<usize, NoMemory> {
+fn settled(alloc: Global, table: &mut Table<PlainQueues>, req: &Req) -> Result<usize, NameFault> {
     let outcome = table.settle(alloc, req)?;
     Ok(rows_of(&outcome))
 }
 
-fn looks_at_slices(alloc: Global) -> Result<[usize; 3], NameFault> {
+fn asks(alloc: Global, table: &mut Table<PlainQueues>) -> Result<usize, NameFault> {
     let req = enq(shared(alloc)?);
-    let mut table = Table::new(alloc, PlainQueues::new(alloc));
+    settled(alloc, table, &req)
+}
+
+fn looks_from(
+    alloc: Global,
+    table: &mut Table<PlainQueues>,
+    first: u32,
+) -> Result<usize, NameFault> {
+    let req = look(first);
+    settled(alloc, table, &req)
+}
+
+/// How many rows an ENQ shows, a look that misses its slice, and one that meets it.
+fn counts(alloc: Global, table: &mut Table<PlainQueues>) -> Result<[usize; 3], NameFault> {
     Ok([
-        settled(alloc, &mut table, &req)?,
-        settled(alloc, &mut table, &look(50))?,
-        settled(alloc, &mut table, &look(51))?,
+        asks(alloc, table)?,
+        looks_from(alloc, table, 50)?,
+        looks_from(alloc, table, 51)?,
     ])
+}
+
+fn looks_at_slices(alloc: Global) -> Result<[usize; 3], NameFault> {
+    let mut table = Table::new(alloc, PlainQueues::new(alloc));
+    counts(alloc, &mut table)
 }
 
 /// How many rows a look in a history shows, 9 for any other entry.
@@ -121,57 +145,72 @@ fn rows_in(entry: &HistEntry) -> usize {
 fn asked(alloc: Global) -> Result<List<(SysId, Fixed)>, NameFault> {
     let task = TASK;
     let filter = Filter::All;
+    let first = enq(shared(alloc)?);
     let mut fixed = List::new(alloc);
-    fixed.push((SysId(0), Fixed::Asked(enq(shared(alloc)?))))?;
+    fixed.push((SysId(0), Fixed::Asked(first)))?;
     fixed.push((SysId(0), Fixed::Asked(look(51))))?;
     fixed.push((SysId(0), Fixed::LocalLook { task, filter }))?;
     fixed.push((SysId(1), Fixed::Purged { target: SysId(0) }))?;
     Ok(fixed)
 }
 
-/// How many rows each entry of a history shows, and how many lists it leaves.
-fn left(alloc: Global, hist: &[HistEntry]) -> Result<(List<usize>, usize), NoMemory> {
+/// How many rows each entry of a history shows.
+fn all_rows(alloc: Global, hist: &[HistEntry]) -> Result<List<usize>, NameFault> {
     let mut counts = List::new(alloc);
     for entry in hist {
         counts.push(rows_in(entry))?;
     }
+    Ok(counts)
+}
+
+/// Whether a history shows what it must, and leaves no list.
+fn is_shown(alloc: Global, hist: &[HistEntry]) -> Result<bool, NameFault> {
     let queues = queues_after(alloc, hist, 4096)?;
-    Ok((counts, queues.len()))
+    let left = queues.len();
+    let counts = all_rows(alloc, hist)?;
+    Ok(counts.as_slice() == [9, 0, 1, 0, 9].as_slice() && left == 0)
+}
+
+fn is_answered(alloc: Global, fixed: &[(SysId, Fixed)]) -> Result<bool, NameFault> {
+    let hist = answers(alloc, fixed)?;
+    is_shown(alloc, hist.as_slice())
 }
 
 fn looks_in_a_history(alloc: Global) -> Result<bool, NameFault> {
     let fixed = asked(alloc)?;
-    let hist = answers(alloc, fixed.as_slice())?;
-    let (counts, queues) = left(alloc, hist.as_slice())?;
-    Ok(counts.as_slice() == [9, 0, 1, 0, 9].as_slice() && queues == 0)
+    is_answered(alloc, fixed.as_slice())
 }
 
 fn row(alloc: Global) -> Result<Row, NameFault> {
+    let res = own(alloc)?;
     let mut elems = List::new(alloc);
     elems.push(Elem {
         task: TASK,
         ctl: Ctl::E,
     })?;
     Ok(Row {
-        res: own(alloc)?,
+        res,
         elems,
         owners: 1,
     })
 }
 
-fn line_of(alloc: Global, deck: &Deck, row: &Row) -> Result<List<u8>, NoMemory> {
+/// The line of a row, by a deck's names.
+fn line_of(alloc: Global, deck: &Deck, row: &Row) -> Result<List<u8>, Fail> {
     let names = names_of(alloc, deck)?;
     let mut line = List::new(alloc);
     print_row(alloc, b'R', row, &names, &mut line)?;
     Ok(line)
 }
 
-/// The line of a row, with the names of a deck of one task.
+fn line_by(alloc: Global, deck: &Deck) -> Result<List<u8>, Fail> {
+    let row = row(alloc)?;
+    line_of(alloc, deck, &row)
+}
+
 fn printed(alloc: Global) -> Result<List<u8>, Fail> {
     let deck = read_deck(alloc, b"SYSTEM SYA\nJOB J1\nTASK T1\n")?;
-    let row = row(alloc)?;
-    let line = line_of(alloc, &deck, &row)?;
-    Ok(line)
+    line_by(alloc, &deck)
 }
 
 #[test]

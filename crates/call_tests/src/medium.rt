@@ -87,19 +87,41 @@ fn put(alloc: Global, medium: &mut Medium) -> Result<(), Fail>
     Ok(())
 }
 
-/// What system 1 would be answered: its Turn, its Rest, and its removal of system 0.
-fn previews(alloc: Global, medium: &Medium) -> Result<[Seen; 3], NoMemory>
+fn turn_of(alloc: Global, medium: &Medium) -> Result<Seen, NoMemory>
     requires { systems_of medium.now.state ≡ 2 }
 {
     let out = List::new(alloc);
     let act = Act::Turn { out };
-    let turn = previewed(medium, SysId(1), &Call { known: 0, act })?;
+    let call = Call { known: 0, act };
+    previewed(medium, SysId(1), &call)
+}
+
+fn rest_of(medium: &Medium) -> Result<Seen, NoMemory>
+    requires { systems_of medium.now.state ≡ 2 }
+{
     let act = Act::Rest;
-    let rest = previewed(medium, SysId(1), &Call { known: 0, act })?;
+    let call = Call { known: 0, act };
+    previewed(medium, SysId(1), &call)
+}
+
+fn removal_of(medium: &Medium) -> Result<Seen, NoMemory>
+    requires { systems_of medium.now.state ≡ 2 }
+{
     let target = SysId(0);
     let act = Act::Purge { target };
-    let purge = previewed(medium, SysId(1), &Call { known: 0, act })?;
-    Ok([turn, rest, purge])
+    let call = Call { known: 0, act };
+    previewed(medium, SysId(1), &call)
+}
+
+/// What system 1 would be answered: its Turn, its Rest, and its removal of system 0.
+fn previews(alloc: Global, medium: &Medium) -> Result<[Seen; 3], NoMemory>
+    requires { systems_of medium.now.state ≡ 2 }
+{
+    Ok([
+        turn_of(alloc, medium)?,
+        rest_of(medium)?,
+        removal_of(medium)?,
+    ])
 }
 
 fn seen_of(alloc: Global, medium: &mut Medium) -> Result<[Seen; 3], Fail>

@@ -1,24 +1,36 @@
 //! The readers and printers of one statement, of which no command makes use: what is read is printed again, and each
 //! kind of fault is told once.
-use grs_base::{DeckFault, Kind, List, ReadError};
+use grs_base::{DeckFault, Kind, Line, List, ReadError, RnlEntry};
 use job_syntax::{print_line, read_line};
 use rnl_syntax::{print_rnldef, read_rnldef};
 use std::alloc::Global;
 use std::test::Fail;
 
+fn line_text(alloc: Global, line: &Line) -> Result<List<u8>, ReadError> {
+    let mut out = List::new(alloc);
+    print_line(alloc, line, &mut out)?;
+    Ok(out)
+}
+
 fn line_again(alloc: Global, text: &[u8]) -> Result<List<u8>, ReadError> {
     let line = read_line(alloc, text)?;
+    line_text(alloc, &line)
+}
+
+fn entry_text(
+    alloc: Global,
+    entry: &RnlEntry,
+    used: usize,
+) -> Result<(List<u8>, usize), ReadError> {
     let mut out = List::new(alloc);
-    print_line(alloc, &line, &mut out)?;
-    Ok(out)
+    print_rnldef(alloc, entry, &mut out)?;
+    Ok((out, used))
 }
 
 /// The printed form of an entry, and how many bytes of the text it used.
 fn entry_again(alloc: Global, text: &[u8]) -> Result<(List<u8>, usize), ReadError> {
     let (entry, used) = read_rnldef(alloc, text)?;
-    let mut out = List::new(alloc);
-    print_rnldef(alloc, &entry, &mut out)?;
-    Ok((out, used))
+    entry_text(alloc, &entry, used)
 }
 
 fn told(fault: ReadError) -> Option<(u32, Kind)> {
