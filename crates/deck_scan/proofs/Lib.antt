@@ -11,3 +11,4 @@ pub mod Samples
 pub mod BadBytes
 pub mod Taking
 pub mod Again
+pub mod AnyLemmas

@@ -6,3 +6,4 @@ pub mod Reading
 pub mod Named
 pub mod Lengths
 pub mod Next
+pub mod AnyBytes

@@ -2,6 +2,7 @@
 //! It knows what a token is, and nothing of what a statement is made of.
 #![tactic(auto)]
 
+mod any_bytes;
 mod bytes;
 mod laws;
 mod lengths;
@@ -10,6 +11,7 @@ mod next;
 mod scan;
 mod token;
 
+pub use any_bytes::any_lines;
 pub use laws::{bad_bytes, printed_names, spelled_lines};
 pub use lengths::{is_bad_qname, is_bad_rname, maybe_qname, maybe_rname, qname_of, rname_of};
 pub use miss::{Miss, or_bad, refused};

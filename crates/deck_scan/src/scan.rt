@@ -59,7 +59,7 @@ pub struct Scan {
 }
 
 impl Scan {
-    fn new(alloc: Global) -> Self
+    pub(crate) fn new(alloc: Global) -> Self
         ensures { result ≡ start }
     {
         Scan {
@@ -88,7 +88,7 @@ impl Scan {
     }
 
     #[tactic(auto, unfolding(crate::specs::Scan::end_line))]
-    fn end_line(&mut self, alloc: Global) -> Result<(), NoMemory>
+    pub(crate) fn end_line(&mut self, alloc: Global) -> Result<(), NoMemory>
         requires { self.old.line + 1 < 2 ^ 32 }
         ensures { OnOk result (self.new ≡ end_line self.old) }
     {
@@ -342,7 +342,7 @@ impl Scan {
     }
 
     #[tactic(auto, unfolding(crate::specs::Scan::step, crate::specs::Scan::step_in))]
-    fn step(&mut self, alloc: Global, b: u8) -> Result<(), NoMemory>
+    pub(crate) fn step(&mut self, alloc: Global, b: u8) -> Result<(), NoMemory>
         requires { self.old.line + 1 < 2 ^ 32 }
         ensures { OnOk result (self.new ≡ step self.old b) }
     {
@@ -364,7 +364,7 @@ impl Scan {
     }
 
     #[tactic(auto, unfolding(crate::specs::Scan::finish_in, crate::specs::Scan::end_line))]
-    fn finish(&mut self, alloc: Global) -> Result<(), NoMemory>
+    pub(crate) fn finish(&mut self, alloc: Global) -> Result<(), NoMemory>
         requires { self.old.line + 1 < 2 ^ 32 }
         ensures { OnOk result (self.new ≡ finish_in self.old.mode self.old) }
     {

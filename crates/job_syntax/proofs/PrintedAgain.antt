@@ -23,7 +23,8 @@ use Rattle.deck_scan.specs.Lengths.{is_bad_qname, is_bad_rname}
 use Rattle.deck_scan.specs.Named.{IsMaybeQname, IsMaybeRname, are_bytes, name_token}
 use Rattle.deck_scan.specs.Next.{Sets}
 use Rattle.deck_scan.specs.Pieces.{Plain, is_piece, is_nonempty, SpellsLines}
-use Rattle.deck_scan.specs.Reading.{most_text_bytes}
+use Rattle.deck_scan.specs.AnyBytes.{readable}
+use Rattle.deck_scan.proofs.AnyLemmas.{any_text}
 use Rattle.deck_scan.proofs.Names.{qname_nonempty, rname_nonempty}
 use Rattle.deck_scan.proofs.Print.{name_names}
 use Rattle.deck_scan.proofs.Bits.{Bit, Of, Called, Mark, text_of, tokens_of, is_bit, starts_apart, are_bits, line_of_bits, bits_line, size, bits_long}
@@ -297,9 +298,8 @@ names_are q r h = record {
 -- A line that is spelled by a word and bits.
 spells_so : (l : Line) (word : List ℕ) (bs : List Bit) (s : Said) → is_piece (Plain word) ≡ true → are_bits bs ≡ true → length word + size bs ≤ 2000 → word ++ 32 ∷ text_of bs ≡ printed_line l → IsWord (verb_for s) word → IsBehind (tokens_of bs) s → has_bad_name s ≡ false → line_of s ≡ l → SpellsLine (printed_line l) l
 spells_so l word bs s is are few text of behind names makes = record {
-  short = subst (λ (t : List ℕ). length t ≤ most_text_bytes) text (omega (arith, few, bits_long bs, length-append word (32 ∷ text_of bs)));
   tokens = line_of_bits word bs;
-  spelled = subst (λ (t : List ℕ). SpellsLines t (line_of_bits word bs ∷ [])) text (bits_line word bs is are);
+  spelled = subst (λ (t : List ℕ). SpellsLines (readable t) (line_of_bits word bs ∷ [])) text (any_text (word ++ 32 ∷ text_of bs) (line_of_bits word bs ∷ []) (bits_line word bs is are));
   apart = refl;
   said = s;
   says = record { word = word; behind = tokens_of bs; parts = refl; is_word = of; is_behind = behind };

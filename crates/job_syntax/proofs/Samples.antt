@@ -7,14 +7,18 @@ use Rattle.grs_base.specs.declared.fault.Kind.TheVariants.{UnknownStatement, Bad
 use Rattle.grs_base.specs.declared.line.Line.{Line}
 use Rattle.deck_scan.specs.Bytes.{is_word, is_hex, digit, is_allowed, bad_line}
 use Rattle.deck_scan.specs.Scan.{put, put_word, put_open, end_line, break_off, begin_word, begin, step_in, step, scan_from, finish_in, lines_of}
-use Rattle.deck_scan.specs.Reading.{lines_or_fault}
+use Rattle.deck_scan.specs.AnyBytes.{readable}
 use Rattle.job_syntax.specs.Unit.{unit_of}
 use Rattle.job_syntax.specs.Options.{ret_of, rnl_of, chosen, option_at, options_at}
 use Rattle.job_syntax.specs.Ask.{ctl_at, scope_at, names_at, place_at, controlled_at, uncontrolled_at, enq_at, reserve_at, deq_at, wait_at}
 use Rattle.job_syntax.specs.Display.{reach_of, want_of, want_at, scan_at, resource_at, shown_at, display_at}
 use Rattle.job_syntax.specs.Said.{verb, said_at}
 use Rattle.job_syntax.specs.Printed.{printed_line}
-use Rattle.job_syntax.specs.Reading.{said_on, one_line, reading}
+use Rattle.job_syntax.specs.Reading.{said_on, one_line}
+
+-- what is read of a text
+abbrev reading : List ℕ → Result Line DeckFault
+reading text = one_line (lines_of (readable text))
 
 abbrev printed_of : Result Line DeckFault → List ℕ
 printed_of (Ok l) = printed_line l
@@ -39,7 +43,7 @@ printed_lines :
     × Prints (codes "D GRS,RES=(A,'b c')") (codes "DISPLAY GRS,RES=(A,'b c')")
     × Prints (codes "GQSCAN SCOPE=GLOBAL,RNAME=B,QNAME=A") (codes "GQSCAN SCOPE=GLOBAL,QNAME=A,RNAME=B")
     × Prints (codes "GQSCAN SCOPE=LOCAL") (codes "GQSCAN SCOPE=LOCAL")
-unfolding is_word is_hex digit is_allowed bad_line put put_word put_open end_line break_off begin_word begin step_in step scan_from finish_in lines_of lines_or_fault unit_of ret_of rnl_of chosen option_at options_at ctl_at scope_at names_at place_at controlled_at uncontrolled_at enq_at reserve_at deq_at wait_at reach_of want_of want_at scan_at resource_at shown_at display_at verb said_at said_on one_line reading
+unfolding is_word is_hex digit is_allowed bad_line put put_word put_open end_line break_off begin_word begin step_in step scan_from finish_in lines_of readable unit_of ret_of rnl_of chosen option_at options_at ctl_at scope_at names_at place_at controlled_at uncontrolled_at enq_at reserve_at deq_at wait_at reach_of want_of want_at scan_at resource_at shown_at display_at verb said_at said_on one_line
 printed_lines = ((refl, refl), (refl, refl), (refl, refl), (refl, refl), (refl, refl), (refl, refl), (refl, refl), (refl, refl), (refl, refl), (refl, refl))
 
 -- nothing; a comment alone; no word; a word of other statements; a further statement; an error on the third line; a long name; an empty one
@@ -52,5 +56,20 @@ faults :
     × (reading (10 ∷ 10 ∷ codes "ENQ (A,B,X,SYSTEM)") ≡ fault_at 3 BadOperand)
     × (reading (codes "DEQ (ABCDEFGHI,B,SYSTEM)") ≡ fault_at 1 NameLength)
     × (reading (codes "GQSCAN SCOPE=LOCAL,QNAME=''") ≡ fault_at 1 NameLength)
-unfolding is_word is_hex digit is_allowed bad_line put put_word put_open end_line break_off begin_word begin step_in step scan_from finish_in lines_of lines_or_fault unit_of ret_of rnl_of chosen option_at options_at ctl_at scope_at names_at place_at controlled_at uncontrolled_at enq_at reserve_at deq_at wait_at reach_of want_of want_at scan_at resource_at shown_at display_at verb said_at said_on one_line reading
+unfolding is_word is_hex digit is_allowed bad_line put put_word put_open end_line break_off begin_word begin step_in step scan_from finish_in lines_of readable unit_of ret_of rnl_of chosen option_at options_at ctl_at scope_at names_at place_at controlled_at uncontrolled_at enq_at reserve_at deq_at wait_at reach_of want_of want_at scan_at resource_at shown_at display_at verb said_at said_on one_line
 faults = (refl, refl, refl, refl, refl, refl, refl, refl)
+
+-- bytes that no deck may have: a tab in the first word; before it; behind it; in a name between quotes; in a comment before the first word; in one behind it; behind a name that is too long; on a further line; CR alone
+bad_bytes :
+    (reading (codes "EN" ++ 9 ∷ codes "Q (A,B,E,SYSTEM)") ≡ fault_at 1 UnknownStatement)
+    × (reading (9 ∷ codes "ENQ (A,B,E,SYSTEM)") ≡ fault_at 1 UnknownStatement)
+    × (reading (codes "ENQ (A,B,E,SYSTEM)" ++ 9 ∷ []) ≡ fault_at 1 BadOperand)
+    × (reading (codes "ENQ ('A" ++ 9 ∷ codes "',B,E,SYSTEM)") ≡ fault_at 1 BadOperand)
+    × (reading (10 ∷ codes "/*" ++ 9 ∷ codes "*/ ENQ (A,B,E,SYSTEM)") ≡ fault_at 2 UnknownStatement)
+    × (reading (codes "ENQ (A,B, /*" ++ 200 ∷ codes "*/ E,SYSTEM)") ≡ fault_at 1 BadOperand)
+    × (reading (codes "ENQ (ABCDEFGHI,B,E,SYSTEM)" ++ 0 ∷ []) ≡ fault_at 1 BadOperand)
+    × (reading (codes "ENQ (A,B,E,SYSTEM)" ++ 10 ∷ 9 ∷ []) ≡ fault_at 2 BadOperand)
+    × (reading (codes "ENQ (A,B,E,SYSTEM)" ++ 13 ∷ []) ≡ fault_at 1 BadOperand)
+    × (printed_of (reading (codes "ENQ (A,B,E,SYSTEM)" ++ 13 ∷ 10 ∷ [])) ≡ codes "ENQ (A,B,E,SYSTEM)")
+unfolding is_word is_hex digit is_allowed bad_line put put_word put_open end_line break_off begin_word begin step_in step scan_from finish_in lines_of readable unit_of ret_of rnl_of chosen option_at options_at ctl_at scope_at names_at place_at controlled_at uncontrolled_at enq_at reserve_at deq_at wait_at reach_of want_of want_at scan_at resource_at shown_at display_at verb said_at said_on one_line
+bad_bytes = (refl, refl, refl, refl, refl, refl, refl, refl, refl, refl)

@@ -1,6 +1,8 @@
--- The line that a text of one task line spells, or its fault.
-use Rattle.std.specs.Prelude.{◌≡◌, ℕ, false, ◌≤◌, List, [], ◌∷◌, length, Option, Some, None, Result, Ok, Err, if◌then◌else◌}
+-- The line that a text of one task line spells, or its fault. The text may have any length and any bytes: a
+-- byte that a deck may not have is part of no statement.
+use Rattle.std.specs.Prelude.{◌≡◌, ◌⊎◌, ℕ, Bool, true, false, List, [], ◌∷◌, Option, Some, None, Result, Ok, Err, if◌then◌else◌}
 use Rattle.grs_base.specs.declared.fault.DeckFault.{DeckFault}
+use Rattle.grs_base.specs.declared.fault.Kind.{Kind}
 use Rattle.grs_base.specs.declared.fault.Kind.TheVariants.{UnknownStatement, BadOperand, NameLength}
 use Rattle.grs_base.specs.declared.fault.ReadError.{ReadError}
 use Rattle.grs_base.specs.declared.fault.ReadError.TheVariants as read_errors
@@ -10,12 +12,14 @@ use Rattle.deck_scan.specs.declared.token.Token.TheVariants.{Word, Unclosed}
 use Rattle.deck_scan.specs.declared.token.TokenLine.{TokenLine}
 use Rattle.deck_scan.specs.Gives.{◌>>=◌, refused, or_bad}
 use Rattle.deck_scan.specs.Pieces.{SpellsLines}
-use Rattle.deck_scan.specs.Reading.{most_text_bytes, lines_or_fault}
+use Rattle.deck_scan.specs.AnyBytes.{readable}
 use Rattle.job_syntax.specs.declared.said.Said.{Said}
 use Rattle.job_syntax.specs.declared.said.Verb.{Verb}
 use Rattle.job_syntax.specs.Said.{verb, said_at}
-use Rattle.job_syntax.specs.Spelled.{IsSaid}
+use Rattle.job_syntax.specs.Spelled.{IsWord, IsSaid}
 use Rattle.job_syntax.specs.Lines.{has_bad_name, line_of}
+
+-- ---- as the reader finds them
 
 abbrev pub said_by : ℕ → Option Verb → List Token → Result Said DeckFault
 said_by at (Some v) ts = or_bad at (said_at v ts)
@@ -47,25 +51,61 @@ unfoldable pub one_line : List TokenLine → Result Line DeckFault
 one_line [] = refused 1 UnknownStatement
 one_line (l ∷ ls) = said_on l >>= λ s. sized_alone l.at s ls
 
--- What is read of a text.
-unfoldable pub reading : List ℕ → Result Line DeckFault
-reading text = lines_or_fault text >>= λ ls. one_line ls
+-- ---- which texts spell which line
 
--- A text spells a line of a task: it is short enough, it has one line of tokens, and that spells the task
--- line, whose names are right.
+-- A text spells a line of a task: it has one line of tokens, and that spells the task line, whose names are
+-- right.
 pub record SpellsLine (text : List ℕ) (line : Line) : Type 0 where
-  pub short : length text ≤ most_text_bytes
   pub tokens : TokenLine
-  pub spelled : SpellsLines text (tokens ∷ [])
+  pub spelled : SpellsLines (readable text) (tokens ∷ [])
   pub apart : tokens.joined ≡ false
   pub said : Said
   pub says : IsSaid tokens.tokens said
   pub names : has_bad_name said ≡ false
   pub makes : line_of said ≡ line
 
--- What is answered of a text: the line that it spells, else its fault. Want of memory is the only other
--- answer.
+-- ---- which fault a text has
+
+-- The first word of tokens, if there is one, begins no task line. A comment that is not closed has no first
+-- word, and is wrong for itself.
+abbrev pub BeginsOtherwise : List Token → Type 0
+BeginsOtherwise (Word w ∷ ts) = (v : Verb) → IsWord v w → ⊥
+BeginsOtherwise (Unclosed ∷ ts) = ⊥
+BeginsOtherwise _ = Unit {0}
+
+-- The first word of a line is none of a task line: something stands directly behind it, or it is another one.
+abbrev pub NoWord : TokenLine → Type 0
+NoWord l = (l.joined ≡ true) ⊎ BeginsOtherwise l.tokens
+
+-- The word is right, and the form is none of a task line.
+abbrev pub NoForm : TokenLine → Type 0
+NoForm l = (NoWord l → ⊥) × ((s : Said) → IsSaid l.tokens s → ⊥)
+
+-- The line spells a task line, of names that are all right (false) or not (true).
+abbrev pub IsTaskLine : Bool → TokenLine → Type 0
+IsTaskLine bad l = (l.joined ≡ false) × ((s : Said) × IsSaid l.tokens s × (has_bad_name s ≡ bad))
+
+-- A further line stands, behind one without a fault, and begins here.
+abbrev pub IsFurther : ℕ → TokenLine → List TokenLine → Type 0
+IsFurther at l [] = ⊥
+IsFurther at l (m ∷ ms) = (at ≡ m.at) × IsTaskLine false l
+
+-- These lines have a fault of this kind here. A text without a line has the first kind on line 1.
+abbrev pub IsWrong : Kind → ℕ → List TokenLine → Type 0
+IsWrong UnknownStatement at [] = at ≡ 1
+IsWrong UnknownStatement at (l ∷ ls) = (at ≡ l.at) × NoWord l
+IsWrong BadOperand at (l ∷ ls) = ((at ≡ l.at) × NoForm l) ⊎ IsFurther at l ls
+IsWrong NameLength at (l ∷ ls) = (at ≡ l.at) × IsTaskLine true l
+IsWrong _ at ls = ⊥
+
+-- A text of one task line has this fault.
+pub record IsFault (text : List ℕ) (f : DeckFault) : Type 0 where
+  pub lines : List TokenLine
+  pub spelled : SpellsLines (readable text) lines
+  pub wrong : IsWrong f.kind f.line lines
+
+-- What is answered of a text: the line that it spells, or its fault. Want of memory is the only other answer.
 abbrev pub Answers : Result Line ReadError → List ℕ → Type 0
 Answers (Ok line) text = SpellsLine text line
 Answers (Err read_errors.NoMemory) text = Unit {0}
-Answers (Err (read_errors.Fault f)) text = reading text ≡ Err f
+Answers (Err (read_errors.Fault f)) text = IsFault text f

@@ -16,7 +16,7 @@ mod unit;
 
 pub use ask::{Ask, EnqAsk};
 pub use display::{ScanAsk, Shown, Wanted};
-pub use laws::printed_lines;
+pub use laws::{one_line, printed_lines, spelled_tokens};
 pub use line::{has_bad_name, line_of};
 pub use options::Opts;
 pub use print::print_line;

@@ -1,11 +1,11 @@
 //! Reads the line of a task from a text of its own.
 ghost use Rattle.grs_base.specs.declared.line.Line.{Line as LineValue};
 ghost use Rattle.deck_scan.specs.Gives.{Gives, IsOkUnlessMemory};
-ghost use Rattle.job_syntax.specs.Reading.{said_by, said_on, sized_alone, one_line, reading, SpellsLine, Answers};
+ghost use Rattle.job_syntax.specs.Reading.{said_by, said_on, sized_alone, one_line, SpellsLine, Answers};
 
 use crate::line::{has_bad_name, line_of};
 use crate::said::{Said, Verb, said_at, verb_of};
-use deck_scan::{Token, TokenLine, lines, or_bad, refused};
+use deck_scan::{Token, TokenLine, any_lines, or_bad, refused};
 use grs_base::{Kind, Line, ReadError};
 use std::alloc::Global;
 
@@ -59,15 +59,6 @@ fn one_line(alloc: Global, all: &[TokenLine]) -> Result<Line, ReadError>
     }
 }
 
-/// What is read of a text.
-#[tactic(auto, unfolding(crate::specs::Reading::reading))]
-fn read_all(alloc: Global, text: &[u8]) -> Result<Line, ReadError>
-    ensures { Gives result (reading text.now) }
-{
-    let all = lines(alloc, text)?;
-    one_line(alloc, all.as_slice())
-}
-
 /// The line of a task that a text spells, or the fault of the text, whose lines count from 1. Of
 ///
 ///     ENQ (PAYROLL,'it''s',E,SYSTEM),RNL=NO,RET=USE     /* options in any order */
@@ -75,15 +66,17 @@ fn read_all(alloc: Global, text: &[u8]) -> Result<Line, ReadError>
 /// it makes an ENQ of one resource, with the qname `PAYROLL` and the rname `it's`, exclusive, of scope
 /// SYSTEM, with RET=USE, past the name lists.
 ///
-/// `TooLong` and `BadByte` are told as of a deck. Else: `UnknownStatement` where the text has no
-/// statement (on line 1), or its first word begins no task line; `BadOperand` where its form is another,
-/// and for a further statement behind a first one without fault, on the line where that begins;
-/// `NameLength` where a name is too short or too long. Want of memory is `NoMemory`.
+/// The fault is `UnknownStatement` where the text has no statement (on line 1), or its first word begins no
+/// task line; `BadOperand` where its form is another, and for a further statement behind a first one without
+/// fault, on the line where that begins; `NameLength` where a name is too short or too long. The text has no
+/// limit of its own, and a byte that no deck may have is part of no statement: where it stands in the first
+/// word or before it the text is `UnknownStatement`, and else `BadOperand`. Want of memory is `NoMemory`.
 pub fn read_line(alloc: Global, text: &[u8]) -> Result<Line, ReadError>
-    // What is read is spelled so; a fault is that of the text.
+    // What is read is spelled so; a fault is the text's.
     ensures exact { Answers result text.now }
     // What is spelled so is read, unless memory runs out.
     ensures only { (l : LineValue) → SpellsLine text.now l → IsOkUnlessMemory result l }
 {
-    read_all(alloc, text)
+    let all = any_lines(alloc, text)?;
+    one_line(alloc, all.as_slice())
 }
