@@ -1,23 +1,25 @@
--- The fault that is told is the first one, and no other is.
+-- The fault that is told is the first one, and no other is; so a text is answered by its deck or its fault.
 use Rattle.std.proofs.Common.{◌≡◌, inl, inr, ◌⊎◌, ℕ, Bool, true, false, cond, eqb, List, [], ◌∷◌, ◌++◌, length, Option, Some, None, Result, Ok, Err, refl, sym, ap, subst, ◌∙◌}
 use Rattle.std.proofs.lemmas.Bool.{eqb-true, eq-eqb}
 use Rattle.grs_base.specs.declared.fault.DeckFault.{DeckFault}
 use Rattle.grs_base.specs.declared.fault.Kind.{Kind}
 use Rattle.grs_base.specs.declared.fault.Kind.TheVariants.{NoSystem}
+use Rattle.grs_base.specs.declared.fault.ReadError.{ReadError}
+use Rattle.grs_base.specs.declared.fault.ReadError.TheVariants as read_errors
 use Rattle.grs_wire.specs.declared.deck.Deck.{Deck}
 use Rattle.deck_scan.specs.declared.token.TokenLine.{TokenLine}
 use Rattle.deck_scan.specs.Scan.{lines_of}
 use Rattle.deck_scan.specs.Pieces.{SpellsLines}
 use Rattle.deck_scan.specs.Reading.{lines_or_fault, unless_fault, byte_fault}
-use Rattle.deck_scan.specs.Gives.{◌>>=◌}
+use Rattle.deck_scan.specs.Gives.{◌>>=◌, Gives}
 use Rattle.deck_scan.proofs.Texts.{text_of, text_read}
 use Rattle.grs_deck.specs.declared.judge.Draft.{Draft}
 use Rattle.grs_deck.specs.Grow.{grow}
 use Rattle.grs_deck.specs.Reading.{judge, judge_all, no_draft, ended, reading, fault, fault_of}
-use Rattle.grs_deck.specs.Spells.{Says}
-use Rattle.grs_deck.specs.Faults.{FaultyLine, NoSystemSaid, IsFault}
+use Rattle.grs_deck.specs.Spells.{Says, SpellsDeck}
+use Rattle.grs_deck.specs.Faults.{FaultyLine, NoSystemSaid, IsFault, IsFaultless, Answers}
 use Rattle.grs_deck.proofs.FitsLaws.{judged}
-use Rattle.grs_deck.proofs.SpellsLaws.{right_of, says, says_again, judged_again}
+use Rattle.grs_deck.proofs.SpellsLaws.{right_of, says, says_again, judged_again, reading_spells, fault_is, spelled_none}
 use Rattle.grs_deck.proofs.Least.{refused, judged_err, judged_so}
 use Rattle.deck_form.specs.Statements.{statements}
 use Rattle.deck_form.proofs.Taken.{form_taken}
@@ -114,3 +116,25 @@ pub only_fault : (text : List ℕ) (f : DeckFault) → IsFault text f → fault 
 unfolding fault reading lines_or_fault
 only_fault text f (inl h) = rw h refl
 only_fault text f (inr h) = let read : (lines_or_fault text >>= λ ls. judge_all no_draft (statements ls) >>= ended) ≡ deck_err f = rw (text_read text h.lines (text_of text h.allowed).short h.spelled) (lines_so (statements h.lines) f h.fault) in ap fault_of read
+
+-- ---- what is answered
+
+pub one_fault : (text : List ℕ) (f g : DeckFault) → IsFault text f → IsFault text g → f ≡ g
+one_fault text f g h k = let is : some f ≡ some g = sym (only_fault text f h) ∙ only_fault text g k in cc
+
+-- A text that spells a deck has no fault.
+pub spelled_right : (text : List ℕ) (d : Deck) → SpellsDeck text d → IsFaultless text
+spelled_right text d h f k = let is : some f ≡ None = sym (only_fault text f k) ∙ spelled_none text d h in cc
+
+-- A text spells a deck or has a fault.
+pub either : (text : List ℕ) → ((d : Deck) × SpellsDeck text d) ⊎ ((f : DeckFault) × IsFault text f)
+either text = go (reading text) refl
+  where
+    go : (r : Result Deck DeckFault) → reading text ≡ r → ((d : Deck) × SpellsDeck text d) ⊎ ((f : DeckFault) × IsFault text f)
+    go (Ok d) is = inl (d, reading_spells text d is)
+    go (Err f) is = inr (f, is_fault text f (fault_is text f is))
+
+pub answers : (text : List ℕ) (r : Result Deck ReadError) → Gives r (reading text) → Answers r text
+answers text (Ok d) h = let s = reading_spells text d h in (s, spelled_right text d s)
+answers text (Err read_errors.NoMemory) h = tt
+answers text (Err (read_errors.Fault f)) h = is_fault text f (fault_is text f h)

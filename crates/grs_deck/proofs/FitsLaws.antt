@@ -108,7 +108,7 @@ below n m h = let k = leb-false n m h in omega (arith, k)
 fits_system : (ss : List SystemDef) (name : List ℕ) → Fits ss → suc (length ss) ≤ 8 → Fits (ss ++ record { name = name; desk = []; jobs = [] } ∷ [])
 fits_system ss name h lt =
     let s : SystemDef = record { name = name; desk = []; jobs = [] } in
-    let new : IsWithin s = record { jobs = omega arith; tasks = omega arith } in
+    let new : IsWithin s = record { desk = omega arith; jobs = omega arith; tasks = omega arith } in
     record { few = omega (arith, length-append ss (s ∷ []), lt); each = each_all (ss ++ s ∷ []) (each_push ss s (all_each ss h.each) new) }
 
 fits_job : (ss : List SystemDef) (name : List ℕ) → Fits ss → suc (length (jobs_now ss)) ≤ 64 → Fits (add_job name ss)
@@ -118,7 +118,7 @@ fits_job ss name h lt = record { few = rw (length-on_last _ ss) h.few; each = ea
     one s w e =
         let j : JobDef = record { name = name; tasks = [] } in
         let long : length (jobs_now ss) ≡ length s.jobs = ap length e in
-        record { jobs = omega (arith, length-append s.jobs (j ∷ []), long, lt); tasks = omega (arith, task_count-append s.jobs (j ∷ []), w.tasks) }
+        record { desk = w.desk; jobs = omega (arith, length-append s.jobs (j ∷ []), long, lt); tasks = omega (arith, task_count-append s.jobs (j ∷ []), w.tasks) }
 
 fits_task : (ss : List SystemDef) (name : List ℕ) → Fits ss → suc (task_count (jobs_now ss)) ≤ 64 → Fits (in_jobs (add_task name) ss)
 fits_task ss name h lt = record { few = rw (length-on_last _ ss) h.few; each = each_all (in_jobs (add_task name) ss) (each_last _ ss (all_each ss h.each) one) }
@@ -126,13 +126,13 @@ fits_task ss name h lt = record { few = rw (length-on_last _ ss) h.few; each = e
     one : (s : SystemDef) → IsWithin s → jobs_now ss ≡ s.jobs → IsWithin (record s { jobs = add_task name s.jobs })
     one s w e =
         let count : task_count (jobs_now ss) ≡ task_count s.jobs = ap task_count e in
-        record { jobs = rw (length-on_last _ s.jobs) w.jobs; tasks = omega (arith, task_count-add name s.jobs, count, lt) }
+        record { desk = w.desk; jobs = rw (length-on_last _ s.jobs) w.jobs; tasks = omega (arith, task_count-add name s.jobs, count, lt) }
 
 fits_line : (ss : List SystemDef) (line : Line) → Fits ss → Fits (in_jobs (in_tasks (add_line line)) ss)
 fits_line ss line h = record { few = rw (length-on_last _ ss) h.few; each = each_all (in_jobs (in_tasks (add_line line)) ss) (each_last _ ss (all_each ss h.each) one) }
   where
     one : (s : SystemDef) → IsWithin s → jobs_now ss ≡ s.jobs → IsWithin (record s { jobs = in_tasks (add_line line) s.jobs })
-    one s w e = record { jobs = rw (length-on_last _ s.jobs) w.jobs; tasks = rw (task_count-line line s.jobs) w.tasks }
+    one s w e = record { desk = w.desk; jobs = rw (length-on_last _ s.jobs) w.jobs; tasks = rw (task_count-line line s.jobs) w.tasks }
 
 event_systems : (o : Option Event) (d : Deck) → (with_event o d).systems ≡ d.systems
 event_systems None d = refl

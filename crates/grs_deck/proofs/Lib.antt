@@ -5,5 +5,6 @@ pub mod Loop
 pub mod SpellsLaws
 pub mod Least
 pub mod First
+pub mod Growth
 pub mod WholeLaws
 pub mod Samples

@@ -1,5 +1,5 @@
 -- What the definitions say of some small texts.
-use Rattle.std.proofs.Common.{◌≡◌, ℕ, List, [], ◌∷◌, ◌++◌, Option, Some, None, Ok, true, false, refl}
+use Rattle.std.proofs.Common.{◌≡◌, ◌≤◌, arith, ℕ, List, [], ◌∷◌, ◌++◌, Option, Some, None, Ok, true, false, refl}
 use Rattle.std.specs.Prelude.{codes}
 use Rattle.grs_base.specs.declared.fault.DeckFault.{DeckFault}
 use Rattle.grs_base.specs.declared.fault.Kind.{Kind}
@@ -9,7 +9,9 @@ use Rattle.grs_base.specs.declared.resource.Ret.TheVariants.{RetNone, RetUse}
 use Rattle.grs_base.specs.declared.rnl.Which.TheVariants.{Excl}
 use Rattle.grs_base.specs.declared.rnl.Form.TheVariants.{Pattern}
 use Rattle.grs_base.specs.declared.line.Scope.TheVariants as scopes
+use Rattle.grs_base.specs.declared.line.Line.{Line}
 use Rattle.grs_base.specs.declared.line.Line.TheVariants as lines
+use Rattle.grs_base.specs.declared.line.Item.{Item}
 use Rattle.grs_wire.specs.declared.deck.Deck.{Deck}
 use Rattle.grs_wire.specs.declared.deck.Choice.TheVariants as choices
 use Rattle.deck_scan.specs.Bytes.{is_word, is_hex, digit, is_allowed, bad_line}
@@ -27,6 +29,9 @@ use Rattle.deck_form.specs.Event.{verb, pair_at, entry_at, act_at, event_at}
 use Rattle.deck_form.specs.UnbuiltWord.{is_unbuilt_word}
 use Rattle.deck_form.specs.Form.{key, plain_form, first_form, event_form, form}
 use Rattle.grs_deck.specs.Places.{system_place, job_place, task_place}
+use Rattle.grs_deck.specs.Faults.{IsFault}
+use Rattle.grs_deck.specs.Whole.{IsDeck}
+use Rattle.grs_deck.proofs.First.{is_fault}
 use Rattle.grs_deck.specs.Reading.{no_lists, no_deck, judge, judge_all, reading, fault}
 
 abbrev at : ℕ → Kind → Option DeckFault
@@ -211,3 +216,30 @@ ring_deck : reading ring ≡ Ok (record no_deck {
 })
 unfolding is_word is_hex digit is_allowed bad_line put put_word put_open end_line break_off begin_word begin step_in step scan_from finish_in lines_of lines_or_fault is_name_byte all_name is_name short_at dotted_at digits number_of unit_of ret_of rnl_of chosen option_at options_at ctl_at scope_at names_at place_at controlled_at uncontrolled_at enq_at reserve_at deq_at wait_at said_at line_verb which_of form_of value_of rnl_operand_at whole_rnl rnldef_at mode_of entries_of limit_of with_operand operand_at complex_at verb pair_at entry_at act_at event_at is_unbuilt_word named_at key plain_form first_form event_form form statements_from statements system_place job_place task_place judge judge_all reading fault
 ring_deck = refl
+
+-- the declared fault of a text: a system that is named again
+twice : IsFault (text (codes "SYSTEM SYA" ∷ codes "SYSTEM SYA" ∷ [])) (record { line = 2; kind = Repeated })
+twice = is_fault (text (codes "SYSTEM SYA" ∷ codes "SYSTEM SYA" ∷ [])) (record { line = 2; kind = Repeated }) words_and_forms.11
+
+-- one system with one task of these lines
+abbrev of_lines : List ℕ → List Line → Deck
+of_lines name ls = record no_deck { systems = record { name = name; desk = []; jobs = record { name = codes "J"; tasks = record { name = codes "T"; lines = ls } ∷ [] } ∷ [] } ∷ [] }
+
+abbrev item : List ℕ → Item
+item q = record { q = q; r = codes "B"; ctl = E; scope = scopes.Systems }
+
+-- no deck has an ENQ of two items
+two_items : IsDeck (of_lines (codes "SYA") (lines.Enq (item (codes "A") ∷ item (codes "C") ∷ []) RetNone true ∷ [])) → ⊥
+two_items h = let k : false ≡ true = (h.lines.each 0 lines.DisplayC (omega arith)).one in cc
+
+-- nor a system with a name of nine bytes, or of a digit first
+long_name : IsDeck (of_lines (codes "ABCDEFGHI") []) → ⊥
+long_name h = let k : 9 ≤ 8 = (h.names 0 [] (omega arith)).1 in omega (arith, k)
+
+digit_name : IsDeck (of_lines (codes "1A") []) → ⊥
+unfolding is_name_byte all_name is_name
+digit_name h = let k : false ≡ true = (h.names 0 [] (omega arith)).0 in cc
+
+-- nor a qname that a blank ends
+blank_name : IsDeck (of_lines (codes "SYA") (lines.Enq (item (codes "A ") ∷ []) RetNone true ∷ [])) → ⊥
+blank_name h = let k : codes "A" ≡ codes "A " = ((h.lines.each 0 lines.DisplayC (omega arith)).qnames 0 [] (omega arith)).trimmed in cc

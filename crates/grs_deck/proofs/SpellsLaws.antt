@@ -33,7 +33,7 @@ use Rattle.grs_deck.specs.Places.{jobs_now, tasks_now, task_count, system_place,
 use Rattle.grs_deck.specs.Judge.{is_too_long, list_of, has_long_name, has_bad_name, is_repeated, is_misplaced, is_full, is_unknown, verdict}
 use Rattle.grs_deck.specs.Grow.{grow}
 use Rattle.grs_deck.specs.Reading.{judge, judge_all, no_draft, ended, reading, fault, fault_of}
-use Rattle.grs_deck.specs.Spells.{IsShort, IsShortAct, IsQname, IsRname, IsMaybeQname, IsMaybeRname, AreNames, MaySay, MayDefine, MayStand, IsRight, Says, SpellsDeck, Answers}
+use Rattle.grs_deck.specs.Spells.{IsShort, IsShortAct, IsQname, IsRname, IsMaybeQname, IsMaybeRname, AreNames, MaySay, MayDefine, MayStand, IsRight, Says, SpellsDeck}
 use Rattle.grs_deck.proofs.FitsLaws.{NoFault, tests_of, judged}
 
 -- ---- tests and facts
@@ -293,11 +293,6 @@ pub fault_is : (text : List ℕ) (f : DeckFault) → reading text ≡ Err f → 
 unfolding fault
 fault_is text f h = ap fault_of h
 
-pub answers : (text : List ℕ) (r : Result Deck ReadError) → Gives r (reading text) → Answers r text
-answers text (Ok d) h = (reading_spells text d h, no_fault_of text d h)
-answers text (Err read_errors.NoMemory) h = tt
-answers text (Err (read_errors.Fault f)) h = fault_is text f h
-
 pub only : (text : List ℕ) (r : Result Deck ReadError) → Gives r (reading text) → (d : Deck) → SpellsDeck text d → IsOkUnlessMemory r d
 only text (Ok e) h d s = deck_is e d (sym h ∙ spells_reading text d s)
 only text (Err read_errors.NoMemory) h d s = tt
@@ -305,14 +300,6 @@ only text (Err (read_errors.Fault f)) h d s = absurd (let k : no_error d ≡ Err
 
 pub one : (text : List ℕ) (d e : Deck) → SpellsDeck text d → SpellsDeck text e → d ≡ e
 one text d e h k = deck_is d e (sym (spells_reading text d h) ∙ spells_reading text e k)
-
-pub none_spelled : (text : List ℕ) → fault text ≡ None → (d : Deck) × SpellsDeck text d
-unfolding fault
-none_spelled text h = go (reading text) refl h
-  where
-    go : (r : Result Deck DeckFault) → reading text ≡ r → fault_of r ≡ None → (d : Deck) × SpellsDeck text d
-    go (Ok d) is k = (d, reading_spells text d is)
-    go (Err f) is k = absurd cc
 
 pub spelled_none : (text : List ℕ) (d : Deck) → SpellsDeck text d → fault text ≡ None
 spelled_none text d h = no_fault_of text d (spells_reading text d h)

@@ -1,5 +1,5 @@
 -- Each deck that is spelled is whole.
-use Rattle.std.proofs.Common.{◌≡◌, ℕ, ◌+◌, ◌-◌, ◌<◌, Bool, true, false, cond, eqb, List, [], ◌∷◌, length, take, Option, Some, None, refl, sym, subst, arith}
+use Rattle.std.proofs.Common.{◌≡◌, ℕ, ◌+◌, ◌-◌, ◌<◌, Bool, true, false, cond, eqb, List, [], ◌∷◌, length, take, Option, Some, None, refl, sym, ap, subst, arith, filter}
 use Rattle.std.specs.Prelude.{All, slice_get, unwrap_or, Result, Ok, Err, IfOk}
 use Rattle.grs_base.specs.declared.fault.ReadError.{ReadError}
 use Rattle.deck_scan.specs.Gives.{Gives}
@@ -37,9 +37,10 @@ use Rattle.grs_base.specs.Rnl.{no_entries}
 use Rattle.grs_base.specs.declared.rnl.Which.{Which}
 use Rattle.grs_base.specs.declared.rnl.Which.TheVariants.{Incl, Excl, Con}
 use Rattle.grs_base.specs.declared.rnl.RnlEntry.{RnlEntry}
-use Rattle.grs_deck.specs.Whole.{IsListOf, AreLists, IsTaskOf, IsChoiceOf, IsBuilt, IsEventOf, IsDeck}
+use Rattle.grs_deck.specs.Whole.{IsListOf, AreLists, IsTaskOf, IsChoiceOf, IsBuilt, IsEventOf, all_lines, is_display, AreLines, IsDeck}
 use Rattle.grs_deck.proofs.FitsLaws.{fits_grow, lists_grow}
 use Rattle.grs_deck.proofs.SpellsLaws.{no_test, reading_spells}
+use Rattle.grs_deck.proofs.Growth.{Keeps, keeps_none, keeps_grow}
 
 abbrev some : {A : Type 0} → A → Option A
 some x = Some x
@@ -220,12 +221,22 @@ no_list which = record { which_is = refl; few = omega arith; own = All-nil (λ (
 first_draft : IsDraft no_draft
 first_draft = record { lists = record { incl = no_list Incl; excl = no_list Excl; con = no_list Con }; fits = record { few = omega arith; each = λ k x lt. absurd (omega (arith, lt)) }; ring = refl; entries = refl; limit = refl; events = All-nil (IsEventOf [] 64); quiet = λ e. refl }
 
+says_keep : (ls : List TokenLine) (d e : Draft) → Says d ls e → Keeps d → Keeps e
+says_keep [] d e s h = subst Keeps s h
+says_keep (l ∷ ls) d e s h = says_keep ls (grow d s.0) e s.3 (keeps_grow d l s.0 s.1 s.2 h)
+
+lines_of_deck : (d : Draft) → Keeps d → AreLines (all_lines d.deck.systems)
+lines_of_deck d h =
+    let none : length (filter is_display (all_lines d.deck.systems)) ≡ 0 = ap length h.displays in
+    record { few = omega (arith, h.room); displays = omega (arith, none); each = h.lines }
+
 -- Each deck that is spelled is whole.
 pub spelled_whole : (text : List ℕ) (d : Deck) → SpellsDeck text d → IsDeck d
 spelled_whole text d h =
     let w = says_keeps (statements h.lines) no_draft h.draft h.says first_draft in
     let some : 0 < length h.draft.deck.systems = subst (λ (x : Deck). 0 < length x.systems) (sym h.is) h.system in
-    let made : IsDeck h.draft.deck = record { some = some; fits = w.fits; ring = w.ring; entries = w.entries; limit = w.limit; lists = w.lists; events = w.events } in
+    let k = says_keep (statements h.lines) no_draft h.draft h.says keeps_none in
+    let made : IsDeck h.draft.deck = record { some = some; fits = w.fits; names = k.names; lines = lines_of_deck h.draft k; named = k.entries; ring = w.ring; entries = w.entries; limit = w.limit; lists = w.lists; events = w.events } in
     subst IsDeck h.is made
 
 pub whole : (text : List ℕ) (r : Result Deck ReadError) → Gives r (reading text) → IfOk r IsDeck

@@ -1,8 +1,11 @@
--- The first fault of a text, by the table of kinds.
-use Rattle.std.specs.Prelude.{◌≡◌, ℕ, Bool, true, ◌≤◌, ◌⊎◌, List, ◌∷◌, ◌++◌, length, Some, None}
+-- The first fault of a text, by the table of kinds, and what is answered of a text.
+use Rattle.std.specs.Prelude.{◌≡◌, ℕ, Bool, true, ◌≤◌, ◌⊎◌, List, ◌∷◌, ◌++◌, length, Some, None, Result, Ok, Err}
 use Rattle.grs_base.specs.declared.fault.DeckFault.{DeckFault}
 use Rattle.grs_base.specs.declared.fault.Kind.{Kind}
 use Rattle.grs_base.specs.declared.fault.Kind.TheVariants.{TooLong, BadByte, UnknownStatement, BadOperand, NameLength, Repeated, OutOfPlace, TooMany, UnknownName, NoSystem, NotBuilt}
+use Rattle.grs_base.specs.declared.fault.ReadError.{ReadError}
+use Rattle.grs_base.specs.declared.fault.ReadError.TheVariants as read_errors
+use Rattle.grs_wire.specs.declared.deck.Deck.{Deck}
 use Rattle.deck_scan.specs.declared.token.TokenLine.{TokenLine}
 use Rattle.deck_scan.specs.Pieces.{SpellsLines}
 use Rattle.deck_scan.specs.Reading.{byte_fault}
@@ -13,7 +16,7 @@ use Rattle.deck_form.specs.Unbuilt.{is_unbuilt}
 use Rattle.grs_deck.specs.declared.judge.Draft.{Draft}
 use Rattle.grs_deck.specs.Judge.{has_bad_name, is_repeated, is_misplaced, is_full, is_unknown}
 use Rattle.grs_deck.specs.Reading.{no_draft}
-use Rattle.grs_deck.specs.Spells.{Says}
+use Rattle.grs_deck.specs.Spells.{Says, SpellsDeck}
 
 -- The number of a kind.
 abbrev pub number : Kind → ℕ
@@ -78,3 +81,14 @@ pub record FaultOfLines (text : List ℕ) (f : DeckFault) : Type 0 where
 -- The fault of length or bytes comes before that of lines.
 abbrev pub IsFault : List ℕ → DeckFault → Type 0
 IsFault text f = (byte_fault text ≡ Some f) ⊎ FaultOfLines text f
+
+-- No fault is the first of a text.
+abbrev pub IsFaultless : List ℕ → Type 0
+IsFaultless text = (f : DeckFault) → IsFault text f → ⊥
+
+-- What is answered of a text: the deck that it spells, where it has no fault, else its first fault. Want of
+-- memory is the only other answer.
+abbrev pub Answers : Result Deck ReadError → List ℕ → Type 0
+Answers (Ok d) text = SpellsDeck text d × IsFaultless text
+Answers (Err read_errors.NoMemory) text = Unit {0}
+Answers (Err (read_errors.Fault f)) text = IsFault text f

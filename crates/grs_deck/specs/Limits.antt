@@ -17,6 +17,14 @@ most_tasks = 64
 abbrev pub most_lines : ℕ
 most_lines = 16384
 
+-- Task lines of a deck that show something: GQSCAN and DISPLAY.
+abbrev pub most_displays : ℕ
+most_displays = 256
+
+-- Commands of a system's desk.
+abbrev pub most_commands : ℕ
+most_commands = 64
+
 -- Lock entries without ENTRIES.
 abbrev pub default_entries : ℕ
 default_entries = 64

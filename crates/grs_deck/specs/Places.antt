@@ -13,7 +13,7 @@ use Rattle.deck_form.specs.declared.event.Act.{Act}
 use Rattle.deck_form.specs.declared.event.Act.TheVariants as acts
 use Rattle.deck_scan.specs.Next.{◌>>=◌}
 use Rattle.grs_base.specs.Limits.{most_systems}
-use Rattle.grs_deck.specs.Limits.{most_jobs, most_tasks}
+use Rattle.grs_deck.specs.Limits.{most_commands, most_jobs, most_tasks}
 
 -- What the last item has.
 abbrev pub at_last : {A B : Type 0} → (A → List B) → List A → List B
@@ -44,8 +44,9 @@ abbrev pub task_count : List JobDef → ℕ
 task_count [] = 0
 task_count (j ∷ js) = length j.tasks + task_count js
 
--- A system is within its limits of jobs and of tasks.
+-- A system is within its limits of commands at its desk, of jobs and of tasks.
 pub record IsWithin (s : SystemDef) : Type 0 where
+  pub desk : length s.desk ≤ most_commands
   pub jobs : length s.jobs ≤ most_jobs
   pub tasks : task_count s.jobs ≤ most_tasks
 

@@ -1,8 +1,6 @@
 -- What a text must be to spell a deck, by cases on its statements.
-use Rattle.std.specs.Prelude.{◌≡◌, ℕ, false, ◌<◌, ◌≤◌, List, [], ◌∷◌, length, Option, Some, None, Result, Ok, Err}
+use Rattle.std.specs.Prelude.{◌≡◌, ℕ, false, ◌<◌, ◌≤◌, List, [], ◌∷◌, length, Option, Some, None}
 use Rattle.grs_base.specs.Names.{trim_blanks}
-use Rattle.grs_base.specs.declared.fault.ReadError.{ReadError}
-use Rattle.grs_base.specs.declared.fault.ReadError.TheVariants as read_errors
 use Rattle.grs_wire.specs.declared.deck.Event.{Event}
 use Rattle.grs_wire.specs.declared.deck.Deck.{Deck}
 use Rattle.deck_scan.specs.declared.token.TokenLine.{TokenLine}
@@ -26,7 +24,7 @@ use Rattle.grs_deck.specs.Limits.{most_name_bytes, most_jobs, most_tasks}
 use Rattle.grs_deck.specs.Places.{jobs_now, tasks_now, task_count, system_place, job_place, task_place, event_of}
 use Rattle.grs_deck.specs.Judge.{list_of}
 use Rattle.grs_deck.specs.Grow.{grow}
-use Rattle.grs_deck.specs.Reading.{no_draft, fault}
+use Rattle.grs_deck.specs.Reading.{no_draft}
 
 -- A name of a system, job or task is not too long.
 abbrev pub IsShort : List ℕ → Type 0
@@ -106,10 +104,3 @@ pub record SpellsDeck (text : List ℕ) (deck : Deck) : Type 0 where
   pub says : Says no_draft (statements lines) draft
   pub is : draft.deck ≡ deck
   pub system : 0 < length deck.systems
-
--- What is answered of a text: the deck that it spells, where it has no fault, else its fault. Want of
--- memory is the only other answer.
-abbrev pub Answers : Result Deck ReadError → List ℕ → Type 0
-Answers (Ok d) text = SpellsDeck text d × (fault text ≡ None)
-Answers (Err read_errors.NoMemory) text = Unit {0}
-Answers (Err (read_errors.Fault f)) text = fault text ≡ Some f

@@ -1,5 +1,9 @@
 -- What each deck that is read is like: within the limits, and its events speak of what is there.
-use Rattle.std.specs.Prelude.{◌≡◌, ◌≢◌, ℕ, true, false, ◌+◌, ◌<◌, ◌≤◌, List, length, take, slice_get, Some, All}
+use Rattle.std.specs.Prelude.{◌≡◌, ◌≢◌, ℕ, Bool, true, false, ◌&&◌, ◌==◌, ◌+◌, ◌<◌, ◌≤◌, List, [], ◌∷◌, length, take, map, filter, slice_get, Some, is_none, All}
+use Rattle.std.specs.List.{flat_map}
+use Rattle.grs_base.specs.Names.{is_rname, IsQname}
+use Rattle.grs_base.specs.declared.line.Line.{Line}
+use Rattle.grs_base.specs.declared.line.Line.TheVariants as lines
 use Rattle.grs_base.specs.Rnl.{RnlView}
 use Rattle.grs_base.specs.declared.rnl.Which.{Which}
 use Rattle.grs_base.specs.declared.rnl.Which.TheVariants.{Incl, Excl, Con}
@@ -13,8 +17,12 @@ use Rattle.grs_wire.specs.declared.deck.Event.{Event}
 use Rattle.grs_wire.specs.declared.deck.Choice.{Choice}
 use Rattle.grs_wire.specs.declared.deck.Choice.TheVariants as choices
 use Rattle.grs_wire.specs.declared.deck.Deck.{Deck}
+use Rattle.deck_scan.specs.Lengths.{is_bad_rname}
+use Rattle.rnl_syntax.specs.Operands.{is_specific}
 use Rattle.deck_form.specs.Complex.{is_entries, is_limit}
+use Rattle.deck_form.specs.Words.{is_name}
 use Rattle.grs_base.specs.Limits.{most_entries}
+use Rattle.grs_deck.specs.Limits.{most_name_bytes, most_lines, most_displays}
 use Rattle.grs_deck.specs.Places.{task_count, Fits}
 
 -- A task of a system: its job stands in the system, and the task in the job, at this place among all
@@ -63,14 +71,84 @@ pub record AreLists (lists : Lists) : Type 0 where
   pub excl : IsListOf Excl lists.excl
   pub con : IsListOf Con lists.con
 
--- A deck: at least one system and at most eight, each with at most 64 jobs and 64 tasks; ring mode; one of
--- the numbers of entries and of the limits that there may be; the three name lists; and events of its
--- systems.
+-- The names of the systems, their jobs and their tasks.
+abbrev pub all_names : List SystemDef → List (List ℕ)
+all_names systems = flat_map (λ s. s.name ∷ flat_map (λ j. j.name ∷ map (λ t. t.name) j.tasks) s.jobs) systems
+
+-- The name of a system, a job or a task: of 1 to 8 of its bytes, the first no digit.
+abbrev pub IsShortName : List ℕ → Type 0
+IsShortName n = (is_name n ≡ true) × (length n ≤ most_name_bytes)
+
+-- The lines of all tasks.
+abbrev pub all_lines : List SystemDef → List Line
+all_lines systems = flat_map (λ s. flat_map (λ j. flat_map (λ t. t.lines) j.tasks) s.jobs) systems
+
+-- The qnames that a line says.
+abbrev pub qnames : Line → List (List ℕ)
+qnames (lines.Enq items ret rnl) = map (λ i. i.q) items
+qnames (lines.Reserve q r ctl unit ret rnl) = q ∷ []
+qnames (lines.Deq q r scope have unit rnl) = q ∷ []
+qnames (lines.Wait q r scope rnl) = q ∷ []
+qnames (lines.DisplayRes q r) = q ∷ []
+qnames _ = []
+
+-- The rnames that a line says.
+abbrev pub rnames : Line → List (List ℕ)
+rnames (lines.Enq items ret rnl) = map (λ i. i.r) items
+rnames (lines.Reserve q r ctl unit ret rnl) = r ∷ []
+rnames (lines.Deq q r scope have unit rnl) = r ∷ []
+rnames (lines.Wait q r scope rnl) = r ∷ []
+rnames (lines.DisplayRes q r) = r ∷ []
+rnames _ = []
+
+-- How many resources a line asks for or shows by their names; an ENQ is of one.
+abbrev pub is_of_one : Line → Bool
+is_of_one (lines.Enq items ret rnl) = length items == 1
+is_of_one _ = true
+
+-- A line shows something.
+abbrev pub is_display : Line → Bool
+is_display (lines.Gqscan global filter) = true
+is_display lines.DisplayC = true
+is_display (lines.DisplayRes q r) = true
+is_display _ = false
+
+-- A line of a task: an ENQ has one item, and the names have their forms and lengths.
+pub record IsLine (l : Line) : Type 0 where
+  pub one : is_of_one l ≡ true
+  pub qnames : All IsQname (qnames l)
+  pub rnames : All (λ r. is_rname r ≡ true) (rnames l)
+
+-- The task lines: at most 16,384, of which at most 256 show something.
+pub record AreLines (all : List Line) : Type 0 where
+  pub few : length all ≤ most_lines
+  pub displays : length (filter is_display all) ≤ most_displays
+  pub each : All IsLine all
+
+-- An entry of a name list: its names have their lengths, and a SPECIFIC one has an rname.
+pub record IsEntryOf (e : RnlEntry) : Type 0 where
+  pub qname : IsQname e.q
+  pub rname : is_bad_rname e.r ≡ false
+  pub needed : (is_specific e.form && is_none e.r) ≡ false
+
+-- The entries of the three name lists.
+pub record AreEntries (lists : Lists) : Type 0 where
+  pub incl : All IsEntryOf lists.incl.entries
+  pub excl : All IsEntryOf lists.excl.entries
+  pub con : All IsEntryOf lists.con.entries
+
+-- A deck: at least one system and at most eight, each with at most 64 commands at its desk, 64 jobs and 64
+-- tasks, all with names of their form; at most 16,384 task lines, of which at most 256 show something; ring
+-- mode; one of the numbers of entries and of the limits that there may be; the three name lists; and events of
+-- its systems.
 pub record IsDeck (d : Deck) : Type 0 where
   pub some : 0 < length d.systems
   pub fits : Fits d.systems
+  pub names : All IsShortName (all_names d.systems)
+  pub lines : AreLines (all_lines d.systems)
   pub ring : d.star ≡ false
   pub entries : is_entries d.entries ≡ true
   pub limit : is_limit d.limit ≡ true
   pub lists : AreLists d.lists
+  pub named : AreEntries d.lists
   pub events : All (IsEventOf d.systems d.entries) d.events

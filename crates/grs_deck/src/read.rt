@@ -6,7 +6,8 @@ ghost use Rattle.grs_deck.specs.Judge.{verdict};
 ghost use Rattle.grs_deck.specs.Grow.{is_schedule, line_count, grow};
 ghost use Rattle.grs_wire.specs.declared.deck.Deck.{Deck as DeckValue};
 ghost use Rattle.grs_deck.specs.Whole.{AreLists, IsDeck};
-ghost use Rattle.grs_deck.specs.Spells.{SpellsDeck, Answers};
+ghost use Rattle.grs_deck.specs.Spells.{SpellsDeck};
+ghost use Rattle.grs_deck.specs.Faults.{Answers};
 ghost use Rattle.grs_deck.specs.Reading.{judge_statement, judge, judge_all, ended, reading, Took, no_draft};
 
 use crate::grow::grow_deck;
@@ -150,7 +151,7 @@ fn read_all(alloc: Global, text: &[u8]) -> Result<Deck, ReadError>
 /// and any other kind with the line on which the first faulty statement begins: it is the least
 /// kind that applies to that statement, in the order of `grs_base::Kind`. Want of memory is `NoMemory`.
 pub fn read_deck(alloc: Global, text: &[u8]) -> Result<Deck, ReadError>
-    // What is read is spelled so, and has no fault; the fault is the text's first one.
+    // What is read is spelled so, and has no fault; the fault is the text's first one, of the least kind.
     ensures exact { Answers result text.now }
     // What is spelled so is read, unless memory runs out.
     ensures only { (d : DeckValue) → SpellsDeck text.now d → IsOkUnlessMemory result d }

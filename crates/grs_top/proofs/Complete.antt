@@ -2,10 +2,9 @@
 use Rattle.std.proofs.Common.{◌≡◌, ◌≤◌, ◌<◌, ℕ, List, length, refl, sym, subst, inl, inr, arith, Option, None, Some, ◌∙◌, ◌+◌}
 use Rattle.std.proofs.lemmas.List.{take_all}
 use Rattle.std.specs.Io.KnownBytes.{Appends}
-use Rattle.grs_base.specs.declared.fault.DeckFault.{DeckFault}
 use Rattle.grs_wire.specs.declared.deck.Deck.{Deck as DeckValue}
 use Rattle.deck_scan.specs.Reading.{most_text_bytes}
-use Rattle.grs_deck.specs.Reading.{fault}
+use Rattle.grs_deck.specs.Faults.{IsFaultless}
 use Rattle.grs_deck.specs.Spells.{SpellsDeck}
 use Rattle.grs_io.specs.Faults.{last_count, HasRisen}
 use Rattle.grs_io.specs.Moved.{TakesFirst}
@@ -32,12 +31,9 @@ not_risen : (old new : ℕ) → new ≡ old → old < last_count → HasRisen ol
 not_risen old new same below (inl more) = omega arith
 not_risen old new same below (inr last) = omega (arith, last.0)
 
-not_refused : (text : List ℕ) (f : DeckFault) → fault text ≡ Some f → fault text ≡ None → ⊥
-not_refused text f has none = cc
-
 module _
     (one : (text : List ℕ) (d e : DeckValue) → SpellsDeck text d → SpellsDeck text e → d ≡ e)
-    (spelled : (text : List ℕ) (d : DeckValue) → SpellsDeck text d → fault text ≡ None) where
+    (spelled : (text : List ℕ) (d : DeckValue) → SpellsDeck text d → IsFaultless text) where
   completed : (c : Command) (d : DeckValue) (old new : Streams) (s : Status) → Tells old.left d → Completes c old new s → IsWhole c d old new s
   completed c d old new s tells r =
       let same : r.answered.deck ≡ d = one r.text r.answered.deck d r.answered.spelled (all_spells old.left new.left r.text d tells r.read) in
@@ -51,8 +47,7 @@ module _
   whole c d old new statuses.Waits done tells none = inl (completed c d old new statuses.Waits tells done)
   whole c d old new statuses.Deck done tells none =
       let room : most_text_bytes < most_text_bytes + 1 = omega arith in
-      absurd (not_refused done.text done.refused.first done.refused.is_first
-      (spelled done.text d (first_spells (most_text_bytes + 1) old.left new.left done.text d room tells done.read)))
+      absurd (spelled done.text d (first_spells (most_text_bytes + 1) old.left new.left done.text d room tells done.read) done.refused.first done.refused.is_first)
   whole c d old new statuses.Words done tells none = absurd done
   whole c d old new statuses.ReadFault done tells none = absurd (not_risen old.failed_reads new.failed_reads none.failed_reads none.failed_reads_below done.failed_reads)
   whole c d old new statuses.WriteFault done tells none = absurd (not_risen old.failed_writes new.failed_writes none.failed_writes none.failed_writes_below done.failed_writes)

@@ -1,10 +1,9 @@
 -- What a text is answered by.
-use Rattle.std.specs.Prelude.{◌≡◌, ◌⊎◌, ℕ, List, [], ◌∷◌, ◌++◌, codes, Some}
+use Rattle.std.specs.Prelude.{◌≡◌, ◌⊎◌, ℕ, List, [], ◌∷◌, ◌++◌, codes}
 use Rattle.std.specs.Fmt.{decimal}
 use Rattle.grs_base.specs.declared.fault.DeckFault.{DeckFault}
 use Rattle.grs_wire.specs.declared.deck.Deck.{Deck as DeckValue}
-use Rattle.grs_deck.specs.Faults.{number}
-use Rattle.grs_deck.specs.Reading.{fault}
+use Rattle.grs_deck.specs.Faults.{number, IsFault}
 use Rattle.grs_deck.specs.Spells.{SpellsDeck}
 use Rattle.grs_world.specs.Agree.{Sound}
 use Rattle.grs_top.specs.declared.status.Status.{Status}
@@ -21,7 +20,7 @@ fault_line f = (((codes "FAULT LINE " ++ decimal f.line) ++ codes " KIND ") ++ d
 -- A text with a fault is answered by the line of its first one.
 pub record IsRefused (text out : List ℕ) : Type 0 where
   pub first : DeckFault
-  pub is_first : fault text ≡ Some first
+  pub is_first : IsFault text first
   pub line : out ≡ fault_line first
 
 -- what a command writes for a deck

@@ -1,7 +1,7 @@
 //! What a text is answered by: what the command writes for the deck that it spells, or the line of its first
 //! fault. The answer is built whole before any of it is written.
-ghost use Rattle.std.specs.Prelude.{◌≡◌, ◌<◌, ◌≤◌, length, IfOk, if◌then◌else◌};
-ghost use Rattle.grs_base.specs.Limits.{most_systems};
+ghost use Rattle.std.specs.Prelude.{◌≡◌, IfOk, if◌then◌else◌};
+ghost use Rattle.grs_deck.specs.Whole.{IsDeck};
 ghost use Rattle.grs_world.specs.Agree.{Sound};
 ghost use Rattle.grs_top.specs.Seen.{whole_report, ending};
 ghost use Rattle.grs_top.specs.Lists.{lists_text};
@@ -34,8 +34,7 @@ fn ending(done: bool) -> Status
 
 /// The report of the run of a deck's events.
 fn reported(alloc: Global, deck: &Deck) -> Result<Due, NoMemory>
-    requires some { 0 < length deck.now.systems }
-    requires few { length deck.now.systems ≤ most_systems }
+    requires { IsDeck deck.now }
     ensures out { IfOk result (λ due. due.out ≡ whole_report deck.now) }
     ensures status { IfOk result (λ due. due.status ≡ ending deck.now deck.now.events) }
     ensures sound { Sound deck.now deck.now.events }
@@ -74,8 +73,7 @@ fn listed(alloc: Global, deck: &Deck) -> Result<Due, NoMemory>
 
 /// What a command writes for a deck.
 fn answered(alloc: Global, command: Command, deck: &Deck) -> Result<Due, NoMemory>
-    requires some { 0 < length deck.now.systems }
-    requires few { length deck.now.systems ≤ most_systems }
+    requires { IsDeck deck.now }
     ensures out { IfOk result (λ due. due.out ≡ whole_text command deck.now) }
     ensures status { IfOk result (λ due. due.status ≡ status_of command deck.now) }
     ensures sound { IsSoundBy command deck.now }

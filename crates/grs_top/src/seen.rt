@@ -1,7 +1,7 @@
 //! What the report of a deck shows: the run of the deck's events, its history, and where that leaves the
 //! lists and the tasks.
-ghost use Rattle.std.specs.Prelude.{◌≡◌, ◌<◌, ◌≤◌, length, IfOk};
-ghost use Rattle.grs_base.specs.Limits.{most_systems};
+ghost use Rattle.std.specs.Prelude.{◌≡◌, IfOk};
+ghost use Rattle.grs_deck.specs.Whole.{IsDeck};
 ghost use Rattle.grs_world.specs.World.{run, hist, told};
 ghost use Rattle.grs_world.specs.Running.{units_of};
 ghost use Rattle.grs_top.specs.Tasks.{tasks_of, ends_at};
@@ -28,8 +28,7 @@ struct Run {
 
 /// The run of a deck's events.
 fn run_of(alloc: Global, deck: &Deck) -> Result<Run, NoMemory>
-    requires some { 0 < length deck.now.systems }
-    requires few { length deck.now.systems ≤ most_systems }
+    requires { IsDeck deck.now }
     ensures hist { IfOk result (λ seen. seen.hist ≡ hist deck.now deck.now.events) }
     ensures told { IfOk result (λ seen. seen.told ≡ told deck.now deck.now.events) }
     ensures units { IfOk result (λ seen. seen.units ≡ units_of (run deck.now deck.now.events).nodes) }
@@ -61,8 +60,7 @@ fn run_of(alloc: Global, deck: &Deck) -> Result<Run, NoMemory>
 /// `NoMemory` where there was no memory for the run or for what it shows.
 #[tactic(auto, unfolding(crate::specs::Seen::seen_of_run))]
 pub fn seen_of(alloc: Global, deck: &Deck) -> Result<Seen, NoMemory>
-    requires some { 0 < length deck.now.systems }
-    requires few { length deck.now.systems ≤ most_systems }
+    requires { IsDeck deck.now }
     ensures { IfOk result (λ seen. seen ≡ seen_of_run deck.now deck.now.events) }
 {
     let run = run_of(alloc, deck)?;

@@ -1,4 +1,5 @@
-use Rattle.grs_deck.proofs.SpellsLaws.{answers, only}
+use Rattle.grs_deck.proofs.SpellsLaws.{only}
+use Rattle.grs_deck.proofs.First.{answers}
 use Rattle.grs_deck.proofs.WholeLaws.{whole}
 use Rattle.grs_deck.proofs.read.read_deck.Goals as goal
 

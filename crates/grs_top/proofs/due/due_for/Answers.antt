@@ -11,8 +11,5 @@ returns-in-Err-Fault c =
     let out = rw c.in-Err-Fault.field-0-is at c.refused.ensures.out in
     refused_due c.args.command c.args.text.now c.in-Err-Fault.fault c.refused.result first out c.refused.ensures.status
 
-pub answered-requires-clause-some : goal.answered-requires-clause-some
-answered-requires-clause-some c = c.in-Ok.ensures.whole.some
-
-pub answered-requires-clause-few : goal.answered-requires-clause-few
-answered-requires-clause-few c = c.in-Ok.ensures.whole.fits.few
+pub answered-requires : goal.answered-requires
+answered-requires c = c.in-Ok.ensures.whole

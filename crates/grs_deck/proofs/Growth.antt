@@ -1,0 +1,278 @@
+-- What each statement adds to the names, the task lines and the entries of a deck: they stay within their limits.
+use Rattle.std.proofs.Common.{◌≡◌, inl, inr, ◌⊎◌, ℕ, ◌+◌, ◌-◌, ◌<◌, Bool, true, false, cond, not, eqb, leb, List, [], ◌∷◌, ◌++◌, length, map, filter, Option, Some, None, refl, sym, ap, subst, ◌∙◌, arith, append_assoc, length-append}
+use Rattle.std.specs.Prelude.{All, codes, ◌&&◌, ◌||◌}
+use Rattle.std.specs.List.{flat_map}
+use Rattle.std.proofs.lemmas.Bool.{and_parts, and_from, leb-true, le-leb}
+use Rattle.std.proofs.lemmas.List.{append-nil, map-append}
+use Rattle.std.proofs.lemmas.List.Elements.{All-nil, All-push, filter-append}
+use Rattle.std.proofs.lemmas.Grind.{flat_map-append}
+use Rattle.grs_base.specs.Names.{before_rest, trim_blanks, is_qname, is_rname, IsQname}
+use Rattle.grs_base.specs.declared.line.Line.{Line}
+use Rattle.grs_base.specs.declared.rnl.Which.{Which}
+use Rattle.grs_base.specs.declared.rnl.Which.TheVariants.{Incl, Excl, Con}
+use Rattle.grs_base.specs.declared.rnl.RnlEntry.{RnlEntry}
+use Rattle.grs_base.specs.declared.rnl.Lists.{Lists}
+use Rattle.grs_base.proofs.NameLaws.{trim_blanks-le}
+use Rattle.grs_wire.specs.declared.deck.TaskDef.{TaskDef}
+use Rattle.grs_wire.specs.declared.deck.JobDef.{JobDef}
+use Rattle.grs_wire.specs.declared.deck.SystemDef.{SystemDef}
+use Rattle.grs_wire.specs.declared.deck.Event.{Event}
+use Rattle.grs_wire.specs.declared.deck.Deck.{Deck}
+use Rattle.deck_scan.specs.Lengths.{is_bad_rname}
+use Rattle.deck_scan.specs.declared.token.Token.{Token}
+use Rattle.deck_scan.specs.declared.token.TokenLine.{TokenLine}
+use Rattle.job_syntax.specs.declared.said.Said.{Said}
+use Rattle.job_syntax.specs.declared.said.Said.TheVariants as said
+use Rattle.job_syntax.specs.Lines.{are_bad_names, has_bad_name as line_has_bad_name, line_of}
+use Rattle.rnl_syntax.specs.declared.operands.Rnldef.{Rnldef}
+use Rattle.rnl_syntax.specs.Operands.{entry_of, has_bad_name as rnldef_has_bad_name}
+use Rattle.rnl_syntax.specs.Spelled.{IsRnldef}
+use Rattle.deck_form.specs.declared.form.Stmt.{Stmt}
+use Rattle.deck_form.specs.declared.form.Stmt.TheVariants as stmts
+use Rattle.deck_form.specs.Spelled.{IsFirst, Spells}
+use Rattle.deck_form.specs.UnbuiltWord.{is_unbuilt_word}
+use Rattle.grs_deck.specs.declared.judge.Draft.{Draft}
+use Rattle.grs_deck.specs.Limits.{most_lines}
+use Rattle.grs_deck.specs.Places.{at_last, jobs_now, tasks_now, event_of}
+use Rattle.grs_deck.specs.Grow.{on_last, add_job, add_task, add_line, in_jobs, in_tasks, with_event, in_list, grow}
+use Rattle.grs_deck.specs.Reading.{no_draft}
+use Rattle.grs_deck.specs.Spells.{IsRight}
+use Rattle.grs_deck.specs.Whole.{all_names, IsShortName, all_lines, is_display, IsLine, IsEntryOf, AreEntries}
+use Rattle.grs_deck.proofs.SpellsLaws.{no_test}
+
+-- ---- the last of a list
+
+-- where the last grows at its end, so do all together
+flat_last : {A B C : Type 0} (g : A → List B) (f : A → A) (h : A → List C) (xs : List A) (ys : List B) → ((x : A) → at_last h xs ≡ h x → g (f x) ≡ g x ++ ys) → 0 < length xs → flat_map g (on_last f xs) ≡ flat_map g xs ++ ys
+flat_last g f h [] ys e lt = absurd (omega (arith, lt))
+flat_last g f h (x ∷ []) ys e lt = append-nil (g (f x)) ∙ e x refl ∙ ap (λ z. z ++ ys) (sym (append-nil (g x)))
+flat_last g f h (x ∷ z ∷ zs) ys e lt = ap (λ t. g x ++ t) (flat_last g f h (z ∷ zs) ys e (omega arith)) ∙ sym (append_assoc (g x) (flat_map g (z ∷ zs)) ys)
+
+flat_same : {A B : Type 0} (g : A → List B) (f : A → A) (xs : List A) → ((x : A) → g (f x) ≡ g x) → flat_map g (on_last f xs) ≡ flat_map g xs
+flat_same g f [] e = refl
+flat_same g f (x ∷ []) e = ap (λ z. z ++ []) (e x)
+flat_same g f (x ∷ y ∷ ys) e = ap (λ t. g x ++ t) (flat_same g f (y ∷ ys) e)
+
+map_same : {A B : Type 0} (g : A → B) (f : A → A) (xs : List A) → ((x : A) → g (f x) ≡ g x) → map g (on_last f xs) ≡ map g xs
+map_same g f [] e = refl
+map_same g f (x ∷ []) e = ap (λ z. z ∷ []) (e x)
+map_same g f (x ∷ y ∷ ys) e = ap (λ t. g x ∷ t) (map_same g f (y ∷ ys) e)
+
+not_empty : {A B : Type 0} (f : A → List B) (xs : List A) → 0 < length (at_last f xs) → 0 < length xs
+not_empty f [] h = h
+not_empty f (x ∷ xs) h = omega arith
+
+-- ---- task lines
+
+abbrev task_lines : TaskDef → List Line
+task_lines t = t.lines
+
+abbrev job_lines : JobDef → List Line
+job_lines j = flat_map task_lines j.tasks
+
+abbrev system_lines : SystemDef → List Line
+system_lines s = flat_map job_lines s.jobs
+
+lines_line : (line : Line) (ss : List SystemDef) → 0 < length (tasks_now (jobs_now ss)) → all_lines (in_jobs (in_tasks (add_line line)) ss) ≡ all_lines ss ++ line ∷ []
+lines_line line ss lt = flat_last system_lines _ (λ s. s.jobs) ss (line ∷ []) of_system (not_empty (λ s. s.jobs) ss (not_empty (λ j. j.tasks) (jobs_now ss) lt))
+  where
+    of_task : (t : TaskDef) → task_lines (record { name = t.name; lines = t.lines ++ line ∷ [] }) ≡ task_lines t ++ line ∷ []
+    of_task t = refl
+
+    of_job : (js : List JobDef) → 0 < length (tasks_now js) → (j : JobDef) → tasks_now js ≡ j.tasks → flat_map task_lines (add_line line j.tasks) ≡ flat_map task_lines j.tasks ++ line ∷ []
+    of_job js some j e = flat_last task_lines _ (λ t. t.lines) j.tasks (line ∷ []) (λ t k. of_task t) (subst (λ (ts : List TaskDef). 0 < length ts) e some)
+
+    of_system : (s : SystemDef) → jobs_now ss ≡ s.jobs → flat_map job_lines (in_tasks (add_line line) s.jobs) ≡ flat_map job_lines s.jobs ++ line ∷ []
+    of_system s e =
+        let some : 0 < length (tasks_now s.jobs) = subst (λ (js : List JobDef). 0 < length (tasks_now js)) e lt in
+        flat_last job_lines _ (λ j. j.tasks) s.jobs (line ∷ []) (of_job s.jobs some) (not_empty (λ j. j.tasks) s.jobs some)
+
+lines_task : (name : List ℕ) (ss : List SystemDef) → all_lines (in_jobs (add_task name) ss) ≡ all_lines ss
+lines_task name ss = flat_same system_lines _ ss (λ s. flat_same job_lines _ s.jobs of_job)
+  where
+    of_job : (j : JobDef) → flat_map task_lines (j.tasks ++ record { name = name; lines = [] } ∷ []) ≡ flat_map task_lines j.tasks
+    of_job j = flat_map-append task_lines j.tasks (record { name = name; lines = [] } ∷ []) ∙ append-nil (flat_map task_lines j.tasks)
+
+lines_job : (name : List ℕ) (ss : List SystemDef) → all_lines (add_job name ss) ≡ all_lines ss
+lines_job name ss = flat_same system_lines _ ss of_system
+  where
+    of_system : (s : SystemDef) → flat_map job_lines (s.jobs ++ record { name = name; tasks = [] } ∷ []) ≡ flat_map job_lines s.jobs
+    of_system s = flat_map-append job_lines s.jobs (record { name = name; tasks = [] } ∷ []) ∙ append-nil (flat_map job_lines s.jobs)
+
+lines_system : (name : List ℕ) (ss : List SystemDef) → all_lines (ss ++ record { name = name; desk = []; jobs = [] } ∷ []) ≡ all_lines ss
+lines_system name ss = flat_map-append system_lines ss (record { name = name; desk = []; jobs = [] } ∷ []) ∙ append-nil (flat_map system_lines ss)
+
+-- ---- names
+
+abbrev task_name : TaskDef → List ℕ
+task_name t = t.name
+
+abbrev job_names : JobDef → List (List ℕ)
+job_names j = j.name ∷ map task_name j.tasks
+
+abbrev system_names : SystemDef → List (List ℕ)
+system_names s = s.name ∷ flat_map job_names s.jobs
+
+names_system : (name : List ℕ) (ss : List SystemDef) → all_names (ss ++ record { name = name; desk = []; jobs = [] } ∷ []) ≡ all_names ss ++ name ∷ []
+names_system name ss = flat_map-append system_names ss (record { name = name; desk = []; jobs = [] } ∷ [])
+
+names_job : (name : List ℕ) (ss : List SystemDef) → 0 < length ss → all_names (add_job name ss) ≡ all_names ss ++ name ∷ []
+names_job name ss lt = flat_last system_names _ (λ s. s.jobs) ss (name ∷ []) of_system lt
+  where
+    of_system : (s : SystemDef) → jobs_now ss ≡ s.jobs → s.name ∷ flat_map job_names (s.jobs ++ record { name = name; tasks = [] } ∷ []) ≡ system_names s ++ name ∷ []
+    of_system s e = ap (λ (t : List (List ℕ)). s.name ∷ t) (flat_map-append job_names s.jobs (record { name = name; tasks = [] } ∷ []))
+
+names_task : (name : List ℕ) (ss : List SystemDef) → 0 < length (jobs_now ss) → all_names (in_jobs (add_task name) ss) ≡ all_names ss ++ name ∷ []
+names_task name ss lt = flat_last system_names _ (λ s. s.jobs) ss (name ∷ []) of_system (not_empty (λ s. s.jobs) ss lt)
+  where
+    of_job : (js : List JobDef) (j : JobDef) → tasks_now js ≡ j.tasks → j.name ∷ map task_name (j.tasks ++ record { name = name; lines = [] } ∷ []) ≡ job_names j ++ name ∷ []
+    of_job js j e = ap (λ (t : List (List ℕ)). j.name ∷ t) (map-append task_name j.tasks (record { name = name; lines = [] } ∷ []))
+
+    of_system : (s : SystemDef) → jobs_now ss ≡ s.jobs → s.name ∷ flat_map job_names (add_task name s.jobs) ≡ system_names s ++ name ∷ []
+    of_system s e = ap (λ (t : List (List ℕ)). s.name ∷ t) (flat_last job_names _ (λ j. j.tasks) s.jobs (name ∷ []) (of_job s.jobs) (subst (λ (js : List JobDef). 0 < length js) e lt))
+
+names_line : (line : Line) (ss : List SystemDef) → all_names (in_jobs (in_tasks (add_line line)) ss) ≡ all_names ss
+names_line line ss = flat_same system_names _ ss (λ s. ap (λ (t : List (List ℕ)). s.name ∷ t) (flat_same job_names _ s.jobs of_job))
+  where
+    of_job : (j : JobDef) → j.name ∷ map task_name (add_line line j.tasks) ≡ job_names j
+    of_job j = ap (λ (t : List (List ℕ)). j.name ∷ t) (map_same task_name (λ t. record { name = t.name; lines = t.lines ++ line ∷ [] }) j.tasks (λ t. refl))
+
+-- ---- one line
+
+before_twice : (b : ℕ) (t : List ℕ) → trim_blanks t ≡ t → trim_blanks (before_rest b t) ≡ before_rest b t
+before_twice b [] h = go (eqb b 32) refl
+  where
+    go : (x : Bool) → eqb b 32 ≡ x → trim_blanks (cond x [] (b ∷ [])) ≡ cond x [] (b ∷ [])
+    go true is = refl
+    go false is = rw is refl
+before_twice b (c ∷ cs) h = ap (before_rest b) h
+
+trim_twice : (q : List ℕ) → trim_blanks (trim_blanks q) ≡ trim_blanks q
+trim_twice [] = refl
+trim_twice (b ∷ bs) = before_twice b (trim_blanks bs) (trim_twice bs)
+
+built : (q : List ℕ) → is_qname q ≡ true → IsQname (trim_blanks q)
+built q h =
+    let k = and_parts (leb (length q) 8) (leb 1 (length (trim_blanks q))) h in
+    let few = le-leb (length (trim_blanks q)) 8 (omega (arith, trim_blanks-le q, leb-true (length q) 8 k.0)) in
+    record { made = and_from (leb (length (trim_blanks q)) 8) _ few (ap (λ (t : List ℕ). leb 1 (length t)) (trim_twice q) ∙ k.1); trimmed = trim_twice q }
+
+not_either : (a b : Bool) → (not a || not b) ≡ false → (a ≡ true) × (b ≡ true)
+not_either true true h = (refl, refl)
+not_either true false h = absurd cc
+not_either false b h = absurd cc
+
+not_bad : (a b : Bool) → (not a || b) ≡ false → (a ≡ true) × (b ≡ false)
+not_bad true false h = (refl, refl)
+not_bad true true h = absurd cc
+not_bad false b h = absurd cc
+
+one_of : {A : Type 0} (P : A → Type 0) (x : A) → P x → All P (x ∷ [])
+one_of P x h = All-push P [] x (All-nil P) h
+
+-- a line as it is built, which shows nothing
+abbrev IsBuiltLine : Line → Type 0
+IsBuiltLine l = IsLine l × (is_display l ≡ false)
+
+named_line : (l : Line) (q r : List ℕ) → are_bad_names q r ≡ false → (All IsQname (trim_blanks q ∷ []) → All (λ (r : List ℕ). is_rname r ≡ true) (r ∷ []) → IsLine l) → IsLine l
+named_line l q r h make = let k = not_either (is_qname q) (is_rname r) h in make (one_of IsQname (trim_blanks q) (built q k.0)) (one_of (λ (r : List ℕ). is_rname r ≡ true) r k.1)
+
+line_built : (ts : List Token) (s : Said) → IsFirst ts (stmts.Line s) → line_has_bad_name s ≡ false → IsBuiltLine (line_of s)
+unfolding is_unbuilt_word
+line_built ts (said.Enq e) h good = (named_line (line_of (said.Enq e)) e.ask.q e.ask.r good (λ q r. record { one = refl; qnames = q; rnames = r }), refl)
+line_built ts (said.Reserve e) h good = (named_line (line_of (said.Reserve e)) e.ask.q e.ask.r good (λ q r. record { one = refl; qnames = q; rnames = r }), refl)
+line_built ts (said.Deq a) h good = (named_line (line_of (said.Deq a)) a.q a.r good (λ q r. record { one = refl; qnames = q; rnames = r }), refl)
+line_built ts (said.Wait a) h good = (named_line (line_of (said.Wait a)) a.q a.r good (λ q r. record { one = refl; qnames = q; rnames = r }), refl)
+line_built ts (said.Gqscan x) h good = absurd (let k : true ≡ false = subst (λ (w : List ℕ). is_unbuilt_word w ≡ false) h.0.is_word h.1 in cc)
+line_built ts (said.Display x) h good = absurd (other h.0.is_word)
+  where
+    other : (h.0.word ≡ codes "DISPLAY") ⊎ (h.0.word ≡ codes "D") → ⊥
+    other (inl is) = let k : true ≡ false = subst (λ (w : List ℕ). is_unbuilt_word w ≡ false) is h.1 in cc
+    other (inr is) = let k : true ≡ false = subst (λ (w : List ℕ). is_unbuilt_word w ≡ false) is h.1 in cc
+
+-- ---- a deck so far
+
+pub record Keeps (d : Draft) : Type 0 where
+  pub names : All IsShortName (all_names d.deck.systems)
+  pub lines : All IsLine (all_lines d.deck.systems)
+  pub displays : filter is_display (all_lines d.deck.systems) ≡ []
+  pub room : length (all_lines d.deck.systems) + d.room ≡ most_lines
+  pub entries : AreEntries d.deck.lists
+
+pub keeps_none : Keeps no_draft
+keeps_none = record {
+  names = All-nil IsShortName;
+  lines = All-nil IsLine;
+  displays = refl;
+  room = refl;
+  entries = record { incl = All-nil IsEntryOf; excl = All-nil IsEntryOf; con = All-nil IsEntryOf };
+}
+
+-- no line more
+no_line : (d e : Draft) → Keeps d → all_lines e.deck.systems ≡ all_lines d.deck.systems → e.room ≡ d.room → All IsShortName (all_names e.deck.systems) → AreEntries e.deck.lists → Keeps e
+no_line d e h same room names entries = record {
+  names = names;
+  lines = subst (All IsLine) (sym same) h.lines;
+  displays = ap (filter is_display) same ∙ h.displays;
+  room = rw (same, room) h.room;
+  entries = entries;
+}
+
+-- a name more
+name_more : (d : Draft) (name : List ℕ) (all : List (List ℕ)) → Keeps d → all ≡ all_names d.deck.systems ++ name ∷ [] → IsShortName name → All IsShortName all
+name_more d name all h is short = subst (All IsShortName) (sym is) (All-push IsShortName (all_names d.deck.systems) name h.names short)
+
+entry_more : (r : Rnldef) (lists : Lists) → IsEntryOf (entry_of r) → AreEntries lists → (which : Which) → AreEntries (in_list which (entry_of r) lists)
+entry_more r lists e h Incl = record { incl = All-push IsEntryOf lists.incl.entries (entry_of r) h.incl e; excl = h.excl; con = h.con }
+entry_more r lists e h Excl = record { incl = h.incl; excl = All-push IsEntryOf lists.excl.entries (entry_of r) h.excl e; con = h.con }
+entry_more r lists e h Con = record { incl = h.incl; excl = h.excl; con = All-push IsEntryOf lists.con.entries (entry_of r) h.con e }
+
+entry_built : (ts : List Token) (r : Rnldef) → IsRnldef ts r → rnldef_has_bad_name r ≡ false → IsEntryOf (entry_of r)
+entry_built ts r h good = let k = not_bad (is_qname r.q) (is_bad_rname r.r) good in record { qname = built r.q k.0; rname = k.1; needed = h.needed }
+
+room_same : (n : ℕ) → n - 0 ≡ n
+room_same n = omega arith
+
+line_more : (d : Draft) (line : Line) → Keeps d → 0 < length (tasks_now (jobs_now d.deck.systems)) → 0 < d.room → IsBuiltLine line → (e : Draft) → e.deck.systems ≡ in_jobs (in_tasks (add_line line)) d.deck.systems → e.room ≡ d.room - 1 → e.deck.lists ≡ d.deck.lists → Keeps e
+line_more d line h task some new e is room lists =
+    let all : all_lines e.deck.systems ≡ all_lines d.deck.systems ++ line ∷ [] = ap all_lines is ∙ lines_line line d.deck.systems task in
+    record {
+      names = subst (All IsShortName) (sym (ap all_names is ∙ names_line line d.deck.systems)) h.names;
+      lines = subst (All IsLine) (sym all) (All-push IsLine (all_lines d.deck.systems) line h.lines new.0);
+      displays = ap (filter is_display) all ∙ filter-append is_display (all_lines d.deck.systems) (line ∷ []) ∙ rw (h.displays, new.1) refl;
+      room = (let long : length (all_lines e.deck.systems) ≡ length (all_lines d.deck.systems) + 1 = ap length all ∙ length-append (all_lines d.deck.systems) (line ∷ []) in omega (arith, long, room, some, h.room));
+      entries = subst AreEntries (sym lists) h.entries;
+    }
+
+first_keeps : (d : Draft) (ts : List Token) (st : Stmt) → IsFirst ts st → IsRight d st → Keeps d → Keeps (grow d st)
+first_keeps d ts stmts.Unbuilt s right h = no_line d (grow d stmts.Unbuilt) h refl (room_same d.room) h.names h.entries
+first_keeps d ts (stmts.Complex c) s right h = no_line d (grow d (stmts.Complex c)) h refl (room_same d.room) h.names h.entries
+first_keeps d ts (stmts.Rnldef r) s right h =
+    let e = entry_built s.0 r s.2 (no_test d (stmts.Rnldef r) right).long in
+    no_line d (grow d (stmts.Rnldef r)) h refl (room_same d.room) h.names (entry_more r d.deck.lists e h.entries r.which)
+first_keeps d ts (stmts.System n) s right h =
+    no_line d (grow d (stmts.System n)) h (lines_system n d.deck.systems) (room_same d.room) (name_more d n _ h (names_system n d.deck.systems) (s.1, right.0.0)) h.entries
+first_keeps d ts (stmts.Job n) s right h =
+    no_line d (grow d (stmts.Job n)) h (lines_job n d.deck.systems) (room_same d.room) (name_more d n _ h (names_job n d.deck.systems right.0.2) (s.1, right.0.0)) h.entries
+first_keeps d ts (stmts.Task n) s right h =
+    no_line d (grow d (stmts.Task n)) h (lines_task n d.deck.systems) (room_same d.room) (name_more d n _ h (names_task n d.deck.systems right.0.2) (s.1, right.0.0)) h.entries
+first_keeps d ts (stmts.Line x) s right h =
+    line_more d (line_of x) h right.0.1 right.0.2 (line_built ts x s (no_test d (stmts.Line x) right).long) (grow d (stmts.Line x)) refl refl refl
+first_keeps d ts stmts.Schedule s right h = no_line d (grow d stmts.Schedule) h refl (room_same d.room) h.names h.entries
+first_keeps d ts (stmts.Event n a) s right h = absurd s
+
+event_keeps : (d : Draft) (o : Option Event) (e : Draft) → e.deck ≡ with_event o d.deck → e.room ≡ d.room → Keeps d → Keeps e
+event_keeps d None e is room h = no_line d e h (ap (λ (x : Deck). all_lines x.systems) is) room (subst (λ (x : Deck). All IsShortName (all_names x.systems)) (sym is) h.names) (subst (λ (x : Deck). AreEntries x.lists) (sym is) h.entries)
+event_keeps d (Some v) e is room h = no_line d e h (ap (λ (x : Deck). all_lines x.systems) is) room (subst (λ (x : Deck). All IsShortName (all_names x.systems)) (sym is) h.names) (subst (λ (x : Deck). AreEntries x.lists) (sym is) h.entries)
+
+-- A statement that is right keeps the limits of names, task lines and entries.
+pub keeps_grow : (d : Draft) (l : TokenLine) (st : Stmt) → Spells d.scheduled d.deck.entries l st → IsRight d st → Keeps d → Keeps (grow d st)
+keeps_grow d l st s right h = go d.scheduled s
+  where
+    event : (x : Stmt) → Spells true d.deck.entries l x → Keeps (grow d x)
+    event (stmts.Event n a) k = event_keeps d (event_of d.deck.systems n a) (grow d (stmts.Event n a)) refl (room_same d.room) h
+    event _ k = absurd k
+
+    go : (b : Bool) → Spells b d.deck.entries l st → Keeps (grow d st)
+    go true k = event st k
+    go false k = first_keeps d l.tokens st k.1 right h
