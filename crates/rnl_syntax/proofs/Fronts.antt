@@ -201,7 +201,7 @@ same_begin : (front back : List ℕ) → begins 10 (front ++ 41 ∷ []) ≡ begi
 same_begin [] back = refl
 same_begin (x ∷ xs) back = refl
 
-cut_allowed : (front back : List ℕ) (n : ℕ) → bad_line n (front ++ 41 ∷ back) ≡ None → bad_line n (front ++ 41 ∷ []) ≡ None
+pub cut_allowed : (front back : List ℕ) (n : ℕ) → bad_line n (front ++ 41 ∷ back) ≡ None → bad_line n (front ++ 41 ∷ []) ≡ None
 unfolding bad_line is_allowed
 cut_allowed [] back n h = refl
 cut_allowed (x ∷ xs) back n h = rw (same_begin xs back) (go (is_printable x || eqb x 10 || (eqb x 13 && begins 10 (xs ++ 41 ∷ back))) h (λ m k. cut_allowed xs back m k))

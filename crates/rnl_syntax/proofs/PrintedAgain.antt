@@ -21,7 +21,9 @@ use Rattle.deck_scan.specs.Bytes.{is_word, is_allowed, bad_line}
 use Rattle.deck_scan.specs.Lengths.{is_bad_rname}
 use Rattle.deck_scan.specs.Named.{IsMaybeRname, are_bytes, name_piece, name_token}
 use Rattle.deck_scan.specs.Pieces.{Piece, Plain, Sign, Blank, LineEnd, spelled, is_piece, is_nonempty, followed_by, are_pieces, Place, past_all, first_place, next_line, lines_said, without_cr, SpellsLines}
-use Rattle.deck_scan.specs.Reading.{most_text_bytes}
+use Rattle.deck_scan.specs.AnyBytes.{readable}
+use Rattle.deck_scan.proofs.AnyLemmas.{any_text}
+use Rattle.rnl_syntax.proofs.Readable.{printable_read, end_read}
 use Rattle.deck_scan.proofs.Names.{piece-spelling, piece-is, printed-printable, qname_nonempty, rname_nonempty}
 use Rattle.deck_scan.proofs.Print.{printable-before, printable-kept, piece_on, name_followed, name_past, name_names}
 use Rattle.rnl_syntax.specs.declared.operands.Rnldef.{Rnldef}
@@ -217,9 +219,8 @@ unfolding first_from
 stays e [] h = refl
 stays e (m ∷ ms) h = rw (closed_tokens e.which e.form e.q e.r, h) refl
 
-made_by : (e : RnlEntry) (text : List ℕ) (more : List TokenLine) → IsEntry e → length text ≤ most_text_bytes → SpellsLines text (entry_line e ∷ more) → begins_operands more ≡ false → MakesEntry text e
-made_by e text more h short spelled other = record {
-  short = short;
+made_by : (e : RnlEntry) (text : List ℕ) (more : List TokenLine) → IsEntry e → SpellsLines (readable text) (entry_line e ∷ more) → begins_operands more ≡ false → MakesEntry text e
+made_by e text more h spelled other = record {
   lines = entry_line e ∷ more;
   spelled = spelled;
   statement = entry_line e;
@@ -253,8 +254,8 @@ alone_spells e h =
     let lines : lines_said (entry_pieces e []) ≡ entry_line e ∷ [] = ap (λ (p : Place). (next_line p).lines) (entry_past e [] h) ∙ ap (λ (p : Place). p.lines) (entry_end e) in
     subst (λ (ls : List TokenLine). SpellsLines (printed_rnldef e ++ []) ls) lines (spells_with e [] [] h refl none_bad refl)
 
-alone : (e : RnlEntry) → IsEntry e → length (printed_rnldef e ++ []) ≤ most_text_bytes → MakesEntry (printed_rnldef e ++ []) e
-alone e h short = made_by e (printed_rnldef e ++ []) [] h short (alone_spells e h) refl
+alone : (e : RnlEntry) → IsEntry e → MakesEntry (printed_rnldef e ++ []) e
+alone e h = made_by e (printed_rnldef e ++ []) [] h (any_text (printed_rnldef e ++ []) (entry_line e ∷ []) (alone_spells e h)) refl
 
 -- ---- the next line
 
@@ -284,15 +285,18 @@ line_end_on ps h = piece_on LineEnd ps refl (followed (spelled ps)) h
     followed [] = refl
     followed (x ∷ xs) = refl
 
-next_made : (e : RnlEntry) (behind : List ℕ) → IsEntry e → IsNextLine behind → length (printed_rnldef e ++ behind) ≤ most_text_bytes → MakesEntry (printed_rnldef e ++ behind) e
-next_made e behind h n short =
+next_made : (e : RnlEntry) (behind : List ℕ) → IsEntry e → IsNextLine behind → MakesEntry (printed_rnldef e ++ behind) e
+next_made e behind h n =
     let qs = n.spelled.pieces in
-    let bytes : without_cr behind ≡ spelled (LineEnd ∷ qs) = ap without_cr n.parts ∙ end_kept n.bytes n.rest n.ends ∙ ap (λ (x : List ℕ). 10 ∷ x) n.spelled.spells in
-    let allowed : bad_line 1 behind ≡ None = ap (bad_line 1) n.parts ∙ end_allowed n.bytes n.rest n.ends n.spelled.allowed in
+    let next : List ℕ = n.bytes ++ readable n.rest in
+    let read : readable (printed_rnldef e ++ behind) ≡ printed_rnldef e ++ next = ap (λ (t : List ℕ). readable (printed_rnldef e ++ t)) n.parts ∙ printable_read (printed_rnldef e) (n.bytes ++ n.rest) (entry_printable e h) ∙ ap (λ (t : List ℕ). printed_rnldef e ++ t) (end_read n.bytes n.rest n.ends) in
+    let bytes : without_cr next ≡ spelled (LineEnd ∷ qs) = end_kept n.bytes (readable n.rest) n.ends ∙ ap (λ (x : List ℕ). 10 ∷ x) n.spelled.spells in
+    let allowed : bad_line 1 next ≡ None = end_allowed n.bytes (readable n.rest) n.ends n.spelled.allowed in
     let b = lines_behind (entry_line e) qs 2 in
     let lines : lines_said (entry_pieces e (LineEnd ∷ qs)) ≡ entry_line e ∷ b.more = ap (λ (p : Place). (next_line p).lines) (entry_past e (LineEnd ∷ qs) h) ∙ ap (λ (p : Place). (next_line (past_all qs p)).lines) (entry_end e) ∙ b.lines in
     let other : begins_operands b.more ≡ false = b.first ∙ ap begins_operands (sym n.spelled.says) ∙ n.other in
-    made_by e (printed_rnldef e ++ behind) b.more h short (subst (λ (ls : List TokenLine). SpellsLines (printed_rnldef e ++ behind) ls) lines (spells_with e behind (LineEnd ∷ qs) h bytes allowed (line_end_on qs n.spelled.are))) other
+    let all : SpellsLines (printed_rnldef e ++ next) (entry_line e ∷ b.more) = subst (λ (ls : List TokenLine). SpellsLines (printed_rnldef e ++ next) ls) lines (spells_with e next (LineEnd ∷ qs) h bytes allowed (line_end_on qs n.spelled.are)) in
+    made_by e (printed_rnldef e ++ behind) b.more h (subst (λ (t : List ℕ). SpellsLines t (entry_line e ∷ b.more)) (sym read) all) other
 
 -- ---- the bytes used
 
@@ -316,12 +320,11 @@ line_count : (e : RnlEntry) → IsEntry e → all_closes (entry_line e ∷ []) �
 line_count e h = let k = rnldef_closes (entry_tokens e) (rnldef_of e) (parts_say e.which e.form e.q e.r h.needed) in omega (arith, k)
 
 -- What is printed of an entry is read as that entry, and used to its end.
-used_all : (e : RnlEntry) (behind : List ℕ) → IsEntry e → MakesEntry (printed_rnldef e ++ behind) e → length (printed_rnldef e ++ behind) ≤ most_text_bytes → SpellsEntry (printed_rnldef e ++ behind) e (length (printed_rnldef e))
-used_all e behind h made short =
+used_all : (e : RnlEntry) (behind : List ℕ) → IsEntry e → MakesEntry (printed_rnldef e ++ behind) e → SpellsEntry (printed_rnldef e ++ behind) e (length (printed_rnldef e))
+used_all e behind h made =
     let long : length (printed_rnldef e ++ behind) ≡ length (printed_rnldef e) + length behind = length-append (printed_rnldef e) behind in
     let same : printed_rnldef e ++ [] ≡ printed_rnldef e = append-nil (printed_rnldef e) in
-    let few : length (printed_rnldef e ++ []) ≤ most_text_bytes = subst (λ (x : List ℕ). length x ≤ most_text_bytes) (sym same) (omega (arith, long, short)) in
-    let own : MakesEntry (printed_rnldef e) e = subst (λ (x : List ℕ). MakesEntry x e) same (alone e h few) in
+    let own : MakesEntry (printed_rnldef e) e = subst (λ (x : List ℕ). MakesEntry x e) same (alone e h) in
     let spelled : SpellsLines (printed_rnldef e) (entry_line e ∷ []) = subst (λ (x : List ℕ). SpellsLines x (entry_line e ∷ [])) same (alone_spells e h) in
     let cut : take (length (printed_rnldef e)) (printed_rnldef e ++ behind) ≡ printed_rnldef e = take-append_seam (printed_rnldef e) behind in
     let end = ending e in
@@ -329,9 +332,9 @@ used_all e behind h made short =
     record {
       makes = made;
       front = (omega (arith, long), ap ends_closed cut ∙ closed, subst (λ (x : List ℕ). MakesEntry x e) (sym cut) own);
-      fewest = λ n lt f. no_shorter (printed_rnldef e) end.init behind e (entry_line e ∷ []) end.parts spelled (line_ends e.which e.form e.q e.r) (line_count e h) n lt f.2;
+      fewest = λ n lt f. no_shorter (printed_rnldef e) end.init behind e (entry_line e ∷ []) end.parts spelled (line_ends e.which e.form e.q e.r) (line_count e h) n lt f.1 f.2;
     }
 
-pub entry_again : (e : RnlEntry) (behind : List ℕ) → IsEntry e → MayFollow behind → length (printed_rnldef e ++ behind) ≤ most_text_bytes → SpellsEntry (printed_rnldef e ++ behind) e (length (printed_rnldef e))
-entry_again e behind h (inl none) short = used_all e behind h (subst (λ (t : List ℕ). MakesEntry (printed_rnldef e ++ t) e) (sym none) (alone e h (subst (λ (t : List ℕ). length (printed_rnldef e ++ t) ≤ most_text_bytes) none short))) short
-entry_again e behind h (inr next) short = used_all e behind h (next_made e behind h next short) short
+pub entry_again : (e : RnlEntry) (behind : List ℕ) → IsEntry e → MayFollow behind → SpellsEntry (printed_rnldef e ++ behind) e (length (printed_rnldef e))
+entry_again e behind h (inl none) = used_all e behind h (subst (λ (t : List ℕ). MakesEntry (printed_rnldef e ++ t) e) (sym none) (alone e h))
+entry_again e behind h (inr next) = used_all e behind h (next_made e behind h next)

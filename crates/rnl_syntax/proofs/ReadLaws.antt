@@ -21,20 +21,24 @@ use Rattle.deck_scan.specs.declared.token.Token.TheVariants.{Word, Close, Unclos
 use Rattle.deck_scan.specs.declared.token.TokenLine.{TokenLine}
 use Rattle.deck_scan.specs.Next.{Sets}
 use Rattle.deck_scan.specs.Pieces.{SpellsLines}
-use Rattle.deck_scan.specs.Gives.{IsOkUnlessMemory, refused, or_bad}
-use Rattle.deck_scan.specs.Reading.{lines_or_fault}
+use Rattle.deck_scan.specs.Gives.{Gives, IsOkUnlessMemory, refused, or_bad}
+use Rattle.deck_scan.specs.AnyBytes.{readable}
+use Rattle.deck_scan.specs.Scan.{lines_of}
+use Rattle.deck_scan.proofs.AnyLemmas.{some_lines, any_text}
+use Rattle.deck_scan.proofs.Pieced.{spelled_is}
 use Rattle.deck_scan.proofs.Taking.{same_bytes}
-use Rattle.deck_scan.proofs.Texts.{bind_ok, read_text, text_read}
+use Rattle.deck_scan.proofs.Texts.{bind_ok}
 use Rattle.rnl_syntax.specs.declared.operands.Operands.{Operands}
 use Rattle.rnl_syntax.specs.declared.operands.Rnldef.{Rnldef}
 use Rattle.rnl_syntax.specs.Lines.{goes_on, with_line, is_rnldef_word}
 use Rattle.rnl_syntax.specs.Operands.{no_operands, rnldef_at, has_bad_name, entry_of}
 use Rattle.rnl_syntax.specs.Spelled.{Operand, WithRnl, WithType, WithQname, WithRname, operand, IsFree, set, IsRnldef}
-use Rattle.rnl_syntax.specs.Reading.{first_from, first_statement, by_word, by_first, rnldef_on, sized, entry_on, reading, MakesEntry, ends_closed, IsFront, SpellsEntry, Answers, same_which, same_form, same_rname, same_entry, is_entry, is_front, IsFewest, Found}
+use Rattle.rnl_syntax.specs.Reading.{first_from, first_statement, by_word, by_first, rnldef_on, sized, entry_on, reading, MakesEntry, ends_closed, IsFront, SpellsEntry, IsStatement, same_which, same_form, same_rname, same_entry, is_entry, is_front, IsFewest, Found}
 use Rattle.rnl_syntax.proofs.Taken.{rnldef_taken}
 use Rattle.rnl_syntax.proofs.Again.{rnldef_again}
 use Rattle.rnl_syntax.proofs.Closed.{ends_closed-snoc, is_close, last_closes, line_closes, last_closes-append}
 use Rattle.rnl_syntax.proofs.Fronts.{front_spells}
+use Rattle.rnl_syntax.proofs.Readable.{cut_readable}
 
 abbrev read_as : RnlEntry → Result RnlEntry DeckFault
 read_as e = Ok e
@@ -74,9 +78,12 @@ statement_there s d e = go s.joined refl e
     go true is k = absurd cc
     go false is k = (is, first_there s.at s.tokens d k)
 
-there_statement : (s : TokenLine) (ts : List Token) (d : Rnldef) → s.joined ≡ false → s.tokens ≡ Word (codes "RNLDEF") ∷ ts → IsRnldef ts d → rnldef_on s ≡ Ok d
+pub there_statement : (s : TokenLine) (ts : List Token) (d : Rnldef) → s.joined ≡ false → s.tokens ≡ Word (codes "RNLDEF") ∷ ts → IsRnldef ts d → rnldef_on s ≡ Ok d
 unfolding rnldef_on
 there_statement s ts d apart parts says = rw (apart, parts, rnldef_again ts d says) refl
+
+pub statement_of : (s : TokenLine) (d : Rnldef) → rnldef_on s ≡ Ok d → (s.joined ≡ false) × IsStatement s.tokens d
+statement_of s d h = let t = statement_there s d h in (t.0, (t.1.behind, t.1.parts, t.1.says))
 
 sized_ok : (at : ℕ) (d : Rnldef) (e : RnlEntry) → sized at d ≡ Ok e → (has_bad_name d ≡ false) × (entry_of d ≡ e)
 sized_ok at d e h = go (has_bad_name d) refl h
@@ -103,17 +110,18 @@ entry_there (Some s) e h =
     let there = statement_there s d.0 d.1 in
     record { statement = s; first = refl; apart = there.0; rnldef = d.0; worded = there.1; names = k.0; makes = k.1 }
 
+-- What is read of a text is its lines.
+pub lines_are : (text : List ℕ) (ls : List TokenLine) → SpellsLines (readable text) ls → lines_of (readable text) ≡ ls
+lines_are text ls h = spelled_is (readable text) ls h
+
 -- What is read is made.
-reading_makes : (text : List ℕ) (e : RnlEntry) → reading text ≡ Ok e → MakesEntry text e
+pub reading_makes : (text : List ℕ) (e : RnlEntry) → reading text ≡ Ok e → MakesEntry text e
 unfolding reading
 reading_makes text e h =
-    let b = bind_ok (lines_or_fault text) (λ ls. entry_on (first_statement ls)) e h in
-    let t = read_text text b.0 b.1 in
-    let s = entry_there (first_statement b.0) e b.2 in
+    let s = entry_there (first_statement (lines_of (readable text))) e h in
     record {
-      short = t.short;
-      lines = b.0;
-      spelled = t.spelled;
+      lines = lines_of (readable text);
+      spelled = some_lines text;
       statement = s.statement;
       first = s.first;
       apart = s.apart;
@@ -128,7 +136,11 @@ reading_makes text e h =
 -- What is made is read.
 pub makes_reading : (text : List ℕ) (e : RnlEntry) → MakesEntry text e → reading text ≡ Ok e
 unfolding reading
-makes_reading text e h = rw (text_read text h.lines h.short h.spelled, h.first, there_statement h.statement h.behind h.rnldef h.apart h.parts h.says, h.names) (ap read_as h.makes)
+makes_reading text e h = rw (lines_are text h.lines h.spelled, h.first, there_statement h.statement h.behind h.rnldef h.apart h.parts h.says, h.names) (ap read_as h.makes)
+
+pub entry_read : (text : List ℕ) (ls : List TokenLine) (o : Option TokenLine) (r : Result RnlEntry ReadError) → SpellsLines (readable text) ls → o ≡ first_statement ls → Gives r (entry_on o) → Gives r (reading text)
+unfolding reading
+entry_read text ls o r spelled is h = rw (lines_are text ls spelled, ← is) h
 
 -- ---- the lines of a statement
 
@@ -211,6 +223,7 @@ pub record MadeFront (text : List ℕ) (e : RnlEntry) (s : TokenLine) : Type 0 w
   pub back : List ℕ
   pub parts : text ≡ front ++ 41 ∷ back
   pub makes : MakesEntry (front ++ 41 ∷ []) e
+  pub plain : SpellsLines (front ++ 41 ∷ []) makes.lines
   pub closes : line_closes makes.lines ≡ true
   pub same : makes.statement ≡ s
   pub tokens : flat_map (λ (l : TokenLine). l.tokens) makes.lines ≡ s.tokens
@@ -226,16 +239,16 @@ makes_front text e (l ∷ ls) h is =
     let closes : last_closes (first_from l ls).tokens ≡ true = ap (λ (s : TokenLine). last_closes s.tokens) same ∙ statement_closes h.statement.tokens h.behind (Word (codes "RNLDEF")) h.rnldef h.parts h.says in
     let head = head_of ls l closes in
     let all : h.lines ≡ (l ∷ head.own) ++ head.more = is ∙ ap (λ (x : List TokenLine). l ∷ x) head.parts in
-    let f = front_spells text (l ∷ head.own) head.more (subst (λ (x : List TokenLine). SpellsLines text x) all h.spelled) head.closes in
-    let long : length text ≡ length (f.front ++ 41 ∷ f.back) = ap length f.parts in
+    let f = front_spells (readable text) (l ∷ head.own) head.more (subst (λ (x : List TokenLine). SpellsLines (readable text) x) all h.spelled) head.closes in
+    let cut = cut_readable text f.front f.back f.parts in
     record {
       front = f.front;
-      back = f.back;
-      parts = f.parts;
+      back = cut.0;
+      parts = cut.1;
+      plain = f.spells;
       makes = record {
-        short = omega (arith, h.short, long, length-append f.front (41 ∷ f.back), length-append f.front (41 ∷ []));
         lines = l ∷ head.own;
-        spelled = f.spells;
+        spelled = any_text (f.front ++ 41 ∷ []) (l ∷ head.own) f.spells;
         statement = h.statement;
         first = ap (λ (s : TokenLine). Some s) (head.is ∙ same);
         apart = h.apart;
@@ -350,11 +363,6 @@ spells_by text e n read h = record {
   front = front_is text e n h.within h.is;
   fewest = λ k lt f. let z : true ≡ false = sym (by_front (take k text) e f.1 f.2) ∙ h.fewest k lt in cc;
 }
-
-pub answers : (text : List ℕ) (r : Result (RnlEntry × ℕ) ReadError) → Found r text → Answers r text
-answers text (Ok x) h = spells_by text x.0 x.1 h.0 h.1
-answers text (Err read_errors.NoMemory) h = tt
-answers text (Err (read_errors.Fault f)) h = h
 
 -- two numbers of bytes that are the fewest
 same_used : (text : List ℕ) (e : RnlEntry) (n m : ℕ) → IsFewest text e n → SpellsEntry text e m → n ≡ m

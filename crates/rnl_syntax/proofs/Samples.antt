@@ -11,7 +11,7 @@ use Rattle.deck_scan.specs.declared.token.Token.TheVariants.{Word, Name, Open, C
 use Rattle.rnl_syntax.specs.Operands.{which_of, form_of, value_of, operand_at, whole, rnldef_at}
 use Rattle.deck_scan.specs.Bytes.{is_word, is_hex, digit, is_allowed, bad_line}
 use Rattle.deck_scan.specs.Scan.{put, put_word, put_open, end_line, break_off, begin_word, begin, step_in, step, scan_from, finish_in, lines_of}
-use Rattle.deck_scan.specs.Reading.{lines_or_fault}
+use Rattle.deck_scan.specs.AnyBytes.{readable}
 use Rattle.rnl_syntax.specs.Printed.{printed_rnldef}
 use Rattle.rnl_syntax.specs.Reading.{first_from, rnldef_on, reading, is_front}
 
@@ -50,5 +50,17 @@ texts :
     × (reading (codes "SYSTEM SYA") ≡ faulty 1 UnknownStatement)
     × (reading (codes "RNLDEF RNL(INCL) TYPE(GENE") ≡ faulty 1 BadOperand)
     × (reading (10 ∷ codes "RNLDEF RNL(INCL) TYPE(GENERIC) QNAME(ABCDEFGHI)") ≡ faulty 2 NameLength)
-unfolding is_word is_hex digit is_allowed bad_line put put_word put_open end_line break_off begin_word begin step_in step scan_from finish_in lines_of lines_or_fault which_of form_of value_of operand_at whole rnldef_at first_from rnldef_on reading is_front
+unfolding is_word is_hex digit is_allowed bad_line put put_word put_open end_line break_off begin_word begin step_in step scan_from finish_in lines_of readable which_of form_of value_of operand_at whole rnldef_at first_from rnldef_on reading is_front
 texts = (refl, refl, refl, refl, refl, refl, refl, refl)
+
+-- bytes that no deck may have: in the first word; before it; between operands, in a comment; behind the last operand on its line; on a line behind the statement; in the first token of that line, which is an operand's word
+bad_bytes :
+    (reading (codes "RNL" ++ 9 ∷ codes "DEF") ≡ faulty 1 UnknownStatement)
+    × (reading (9 ∷ text) ≡ faulty 1 UnknownStatement)
+    × (reading (codes "RNLDEF RNL(INCL) /*" ++ 9 ∷ codes "*/ TYPE(GENERIC) QNAME(A)") ≡ faulty 1 BadOperand)
+    × (reading (codes "RNLDEF RNL(INCL) TYPE(GENERIC) QNAME(A)" ++ 9 ∷ []) ≡ faulty 1 BadOperand)
+    × (reading (text ++ 9 ∷ []) ≡ Ok entry)
+    × (reading (codes "RNLDEF RNL(INCL) TYPE(GENERIC) QNAME(A)" ++ 10 ∷ 9 ∷ codes "RNAME(B)") ≡ Ok entry)
+    × (reading (codes "RNLDEF RNL(INCL) TYPE(GENERIC) QNAME(A)" ++ 10 ∷ codes "RNAME" ++ 9 ∷ []) ≡ faulty 1 BadOperand)
+unfolding is_word is_hex digit is_allowed bad_line put put_word put_open end_line break_off begin_word begin step_in step scan_from finish_in lines_of readable which_of form_of value_of operand_at whole rnldef_at first_from rnldef_on reading is_front
+bad_bytes = (refl, refl, refl, refl, refl, refl, refl)

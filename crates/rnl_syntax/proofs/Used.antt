@@ -8,7 +8,10 @@ use Rattle.grs_base.specs.declared.rnl.RnlEntry.{RnlEntry}
 use Rattle.deck_scan.specs.declared.token.Token.{Token}
 use Rattle.deck_scan.specs.declared.token.TokenLine.{TokenLine}
 use Rattle.deck_scan.specs.Scan.{lines_of}
+use Rattle.deck_scan.specs.Bytes.{bad_line}
 use Rattle.deck_scan.specs.Pieces.{SpellsLines}
+use Rattle.deck_scan.proofs.AnyLemmas.{readable_all}
+use Rattle.rnl_syntax.proofs.Readable.{closed_allowed}
 use Rattle.deck_scan.proofs.Pieced.{spelled_is}
 use Rattle.rnl_syntax.specs.Reading.{first_from, first_statement, MakesEntry, ends_closed, IsFront, SpellsEntry}
 use Rattle.rnl_syntax.specs.Laws.{AreStatement}
@@ -44,13 +47,16 @@ made_closes text e h (l ∷ ls) is =
     omega (arith, few, tokens, own)
 
 -- A text that is a statement alone, and ends with its last parenthesis, has no shorter front that makes the entry.
-pub no_shorter : (text init behind : List ℕ) (e : RnlEntry) (lines : List TokenLine) → text ≡ init ++ 41 ∷ [] → SpellsLines text lines → line_closes lines ≡ true → all_closes lines ≡ 3 + some e.r → (n : ℕ) → n < length text → MakesEntry (take n (text ++ behind)) e → ⊥
-no_shorter text init behind e lines parts spelled last few n lt made =
+pub no_shorter : (text init behind : List ℕ) (e : RnlEntry) (lines : List TokenLine) → text ≡ init ++ 41 ∷ [] → SpellsLines text lines → line_closes lines ≡ true → all_closes lines ≡ 3 + some e.r → (n : ℕ) → n < length text → ends_closed (take n (text ++ behind)) ≡ true → MakesEntry (take n (text ++ behind)) e → ⊥
+no_shorter text init behind e lines parts spelled last few n lt closed made =
     let long : length text ≡ length (init ++ 41 ∷ []) = ap length parts in
     let within : n ≤ length init = omega (arith, lt, long, length-append init (41 ∷ [])) in
     let cut : take n (text ++ behind) ≡ take n init = take-append-le n text behind (omega (arith, lt)) ∙ ap (take n) parts ∙ take-append-le n init (41 ∷ []) within in
     let low = made_closes (take n (text ++ behind)) e made made.lines refl in
-    let own : all_closes made.lines ≡ all_closes (lines_of (take n init)) = ap all_closes (sym (spelled_is (take n (text ++ behind)) made.lines made.spelled)) ∙ ap (λ (t : List ℕ). all_closes (lines_of t)) cut in
+    let inside : take n (text ++ behind) ++ drop n text ≡ text = ap (λ (t : List ℕ). t ++ drop n text) (take-append-le n text behind (omega (arith, lt))) ∙ take-append-drop n text in
+    let good : bad_line 1 (take n (text ++ behind)) ≡ None = closed_allowed (take n (text ++ behind)) (drop n text) 1 (subst (λ (t : List ℕ). bad_line 1 t ≡ None) (sym inside) spelled.allowed) closed in
+    let plain : SpellsLines (take n (text ++ behind)) made.lines = subst (λ (t : List ℕ). SpellsLines t made.lines) (readable_all (take n (text ++ behind)) 1 good) made.spelled in
+    let own : all_closes made.lines ≡ all_closes (lines_of (take n init)) = ap all_closes (sym (spelled_is (take n (text ++ behind)) made.lines plain)) ∙ ap (λ (t : List ℕ). all_closes (lines_of t)) cut in
     let more = front_closes (take n init) (drop n init) in
     let whole : all_closes (lines_of (take n init ++ drop n init)) ≡ all_closes (lines_of init) = ap (λ (t : List ℕ). all_closes (lines_of t)) (take-append-drop n init) in
     let said : lines_of (init ++ 41 ∷ []) ≡ lines = ap lines_of (sym parts) ∙ spelled_is text lines spelled in
@@ -68,7 +74,7 @@ used_own text e used h =
     let cut : take (length whole) text ≡ whole = ap (take (length whole)) parts ∙ take-append_seam whole m.back in
     let few : all_closes m.makes.lines ≡ 3 + some e.r = sym (row_closes m.makes.lines) ∙ ap closes m.tokens ∙ statement_closes text e h.makes in
     let front : IsFront text e (length whole) = (omega (arith, long, length-append whole m.back), ap ends_closed cut ∙ ends_closed-snoc m.front 41, subst (λ (x : List ℕ). MakesEntry x e) (sym cut) m.makes) in
-    let shorter : used < length whole → ⊥ = λ lt. no_shorter whole m.front m.back e m.makes.lines refl m.makes.spelled m.closes few used lt (subst (λ (x : List ℕ). MakesEntry (take used x) e) parts h.front.2) in
+    let shorter : used < length whole → ⊥ = λ lt. no_shorter whole m.front m.back e m.makes.lines refl m.plain m.closes few used lt (subst (λ (x : List ℕ). ends_closed (take used x) ≡ true) parts h.front.1) (subst (λ (x : List ℕ). MakesEntry (take used x) e) parts h.front.2) in
     let same : length whole ≡ used = equal (length whole) used (λ lt. h.fewest (length whole) lt front) shorter in
     let is : take used text ≡ whole = ap (λ (n : ℕ). take n text) (sym same) ∙ cut in
     record {
@@ -77,7 +83,7 @@ used_own text e used h =
       statement = h.makes.statement;
       first = (h.makes.spelled, h.makes.first);
       own = m.makes.lines;
-      spelled = subst (λ (x : List ℕ). SpellsLines x m.makes.lines) (sym is) m.makes.spelled;
+      spelled = subst (λ (x : List ℕ). SpellsLines x m.makes.lines) (sym is) m.plain;
       tokens = m.tokens;
     }
   where

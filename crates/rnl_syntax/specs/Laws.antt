@@ -5,6 +5,7 @@ use Rattle.grs_base.specs.Names.{IsQname}
 use Rattle.grs_base.specs.declared.rnl.RnlEntry.{RnlEntry}
 use Rattle.deck_scan.specs.declared.token.TokenLine.{TokenLine}
 use Rattle.deck_scan.specs.Named.{are_bytes, IsMaybeRname}
+use Rattle.deck_scan.specs.AnyBytes.{readable}
 use Rattle.deck_scan.specs.Pieces.{SpellsLines}
 use Rattle.rnl_syntax.specs.Lines.{begins_operand}
 use Rattle.rnl_syntax.specs.Reading.{first_statement, ends_closed}
@@ -33,7 +34,7 @@ pub record IsNextLine (text : List ℕ) : Type 0 where
   pub parts : text ≡ bytes ++ rest
   pub ends : IsLineEnd bytes
   pub lines : List TokenLine
-  pub spelled : SpellsLines rest lines
+  pub spelled : SpellsLines (readable rest) lines
   pub other : begins_operands lines ≡ false
 
 -- What may follow a printed RNLDEF: nothing, or the next line.
@@ -46,7 +47,7 @@ pub record AreStatement (text : List ℕ) (used : ℕ) : Type 0 where
   pub closed : ends_closed (take used text) ≡ true
   pub all : List TokenLine
   pub statement : TokenLine
-  pub first : SpellsLines text all × (first_statement all ≡ Some statement)
+  pub first : SpellsLines (readable text) all × (first_statement all ≡ Some statement)
   pub own : List TokenLine
   pub spelled : SpellsLines (take used text) own
   pub tokens : flat_map (λ (l : TokenLine). l.tokens) own ≡ statement.tokens

@@ -1,8 +1,10 @@
 -- The entry that a text makes whose first statement is an RNLDEF, and how many bytes that statement uses; or
--- the fault of the statement.
-use Rattle.std.specs.Prelude.{◌≡◌, ℕ, Bool, true, false, ◌&&◌, ◌==◌, ◌<◌, ◌≤◌, List, [], ◌∷◌, length, take, codes, Option, Some, None, Result, Ok, Err, if◌then◌else◌}
+-- the fault of the statement. The text may have any length and any bytes: a byte that a deck may not have is
+-- part of no statement.
+use Rattle.std.specs.Prelude.{◌≡◌, ◌⊎◌, ℕ, Bool, true, false, ◌&&◌, ◌==◌, ◌<◌, ◌≤◌, List, [], ◌∷◌, length, take, codes, Option, Some, None, Result, Ok, Err, if◌then◌else◌}
 use Rattle.std.specs.Str.{bytes_eq}
 use Rattle.grs_base.specs.declared.fault.DeckFault.{DeckFault}
+use Rattle.grs_base.specs.declared.fault.Kind.{Kind}
 use Rattle.grs_base.specs.declared.fault.Kind.TheVariants.{UnknownStatement, BadOperand, NameLength}
 use Rattle.grs_base.specs.declared.fault.ReadError.{ReadError}
 use Rattle.grs_base.specs.declared.fault.ReadError.TheVariants as read_errors
@@ -16,7 +18,8 @@ use Rattle.deck_scan.specs.declared.token.Token.TheVariants.{Word, Unclosed}
 use Rattle.deck_scan.specs.declared.token.TokenLine.{TokenLine}
 use Rattle.deck_scan.specs.Gives.{◌>>=◌, refused, or_bad, Fails}
 use Rattle.deck_scan.specs.Pieces.{SpellsLines}
-use Rattle.deck_scan.specs.Reading.{most_text_bytes, lines_or_fault}
+use Rattle.deck_scan.specs.AnyBytes.{readable}
+use Rattle.deck_scan.specs.Scan.{lines_of}
 use Rattle.rnl_syntax.specs.declared.operands.Rnldef.{Rnldef}
 use Rattle.rnl_syntax.specs.declared.read.Front.{Front}
 use Rattle.rnl_syntax.specs.Lines.{is_rnldef_word, goes_on, with_line}
@@ -60,15 +63,14 @@ entry_on (Some s) = rnldef_on s >>= λ d. sized s.at d
 
 -- What is read of a text.
 unfoldable pub reading : List ℕ → Result RnlEntry DeckFault
-reading text = lines_or_fault text >>= λ ls. entry_on (first_statement ls)
+reading text = entry_on (first_statement (lines_of (readable text)))
 
 -- ---- which texts make which entry
 
--- The first statement of a text, which is short enough, is an RNLDEF of this entry.
+-- The first statement of a text is an RNLDEF of this entry.
 pub record MakesEntry (text : List ℕ) (entry : RnlEntry) : Type 0 where
-  pub short : length text ≤ most_text_bytes
   pub lines : List TokenLine
-  pub spelled : SpellsLines text lines
+  pub spelled : SpellsLines (readable text) lines
   pub statement : TokenLine
   pub first : first_statement lines ≡ Some statement
   pub apart : statement.joined ≡ false
@@ -90,18 +92,49 @@ abbrev pub IsFront : List ℕ → RnlEntry → ℕ → Type 0
 IsFront text entry n = (n ≤ length text) × (ends_closed (take n text) ≡ true) × MakesEntry (take n text) entry
 
 -- A text makes this entry, and its statement uses so many bytes: the fewest that end with a closing
--- parenthesis and make the same entry, which is that of its last operand.
+-- parenthesis and make the same entry. The parenthesis is that of the last operand.
 pub record SpellsEntry (text : List ℕ) (entry : RnlEntry) (used : ℕ) : Type 0 where
   pub makes : MakesEntry text entry
   pub front : IsFront text entry used
   pub fewest : (n : ℕ) → n < used → IsFront text entry n → ⊥
 
--- What is answered of a text: the entry and the bytes used that it spells, else its fault. Want of memory is
--- the only other answer.
+-- ---- which fault a text has
+
+-- The first word of tokens, if there is one, isn't RNLDEF. A comment that is not closed has no first word, and
+-- is wrong for itself.
+abbrev pub BeginsOtherwise : List Token → Type 0
+BeginsOtherwise (Word w ∷ ts) = is_rnldef_word w ≡ false
+BeginsOtherwise (Unclosed ∷ ts) = ⊥
+BeginsOtherwise _ = Unit {0}
+
+-- The first word of a statement isn't RNLDEF: something stands directly behind it, or it is another one.
+abbrev pub NoWord : TokenLine → Type 0
+NoWord s = (s.joined ≡ true) ⊎ BeginsOtherwise s.tokens
+
+-- The tokens are the word RNLDEF, and what spells this.
+abbrev pub IsStatement : List Token → Rnldef → Type 0
+IsStatement ts d = (behind : List Token) × (ts ≡ Word (codes "RNLDEF") ∷ behind) × IsRnldef behind d
+
+-- The first statement has a fault of this kind here. A text without a statement has the first kind on line 1.
+abbrev pub IsWrong : Kind → ℕ → Option TokenLine → Type 0
+IsWrong UnknownStatement at None = at ≡ 1
+IsWrong UnknownStatement at (Some s) = (at ≡ s.at) × NoWord s
+IsWrong BadOperand at (Some s) = (at ≡ s.at) × (NoWord s → ⊥) × ((d : Rnldef) → IsStatement s.tokens d → ⊥)
+IsWrong NameLength at (Some s) = (at ≡ s.at) × (s.joined ≡ false) × ((d : Rnldef) × IsStatement s.tokens d × (has_bad_name d ≡ true))
+IsWrong _ at s = ⊥
+
+-- A text has this fault in its first statement.
+pub record IsFault (text : List ℕ) (f : DeckFault) : Type 0 where
+  pub lines : List TokenLine
+  pub spelled : SpellsLines (readable text) lines
+  pub wrong : IsWrong f.kind f.line (first_statement lines)
+
+-- What is answered of a text: the entry and the bytes used that it spells, or its fault. Want of memory is the
+-- only other answer.
 abbrev pub Answers : Result (RnlEntry × ℕ) ReadError → List ℕ → Type 0
 Answers (Ok x) text = SpellsEntry text x.0 x.1
 Answers (Err read_errors.NoMemory) text = Unit {0}
-Answers (Err (read_errors.Fault f)) text = reading text ≡ Err f
+Answers (Err (read_errors.Fault f)) text = IsFault text f
 
 -- ---- as the reader finds them
 

@@ -6,7 +6,7 @@ ghost use Rattle.rnl_syntax.specs.Reading.{first_statement, by_word, rnldef_on, 
 
 use crate::lines::{goes_on, is_rnldef_word, with_line};
 use crate::operands::{Rnldef, entry_of, has_bad_name, rnldef_at};
-use deck_scan::{Token, TokenLine, lines, or_bad, refused};
+use deck_scan::{Token, TokenLine, any_lines, or_bad, refused};
 use grs_base::{Form, Kind, List, NoMemory, ReadError, Rname, RnlEntry, Which};
 use std::alloc::Global;
 use std::mem;
@@ -115,11 +115,10 @@ fn entry_on(alloc: Global, statement: Option<TokenLine>) -> Result<RnlEntry, Rea
 }
 
 /// What is read of a text.
-#[tactic(auto, unfolding(crate::specs::Reading::reading))]
 fn read_entry(alloc: Global, text: &[u8]) -> Result<RnlEntry, ReadError>
     ensures { Gives result (reading text.now) }
 {
-    let all = lines(alloc, text)?;
+    let all = any_lines(alloc, text)?;
     let statement = first_statement(all)?;
     entry_on(alloc, statement)
 }
@@ -221,12 +220,13 @@ fn read_front(alloc: Global, text: &[u8]) -> Result<(RnlEntry, usize), ReadError
 ///
 /// it makes an entry of the exclusion list for all names of `SYSDSN`, of the first 51 bytes.
 ///
-/// The lines of a fault count from 1. `TooLong` and `BadByte` are told as of a deck, for the whole text.
-/// Else: `UnknownStatement` where the text has no statement (on line 1), or its first word isn't RNLDEF;
-/// `BadOperand` where its form is another; `NameLength` where a name is too short or too long. Want of
-/// memory is `NoMemory`.
+/// The lines of a fault count from 1. It is `UnknownStatement` where the text has no statement (on line 1),
+/// or its first word isn't RNLDEF; `BadOperand` where its form is another; `NameLength` where a name is too
+/// short or too long. The text has no limit of its own, and a byte that no deck may have is part of no
+/// statement: where it stands in the first word or before it the text is `UnknownStatement`, where it stands
+/// in a line of the statement `BadOperand`, and behind these it isn't told. Want of memory is `NoMemory`.
 pub fn read_rnldef(alloc: Global, text: &[u8]) -> Result<(RnlEntry, usize), ReadError>
-    // What is read is spelled so; a fault is that of the text.
+    // What is read is spelled so; a fault is the text's.
     ensures exact { Answers result text.now }
     // What is spelled so is read, unless memory runs out.
     ensures only { (e : EntryValue) (used : ℕ) → SpellsEntry text.now e used → IsOkUnlessMemory result (e, used) }

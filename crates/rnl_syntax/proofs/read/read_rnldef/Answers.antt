@@ -1,4 +1,5 @@
-use Rattle.rnl_syntax.proofs.ReadLaws.{answers, only}
+use Rattle.rnl_syntax.proofs.ReadLaws.{only}
+use Rattle.rnl_syntax.proofs.FaultLaws.{answers}
 use Rattle.rnl_syntax.proofs.read.read_rnldef.Goals as goal
 
 pub returns-clause-exact : goal.returns-clause-exact
