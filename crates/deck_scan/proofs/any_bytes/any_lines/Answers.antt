@@ -1,4 +1,3 @@
-use Rattle.std.specs.Prelude.{OnOk}
 use Rattle.deck_scan.proofs.AnyLemmas.{any_read}
 use Rattle.deck_scan.proofs.any_bytes.any_lines.Goals as goal
 

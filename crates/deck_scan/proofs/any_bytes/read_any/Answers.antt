@@ -1,4 +1,4 @@
-use Rattle.std.proofs.Common.{refl, rules}
+use Rattle.std.proofs.Common.{rules}
 use Rattle.deck_scan.proofs.AnyLemmas.{goes_on, stops, ends_with}
 use Rattle.deck_scan.proofs.any_bytes.read_any.Goals as goal
 
