@@ -5,6 +5,7 @@ pub mod Rows
 pub mod Schedule
 pub mod History
 pub mod Told
+pub mod Shelves
 pub mod State
 pub mod Ends
 pub mod Report

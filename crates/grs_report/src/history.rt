@@ -1,27 +1,197 @@
 //! The history of a run as lines. Entries are numbered from 1, in order.
-ghost use Rattle.std.specs.Prelude.{◌≡◌, ◌++◌, OnOk};
+ghost use Rattle.std.specs.Prelude.{◌≡◌, ◌++◌, ◌∷◌, [], length, codes, OnOk};
+ghost use Rattle.std.specs.Fmt.{decimal};
+ghost use Rattle.std.specs.List.{flat_map};
+ghost use Rattle.grs_base.specs.Printed.{ctl_word};
+ghost use Rattle.grs_report.specs.Lines.{spaced, line};
+ghost use Rattle.grs_report.specs.Names.{name_at, task_word};
+ghost use Rattle.grs_report.specs.Rows.{res_word, row_line, place_word, filter_word};
+ghost use Rattle.grs_report.specs.Spelled.{ret_word, have_word, code_word};
 ghost use Rattle.grs_report.specs.History.{history_line, history_lines, history_text};
 
-use super::lines::{number, put_line};
-use super::names::{name_at, task_word};
-use super::rows::{filter_word, place_word, put_line_with_rows, res_word};
-use super::spelled::{code_word, have_word, ret_word};
-use grs_base::{List, NoMemory, ctl_word};
+use super::lines::{put_count, put_number_word, put_word};
+use super::names::{name_at, put_task};
+use super::rows::{put_filter, put_place, put_res, put_rows};
+use super::spelled::{have_word, put_code, ret_word};
+use grs_base::{Code, Ctl, Filter, List, NoMemory, Place, Res, Ret, Row, SysId, TaskId, ctl_word};
 use grs_wire::{HistEntry, Names};
 use std::alloc::Global;
+
+/// Puts the words with which the entry of a task begins behind a text: its number, the task, and its kind.
+fn put_front(
+    names: &Names,
+    number: u64,
+    task: TaskId,
+    kind: &[u8],
+    out: &mut List<u8>,
+) -> Result<(), NoMemory>
+    ensures { OnOk result (out.new ≡ out.old
+        ++ (codes "H" ++ spaced (decimal number ∷ task_word names.now task ∷ kind.now ∷ []))) }
+{
+    out.push(b'H')?;
+    put_number_word(number, out)?;
+    out.push(b' ')?;
+    put_task(names, task, out)?;
+    put_word(kind, out)
+}
+
+/// Puts the words with which the entry of a request begins behind a text: those of its task, and its resource.
+fn put_request(
+    alloc: Global,
+    names: &Names,
+    number: u64,
+    task: TaskId,
+    kind: &[u8],
+    res: &Res,
+    out: &mut List<u8>,
+) -> Result<(), NoMemory>
+    ensures { OnOk result (out.new ≡ out.old
+        ++ (codes "H" ++ spaced (decimal number ∷ task_word names.now task ∷ kind.now ∷ res_word names.now res.now ∷ []))) }
+{
+    put_front(names, number, task, kind, out)?;
+    out.push(b' ')?;
+    put_res(alloc, names, res, out)
+}
+
+/// Puts a blank, an answer and the line end behind a text.
+fn put_answer(code: Code, out: &mut List<u8>) -> Result<(), NoMemory>
+    ensures { OnOk result (out.new ≡ out.old ++ (32 ∷ (code_word code ++ 10 ∷ []))) }
+{
+    out.push(b' ')?;
+    put_code(code, out)?;
+    out.push(b'\n')
+}
+
+/// Puts a request and its answer behind a text.
+#[tactic(auto, unfolding(crate::specs::Lines::line))]
+fn put_enq(
+    alloc: Global,
+    names: &Names,
+    number: u64,
+    task: TaskId,
+    res: &Res,
+    ctl: Ctl,
+    ret: Ret,
+    code: Code,
+    out: &mut List<u8>,
+) -> Result<(), NoMemory>
+    ensures { OnOk result (out.new ≡ out.old ++ line (
+        codes "H" ∷ decimal number ∷ task_word names.now task ∷ codes "ENQ" ∷ res_word names.now res.now
+        ∷ ctl_word ctl ∷ ret_word ret ∷ code_word code ∷ [])) }
+{
+    put_request(alloc, names, number, task, b"ENQ", res, out)?;
+    put_word(ctl_word(ctl), out)?;
+    put_word(ret_word(ret), out)?;
+    put_answer(code, out)
+}
+
+/// Puts a release and its answer behind a text.
+#[tactic(auto, unfolding(crate::specs::Lines::line))]
+fn put_deq(
+    alloc: Global,
+    names: &Names,
+    number: u64,
+    task: TaskId,
+    res: &Res,
+    have: bool,
+    code: Code,
+    out: &mut List<u8>,
+) -> Result<(), NoMemory>
+    ensures { OnOk result (out.new ≡ out.old ++ line (
+        codes "H" ∷ decimal number ∷ task_word names.now task ∷ codes "DEQ" ∷ res_word names.now res.now
+        ∷ have_word have ∷ code_word code ∷ [])) }
+{
+    put_request(alloc, names, number, task, b"DEQ", res, out)?;
+    put_word(have_word(have), out)?;
+    put_answer(code, out)
+}
+
+/// Puts what an ending task had behind a text.
+#[tactic(auto, unfolding(crate::specs::Lines::line))]
+fn put_release(
+    alloc: Global,
+    names: &Names,
+    number: u64,
+    task: TaskId,
+    res: &Res,
+    out: &mut List<u8>,
+) -> Result<(), NoMemory>
+    ensures { OnOk result (out.new ≡ out.old ++ line (
+        codes "H" ∷ decimal number ∷ task_word names.now task ∷ codes "RELEASE" ∷ res_word names.now res.now ∷ [])) }
+{
+    put_request(alloc, names, number, task, b"RELEASE", res, out)?;
+    out.push(b'\n')
+}
+
+/// Puts a blank and where a look was taken, and a blank and what it shows, behind a text.
+fn put_asked(
+    alloc: Global,
+    place: Place,
+    filter: &Filter,
+    out: &mut List<u8>,
+) -> Result<(), NoMemory>
+    ensures { OnOk result (out.new ≡ out.old ++ spaced (place_word place ∷ filter_word filter.now ∷ [])) }
+{
+    out.push(b' ')?;
+    put_place(place, out)?;
+    out.push(b' ')?;
+    put_filter(alloc, filter, out)
+}
+
+/// Puts a look behind a text, as the line above its rows.
+#[tactic(auto, unfolding(crate::specs::Lines::line))]
+fn put_look(
+    alloc: Global,
+    names: &Names,
+    number: u64,
+    task: TaskId,
+    place: Place,
+    filter: &Filter,
+    count: usize,
+    out: &mut List<u8>,
+) -> Result<(), NoMemory>
+    ensures { OnOk result (out.new ≡ out.old ++ line (
+        codes "H" ∷ decimal number ∷ task_word names.now task ∷ codes "LOOK" ∷ place_word place
+        ∷ filter_word filter.now ∷ decimal count ∷ [])) }
+{
+    put_front(names, number, task, b"LOOK", out)?;
+    put_asked(alloc, place, filter, out)?;
+    put_number_word(count as u64, out)?;
+    out.push(b'\n')
+}
+
+/// Puts the removal of a system behind a text.
+#[tactic(auto, unfolding(crate::specs::Lines::line))]
+fn put_removal(
+    names: &Names,
+    number: u64,
+    by: SysId,
+    target: SysId,
+    out: &mut List<u8>,
+) -> Result<(), NoMemory>
+    ensures { OnOk result (out.new ≡ out.old ++ line (
+        codes "H" ∷ decimal number ∷ name_at names.now.systems by.0 ∷ codes "REMOVE"
+        ∷ name_at names.now.systems target.0 ∷ [])) }
+{
+    out.push(b'H')?;
+    put_number_word(number, out)?;
+    put_word(name_at(&names.systems, usize::from(by.0)), out)?;
+    put_word(b"REMOVE", out)?;
+    put_word(name_at(&names.systems, usize::from(target.0)), out)?;
+    out.push(b'\n')
+}
 
 /// Puts the entry of a number behind a text.
 #[tactic(auto, unfolding(crate::specs::History::history_line))]
 fn put_entry(
     alloc: Global,
     names: &Names,
-    number_of_entry: u64,
+    number: u64,
     entry: &HistEntry,
     out: &mut List<u8>,
 ) -> Result<(), NoMemory>
-    ensures { OnOk result (out.new ≡ out.old ++ history_line names.now number_of_entry entry.now) }
+    ensures { OnOk result (out.new ≡ out.old ++ history_line names.now number entry.now) }
 {
-    let n = number(alloc, number_of_entry)?;
     match entry {
         HistEntry::Enq {
             task,
@@ -29,89 +199,28 @@ fn put_entry(
             ctl,
             ret,
             code,
-        } => {
-            let task = task_word(alloc, names, *task)?;
-            let res = res_word(alloc, names, res)?;
-            let code = code_word(alloc, *code)?;
-            put_line(
-                out,
-                &[
-                    b"H".as_slice(),
-                    n.as_slice(),
-                    task.as_slice(),
-                    b"ENQ",
-                    res.as_slice(),
-                    ctl_word(*ctl),
-                    ret_word(*ret),
-                    code.as_slice(),
-                ],
-            )
-        }
+        } => put_enq(alloc, names, number, *task, res, *ctl, *ret, *code, out),
         HistEntry::Deq {
             task,
             res,
             have,
             code,
-        } => {
-            let task = task_word(alloc, names, *task)?;
-            let res = res_word(alloc, names, res)?;
-            let code = code_word(alloc, *code)?;
-            put_line(
-                out,
-                &[
-                    b"H".as_slice(),
-                    n.as_slice(),
-                    task.as_slice(),
-                    b"DEQ",
-                    res.as_slice(),
-                    have_word(*have),
-                    code.as_slice(),
-                ],
-            )
-        }
+        } => put_deq(alloc, names, number, *task, res, *have, *code, out),
         HistEntry::Look {
             task,
             place,
             filter,
             rows,
         } => {
-            let task = task_word(alloc, names, *task)?;
-            let place = place_word(alloc, *place)?;
-            let filter = filter_word(alloc, filter)?;
-            let count = number(alloc, rows.len() as u64)?;
-            let words = [
-                b"H".as_slice(),
-                n.as_slice(),
-                task.as_slice(),
-                b"LOOK",
-                place.as_slice(),
-                filter.as_slice(),
-                count.as_slice(),
-            ];
-            put_line_with_rows(alloc, names, &words, rows.as_slice(), out)
+            put_look(alloc, names, number, *task, *place, filter, rows.len(), out)?;
+            put_rows(alloc, names, b'R', rows.as_slice(), out)
         }
-        HistEntry::Remove { by, target } => {
-            let by = name_at(&names.systems, usize::from(by.0));
-            let target = name_at(&names.systems, usize::from(target.0));
-            put_line(out, &[b"H".as_slice(), n.as_slice(), by, b"REMOVE", target])
-        }
-        HistEntry::Release { task, res } => {
-            let task = task_word(alloc, names, *task)?;
-            let res = res_word(alloc, names, res)?;
-            put_line(
-                out,
-                &[
-                    b"H".as_slice(),
-                    n.as_slice(),
-                    task.as_slice(),
-                    b"RELEASE",
-                    res.as_slice(),
-                ],
-            )
-        }
+        HistEntry::Remove { by, target } => put_removal(names, number, *by, *target, out),
+        HistEntry::Release { task, res } => put_release(alloc, names, number, *task, res, out),
     }
 }
 
+/// Puts entries behind a text, each as a line.
 fn put_entries(
     alloc: Global,
     names: &Names,
@@ -136,7 +245,6 @@ pub(crate) fn put_history(
 ) -> Result<(), NoMemory>
     ensures { OnOk result (out.new ≡ out.old ++ history_text names.now hist.now) }
 {
-    let count = number(alloc, hist.len() as u64)?;
-    put_line(out, &[b"HISTORY".as_slice(), count.as_slice()])?;
+    put_count(b"HISTORY", hist.len(), out)?;
     put_entries(alloc, names, hist, out)
 }

@@ -8,6 +8,7 @@ mod lines;
 mod names;
 mod rows;
 mod schedule;
+mod shelves;
 mod spelled;
 mod state;
 mod told;
@@ -15,6 +16,7 @@ mod told_line;
 mod whole;
 
 pub use ends::all_ended;
+pub use lines::put_number;
 pub use names::names_of;
 pub use rows::print_row;
 pub use whole::report;

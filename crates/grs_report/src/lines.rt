@@ -1,23 +1,30 @@
 //! Lines of words. What a word is made of is not known here.
-ghost use Rattle.std.specs.Prelude.{◌≡◌, ◌++◌, ◌∷◌, map, OnOk, IfOk};
+ghost use Rattle.std.specs.Prelude.{◌≡◌, ◌++◌, ◌∷◌, [], map, OnOk, OnErr};
 ghost use Rattle.std.specs.Fmt.{decimal};
 ghost use Rattle.grs_report.specs.Lines.{spaced, line};
 
 use grs_base::{List, NoMemory};
-use std::alloc::Global;
+use itoa::Buffer;
 
-/// A number in decimal digits.
-pub(crate) fn number(alloc: Global, n: u64) -> Result<List<u8>, NoMemory>
-    ensures { IfOk result (λ text. text ≡ decimal n) }
+/// Puts a number behind a text, in decimal digits. Where memory is wanting, the text is as it was.
+pub fn put_number(n: u64, out: &mut List<u8>) -> Result<(), NoMemory>
+    ensures ok { OnOk result (out.new ≡ out.old ++ decimal n) }
+    ensures err { OnErr result (out.new ≡ out.old) }
 {
-    match n.to_string(alloc) {
-        Ok(text) => Ok(List::from_vec(text.into_bytes())),
-        Err(_) => Err(NoMemory),
-    }
+    let mut digits = Buffer::new();
+    out.append(digits.format(n).as_bytes())
+}
+
+/// Puts a blank and a number behind a text.
+pub(crate) fn put_number_word(n: u64, out: &mut List<u8>) -> Result<(), NoMemory>
+    ensures { OnOk result (out.new ≡ out.old ++ (32 ∷ decimal n)) }
+{
+    out.push(b' ')?;
+    put_number(n, out)
 }
 
 /// Puts a blank and a word behind a text.
-pub(crate) fn put_word(out: &mut List<u8>, word: &[u8]) -> Result<(), NoMemory>
+pub(crate) fn put_word(word: &[u8], out: &mut List<u8>) -> Result<(), NoMemory>
     ensures { OnOk result (out.new ≡ out.old ++ (32 ∷ word.now)) }
 {
     out.push(b' ')?;
@@ -25,23 +32,33 @@ pub(crate) fn put_word(out: &mut List<u8>, word: &[u8]) -> Result<(), NoMemory>
 }
 
 /// Puts words behind a text, each with a blank before it.
-fn put_spaced(out: &mut List<u8>, words: &[&[u8]]) -> Result<(), NoMemory>
+fn put_spaced(words: &[&[u8]], out: &mut List<u8>) -> Result<(), NoMemory>
     ensures { OnOk result (out.new ≡ out.old ++ spaced (map (λ w. w.now) words.now)) }
 {
     for word in words {
-        put_word(out, word)?;
+        put_word(word, out)?;
     }
     Ok(())
 }
 
 /// Puts a line of words behind a text.
 #[tactic(auto, unfolding(crate::specs::Lines::line))]
-pub(crate) fn put_line(out: &mut List<u8>, words: &[&[u8]]) -> Result<(), NoMemory>
+pub(crate) fn put_line(words: &[&[u8]], out: &mut List<u8>) -> Result<(), NoMemory>
     ensures { OnOk result (out.new ≡ out.old ++ line (map (λ w. w.now) words.now)) }
 {
     if let Some((first, rest)) = words.split_first() {
         out.append(first)?;
-        put_spaced(out, rest)?;
+        put_spaced(rest, out)?;
     }
+    out.push(b'\n')
+}
+
+/// Puts a line of a word and a number behind a text.
+#[tactic(auto, unfolding(crate::specs::Lines::line))]
+pub(crate) fn put_count(word: &[u8], count: usize, out: &mut List<u8>) -> Result<(), NoMemory>
+    ensures { OnOk result (out.new ≡ out.old ++ line (word.now ∷ decimal count ∷ [])) }
+{
+    out.append(word)?;
+    put_number_word(count as u64, out)?;
     out.push(b'\n')
 }

@@ -1,5 +1,5 @@
 //! The names of a deck, and the words that are made of them. A place without a name gives no byte.
-ghost use Rattle.std.specs.Prelude.{◌≡◌, ◌++◌, ◌∷◌, [], map, OnOk, IfOk};
+ghost use Rattle.std.specs.Prelude.{◌≡◌, ◌++◌, [], map, OnOk, IfOk};
 ghost use Rattle.grs_report.specs.Names.{names_of_tasks, names_of_jobs, names_in_jobs, names_of, name_at, name_in, task_in_job, task_word};
 
 use grs_base::{List, NoMemory, TaskId};
@@ -105,33 +105,28 @@ pub(crate) fn name_in(lists: &List<List<Name>>, at: usize, place: usize) -> &[u8
     }
 }
 
-/// Two names with a point between them.
-pub(crate) fn dotted(alloc: Global, front: &[u8], back: &[u8]) -> Result<List<u8>, NoMemory>
-    ensures { IfOk result (λ text. text ≡ front.now ++ (46 ∷ back.now)) }
-{
-    let mut text = List::from_bytes(alloc, front)?;
-    text.push(b'.')?;
-    text.append(back)?;
-    Ok(text)
-}
-
-/// A task by the names of its job and its own.
+/// Puts a task behind a text, by the names of its job and its own.
 #[tactic(auto, unfolding(crate::specs::Names::task_in_job))]
-pub(crate) fn task_in_job(alloc: Global, names: &Names, task: TaskId) -> Result<List<u8>, NoMemory>
-    ensures { IfOk result (λ text. text ≡ task_in_job names.now task) }
+pub(crate) fn put_task_in_job(
+    names: &Names,
+    task: TaskId,
+    out: &mut List<u8>,
+) -> Result<(), NoMemory>
+    ensures { OnOk result (out.new ≡ out.old ++ task_in_job names.now task) }
 {
     let system = usize::from(task.system.0);
-    let job = name_in(&names.jobs, system, usize::from(task.job));
+    out.append(name_in(&names.jobs, system, usize::from(task.job)))?;
+    out.push(b'.')?;
     let own = name_in(&names.tasks, system, usize::from(task.task));
-    dotted(alloc, job, own)
+    out.append(own)
 }
 
-/// A task with the name of its system.
+/// Puts a task behind a text, with the name of its system.
 #[tactic(auto, unfolding(crate::specs::Names::task_word))]
-pub(crate) fn task_word(alloc: Global, names: &Names, task: TaskId) -> Result<List<u8>, NoMemory>
-    ensures { IfOk result (λ text. text ≡ task_word names.now task) }
+pub(crate) fn put_task(names: &Names, task: TaskId, out: &mut List<u8>) -> Result<(), NoMemory>
+    ensures { OnOk result (out.new ≡ out.old ++ task_word names.now task) }
 {
-    let system = name_at(&names.systems, usize::from(task.system.0));
-    let own = task_in_job(alloc, names, task)?;
-    dotted(alloc, system, own.as_slice())
+    out.append(name_at(&names.systems, usize::from(task.system.0)))?;
+    out.push(b'.')?;
+    put_task_in_job(names, task, out)
 }

@@ -1,13 +1,16 @@
 //! Resources and their lists as lines. Names of resources are printed so that they can be read back.
-ghost use Rattle.std.specs.Prelude.{◌≡◌, ◌<◌, ◌++◌, map, OnOk, OnErr, IfOk};
+ghost use Rattle.std.specs.Prelude.{◌≡◌, ◌<◌, ◌++◌, ◌∷◌, [], OnOk, OnErr};
 ghost use Rattle.grs_base.specs.Printed.{printed_name};
 ghost use Rattle.std.specs.List.{flat_map};
-ghost use Rattle.grs_report.specs.Lines.{spaced, line};
-ghost use Rattle.grs_report.specs.Rows.{names_word, res_word, elem_word, elem_words, row_line, place_word, filter_word};
+ghost use Rattle.grs_report.specs.Lines.{spaced};
+ghost use Rattle.grs_report.specs.Names.{name_at};
+ghost use Rattle.grs_report.specs.Rows.{names_word, res_word, elem_word, elem_words, row_line, place_word, name_word, rname_word, filter_word};
 
-use super::lines::{number, put_line, put_word};
-use super::names::{name_at, name_in, task_word};
-use grs_base::{Elem, Filter, List, NoMemory, Place, Qname, Res, Rname, Row, ctl_word, print_name};
+use super::lines::put_number;
+use super::names::{name_at, name_in, put_task};
+use grs_base::{
+    Elem, Filter, List, NoMemory, Place, Qname, Res, Rname, Row, SysId, ctl_word, print_name,
+};
 use grs_wire::Names;
 use std::alloc::Global;
 
@@ -32,53 +35,57 @@ fn put_names(alloc: Global, q: &Qname, r: &Rname, out: &mut List<u8>) -> Result<
     out.push(b')')
 }
 
-/// A resource with its kind and its names.
+/// Puts the name of a system and a comma behind a text.
+fn put_system_name(names: &Names, system: SysId, out: &mut List<u8>) -> Result<(), NoMemory>
+    ensures { OnOk result (out.new ≡ (out.old ++ name_at names.now.systems system.0) ++ 44 ∷ []) }
+{
+    out.append(name_at(&names.systems, usize::from(system.0)))?;
+    out.push(b',')
+}
+
+/// Puts a resource behind a text, with its kind and its names.
 #[tactic(auto, unfolding(crate::specs::Rows::res_word))]
-pub(crate) fn res_word(alloc: Global, names: &Names, res: &Res) -> Result<List<u8>, NoMemory>
-    ensures { IfOk result (λ text. text ≡ res_word names.now res.now) }
+pub(crate) fn put_res(
+    alloc: Global,
+    names: &Names,
+    res: &Res,
+    out: &mut List<u8>,
+) -> Result<(), NoMemory>
+    ensures { OnOk result (out.new ≡ out.old ++ res_word names.now res.now) }
 {
     match res {
         Res::Systems { q, r } => {
-            let mut text = List::from_bytes(alloc, b"SYSTEMS(")?;
-            put_names(alloc, q, r, &mut text)?;
-            Ok(text)
+            out.append(b"SYSTEMS(")?;
+            put_names(alloc, q, r, out)
         }
         Res::System { system, q, r } => {
-            let mut text = List::from_bytes(alloc, b"SYSTEM(")?;
-            text.append(name_at(&names.systems, usize::from(system.0)))?;
-            text.push(b',')?;
-            put_names(alloc, q, r, &mut text)?;
-            Ok(text)
+            out.append(b"SYSTEM(")?;
+            put_system_name(names, *system, out)?;
+            put_names(alloc, q, r, out)
         }
         Res::Step { system, job, q, r } => {
-            let mut text = List::from_bytes(alloc, b"STEP(")?;
-            text.append(name_at(&names.systems, usize::from(system.0)))?;
-            text.push(b',')?;
-            text.append(name_in(&names.jobs, usize::from(system.0), usize::from(*job)))?;
-            text.push(b',')?;
-            put_names(alloc, q, r, &mut text)?;
-            Ok(text)
+            out.append(b"STEP(")?;
+            put_system_name(names, *system, out)?;
+            out.append(name_in(&names.jobs, usize::from(system.0), usize::from(*job)))?;
+            out.push(b',')?;
+            put_names(alloc, q, r, out)
         }
     }
 }
 
-/// An element with its task and its control, and a star for an owner.
+/// Puts an element behind a text, with its task and its control, and a star for an owner.
 #[tactic(auto, unfolding(crate::specs::Rows::elem_word))]
-fn elem_word(alloc: Global, names: &Names, owns: bool, elem: Elem) -> Result<List<u8>, NoMemory>
-    ensures { IfOk result (λ text. text ≡ elem_word names.now owns elem) }
+fn put_elem(names: &Names, owns: bool, elem: Elem, out: &mut List<u8>) -> Result<(), NoMemory>
+    ensures { OnOk result (out.new ≡ out.old ++ elem_word names.now owns elem) }
 {
-    let mut text = task_word(alloc, names, elem.task)?;
-    text.push(b':')?;
-    text.append(ctl_word(elem.ctl))?;
-    if owns {
-        text.push(b'*')?;
-    }
-    Ok(text)
+    put_task(names, elem.task, out)?;
+    out.push(b':')?;
+    out.append(ctl_word(elem.ctl))?;
+    if owns { out.push(b'*') } else { Ok(()) }
 }
 
 /// Puts elements behind a text, of which so many own the resource, each with a blank before it.
 fn put_elems(
-    alloc: Global,
     names: &Names,
     owners: u32,
     elems: &[Elem],
@@ -88,8 +95,8 @@ fn put_elems(
 {
     let mut left = owners;
     for elem in elems {
-        let word = elem_word(alloc, names, left > 0, *elem)?;
-        put_word(out, word.as_slice())?;
+        out.push(b' ')?;
+        put_elem(names, left > 0, *elem, out)?;
         left = left.saturating_sub(1);
     }
     Ok(())
@@ -106,10 +113,10 @@ fn put_row(
 ) -> Result<(), NoMemory>
     ensures { OnOk result (out.new ≡ out.old ++ row_line names.now letter row.now) }
 {
-    let res = res_word(alloc, names, &row.res)?;
     out.push(letter)?;
-    put_word(out, res.as_slice())?;
-    put_elems(alloc, names, row.owners, row.elems.as_slice(), out)?;
+    out.push(b' ')?;
+    put_res(alloc, names, &row.res, out)?;
+    put_elems(names, row.owners, row.elems.as_slice(), out)?;
     out.push(b'\n')
 }
 
@@ -147,57 +154,65 @@ pub(crate) fn put_rows(
     Ok(())
 }
 
-/// Puts a line of words behind a text, and the rows that it tells of.
-pub(crate) fn put_line_with_rows(
-    alloc: Global,
-    names: &Names,
-    words: &[&[u8]],
-    rows: &[Row],
-    out: &mut List<u8>,
-) -> Result<(), NoMemory>
-    ensures { OnOk result (out.new ≡ out.old
-        ++ (line (map (λ w. w.now) words.now) ++ flat_map (row_line names.now 82) rows.now)) }
-{
-    put_line(out, words)?;
-    put_rows(alloc, names, b'R', rows, out)
-}
-
-/// Where a look was taken.
+/// Puts where a look was taken behind a text.
 #[tactic(auto, unfolding(crate::specs::Rows::place_word))]
-pub(crate) fn place_word(alloc: Global, place: Place) -> Result<List<u8>, NoMemory>
-    ensures { IfOk result (λ text. text ≡ place_word place) }
+pub(crate) fn put_place(place: Place, out: &mut List<u8>) -> Result<(), NoMemory>
+    ensures { OnOk result (out.new ≡ out.old ++ place_word place) }
 {
     match place {
-        Place::Slice(slice) => number(alloc, u64::from(slice)),
-        Place::Local(_) => List::from_bytes(alloc, b"LOCAL"),
+        Place::Slice(slice) => put_number(u64::from(slice), out),
+        Place::Local(_) => out.append(b"LOCAL"),
     }
 }
 
-/// The names that a look asks for.
-#[tactic(auto, unfolding(crate::specs::Rows::filter_word))]
-fn asked_names(alloc: Global, q: &Option<Qname>, r: &Option<Rname>) -> Result<List<u8>, NoMemory>
-    ensures { IfOk result (λ text. text ≡ filter_word (Filter.Named q.now r.now)) }
+/// Puts the qname that a look asks for behind a text, where it asks for one.
+fn put_asked_qname(
+    alloc: Global,
+    q: &Option<Qname>,
+    out: &mut List<u8>,
+) -> Result<(), NoMemory>
+    ensures { OnOk result (out.new ≡ out.old ++ name_word q.now) }
 {
-    let mut text = List::from_bytes(alloc, b"(")?;
-    if let Some(q) = q {
-        put_name(alloc, q.bytes(), &mut text)?;
+    match q {
+        Some(q) => put_name(alloc, q.bytes(), out),
+        None => Ok(()),
     }
-    if let Some(r) = r {
-        text.push(b',')?;
-        put_name(alloc, r.bytes(), &mut text)?;
-    }
-    text.push(b')')?;
-    Ok(text)
 }
 
-/// What a look shows.
+/// Puts a comma and the rname that a look asks for behind a text, where it asks for one.
+fn put_asked_rname(
+    alloc: Global,
+    r: &Option<Rname>,
+    out: &mut List<u8>,
+) -> Result<(), NoMemory>
+    ensures { OnOk result (out.new ≡ out.old ++ rname_word r.now) }
+{
+    match r {
+        Some(r) => {
+            out.push(b',')?;
+            put_name(alloc, r.bytes(), out)
+        }
+        None => Ok(()),
+    }
+}
+
+/// Puts what a look shows behind a text.
 #[tactic(auto, unfolding(crate::specs::Rows::filter_word))]
-pub(crate) fn filter_word(alloc: Global, filter: &Filter) -> Result<List<u8>, NoMemory>
-    ensures { IfOk result (λ text. text ≡ filter_word filter.now) }
+pub(crate) fn put_filter(
+    alloc: Global,
+    filter: &Filter,
+    out: &mut List<u8>,
+) -> Result<(), NoMemory>
+    ensures { OnOk result (out.new ≡ out.old ++ filter_word filter.now) }
 {
     match filter {
-        Filter::All => List::from_bytes(alloc, b"ALL"),
-        Filter::Contended => List::from_bytes(alloc, b"C"),
-        Filter::Named { q, r } => asked_names(alloc, q, r),
+        Filter::All => out.append(b"ALL"),
+        Filter::Contended => out.append(b"C"),
+        Filter::Named { q, r } => {
+            out.push(b'(')?;
+            put_asked_qname(alloc, q, out)?;
+            put_asked_rname(alloc, r, out)?;
+            out.push(b')')
+        }
     }
 }

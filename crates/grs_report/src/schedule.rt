@@ -1,59 +1,80 @@
 //! The events of a run as lines. They have the form in which a deck gives a schedule.
-ghost use Rattle.std.specs.Prelude.{◌≡◌, ◌++◌, OnOk};
+ghost use Rattle.std.specs.Prelude.{◌≡◌, ◌++◌, ◌∷◌, [], OnOk};
+ghost use Rattle.std.specs.Fmt.{decimal};
 ghost use Rattle.std.specs.List.{flat_map};
+ghost use Rattle.grs_report.specs.Lines.{line};
+ghost use Rattle.grs_report.specs.Names.{task_in_job};
 ghost use Rattle.grs_report.specs.Schedule.{event_line, schedule_text};
 
-use super::lines::{number, put_line};
-use super::names::{name_at, task_in_job};
-use grs_base::{List, NoMemory};
+use super::lines::{put_count, put_line, put_number_word, put_word};
+use super::names::{name_at, put_task_in_job};
+use grs_base::{List, NoMemory, TaskId};
 use grs_wire::{Choice, Event, Names};
-use std::alloc::Global;
+
+/// Puts the event of a task behind a text.
+#[tactic(auto, unfolding(crate::specs::Lines::line))]
+fn put_task_event(
+    names: &Names,
+    system: &[u8],
+    kind: &[u8],
+    task: TaskId,
+    out: &mut List<u8>,
+) -> Result<(), NoMemory>
+    ensures { OnOk result (out.new ≡ out.old
+        ++ line (system.now ∷ kind.now ∷ task_in_job names.now task ∷ [])) }
+{
+    out.append(system)?;
+    put_word(kind, out)?;
+    out.push(b' ')?;
+    put_task_in_job(names, task, out)?;
+    out.push(b'\n')
+}
+
+/// Puts the event of an entry behind a text.
+#[tactic(auto, unfolding(crate::specs::Lines::line))]
+fn put_entry_event(
+    system: &[u8],
+    kind: &[u8],
+    entry: u32,
+    out: &mut List<u8>,
+) -> Result<(), NoMemory>
+    ensures { OnOk result (out.new ≡ out.old ++ line (system.now ∷ kind.now ∷ decimal entry ∷ [])) }
+{
+    out.append(system)?;
+    put_word(kind, out)?;
+    put_number_word(u64::from(entry), out)?;
+    out.push(b'\n')
+}
 
 /// Puts an event behind a text.
 #[tactic(auto, unfolding(crate::specs::Schedule::event_line, crate::specs::Schedule::choice_words))]
-fn put_event(alloc: Global, names: &Names, event: Event, out: &mut List<u8>) -> Result<(), NoMemory>
+fn put_event(names: &Names, event: Event, out: &mut List<u8>) -> Result<(), NoMemory>
     ensures { OnOk result (out.new ≡ out.old ++ event_line names.now event) }
 {
     let system = name_at(&names.systems, usize::from(event.system.0));
     match event.choice {
-        Choice::Task(task) => {
-            let task = task_in_job(alloc, names, task)?;
-            put_line(out, &[system, b"TASK", task.as_slice()])
-        }
-        Choice::Send(task) => {
-            let task = task_in_job(alloc, names, task)?;
-            put_line(out, &[system, b"SEND", task.as_slice()])
-        }
-        Choice::Tell(entry) => {
-            let entry = number(alloc, u64::from(entry))?;
-            put_line(out, &[system, b"TELL", entry.as_slice()])
-        }
-        Choice::Leave(entry) => {
-            let entry = number(alloc, u64::from(entry))?;
-            put_line(out, &[system, b"LEAVE", entry.as_slice()])
-        }
+        Choice::Task(task) => put_task_event(names, system, b"TASK", task, out),
+        Choice::Send(task) => put_task_event(names, system, b"SEND", task, out),
+        Choice::Tell(entry) => put_entry_event(system, b"TELL", entry, out),
+        Choice::Leave(entry) => put_entry_event(system, b"LEAVE", entry, out),
         Choice::Purge(target) => {
             let target = name_at(&names.systems, usize::from(target.0));
-            put_line(out, &[system, b"PURGE", target])
+            put_line(&[system, b"PURGE", target], out)
         }
-        Choice::Turn => put_line(out, &[system, b"TURN"]),
-        Choice::Take => put_line(out, &[system, b"TAKE"]),
-        Choice::Settle => put_line(out, &[system, b"SETTLE"]),
-        Choice::Switch => put_line(out, &[system, b"SWITCH"]),
-        Choice::Rest => put_line(out, &[system, b"REST"]),
+        Choice::Turn => put_line(&[system, b"TURN"], out),
+        Choice::Take => put_line(&[system, b"TAKE"], out),
+        Choice::Settle => put_line(&[system, b"SETTLE"], out),
+        Choice::Switch => put_line(&[system, b"SWITCH"], out),
+        Choice::Rest => put_line(&[system, b"REST"], out),
     }
 }
 
-fn put_events(
-    alloc: Global,
-    names: &Names,
-    events: &[Event],
-    out: &mut List<u8>,
-) -> Result<(), NoMemory>
+/// Puts events behind a text, each as a line.
+fn put_events(names: &Names, events: &[Event], out: &mut List<u8>) -> Result<(), NoMemory>
     ensures { OnOk result (out.new ≡ out.old ++ flat_map (event_line names.now) events.now) }
 {
     for event in events {
-        put_event(alloc, names, *event, out)?;
+        put_event(names, *event, out)?;
     }
     Ok(())
 }
@@ -61,14 +82,12 @@ fn put_events(
 /// Puts the schedule behind a text.
 #[tactic(auto, unfolding(crate::specs::Schedule::schedule_text))]
 pub(crate) fn put_schedule(
-    alloc: Global,
     names: &Names,
     events: &[Event],
     out: &mut List<u8>,
 ) -> Result<(), NoMemory>
     ensures { OnOk result (out.new ≡ out.old ++ schedule_text names.now events.now) }
 {
-    let count = number(alloc, events.len() as u64)?;
-    put_line(out, &[b"SCHEDULE".as_slice(), count.as_slice()])?;
-    put_events(alloc, names, events, out)
+    put_count(b"SCHEDULE", events.len(), out)?;
+    put_events(names, events, out)
 }

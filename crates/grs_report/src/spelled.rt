@@ -1,11 +1,10 @@
 //! How answers and numbers are written. No names are known here.
-ghost use Rattle.std.specs.Prelude.{◌≡◌, IfOk};
+ghost use Rattle.std.specs.Prelude.{◌≡◌, ◌++◌, OnOk};
 ghost use Rattle.grs_report.specs.Spelled.{ret_word, have_word, code_word, verb_word, order_word, said_word, end_word, event_word, three_digits};
 
-use super::lines::number;
+use super::lines::put_number;
 use grs_base::{Code, List, NoMemory, Ret};
 use grs_wire::{Said, TaskEnd, Verb};
-use std::alloc::Global;
 
 pub(crate) fn ret_word(ret: Ret) -> &'static [u8]
     ensures { result.now ≡ ret_word ret }
@@ -71,29 +70,27 @@ pub(crate) fn end_word(end: TaskEnd) -> &'static [u8]
     }
 }
 
-/// An answer.
-pub(crate) fn code_word(alloc: Global, code: Code) -> Result<List<u8>, NoMemory>
-    ensures { IfOk result (λ text. text ≡ code_word code) }
+/// Puts an answer behind a text.
+pub(crate) fn put_code(code: Code, out: &mut List<u8>) -> Result<(), NoMemory>
+    ensures { OnOk result (out.new ≡ out.old ++ code_word code) }
 {
     match code {
-        Code::C00 => List::from_bytes(alloc, b"00"),
-        Code::C04 => List::from_bytes(alloc, b"04"),
-        Code::C08 => List::from_bytes(alloc, b"08"),
-        Code::C14 => List::from_bytes(alloc, b"14"),
-        Code::C18 => List::from_bytes(alloc, b"18"),
-        Code::Wait => List::from_bytes(alloc, b"WAIT"),
-        Code::End(n) => number(alloc, u64::from(n)),
+        Code::C00 => out.append(b"00"),
+        Code::C04 => out.append(b"04"),
+        Code::C08 => out.append(b"08"),
+        Code::C14 => out.append(b"14"),
+        Code::C18 => out.append(b"18"),
+        Code::Wait => out.append(b"WAIT"),
+        Code::End(n) => put_number(u64::from(n), out),
     }
 }
 
-/// The number of the event in which something was told.
-pub(crate) fn event_word(alloc: Global, event: u64) -> Result<List<u8>, NoMemory>
-    ensures { IfOk result (λ text. text ≡ event_word event) }
+/// Puts the number of the event in which something was told behind a text.
+pub(crate) fn put_event_number(event: u64, out: &mut List<u8>) -> Result<(), NoMemory>
+    ensures { OnOk result (out.new ≡ out.old ++ event_word event) }
 {
-    let digits = number(alloc, event)?;
-    let mut text = List::from_bytes(alloc, b"@")?;
-    text.append(digits.as_slice())?;
-    Ok(text)
+    out.push(b'@')?;
+    put_number(event, out)
 }
 
 /// The last three digits of a number.

@@ -1,11 +1,13 @@
 //! How the lists, the units and the lock words stand at the end of a run. They are printed in the order in
 //! which they are given.
-ghost use Rattle.std.specs.Prelude.{◌≡◌, ◌++◌, OnOk};
+ghost use Rattle.std.specs.Prelude.{◌≡◌, ◌++◌, ◌∷◌, [], codes, OnOk};
+ghost use Rattle.std.specs.Fmt.{decimal};
 ghost use Rattle.std.specs.List.{flat_map};
 ghost use Rattle.grs_wire.specs.LockWords.{interest, manager, epoch};
+ghost use Rattle.grs_report.specs.Lines.{spaced};
 ghost use Rattle.grs_report.specs.State.{queues_text, unit_line, units_text, manager_word, word_line, word_lines, words_text, mode_line};
 
-use super::lines::{number, put_line};
+use super::lines::{put_line, put_number_word, put_word};
 use super::names::name_at;
 use super::rows::put_rows;
 use grs_base::{List, NoMemory, Row, SysId, unit_digits};
@@ -22,27 +24,27 @@ pub(crate) fn put_queues(
 ) -> Result<(), NoMemory>
     ensures { OnOk result (out.new ≡ out.old ++ queues_text names.now rows.now) }
 {
-    put_line(out, &[b"QUEUES".as_slice()])?;
+    put_line(&[b"QUEUES".as_slice()], out)?;
     put_rows(alloc, names, b'Q', rows, out)
 }
 
-#[tactic(auto, unfolding(crate::specs::State::unit_line))]
+/// Puts the count of a unit's hardware reserves behind a text.
+#[tactic(auto, unfolding(crate::specs::State::unit_line, crate::specs::Lines::line))]
 fn put_unit(
-    alloc: Global,
     names: &Names,
     unit: (SysId, u16, u32),
     out: &mut List<u8>,
 ) -> Result<(), NoMemory>
     ensures { OnOk result (out.new ≡ out.old ++ unit_line names.now unit) }
 {
-    let system = name_at(&names.systems, usize::from(unit.0.0));
-    let digits = unit_digits(unit.1);
-    let count = number(alloc, u64::from(unit.2))?;
-    put_line(out, &[b"U".as_slice(), system, &digits, count.as_slice()])
+    out.push(b'U')?;
+    put_word(name_at(&names.systems, usize::from(unit.0.0)), out)?;
+    put_word(&unit_digits(unit.1), out)?;
+    put_number_word(u64::from(unit.2), out)?;
+    out.push(b'\n')
 }
 
 fn put_unit_lines(
-    alloc: Global,
     names: &Names,
     units: &[(SysId, u16, u32)],
     out: &mut List<u8>,
@@ -50,7 +52,7 @@ fn put_unit_lines(
     ensures { OnOk result (out.new ≡ out.old ++ flat_map (unit_line names.now) units.now) }
 {
     for unit in units {
-        put_unit(alloc, names, *unit, out)?;
+        put_unit(names, *unit, out)?;
     }
     Ok(())
 }
@@ -58,15 +60,14 @@ fn put_unit_lines(
 /// Puts the counts of hardware reserves behind a text.
 #[tactic(auto, unfolding(crate::specs::State::units_text))]
 pub(crate) fn put_units(
-    alloc: Global,
     names: &Names,
     units: &[(SysId, u16, u32)],
     out: &mut List<u8>,
 ) -> Result<(), NoMemory>
     ensures { OnOk result (out.new ≡ out.old ++ units_text names.now units.now) }
 {
-    put_line(out, &[b"UNITS".as_slice()])?;
-    put_unit_lines(alloc, names, units, out)
+    put_line(&[b"UNITS".as_slice()], out)?;
+    put_unit_lines(names, units, out)
 }
 
 /// The systems that have interest, as a lock word has them.
@@ -105,10 +106,26 @@ fn manager_word(names: &Names, manager: Option<SysId>) -> &[u8]
     }
 }
 
+/// Puts the name of a number and the number behind a text, each with a blank before it.
+fn put_named_number(name: &[u8], n: u64, out: &mut List<u8>) -> Result<(), NoMemory>
+    ensures { OnOk result (out.new ≡ out.old ++ spaced (name.now ∷ decimal n ∷ [])) }
+{
+    put_word(name, out)?;
+    put_number_word(n, out)
+}
+
+/// Puts the manager of a lock word behind a text.
+fn put_manager(names: &Names, word: u32, out: &mut List<u8>) -> Result<(), NoMemory>
+    ensures { OnOk result (out.new ≡ out.old
+        ++ spaced (codes "MANAGER" ∷ manager_word names.now (manager word) ∷ [])) }
+{
+    put_word(b"MANAGER", out)?;
+    put_word(manager_word(names, manager(word)), out)
+}
+
 /// Puts a lock word behind a text.
 #[tactic(auto, unfolding(crate::specs::State::word_line, crate::specs::Lines::line))]
 fn put_lock_word(
-    alloc: Global,
     names: &Names,
     entry: u64,
     word: u32,
@@ -116,27 +133,15 @@ fn put_lock_word(
 ) -> Result<(), NoMemory>
     ensures { OnOk result (out.new ≡ out.old ++ word_line names.now entry word) }
 {
-    let entry = number(alloc, entry)?;
-    let mask = number(alloc, interest(word))?;
-    let manager = manager_word(names, manager(word));
-    let epoch = number(alloc, epoch(word))?;
-    put_line(
-        out,
-        &[
-            b"W".as_slice(),
-            entry.as_slice(),
-            b"MASK",
-            mask.as_slice(),
-            b"MANAGER",
-            manager,
-            b"EPOCH",
-            epoch.as_slice(),
-        ],
-    )
+    out.push(b'W')?;
+    put_number_word(entry, out)?;
+    put_named_number(b"MASK", interest(word), out)?;
+    put_manager(names, word, out)?;
+    put_named_number(b"EPOCH", epoch(word), out)?;
+    out.push(b'\n')
 }
 
 fn put_lock_words(
-    alloc: Global,
     names: &Names,
     words: &[u32],
     out: &mut List<u8>,
@@ -145,7 +150,7 @@ fn put_lock_words(
 {
     for (entry, word) in words.iter().enumerate() {
         if *word != 0 {
-            put_lock_word(alloc, names, entry as u64, *word, out)?;
+            put_lock_word(names, entry as u64, *word, out)?;
         }
     }
     Ok(())
@@ -154,15 +159,14 @@ fn put_lock_words(
 /// Puts the lock words that aren't 0 behind a text.
 #[tactic(auto, unfolding(crate::specs::State::words_text))]
 pub(crate) fn put_words(
-    alloc: Global,
     names: &Names,
     words: &[u32],
     out: &mut List<u8>,
 ) -> Result<(), NoMemory>
     ensures { OnOk result (out.new ≡ out.old ++ words_text names.now words.now) }
 {
-    put_line(out, &[b"WORDS".as_slice()])?;
-    put_lock_words(alloc, names, words, out)
+    put_line(&[b"WORDS".as_slice()], out)?;
+    put_lock_words(names, words, out)
 }
 
 /// Puts the mode behind a text.
@@ -171,5 +175,5 @@ pub(crate) fn put_mode(star: bool, out: &mut List<u8>) -> Result<(), NoMemory>
     ensures { OnOk result (out.new ≡ out.old ++ mode_line star) }
 {
     let mode: &[u8] = if star { b"STAR" } else { b"RING" };
-    put_line(out, &[b"MODE".as_slice(), mode])
+    put_line(&[b"MODE".as_slice(), mode], out)
 }

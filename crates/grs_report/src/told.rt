@@ -1,11 +1,12 @@
-//! What was told, system by system and task by task. The lines of a system are picked out of all lines once,
-//! and those of a task out of its system's.
-ghost use Rattle.std.specs.Prelude.{◌≡◌, ◌++◌, ◌+◌, map, OnOk, IfOk};
+//! What was told, system by system and task by task. All lines are sorted by their systems once, and those of
+//! a system by the numbers of its tasks.
+ghost use Rattle.std.specs.Prelude.{◌≡◌, ◌++◌, ◌+◌, ◌∷◌, [], codes, map, OnOk, IfOk};
 ghost use Rattle.grs_base.specs.Same.{same_task};
-ghost use Rattle.grs_report.specs.Told.{told_lines, is_told_to, is_told_at_desk, task_at, told_by, told_to, told_at_desk, end_of, task_text, tasks_text, jobs_text, system_text, systems_text, told_text};
+ghost use Rattle.grs_report.specs.Lines.{line};
+ghost use Rattle.grs_report.specs.Told.{told_lines, is_told_to, is_told_at_desk, task_at, told_to, told_at_desk, end_of, task_text, tasks_text, jobs_text, systems_text, told_text};
 
 use super::lines::put_line;
-use super::names::dotted;
+use super::shelves::{SystemLines, sorted_by_system};
 use super::spelled::end_word;
 use super::told_line::put_told_line;
 use grs_base::{List, NoMemory, TaskId};
@@ -68,19 +69,6 @@ fn is_told_at_desk(line: &ToldLine) -> bool
     }
 }
 
-/// What one system told.
-fn told_by<'t>(alloc: Global, system: usize, told: &'t [Told]) -> Result<Vec<&'t Told>, NoMemory>
-    ensures { IfOk result (λ own. map (λ t. t.now) own.items ≡ told_by system told.now) }
-{
-    let mut own = Vec::new(alloc);
-    for line in told {
-        if usize::from(line.system.0) == system && own.push(line).is_err() {
-            return Err(NoMemory);
-        }
-    }
-    Ok(own)
-}
-
 /// Puts what was told at a desk behind a text.
 fn put_told_at_desk(
     alloc: Global,
@@ -118,6 +106,20 @@ fn put_told_to(
     Ok(())
 }
 
+/// Puts what one task was told behind a text, of all that its system told.
+fn put_told_among(
+    alloc: Global,
+    names: &Names,
+    place: Place,
+    told: &SystemLines,
+    out: &mut List<u8>,
+) -> Result<(), NoMemory>
+    ensures { OnOk result (out.new ≡ out.old
+        ++ told_lines names.now (told_to (task_at place.system place.job place.task) told.now)) }
+{
+    put_told_to(alloc, names, place, told.under(place.task), out)
+}
+
 /// How a task stands at the end.
 fn end_of(place: Place, ended: &[(TaskId, TaskEnd)]) -> TaskEnd
     ensures { result ≡ end_of (task_at place.system place.job place.task) ended.now }
@@ -130,12 +132,24 @@ fn end_of(place: Place, ended: &[(TaskId, TaskEnd)]) -> TaskEnd
     TaskEnd::Open
 }
 
+/// Puts the name of a task behind a text as a line.
+#[tactic(auto, unfolding(crate::specs::Lines::line))]
+fn put_task_name(job: &[u8], name: &[u8], out: &mut List<u8>) -> Result<(), NoMemory>
+    ensures { OnOk result (out.new ≡ out.old ++ line (codes "TASK" ∷ (job.now ++ (46 ∷ name.now)) ∷ [])) }
+{
+    out.append(b"TASK ")?;
+    out.append(job)?;
+    out.push(b'.')?;
+    out.append(name)?;
+    out.push(b'\n')
+}
+
 /// Puts a task behind a text.
 #[tactic(auto, unfolding(crate::specs::Told::task_text))]
 fn put_task(
     alloc: Global,
     names: &Names,
-    told: &[&Told],
+    told: &SystemLines,
     ended: &[(TaskId, TaskEnd)],
     job: &[u8],
     place: Place,
@@ -143,26 +157,25 @@ fn put_task(
     out: &mut List<u8>,
 ) -> Result<(), NoMemory>
     ensures { OnOk result (out.new ≡ out.old
-        ++ task_text names.now (map (λ t. t.now) told.now) ended.now job.now (task_at place.system place.job place.task) name.now) }
+        ++ task_text names.now told.now ended.now job.now (task_at place.system place.job place.task) name.now) }
 {
-    let word = dotted(alloc, job, name)?;
-    put_line(out, &[b"TASK".as_slice(), word.as_slice()])?;
-    put_told_to(alloc, names, place, told, out)?;
-    put_line(out, &[b"S".as_slice(), end_word(end_of(place, ended))])
+    put_task_name(job, name, out)?;
+    put_told_among(alloc, names, place, told, out)?;
+    put_line(&[b"S".as_slice(), end_word(end_of(place, ended))], out)
 }
 
 /// Puts the tasks of a job behind a text. `first` has the places of the first.
 fn put_tasks(
     alloc: Global,
     names: &Names,
-    told: &[&Told],
+    told: &SystemLines,
     ended: &[(TaskId, TaskEnd)],
     job: &JobDef,
     first: Place,
     out: &mut List<u8>,
 ) -> Result<(), NoMemory>
     ensures { OnOk result (out.new ≡ out.old
-        ++ tasks_text names.now (map (λ t. t.now) told.now) ended.now job.now.name first.system first.job first.task job.now.tasks) }
+        ++ tasks_text names.now told.now ended.now job.now.name first.system first.job first.task job.now.tasks) }
 {
     let tasks = job.tasks.as_slice();
     let mut place = first;
@@ -186,13 +199,13 @@ fn put_tasks(
 fn put_jobs(
     alloc: Global,
     names: &Names,
-    told: &[&Told],
+    told: &SystemLines,
     ended: &[(TaskId, TaskEnd)],
     system: usize,
     jobs: &[JobDef],
     out: &mut List<u8>,
 ) -> Result<(), NoMemory>
-    ensures { OnOk result (out.new ≡ out.old ++ jobs_text names.now (map (λ t. t.now) told.now) ended.now system 0 0 jobs.now) }
+    ensures { OnOk result (out.new ≡ out.old ++ jobs_text names.now told.now ended.now system 0 0 jobs.now) }
 {
     let mut first = Place {
         system,
@@ -206,26 +219,27 @@ fn put_jobs(
     Ok(())
 }
 
-/// Puts a system behind a text.
-#[tactic(auto, unfolding(crate::specs::Told::system_text))]
+/// Puts a system behind a text, with what it told.
 fn put_system(
     alloc: Global,
     names: &Names,
-    told: &[Told],
+    told: &[&Told],
     ended: &[(TaskId, TaskEnd)],
     system: usize,
     def: &SystemDef,
     out: &mut List<u8>,
 ) -> Result<(), NoMemory>
-    ensures { OnOk result (out.new ≡ out.old ++ system_text names.now told.now ended.now system def.now) }
+    ensures { OnOk result (out.new ≡ out.old
+        ++ ((line (codes "SYSTEM" ∷ def.now.name ∷ []) ++ told_lines names.now (told_at_desk (map (λ t. t.now) told.now)))
+            ++ jobs_text names.now (map (λ t. t.now) told.now) ended.now system 0 0 def.now.jobs)) }
 {
-    put_line(out, &[b"SYSTEM".as_slice(), def.name.as_slice()])?;
-    let own = told_by(alloc, system, told)?;
-    put_told_at_desk(alloc, names, own.as_slice(), out)?;
+    put_line(&[b"SYSTEM".as_slice(), def.name.as_slice()], out)?;
+    put_told_at_desk(alloc, names, told, out)?;
+    let lines = SystemLines::new(alloc, told)?;
     put_jobs(
         alloc,
         names,
-        own.as_slice(),
+        &lines,
         ended,
         system,
         def.jobs.as_slice(),
@@ -233,6 +247,8 @@ fn put_system(
     )
 }
 
+/// Puts systems behind a text, each with what it told.
+#[tactic(auto, unfolding(crate::specs::Told::system_text))]
 fn put_systems(
     alloc: Global,
     names: &Names,
@@ -243,8 +259,9 @@ fn put_systems(
 ) -> Result<(), NoMemory>
     ensures { OnOk result (out.new ≡ out.old ++ systems_text names.now told.now ended.now 0 systems.now) }
 {
+    let lines = sorted_by_system(alloc, told)?;
     for (system, def) in systems.iter().enumerate() {
-        put_system(alloc, names, told, ended, system, def, out)?;
+        put_system(alloc, names, lines.under(system), ended, system, def, out)?;
     }
     Ok(())
 }
@@ -261,6 +278,6 @@ pub(crate) fn put_told(
 ) -> Result<(), NoMemory>
     ensures { OnOk result (out.new ≡ out.old ++ told_text names.now told.now ended.now systems.now) }
 {
-    put_line(out, &[b"TOLD".as_slice()])?;
+    put_line(&[b"TOLD".as_slice()], out)?;
     put_systems(alloc, names, told, ended, systems, out)
 }

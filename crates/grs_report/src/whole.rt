@@ -19,14 +19,14 @@ fn put_end(done: bool, out: &mut List<u8>) -> Result<(), NoMemory>
     ensures { OnOk result (out.new ≡ out.old ++ end_line done) }
 {
     let end: &[u8] = if done { b"DONE" } else { b"WAITS" };
-    put_line(out, &[b"END".as_slice(), end])
+    put_line(&[b"END".as_slice(), end], out)
 }
 
 #[tactic(auto, unfolding(crate::specs::Report::head_line))]
 fn put_head(out: &mut List<u8>) -> Result<(), NoMemory>
     ensures { OnOk result (out.new ≡ out.old ++ head_line) }
 {
-    put_line(out, &[b"GRS".as_slice(), b"REPORT", b"1"])
+    put_line(&[b"GRS".as_slice(), b"REPORT", b"1"], out)
 }
 
 /// The report of what a run of a deck shows. Of a run of one event, in which the only task asks for a
@@ -59,7 +59,7 @@ pub fn report(alloc: Global, deck: &Deck, seen: &Seen) -> Result<List<u8>, NoMem
     let ended = seen.ended.as_slice();
     let mut out = List::new(alloc);
     put_head(&mut out)?;
-    put_schedule(alloc, &names, seen.events.as_slice(), &mut out)?;
+    put_schedule(&names, seen.events.as_slice(), &mut out)?;
     put_history(alloc, &names, seen.hist.as_slice(), &mut out)?;
     put_told(
         alloc,
@@ -70,8 +70,8 @@ pub fn report(alloc: Global, deck: &Deck, seen: &Seen) -> Result<List<u8>, NoMem
         &mut out,
     )?;
     put_queues(alloc, &names, seen.queues.as_slice(), &mut out)?;
-    put_units(alloc, &names, seen.units.as_slice(), &mut out)?;
-    put_words(alloc, &names, seen.words.as_slice(), &mut out)?;
+    put_units(&names, seen.units.as_slice(), &mut out)?;
+    put_words(&names, seen.words.as_slice(), &mut out)?;
     put_mode(seen.star, &mut out)?;
     put_end(all_ended(ended), &mut out)?;
     Ok(out)
