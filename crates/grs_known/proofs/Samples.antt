@@ -1,0 +1,199 @@
+-- Worked items, what is known by them, and the words of a table: what the definitions accept and what they refuse.
+use Rattle.std.proofs.Common.{◌≡◌, ℕ, Bool, true, false, List, [], ◌∷◌, take, Some, None, refl, sym, subst}
+use Rattle.grs_base.specs.Same.{same_res}
+use Rattle.grs_base.specs.Lists.{owns}
+use Rattle.grs_base.specs.State.{list_of}
+use Rattle.grs_base.specs.declared.resource.Ctl.TheVariants.{E}
+use Rattle.grs_base.specs.declared.resource.Res.{Res}
+use Rattle.grs_base.specs.declared.resource.Res.TheVariants as kinds
+use Rattle.grs_base.specs.declared.resource.Ret.{Ret}
+use Rattle.grs_base.specs.declared.resource.Ret.TheVariants.{RetNone, RetTest, RetChng, RetEcb}
+use Rattle.grs_base.specs.declared.resource.SysId.{SysId}
+use Rattle.grs_base.specs.declared.resource.TaskId.{TaskId}
+use Rattle.grs_base.specs.declared.decision.Code.TheVariants.{C00, C04, C08, Wait}
+use Rattle.grs_base.proofs.SameLaws.{same_res-exact}
+use Rattle.grs_wire.specs.History.{fixed_entries}
+use Rattle.grs_wire.specs.declared.history.HistEntry.TheVariants.{Enq, Deq, Release}
+use Rattle.grs_wire.specs.declared.request.Answer.TheVariants.{Coded}
+use Rattle.grs_wire.specs.declared.request.Fixed.{Fixed}
+use Rattle.grs_wire.specs.declared.request.Fixed.TheVariants.{Asked, Purged}
+use Rattle.grs_wire.specs.declared.request.Want.TheVariants as wants
+use Rattle.grs_known.specs.Items.{RunItem, is_of, removes, took, gave, tells, reply_in, lists, Made, history, items, Counts, mine}
+use Rattle.grs_known.specs.Known.{Known, learned, outstanding, Still, IsRight, learns_item, learns_control, Answers, Grants, Coming, after_news}
+use Rattle.grs_known.specs.Change.{manager_of, store_shown, Ring}
+
+abbrev system : ℕ → SysId
+system s = record { 0 = s }
+
+-- the only task of a system
+abbrev task_of : ℕ → TaskId
+task_of s = record { system = system s; job = 0; task = 0 }
+
+abbrev file : Res
+file = kinds.Systems (65 ∷ []) (1 ∷ [])
+
+-- what a system's task asks; all lock entries are one
+abbrev enq : ℕ → Ret → SysId × Fixed
+enq s ret = (system s, Asked (record { task = task_of s; want = wants.Enq file E ret false }))
+
+-- a DEQ that system 0 fixes, whoever asked
+abbrev deq : ℕ → SysId × Fixed
+deq s = (system 0, Asked (record { task = task_of s; want = wants.Deq file false }))
+
+abbrev one_entry : Res → ℕ
+one_entry r = 0
+
+-- The task of system 0 has the file, that of system 1 waits by ECB, and gets it by the other's DEQ; then system 0
+-- fixes the DEQ of the task of system 1.
+abbrev run : List RunItem
+run = items (enq 0 RetNone ∷ enq 1 RetEcb ∷ deq 0 ∷ deq 1 ∷ [])
+
+entries : history run ≡ Enq (task_of 0) file E RetNone C00 ∷ Enq (task_of 1) file E RetEcb C04 ∷ Deq (task_of 0) file false C00 ∷ Deq (task_of 1) file false C00 ∷ []
+entries = refl
+
+empty_behind : lists run ≡ []
+empty_behind = refl
+
+waiter_owns : owns (list_of (lists (take 3 run)) file) (task_of 1) ≡ true
+waiter_owns = refl
+
+waiter_doesnt : owns (list_of (lists (take 2 run)) file) (task_of 1) ≡ false
+waiter_doesnt = refl
+
+abbrev at : (n : ℕ) → SysId × Fixed → RunItem
+at n x = record { by = x.0; fixed = x.1; entries = fixed_entries (lists (take n run)) x.0 x.1 }
+
+-- an item that another system fixed is its task's
+of_the_asker : mine (task_of 1) run ≡ at 1 (enq 1 RetEcb) ∷ at 3 (deq 1) ∷ []
+of_the_asker = refl
+
+-- ---- what an entry tells
+deq_took : took file (Deq (task_of 0) file false C00) ≡ true
+deq_took = refl
+
+refused_took : took file (Deq (task_of 0) file true C08) ≡ false
+refused_took = refl
+
+release_took : took file (Release (task_of 0) file) ≡ true
+release_took = refl
+
+enq_gave : gave file (Enq (task_of 0) file E RetNone C00) ≡ true
+enq_gave = refl
+
+-- an element that waits owns nothing; TEST queues none and tells no control; CHNG queues none, and tells control
+wait_gave : gave file (Enq (task_of 0) file E RetNone Wait) ≡ false
+wait_gave = refl
+
+test_gave : gave file (Enq (task_of 0) file E RetTest C00) ≡ false
+test_gave = refl
+
+test_tells : tells file (Enq (task_of 0) file E RetTest C00) ≡ false
+test_tells = refl
+
+change_gave : gave file (Enq (task_of 0) file E RetChng C00) ≡ false
+change_gave = refl
+
+change_tells : tells file (Enq (task_of 0) file E RetChng C00) ≡ true
+change_tells = refl
+
+-- a removal is of no task, and removes the tasks of its target alone
+removal_of : is_of (task_of 1) (Purged (system 1)) ≡ false
+removal_of = refl
+
+removes_own : removes (task_of 1) (Purged (system 1)) ≡ true
+removes_own = refl
+
+removes_other : removes (task_of 0) (Purged (system 1)) ≡ false
+removes_other = refl
+
+-- a task may have one element, and has one: its flag has to say so
+flag_right : Counts 1 (lists (take 1 run)) (Asked (record { task = task_of 0; want = wants.Enq file E RetNone true }))
+flag_right = refl
+
+flag_wrong : Counts 1 (lists (take 1 run)) (enq 0 RetNone).1 → ⊥
+flag_wrong e = absurd (cc)
+
+-- an item with another reply isn't made by the lists
+not_made : Made [] (record { by = system 0; fixed = (enq 0 RetNone).1; entries = Enq (task_of 0) file E RetNone Wait ∷ [] }) → ⊥
+not_made e = absurd (cc)
+
+-- ---- what is known
+abbrev has_file : Bool → Known
+has_file behind = record { behind = behind; owns = λ r. same_res r file }
+
+abbrev has_none : Bool → Known
+has_none behind = record { behind = behind; owns = λ r. false }
+
+behind_learned : learned (task_of 1) (has_none true) run ≡ at 1 (enq 1 RetEcb) ∷ []
+behind_learned = refl
+
+behind_outstanding : outstanding (task_of 1) (has_none true) run ≡ Some (at 3 (deq 1))
+behind_outstanding = refl
+
+all_learned : learned (task_of 1) (has_none false) run ≡ mine (task_of 1) run
+all_learned = refl
+
+none_outstanding : outstanding (task_of 1) (has_none false) run ≡ None
+none_outstanding = refl
+
+-- it owns behind the other's DEQ, not before; and who gave the file back doesn't
+owner_right : IsRight (task_of 1) (has_file false) (take 3 run)
+owner_right = record { owned = λ r e. subst (λ q. owns (list_of (lists (take 3 run)) q) (task_of 1) ≡ true) (sym (same_res-exact r file e)) refl; given = tt }
+
+waiter_wrong : IsRight (task_of 1) (has_file false) (take 2 run) → ⊥
+waiter_wrong h = let g : false ≡ true = h.owned file refl in absurd (cc)
+
+leaver_wrong : IsRight (task_of 0) (has_file false) (take 3 run) → ⊥
+leaver_wrong h = let g : false ≡ true = h.owned file refl in absurd (cc)
+
+-- but where its DEQ isn't learned yet it is known to own, and that is right
+leaver_behind : IsRight (task_of 0) (has_file true) (take 3 run)
+leaver_behind = record {
+  owned = λ r e. subst (λ q. Still q (task_of 0) (take 3 run) (Some (at 2 (deq 0)))) (sym (same_res-exact r file e)) ((λ f. absurd (cc)), (λ f. refl));
+  given = λ r e. absurd (cc);
+}
+
+-- ---- what comes
+-- Control that comes in front of the DEQ's answer is right, though the element is gone by then.
+in_order : Coming (task_of 1) (has_none true) run (Grants (task_of 1) file ∷ Answers (task_of 1) (Coded C00) ∷ [])
+in_order = (
+  λ e. ((λ f. absurd (cc), λ f. refl), (λ f. (at 3 (deq 1), refl, refl, tt), λ f. absurd (cc))),
+  λ e. absurd (cc),
+)
+
+-- Behind it no control may come; nor may the answer hold another code, or come twice.
+out_of_order : Coming (task_of 1) (has_none true) run (Answers (task_of 1) (Coded C00) ∷ Grants (task_of 1) file ∷ []) → ⊥
+out_of_order h = let g : false ≡ true = (((h.0 refl).3).0 refl).0 in absurd (cc)
+
+another_code : Coming (task_of 1) (has_none true) run (Answers (task_of 1) (Coded C08) ∷ []) → ⊥
+another_code h = let c = h.0 refl in let same : at 3 (deq 1) ≡ c.0 = cc in let g : Coded C00 ≡ Coded C08 = subst (λ (x : RunItem). reply_in x.entries ≡ Coded C08) (sym same) c.2 in absurd (cc)
+
+none_asked : Coming (task_of 1) (has_none false) run (Answers (task_of 1) (Coded C00) ∷ []) → ⊥
+none_asked h = let c = h.0 refl in absurd (let e : None ≡ Some c.0 = c.1 in cc)
+
+-- what is for another task is passed over
+for_another : Coming (task_of 0) (has_none false) run (Grants (task_of 1) file ∷ [])
+for_another = ((λ e. absurd (cc)), λ e. tt)
+
+read_all : after_news (task_of 1) (has_none true) run (Grants (task_of 1) file ∷ Answers (task_of 1) (Coded C00) ∷ []) ≡ learns_item (learns_control (has_none true) file) (at 3 (deq 1))
+read_all = refl
+
+owns_no_more : (learns_item (learns_control (has_none true) file) (at 3 (deq 1))).owns file ≡ false
+owns_no_more = refl
+
+-- ---- the words of a table
+least_manages : manager_of one_entry (lists (take 2 run)) 0 ≡ Some 0
+least_manages = refl
+
+none_manages : manager_of one_entry (lists run) 0 ≡ None
+none_manages = refl
+
+-- a system that has still to see the DEQ shows the list behind it, and isn't the manager
+shown_behind : list_of (store_shown one_entry 0 (at 2 (deq 0) ∷ []) (Ring (lists (take 2 run)) [])).lists file ≡ list_of (lists (take 3 run)) file
+shown_behind = refl
+
+shown_manager : (store_shown one_entry 0 (at 2 (deq 0) ∷ []) (Ring (lists (take 2 run)) [])).manages 0 ≡ false
+shown_manager = refl
+
+shown_interest : (store_shown one_entry 1 (at 2 (deq 0) ∷ []) (Ring (lists (take 2 run)) [])).interest 0 ≡ true
+shown_interest = refl

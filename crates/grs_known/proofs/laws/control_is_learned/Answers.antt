@@ -1,0 +1,5 @@
+use Rattle.grs_known.proofs.Coming.{control_is_learned}
+use Rattle.grs_known.proofs.laws.control_is_learned.Goals as goal
+
+pub returns : goal.returns
+returns c = control_is_learned

@@ -1,0 +1,5 @@
+use Rattle.grs_known.proofs.Coming.{control_is_sent}
+use Rattle.grs_known.proofs.laws.control_is_sent.Goals as goal
+
+pub returns : goal.returns
+returns c = control_is_sent

@@ -1,0 +1,4 @@
+pub mod Items
+pub mod Known
+pub mod Laws
+pub mod Change

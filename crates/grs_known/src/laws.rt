@@ -1,0 +1,88 @@
+//! Each function's contract is one law, and there is nothing to run.
+ghost use Rattle.grs_known.specs.Change.{TurnShowsNothing, TaskShowsNothing, StarShowsItself, SwitchShowsHistory, KeptIsShown};
+ghost use Rattle.grs_known.specs.Laws.{ItemsAreHistory, RepliesAreAnswers, ListsAreReplayed, EntriesAreOfItems, OthersKeep, AnswerIsSent, AnswerIsLearned, ControlIsLearned, ControlIsSent, ReadInOrder, AllIsKnown, FrontOwnersStay};
+
+/// The history of what was fixed is the entries of its items, and each stands as the plain lists give it.
+pub fn items_are_history()
+    ensures { ItemsAreHistory }
+{}
+
+/// The reply in a request's entries is what the plain lists answer.
+pub fn replies_are_answers()
+    ensures { RepliesAreAnswers }
+{}
+
+/// The lists after items are those to which their history leads.
+pub fn lists_are_replayed()
+    ensures { ListsAreReplayed }
+{}
+
+/// A task's entries are those of its items.
+pub fn entries_are_of_items()
+    ensures { EntriesAreOfItems }
+{}
+
+/// An item of another task leaves what is known of a task right, and what comes.
+pub fn others_keep()
+    ensures { OthersKeep }
+{}
+
+/// Of an item that another system fixes for a task, the answer may come last.
+pub fn answer_is_sent()
+    ensures { AnswerIsSent }
+{}
+
+/// An answer that comes is the reply in the task's outstanding item, and leaves what is known right.
+pub fn answer_is_learned()
+    ensures { AnswerIsLearned }
+{}
+
+/// Control that comes is still there, and leaves what is known right.
+pub fn control_is_learned()
+    ensures { ControlIsLearned }
+{}
+
+/// Control that is still there once all before it was read may come last.
+pub fn control_is_sent()
+    ensures { ControlIsSent }
+{}
+
+/// What comes may be read front by front.
+pub fn read_in_order()
+    ensures { ReadInOrder }
+{}
+
+/// Where nothing is outstanding all of a task is known, and what it owns by that it owns by the lists.
+pub fn all_is_known()
+    ensures { AllIsKnown }
+{}
+
+/// An owner by a front of the items, behind which its task has at most one, is still one by all.
+pub fn front_owners_stay()
+    ensures { FrontOwnersStay }
+{}
+
+/// A closed Turn is nothing in the view.
+pub fn turn_shows_nothing()
+    ensures { TurnShowsNothing }
+{}
+
+/// A Task event at a system that hasn't changed is nothing in the view.
+pub fn task_shows_nothing()
+    ensures { TaskShowsNothing }
+{}
+
+/// An event of star mode at a system that has changed is the same event of the view.
+pub fn star_shows_itself()
+    ensures { StarShowsItself }
+{}
+
+/// At the Switch the view shows the history's lists.
+pub fn switch_shows_history()
+    ensures { SwitchShowsHistory }
+{}
+
+/// Where the view shows the history's lists, what is kept of a resource is the history's list.
+pub fn kept_is_shown()
+    ensures { KeptIsShown }
+{}
