@@ -1,15 +1,17 @@
 -- What comes to a system stays right: through items, and as it is read; and what may come last.
-use Rattle.std.proofs.Common.{◌≡◌, Bool, true, false, ◌||◌, List, [], ◌∷◌, ◌++◌, Some, refl, ap, sym, ◌∙◌, subst}
+use Rattle.std.proofs.Common.{◌≡◌, Bool, true, false, ◌||◌, List, [], ◌∷◌, ◌++◌, Some, refl, ap, sym, ◌∙◌, subst, cond, None, ◌&&◌, arith}
 use Rattle.std.specs.List.{list_any}
 use Rattle.grs_base.specs.Same.{same_task}
+use Rattle.grs_base.specs.Lists.{owns}
+use Rattle.grs_base.specs.State.{list_of}
 use Rattle.grs_base.specs.declared.resource.Res.{Res}
 use Rattle.grs_base.specs.declared.resource.TaskId.{TaskId}
 use Rattle.grs_base.proofs.SameLaws.{same_task-itself}
 use Rattle.grs_wire.specs.declared.request.Answer.{Answer}
-use Rattle.grs_known.specs.Items.{RunItem, is_of, removes, Made, reply_in}
-use Rattle.grs_known.specs.Known.{Known, outstanding, Still, IsRight, falls_behind, learns_item, learns_any, learns_control, News, Answers, Grants, Wants, is_answer_to, Coming, after_news}
-use Rattle.grs_known.specs.Laws.{OthersKeep, AnswerIsSent, AnswerIsLearned, ControlIsLearned, ControlIsSent, ReadRight, ReadInOrder}
-use Rattle.grs_known.proofs.Control.{still-other}
+use Rattle.grs_known.specs.Items.{RunItem, is_of, removes, gives_back, Made, mine, lists, reply_in}
+use Rattle.grs_known.specs.Known.{Known, last_of, outstanding, Still, IsRight, falls_behind, learns_item, learns_any, learns_control, News, Answers, Grants, Wants, is_answer_to, Coming, after_news}
+use Rattle.grs_known.specs.Laws.{OthersKeep, is_given_back, DecidedAtOnce, AnswerIsSent, AnswerIsLearned, ControlIsLearned, ControlIsSent, ReadRight, ReadInOrder}
+use Rattle.grs_known.proofs.Control.{still-other, still-own}
 use Rattle.grs_known.proofs.Knowing.{outstanding-other, learned-other, right-other, outstanding-own, learned-own, still-behind, right-own, learned-longer, given-told, right-answer, right-control}
 
 -- what is said of another task only is said of none
@@ -58,6 +60,40 @@ answer_is_sent t k T x ns own e made none right coming = record {
   coming = coming-own t T x own made k ns e none coming;
   same = learned-own t T x own k e;
 }
+
+-- ---- an item of its own that is decided at once: nothing was outstanding, so no answer comes
+still-open : (t : TaskId) (r : Res) (k : Known) (T : List RunItem) → k.behind ≡ false → Still r t T (outstanding t k T) → owns (list_of (lists T) r) t ≡ true
+still-open t r k T e h = subst (λ b. Still r t T (cond b (last_of (mine t T)) None)) e h
+
+none_open : {P : Type 0} (t : TaskId) (k : Known) (T : List RunItem) (x : RunItem) → k.behind ≡ false → outstanding t k T ≡ Some x → P
+none_open t k T x e is = absurd (let g : None ≡ Some x = ap (λ b. cond b (last_of (mine t T)) None) (sym e) ∙ is in cc)
+
+coming-open : (t : TaskId) (T : List RunItem) (x : RunItem) → is_of t x.fixed ≡ true → Made T x → (k l : Known) (ns : List News) → k.behind ≡ false → l.behind ≡ false → list_any (is_given_back t x.fixed) ns ≡ false → Coming t k T ns →
+    Coming t l (T ++ x ∷ []) ns
+coming-open t T x own made k l [] e f none h = tt
+coming-open t T x own made k l (Answers u a ∷ ns) e f none h = (λ same. let c = h.0 same in none_open t k T c.0 e c.1, λ other. coming-open t T x own made k l ns e f none (h.1 other))
+coming-open t T x own made k l (Grants u r ∷ ns) e f none h = (
+  λ same. let parts = kept same (gives_back r x.fixed) none in
+      (subst (λ b. Still r t (T ++ x ∷ []) (cond b (last_of (mine t (T ++ x ∷ []))) None)) (sym f) ((still-own t T x own made r (still-open t r k T e (h.0 same).0)).0 parts.0), coming-open t T x own made (learns_control k r) (learns_control l r) ns e f parts.1 (h.0 same).1),
+  λ other. coming-open t T x own made k l ns e f (passed (same_task t u) none) (h.1 other),
+)
+  where
+    kept : same_task t u ≡ true → (b : Bool) → ((same_task t u && b) || list_any (is_given_back t x.fixed) ns) ≡ false → (b ≡ false) × (list_any (is_given_back t x.fixed) ns ≡ false)
+    kept same true g = absurd (let z : true ≡ false = sym (rw same refl) ∙ g in cc)
+    kept same false g = (refl, grind (arith, g))
+
+    passed : (a : Bool) → ((a && gives_back r x.fixed) || list_any (is_given_back t x.fixed) ns) ≡ false → list_any (is_given_back t x.fixed) ns ≡ false
+    passed a g = grind (arith, g)
+coming-open t T x own made k l (Wants q ∷ ns) e f none h = coming-open t T x own made k l ns e f none h
+
+pub decided_at_once : DecidedAtOnce
+decided_at_once t k T x ns own e made none right coming =
+    let at : outstanding t (falls_behind k) (T ++ x ∷ []) ≡ Some x = outstanding-own t T x own k in
+    record {
+      right = right-answer t (falls_behind k) (T ++ x ∷ []) x at (right-own t T x own k e made right);
+      coming = coming-open t T x own made k (learns_item k x) ns e refl none coming;
+      longer = learned-longer t (falls_behind k) (T ++ x ∷ []) x at ∙ ap (λ ys. ys ++ x ∷ []) (learned-own t T x own k e);
+    }
 
 -- ---- what comes first is learned
 pub answer_is_learned : AnswerIsLearned

@@ -3,5 +3,7 @@ pub mod Control
 pub mod Knowing
 pub mod Coming
 pub mod Fronts
+pub mod Elements
+pub mod Pasts
 pub mod Changing
 pub mod Samples

@@ -3,7 +3,7 @@ use Rattle.std.proofs.Common.{◌≡◌, ℕ, Bool, true, false, List, [], ◌�
 use Rattle.grs_base.specs.Same.{same_res}
 use Rattle.grs_base.specs.Lists.{owns}
 use Rattle.grs_base.specs.State.{list_of}
-use Rattle.grs_base.specs.declared.resource.Ctl.TheVariants.{E}
+use Rattle.grs_base.specs.declared.resource.Ctl.TheVariants.{E, S}
 use Rattle.grs_base.specs.declared.resource.Res.{Res}
 use Rattle.grs_base.specs.declared.resource.Res.TheVariants as kinds
 use Rattle.grs_base.specs.declared.resource.Ret.{Ret}
@@ -20,6 +20,7 @@ use Rattle.grs_wire.specs.declared.request.Fixed.TheVariants.{Asked, Purged}
 use Rattle.grs_wire.specs.declared.request.Want.TheVariants as wants
 use Rattle.grs_known.specs.Items.{RunItem, is_of, removes, took, gave, tells, reply_in, lists, Made, history, items, Counts, mine}
 use Rattle.grs_known.specs.Known.{Known, learned, outstanding, Still, IsRight, learns_item, learns_control, Answers, Grants, Coming, after_news}
+use Rattle.grs_known.specs.Past.{own_told, after_entry, past_of, Speaks}
 use Rattle.grs_known.specs.Change.{manager_of, store_shown, Ring}
 
 abbrev system : ℕ → SysId
@@ -152,6 +153,32 @@ leaver_behind = record {
   owned = λ r e. subst (λ q. Still q (task_of 0) (take 3 run) (Some (at 2 (deq 0)))) (sym (same_res-exact r file e)) ((λ f. absurd (cc)), (λ f. refl));
   given = λ r e. absurd (cc);
 }
+
+-- ---- its past
+-- a task that asked by ECB has its element, and doesn't own
+waits_past : past_of (task_of 1) (has_none true) run ≡ record { own = (file, E) ∷ []; owns = λ r. false; asked = Enq (task_of 1) file E RetEcb C04 ∷ []; last = Some (Enq (task_of 1) file E RetEcb C04) }
+waits_past = refl
+
+-- behind its DEQ it has none
+left_past : (after_entry (Deq (task_of 1) file false C00) (past_of (task_of 1) (has_none true) run)).own ≡ []
+left_past = refl
+
+-- a refused DEQ takes nothing; a release is asked by no line; CHNG makes control exclusive in its place
+refused_past : own_told (Deq (task_of 1) file true C08) ((file, E) ∷ []) ≡ (file, E) ∷ []
+refused_past = refl
+
+release_past : (after_entry (Release (task_of 1) file) (past_of (task_of 1) (has_none true) run)).asked ≡ Enq (task_of 1) file E RetEcb C04 ∷ []
+release_past = refl
+
+changed_past : own_told (Enq (task_of 1) file E RetChng C00) ((file, S) ∷ []) ≡ (file, E) ∷ []
+changed_past = refl
+
+tested_past : own_told (Enq (task_of 1) file E RetTest C00) [] ≡ []
+tested_past = refl
+
+-- with its DEQ in the history, a past without it isn't that of the history
+short_past : Speaks 4096 (task_of 1) (past_of (task_of 1) (has_none true) run) (history run) → ⊥
+short_past h = let e = h.own in absurd (cc)
 
 -- ---- what comes
 -- Control that comes in front of the DEQ's answer is right, though the element is gone by then.

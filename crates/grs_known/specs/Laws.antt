@@ -1,6 +1,7 @@
 -- The laws on items and on what is known of a task. They speak of no mode and of no program.
-use Rattle.std.specs.Prelude.{◌≡◌, ◌⊎◌, ℕ, true, false, cond, List, [], ◌∷◌, ◌++◌, Option, Some, None}
+use Rattle.std.specs.Prelude.{◌≡◌, ◌⊎◌, ℕ, true, false, cond, List, [], ◌∷◌, ◌++◌, Option, Some, None, Bool, ◌&&◌}
 use Rattle.std.specs.List.{list_any}
+use Rattle.grs_base.specs.Same.{same_task}
 use Rattle.grs_base.specs.Lists.{owns}
 use Rattle.grs_base.specs.State.{State, list_of}
 use Rattle.grs_base.specs.declared.resource.Res.{Res}
@@ -12,8 +13,8 @@ use Rattle.grs_wire.specs.Wants.{answer_to}
 use Rattle.grs_wire.specs.declared.request.Answer.{Answer}
 use Rattle.grs_wire.specs.declared.request.Fixed.{Fixed}
 use Rattle.grs_wire.specs.declared.request.Want.{Want}
-use Rattle.grs_known.specs.Items.{RunItem, is_of, removes, mine, tells, reply_in, lists, Made, AllMade, history, items, AllCount}
-use Rattle.grs_known.specs.Known.{Known, learned, outstanding, Still, IsRight, falls_behind, learns_item, learns_control, News, Answers, Grants, is_answer_to, Coming, after_news}
+use Rattle.grs_known.specs.Items.{RunItem, is_of, removes, gives_back, mine, tells, reply_in, lists, Made, AllMade, history, items, AllCount}
+use Rattle.grs_known.specs.Known.{Known, learned, outstanding, Still, IsRight, falls_behind, learns_item, learns_control, News, Answers, Grants, Wants, is_answer_to, Coming, after_news}
 
 -- ---- items
 
@@ -55,6 +56,23 @@ pub record FixedElsewhere (t : TaskId) (k : Known) (T : List RunItem) (x : RunIt
 abbrev pub AnswerIsSent : Type 0
 AnswerIsSent = (t : TaskId) (k : Known) (T : List RunItem) (x : RunItem) (ns : List News) → is_of t x.fixed ≡ true → k.behind ≡ false → Made T x →
     list_any (is_answer_to t) ns ≡ false → IsRight t k T → Coming t k T ns → FixedElsewhere t k T x ns
+
+-- whether it is control of a resource for this task that what was fixed gives up
+abbrev pub is_given_back : TaskId → Fixed → News → Bool
+is_given_back t f (Answers u a) = false
+is_given_back t f (Grants u r) = same_task t u && gives_back r f
+is_given_back t f (Wants q) = false
+
+-- An item of the task that its own system decides at once, with nothing outstanding: it is learned, and what is known
+-- is right, and what comes, unless that is control of what the item gives up.
+pub record DecidedHere (t : TaskId) (k : Known) (T : List RunItem) (x : RunItem) (ns : List News) : Type 0 where
+  pub right : IsRight t (learns_item k x) (T ++ x ∷ [])
+  pub coming : Coming t (learns_item k x) (T ++ x ∷ []) ns
+  pub longer : learned t (learns_item k x) (T ++ x ∷ []) ≡ learned t k T ++ x ∷ []
+
+abbrev pub DecidedAtOnce : Type 0
+DecidedAtOnce = (t : TaskId) (k : Known) (T : List RunItem) (x : RunItem) (ns : List News) → is_of t x.fixed ≡ true → k.behind ≡ false → Made T x →
+    list_any (is_given_back t x.fixed) ns ≡ false → IsRight t k T → Coming t k T ns → DecidedHere t k T x ns
 
 -- The answer comes: it is the reply in the outstanding item, which is learned with it; control that it tells is there
 -- now; and what is known, and what comes behind, is right.

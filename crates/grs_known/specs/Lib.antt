@@ -1,4 +1,5 @@
 pub mod Items
 pub mod Known
+pub mod Past
 pub mod Laws
 pub mod Change

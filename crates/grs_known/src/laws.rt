@@ -1,6 +1,7 @@
 //! Each function's contract is one law, and there is nothing to run.
 ghost use Rattle.grs_known.specs.Change.{TurnShowsNothing, TaskShowsNothing, StarShowsItself, SwitchShowsHistory, KeptIsShown};
-ghost use Rattle.grs_known.specs.Laws.{ItemsAreHistory, RepliesAreAnswers, ListsAreReplayed, EntriesAreOfItems, OthersKeep, AnswerIsSent, AnswerIsLearned, ControlIsLearned, ControlIsSent, ReadInOrder, AllIsKnown, FrontOwnersStay};
+ghost use Rattle.grs_known.specs.Past.{ElementsAreOfItems, PastGrows, PastSpeaks, PastSpeaksOf};
+ghost use Rattle.grs_known.specs.Laws.{ItemsAreHistory, RepliesAreAnswers, ListsAreReplayed, EntriesAreOfItems, OthersKeep, DecidedAtOnce, AnswerIsSent, AnswerIsLearned, ControlIsLearned, ControlIsSent, ReadInOrder, AllIsKnown, FrontOwnersStay};
 
 /// The history of what was fixed is the entries of its items, and each stands as the plain lists give it.
 pub fn items_are_history()
@@ -32,6 +33,11 @@ pub fn answer_is_sent()
     ensures { AnswerIsSent }
 {}
 
+/// An item that a task's own system decides at once is learned with it.
+pub fn decided_at_once()
+    ensures { DecidedAtOnce }
+{}
+
 /// An answer that comes is the reply in the task's outstanding item, and leaves what is known right.
 pub fn answer_is_learned()
     ensures { AnswerIsLearned }
@@ -60,6 +66,26 @@ pub fn all_is_known()
 /// An owner by a front of the items, behind which its task has at most one, is still one by all.
 pub fn front_owners_stay()
     ensures { FrontOwnersStay }
+{}
+
+/// A task's elements are those which its items queued, by their replies.
+pub fn elements_are_of_items()
+    ensures { ElementsAreOfItems }
+{}
+
+/// Learning an item makes the past of its task longer by the item's entry.
+pub fn past_grows()
+    ensures { PastGrows }
+{}
+
+/// Where nothing is outstanding the past by what is known is that of the history.
+pub fn past_speaks()
+    ensures { PastSpeaks }
+{}
+
+/// Of a resource that the outstanding item doesn't give up, what the past owns is owned by the history's lists.
+pub fn past_speaks_of()
+    ensures { PastSpeaksOf }
 {}
 
 /// A closed Turn is nothing in the view.

@@ -1,0 +1,5 @@
+use Rattle.grs_known.proofs.Pasts.{past_speaks}
+use Rattle.grs_known.proofs.laws.past_speaks.Goals as goal
+
+pub returns : goal.returns
+returns c = past_speaks

@@ -1,0 +1,5 @@
+use Rattle.grs_known.proofs.Pasts.{past_speaks_of}
+use Rattle.grs_known.proofs.laws.past_speaks_of.Goals as goal
+
+pub returns : goal.returns
+returns c = past_speaks_of
