@@ -1,5 +1,5 @@
 -- The view: what each event is in it, and what it shows at the Switch.
-use Rattle.std.proofs.Common.{◌≡◌, ◌≢◌, ℕ, Bool, true, false, cond, ◌&&◌, List, [], ◌∷◌, Option, Some, None, refl, ap, sym, ◌∙◌, subst, arith}
+use Rattle.std.proofs.Common.{◌≡◌, ◌≢◌, ℕ, Bool, true, false, cond, ◌&&◌, List, [], ◌∷◌, Option, Some, None, refl, ap, sym, ◌∙◌, subst}
 use mathlib.Core.Path.{fun_ext}
 use Rattle.std.specs.Prelude.{eqb}
 use Rattle.std.proofs.lemmas.Bool.{eqb-true, eqb-false, eq-eqb}
@@ -9,6 +9,7 @@ use Rattle.grs_base.specs.declared.resource.Res.{Res}
 use Rattle.grs_base.proofs.SameLaws.{same_res-exact}
 use Rattle.grs_known.specs.Items.{RunItem, lists, lists_from}
 use Rattle.grs_known.specs.Change.{put_at, StarWords, StarStore, Role, Ring, Star, under, least_system, is_manager, store_of, store_shown, view, kept_by, kept_at, systems_part, TurnShowsNothing, TaskShowsNothing, StarShowsItself, SwitchShowsHistory, KeptIsShown}
+use Rattle.grs_known.proofs.Parts.{list_of-systems}
 
 -- ---- one place of a function
 put_both : {A B : Type 0} (f : ℕ → A) (g : ℕ → B) (s u : ℕ) (x : A) (y : B) (P : A → B → Type 0) → (u ≡ s → P x y) → (u ≢ s → P (f u) (g u)) → P (put_at f s x u) (put_at g s y u)
@@ -59,10 +60,6 @@ kept_is_shown slot T w a r all = go (w.words.manager (slot r)) refl
     go (Some s) e = kept-store slot s (w.unseen s) r (w.members s).role ∙ a.managed s r all e
 
 -- ---- the moment of the Switch
-list_of-systems : (s : State) (r : Res) → is_systems r ≡ true → list_of (systems_part s) r ≡ list_of s r
-list_of-systems [] r h = refl
-list_of-systems (x ∷ s) r h = grind (arith, h, list_of-systems s r h, same_res-exact r x.0)
-
 none_under : (slot : Res → ℕ) (s : State) (r : Res) → is_systems r ≡ true → least_system (under slot (slot r) s) ≡ None → list_of s r ≡ []
 none_under slot [] r h e = refl
 none_under slot (x ∷ s) r h e = go (same_res r x.0) refl (λ f. none_under slot s r h f)

@@ -21,7 +21,7 @@ use Rattle.grs_wire.proofs.HistoryLaws.{replay_from-append}
 use Rattle.grs_known.specs.Items.{RunItem, is_of, mine, rows_in, lists_from, lists, AllMade, history, items_from, CountsIn, Counts, AllCount}
 use Rattle.grs_known.specs.Laws.{ItemsAreHistory, RepliesAreAnswers, ListsAreReplayed, EntriesAreOfItems}
 
-lists_from-append : (s : State) (xs ys : List RunItem) → lists_from s (xs ++ ys) ≡ lists_from (lists_from s xs) ys
+pub lists_from-append : (s : State) (xs ys : List RunItem) → lists_from s (xs ++ ys) ≡ lists_from (lists_from s xs) ys
 lists_from-append s [] ys = refl
 lists_from-append s (x ∷ xs) ys = lists_from-append (after_fixed s x.fixed) xs ys
 

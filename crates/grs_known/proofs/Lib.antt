@@ -5,5 +5,6 @@ pub mod Coming
 pub mod Fronts
 pub mod Elements
 pub mod Pasts
+pub mod Parts
 pub mod Changing
 pub mod Samples

@@ -18,10 +18,10 @@ use Rattle.grs_wire.specs.declared.request.Answer.TheVariants.{Coded}
 use Rattle.grs_wire.specs.declared.request.Fixed.{Fixed}
 use Rattle.grs_wire.specs.declared.request.Fixed.TheVariants.{Asked, Purged}
 use Rattle.grs_wire.specs.declared.request.Want.TheVariants as wants
-use Rattle.grs_known.specs.Items.{RunItem, is_of, removes, took, gave, tells, reply_in, lists, Made, history, items, Counts, mine}
+use Rattle.grs_known.specs.Items.{RunItem, rounds, is_of, removes, took, gave, tells, reply_in, lists, Made, history, items, Counts, mine}
 use Rattle.grs_known.specs.Known.{Known, learned, outstanding, Still, IsRight, learns_item, learns_control, Answers, Grants, Coming, after_news}
 use Rattle.grs_known.specs.Past.{own_told, after_entry, past_of, Speaks}
-use Rattle.grs_known.specs.Change.{manager_of, store_shown, Ring}
+use Rattle.grs_known.specs.Change.{Changing, NoneChanged, switched, kept, manager_of, store_shown, Ring}
 
 abbrev system : ℕ → SysId
 system s = record { 0 = s }
@@ -224,3 +224,24 @@ shown_manager = refl
 
 shown_interest : (store_shown one_entry 1 (at 2 (deq 0) ∷ []) (Ring (lists (take 2 run)) [])).interest 0 ≡ true
 shown_interest = refl
+
+-- what the message carried alone; and a world in which each system has still to see the DEQ
+own_lists_stay : rounds (record { by = system 0; fixed = Asked (record { task = task_of 0; want = wants.Release (kinds.System (system 0) (65 ∷ []) (1 ∷ [])) }); entries = [] } ∷ run) ≡ run
+own_lists_stay = refl
+
+abbrev behind_one : Changing
+behind_one = record {
+  words = switched one_entry (take 3 run);
+  unseen = λ s. at 2 (deq 0) ∷ [];
+  members = λ s. record { tasks = λ t. has_none false; role = Ring (lists (take 2 run)) [] };
+}
+
+none_changed : NoneChanged (take 3 run) behind_one
+none_changed s = (lists (take 2 run), [], refl, refl)
+
+-- the manager of the file is the system of its only owner, though its own table still has both
+managed : behind_one.words.manager 0 ≡ Some 1
+managed = refl
+
+kept_list : kept one_entry behind_one file ≡ list_of (lists (take 3 run)) file
+kept_list = refl

@@ -1,13 +1,13 @@
 -- The complex between the medium's change to star mode and that of its last system. A system that hasn't changed is
 -- read as if it had (`view`). The reading looks at stores alone, not at what is known of tasks. `slot` tells the lock
 -- entry of a resource; systems and lock entries are numbers.
-use Rattle.std.specs.Prelude.{◌≡◌, ℕ, Bool, true, false, ◌&&◌, ◌||◌, eqb, nat_lt, cond, filter, List, [], ◌∷◌, Option, Some, None}
+use Rattle.std.specs.Prelude.{◌≡◌, ℕ, Bool, true, false, ◌&&◌, ◌||◌, eqb, nat_lt, cond, filter, List, [], ◌∷◌, ◌++◌, Option, Some, None}
 use Rattle.grs_base.specs.State.{State, list_of, is_systems}
 use Rattle.grs_base.specs.declared.resource.Res.{Res}
 use Rattle.grs_base.specs.declared.resource.Elem.{Elem}
 use Rattle.grs_base.specs.declared.resource.TaskId.{TaskId}
 use Rattle.grs_wire.specs.declared.request.Req.{Req}
-use Rattle.grs_known.specs.Items.{RunItem, lists, lists_from}
+use Rattle.grs_known.specs.Items.{RunItem, rounds, lists, lists_from}
 use Rattle.grs_known.specs.Known.{Known, News}
 
 -- the same function with another value at one number
@@ -164,6 +164,11 @@ abbrev pub NoneChanged : List RunItem → Changing → Type 0
 NoneChanged T w = (s : ℕ) → (table : State) × (outbox : List Req) × ((w.members s).role ≡ Ring table outbox) × (lists_from table (w.unseen s) ≡ systems_part (lists T))
 
 -- ---- laws
+
+-- What the items that went with the message lead to is the history's part on resources of the whole complex: first the
+-- table of a system of the ring, and then what it has still to see.
+abbrev pub TableIsPart : Type 0
+TableIsPart = (front rest : List RunItem) → lists_from (lists (rounds front)) (rounds rest) ≡ systems_part (lists (front ++ rest))
 
 -- A closed Turn is nothing in the view.
 abbrev pub TurnShowsNothing : Type 0

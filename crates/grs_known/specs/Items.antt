@@ -1,7 +1,7 @@
 -- The items of a run: each thing that was fixed, in order, with who fixed it and the history lines that it makes.
 use Rattle.std.specs.Prelude.{◌≡◌, ℕ, Bool, true, false, ◌&&◌, ◌==◌, filter, List, [], ◌∷◌, ◌++◌}
 use Rattle.grs_base.specs.Same.{same_res, same_task}
-use Rattle.grs_base.specs.State.{State, is_full}
+use Rattle.grs_base.specs.State.{State, is_full, is_systems}
 use Rattle.grs_base.specs.declared.resource.Res.{Res}
 use Rattle.grs_base.specs.declared.resource.Ret.{Ret}
 use Rattle.grs_base.specs.declared.resource.Ret.TheVariants.{RetNone, RetUse, RetHave, RetTest, RetChng, RetEcb}
@@ -44,6 +44,22 @@ abbrev pub gives_back : Res → Fixed → Bool
 gives_back r (Asked q) = gives_up r q.want
 gives_back r (LocalLook u f) = false
 gives_back r (Purged target) = false
+
+-- whether it goes with the message: a request for a resource of the whole complex, looks at slices, a removal
+abbrev pub wants_round : Want → Bool
+wants_round (wants.Enq r c ret full) = is_systems r
+wants_round (wants.Deq r have) = is_systems r
+wants_round (wants.Release r) = is_systems r
+wants_round (wants.Look first count f) = true
+
+abbrev pub goes_round : Fixed → Bool
+goes_round (Asked q) = wants_round q.want
+goes_round (LocalLook u f) = false
+goes_round (Purged target) = true
+
+-- the items that went with the message, in order
+abbrev pub rounds : List RunItem → List RunItem
+rounds T = filter (λ x. goes_round x.fixed) T
 
 -- the items of a task, in order
 abbrev pub mine : TaskId → List RunItem → List RunItem

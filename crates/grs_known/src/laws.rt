@@ -1,5 +1,5 @@
 //! Each function's contract is one law, and there is nothing to run.
-ghost use Rattle.grs_known.specs.Change.{TurnShowsNothing, TaskShowsNothing, StarShowsItself, SwitchShowsHistory, KeptIsShown};
+ghost use Rattle.grs_known.specs.Change.{TableIsPart, TurnShowsNothing, TaskShowsNothing, StarShowsItself, SwitchShowsHistory, KeptIsShown};
 ghost use Rattle.grs_known.specs.Past.{ElementsAreOfItems, PastGrows, PastSpeaks, PastSpeaksOf};
 ghost use Rattle.grs_known.specs.Laws.{ItemsAreHistory, RepliesAreAnswers, ListsAreReplayed, EntriesAreOfItems, OthersKeep, DecidedAtOnce, AnswerIsSent, AnswerIsLearned, ControlIsLearned, ControlIsSent, ReadInOrder, AllIsKnown, FrontOwnersStay};
 
@@ -86,6 +86,11 @@ pub fn past_speaks()
 /// Of a resource that the outstanding item doesn't give up, what the past owns is owned by the history's lists.
 pub fn past_speaks_of()
     ensures { PastSpeaksOf }
+{}
+
+/// The items that went with the message lead to the history's part on resources of the whole complex.
+pub fn table_is_part()
+    ensures { TableIsPart }
 {}
 
 /// A closed Turn is nothing in the view.

@@ -1,0 +1,5 @@
+use Rattle.grs_known.proofs.Parts.{table_is_part}
+use Rattle.grs_known.proofs.laws.table_is_part.Goals as goal
+
+pub returns : goal.returns
+returns c = table_is_part
