@@ -10,10 +10,11 @@ use Rattle.grs_wire.specs.declared.medium.RingEntry.{RingEntry}
 use Rattle.grs_wire.specs.declared.medium.RingBody.TheVariants.{Request}
 use Rattle.grs_wire.specs.declared.request.Req.{Req}
 use Rattle.grs_wire.specs.Masks.{has, without, with_also, only, others}
+use Rattle.grs_wire.proofs.WantLaws.{by_test}
 use Rattle.grs_wire.proofs.MaskLaws.{has-zero, has-with_other, has-without_same, has-without_other}
-use Rattle.rsa_message.specs.Message.{Message, is_at, first_after, or_else, is_unseen, any_unseen, left_by, cleared, stamped, is_due, moves, turned_open, turned_closed, turned}
+use Rattle.rsa_message.specs.Message.{Message, is_at, first_after, or_else, is_unseen, unseen, any_unseen, left_by, cleared, stamped, is_due, moves, turned_open, turned_closed, turned}
 use Rattle.rsa_message.proofs.OrderLaws.{is_at-exact}
-use Rattle.grs_world.specs.Laps.{LastAtHome}
+use Rattle.grs_world.specs.Laps.{OnlyLeft, LastAtHome}
 use Rattle.grs_world.proofs.LapsRound.{Ahead, home, inside_round, after_some, first_found, first_inside}
 use Rattle.grs_world.proofs.Truths.{or_first, or_second}
 use Rattle.grs_world.proofs.Stands.{has-others}
@@ -27,6 +28,14 @@ abbrev pub AllAwaited : ℕ → SysId → List RingEntry → Type 0
 AllAwaited systems here [] = Unit {0}
 AllAwaited systems here (e ∷ es) = Awaited systems here e × AllAwaited systems here es
 
+-- Once its own system has processed an entry, nobody has still to process it.
+abbrev pub EndsAtHome : RingEntry → Type 0
+EndsAtHome e = has e.mask e.from.0 ≡ false → (u : ℕ) → has e.mask u ≡ false
+
+abbrev pub AllEndAtHome : List RingEntry → Type 0
+AllEndAtHome [] = Unit {0}
+AllEndAtHome (e ∷ es) = EndsAtHome e × AllEndAtHome es
+
 -- What holds of the message in a run.
 pub record Round (m : Message) : Type 0 where
   -- closed, as it is in star mode, it stands nowhere
@@ -35,6 +44,8 @@ pub record Round (m : Message) : Type 0 where
   pub inside : (h : SysId) → m.holder ≡ Some h → 0 < m.systems → h.0 < m.systems
   -- whoever has still to process an entry is not passed over
   pub awaited : (h : SysId) → m.holder ≡ Some h → AllAwaited m.systems h m.entries
+  -- and an entry's own system is the last
+  pub ends : AllEndAtHome m.entries
 
 -- ---- the set of all systems
 all-below : (n u : ℕ) → has (others n 0) u ≡ true → u < n
@@ -94,6 +105,53 @@ new_onward n c h test moved inside e from all due u here =
     let k = after_some n c.0 u c_low low in
     let start : (c.0 + 0) % n ≡ c.0 = ap (λ (x : ℕ). x % n) (add-zero c.0) ∙ mod-eq_of_lt c_low in
     subst (λ (x : SysId). Ahead n x.0 h.0 u) (sym from) (onward n c h test moved c.0 0 k.0 u k.1 k.2 start k.3 (due u low here))
+
+-- ---- the last system of an entry
+-- where the message stands at an entry's own system, only that one has still to process it
+pub only_left : (n : ℕ) (c : SysId) (e : RingEntry) → e.from ≡ c → Awaited n c e → OnlyLeft c e
+only_left n c e from ahead u other = go (has e.mask u) refl
+  where
+    go : (b : Bool) → has e.mask u ≡ b → has e.mask u ≡ false
+    go false is = is
+    go true is = absurd (other (home n c.0 u (subst (λ (x : SysId). Ahead n x.0 c.0 u) from (ahead u is))))
+
+left_ends : (n : ℕ) (c : SysId) (e : RingEntry) → Awaited n c e → EndsAtHome e → EndsAtHome (left_by c e)
+left_ends n c e ahead ends done u = go (ℕ_discrete u c.0)
+  where
+    by_home : u ≢ c.0 → Dec (e.from.0 ≡ c.0) → has e.mask u ≡ false
+    by_home other (yes here) = only_left n c e (ap (λ (x : ℕ). let y : SysId = record { 0 = x } in y) here) ahead u other
+    by_home other (no away) = ends (sym (has-without_other e.mask c.0 e.from.0 away) ∙ done) u
+
+    go : Dec (u ≡ c.0) → has (without e.mask c.0) u ≡ false
+    go (yes same) = subst (λ (x : ℕ). has (without e.mask c.0) x ≡ false) (sym same) (has-without_same e.mask c.0)
+    go (no other) = has-without_other e.mask c.0 u other ∙ by_home other (ℕ_discrete e.from.0 c.0)
+
+-- a new entry has its own system in its mask, if any
+new_ends : (n : ℕ) (c : SysId) → (0 < n → c.0 < n) → has (others n 0) c.0 ≡ false → (u : ℕ) → has (others n 0) u ≡ false
+new_ends n c inside out u = go (has (others n 0) u) refl
+  where
+    go : (b : Bool) → has (others n 0) u ≡ b → has (others n 0) u ≡ false
+    go false is = is
+    go true is = let low : u < n = all-below n u is in let there : has (others n 0) c.0 ≡ true = has-others n c.0 (inside (omega arith)) in absurd cc
+
+cleared_ends : (n : ℕ) (c : SysId) (es : List RingEntry) → AllAwaited n c es → AllEndAtHome es → AllEndAtHome (cleared c es)
+unfolding cleared
+cleared_ends n c [] all ends = tt
+cleared_ends n c (e ∷ es) all ends = go (not (e.mask == only c.0)) (cleared_ends n c es all.1 ends.1)
+  where
+    go : (b : Bool) → AllEndAtHome (cleared c es) → AllEndAtHome (map (left_by c) (cond b (e ∷ filter (λ x. not (x.mask == only c.0)) es) (filter (λ x. not (x.mask == only c.0)) es)))
+    go true on = (left_ends n c e all.0 ends.0, on)
+    go false on = on
+
+stamped_ends : (n : ℕ) (c : SysId) → (0 < n → c.0 < n) → (number mask : ℕ) → mask ≡ others n 0 → (rs : List Req) → AllEndAtHome (stamped number c mask rs)
+unfolding stamped
+stamped_ends n c inside number mask all [] = tt
+stamped_ends n c inside number mask all (r ∷ rs) =
+    (subst (λ (m : ℕ). has m c.0 ≡ false → (u : ℕ) → has m u ≡ false) (sym all) (new_ends n c inside), stamped_ends n c inside (suc number) mask all rs)
+
+ends_joined : (xs ys : List RingEntry) → AllEndAtHome xs → AllEndAtHome ys → AllEndAtHome (xs ++ ys)
+ends_joined [] ys a b = b
+ends_joined (x ∷ xs) ys a b = (a.0, ends_joined xs ys a.1 b)
 
 -- ---- all entries
 -- a system that has still to process one of these passes the test
@@ -167,6 +225,7 @@ open_round m c out live rest laws all here opened =
           joined n h old new
           (cleared_onward n c h test moved m.entries (passes_front n test old new due) (laws.awaited c here))
           (stamped_onward n c h test moved (laws.inside c here) m.next live all out (passes_back n test old new due));
+      ends = ends_joined old new (cleared_ends n c m.entries (laws.awaited c here) laws.ends) (stamped_ends n c (laws.inside c here) m.next live all out);
     }
 
 pub turned_round : (m : Message) (c : SysId) (out : List Req) (live rest : ℕ) → Round m → live ≡ others m.systems 0 → Round (turned m c out live rest)
@@ -183,12 +242,15 @@ awaited_of : (n : ℕ) (h : SysId) (before behind : List RingEntry) (e : RingEnt
 awaited_of n h [] behind e a = a.0
 awaited_of n h (x ∷ before) behind e a = awaited_of n h before behind e a.1
 
+-- of these entries a system's own are left to it alone
+pub left_at_home : (n : ℕ) (s : SysId) (es before behind : List RingEntry) (e : RingEntry) → AllAwaited n s es → es ≡ before ++ e ∷ behind → e.from ≡ s → OnlyLeft s e
+left_at_home n s es before behind e all is from = only_left n s e from (awaited_of n s before behind e (subst (AllAwaited n s) is all))
+
 pub last_at_home : (m : Message) → Round m → LastAtHome m
-last_at_home m laws s before behind e held from here u other =
-    let all : AllAwaited m.systems s (before ++ e ∷ behind) = subst (AllAwaited m.systems s) held (laws.awaited s (is_at-exact m.holder s here)) in
-    let ahead : Awaited m.systems s e = awaited_of m.systems s before behind e all in
-    go (has e.mask u) refl (λ still. home m.systems s.0 u (subst (λ (x : SysId). Ahead m.systems x.0 s.0 u) from (ahead u still)))
-  where
-    go : (b : Bool) → has e.mask u ≡ b → (has e.mask u ≡ true → u ≡ s.0) → has e.mask u ≡ false
-    go false is only_home = is
-    go true is only_home = absurd (other (only_home is))
+last_at_home m laws s before behind e q held body from here = left_at_home m.systems s m.entries before behind e (laws.awaited s (is_at-exact m.holder s here)) held from
+
+-- the entries that a system has still to process are awaited as all are
+pub unseen_awaited : (n : ℕ) (s : SysId) (es : List RingEntry) → AllAwaited n s es → AllAwaited n s (unseen s es)
+unfolding unseen
+unseen_awaited n s [] a = tt
+unseen_awaited n s (e ∷ es) a = by_test (AllAwaited n s) (has e.mask s.0) (e ∷ unseen s es) (unseen s es) (λ t. (a.0, unseen_awaited n s es a.1)) (λ t. unseen_awaited n s es a.1)

@@ -1,17 +1,17 @@
 -- Worked messages, by which the law that an answer comes back last is checked.
-use Rattle.std.proofs.Common.{◌≡◌, ℕ, true, false, List, [], ◌∷◌, Some, refl, arith}
+use Rattle.std.proofs.Common.{◌≡◌, ℕ, true, false, List, [], ◌∷◌, ◌++◌, Some, refl, ap, ◌∙◌, arith}
 use Rattle.grs_base.specs.declared.resource.Ctl.TheVariants.{E}
 use Rattle.grs_base.specs.declared.resource.Ret.TheVariants.{RetNone}
 use Rattle.grs_base.specs.declared.resource.Res.TheVariants.{Systems}
 use Rattle.grs_base.specs.declared.resource.SysId.{SysId}
-use Rattle.grs_wire.specs.declared.medium.Act.TheVariants.{Turn}
-use Rattle.grs_wire.specs.declared.medium.RingBody.TheVariants.{Request}
+use Rattle.grs_wire.specs.declared.medium.Act.TheVariants.{Turn, Purge}
+use Rattle.grs_wire.specs.declared.medium.RingBody.TheVariants.{Request, Remove}
 use Rattle.grs_wire.specs.declared.medium.RingEntry.{RingEntry}
 use Rattle.grs_wire.specs.declared.request.Req.{Req}
 use Rattle.grs_wire.specs.declared.request.Want.TheVariants.{Enq}
 use Rattle.grs_wire.specs.Masks.{has, without, with_also}
-use Rattle.rsa_message.specs.Message.{Message, first_after, unseen, any_unseen, cleared, stamped, turn_reply, wakes, rest_after_turn, turned}
-use Rattle.grs_medium.specs.Apply.{turn_row, row, apply, medium_after}
+use Rattle.rsa_message.specs.Message.{Message, first_after, unseen, any_unseen, cleared, stamped, turn_reply, wakes, rest_after_turn, turned, dropped}
+use Rattle.grs_medium.specs.Apply.{turn_row, purge_row, row, apply, medium_after}
 use Rattle.grs_medium.specs.Medium.{MediumState, first_medium}
 use Rattle.grs_world.specs.Laps.{LastAtHome}
 
@@ -48,4 +48,18 @@ goes_round = (refl, refl, refl, refl)
 -- a message that came home before system 1 has processed the entry
 home_early : LastAtHome (message_at 0 (entry 1 0 3 ∷ []) 2) → ⊥
 unfolding has
-home_early law = let unseen_by_1 : true ≡ false = law (sys 0) [] [] (entry 1 0 3) refl refl refl 1 (λ e. omega arith) in absurd cc
+home_early law = let unseen_by_1 : true ≡ false = law (sys 0) [] [] (entry 1 0 3) (ask 0) refl refl refl refl 1 (λ e. omega arith) in absurd cc
+
+-- System 0, at which the message stands, removes system 2: the entry is its own, and system 1 has still to process it.
+-- Nothing is said of such an entry.
+abbrev removal : RingEntry
+removal = record { number = 1; from = sys 0; body = Remove (sys 2); mask = 3 }
+
+removes : (medium_after (first_medium 3 1 false) (sys 0) (record { known = 0; act = Purge (sys 2) })).message ≡ message_at 0 (removal ∷ []) 2
+unfolding has without with_also first_after cleared dropped purge_row row apply
+removes = refl
+
+removal_at_home : LastAtHome (message_at 0 (removal ∷ []) 2)
+removal_at_home s [] behind e q held body from here u other = let same : removal ≡ e = cc in let no_request : Remove (sys 2) ≡ Request q = ap (λ (x : RingEntry). x.body) same ∙ body in absurd cc
+removal_at_home s (x ∷ []) behind e q held body from here u other = absurd cc
+removal_at_home s (x ∷ y ∷ before) behind e q held body from here u other = absurd cc

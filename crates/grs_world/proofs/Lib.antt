@@ -28,6 +28,10 @@ pub mod LapsRound
 pub mod LapsMessage
 pub mod Laps
 pub mod LapsSamples
+pub mod LapsTold
+pub mod Came
+pub mod KeptPlaces
+pub mod TablesSamples
 pub mod Puts
 pub mod Quiet
 pub mod NodeLaws

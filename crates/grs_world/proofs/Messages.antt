@@ -18,7 +18,7 @@ Stands-same U V same none = none
 Stands-same U V same (gone {k = k} h r) = gone (λ s. sym (same k s) ∙ h s) (Stands-same U V same r)
 Stands-same U V same (kept {k = k} number body h r) = kept number body (λ s. h s ∙ same k s) (Stands-same U V same r)
 
-length-requests : (xs : List Item) → length (requests xs) ≡ length xs
+pub length-requests : (xs : List Item) → length (requests xs) ≡ length xs
 length-requests [] = refl
 length-requests (x ∷ xs) = ap suc (length-requests xs)
 

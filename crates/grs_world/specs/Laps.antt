@@ -1,21 +1,84 @@
 -- An answer comes back last. A request goes with the message from system to system, and its asker is answered when
 -- the message has come back to the system that put it in: by then every other system has processed it.
-use Rattle.std.specs.Prelude.{◌≡◌, ◌≢◌, ℕ, true, false, List, ◌∷◌, ◌++◌}
+use Rattle.std.specs.Prelude.{◌≡◌, ◌≢◌, ℕ, Bool, true, false, drop, length, List, [], ◌∷◌, ◌++◌, Option, Some, None, slice_get}
+use Rattle.std.specs.List.{list_any}
+use Rattle.grs_base.specs.Same.{same_task}
 use Rattle.grs_base.specs.declared.resource.SysId.{SysId}
+use Rattle.grs_base.specs.declared.resource.TaskId.{TaskId}
+use Rattle.grs_medium.specs.Apply.{reply_to}
+use Rattle.grs_medium.specs.Medium.{MediumState}
+use Rattle.grs_node.specs.Node.{Node, prepare}
+use Rattle.grs_node.specs.declared.prepared.Prepared.{Prepared}
+use Rattle.grs_node.specs.declared.prepared.Prepared.TheVariants.{Quiet, Call, Nothing}
 use Rattle.grs_wire.specs.Masks.{has}
 use Rattle.grs_wire.specs.declared.deck.Deck.{Deck}
 use Rattle.grs_wire.specs.declared.deck.Event.{Event}
+use Rattle.grs_wire.specs.declared.medium.Reply.{Reply}
+use Rattle.grs_wire.specs.declared.medium.Reply.TheVariants.{Turned}
+use Rattle.grs_wire.specs.declared.medium.RingBody.TheVariants.{Request}
 use Rattle.grs_wire.specs.declared.medium.RingEntry.{RingEntry}
+use Rattle.grs_wire.specs.declared.request.Req.{Req}
+use Rattle.grs_wire.specs.declared.told.Told.{Told}
+use Rattle.grs_wire.specs.declared.told.ToldLine.{ToldLine}
+use Rattle.grs_wire.specs.declared.told.ToldLine.TheVariants.{Coded, Shown}
 use Rattle.rsa_message.specs.Message.{Message, is_at}
-use Rattle.grs_world.specs.World.{run}
+use Rattle.grs_world.specs.World.{World, run, told}
 
--- Wherever this message stands, no other system than the one there has still to process an entry that this one put
--- in.
+-- no system but this one has still to process the entry
+abbrev pub OnlyLeft : SysId → RingEntry → Type 0
+OnlyLeft s entry = (u : ℕ) → u ≢ s.0 → has entry.mask u ≡ false
+
+-- Wherever this message stands, no other system than the one there has still to process a request that this one put
+-- in. Of an entry that removes a system this isn't said.
 abbrev pub LastAtHome : Message → Type 0
 LastAtHome m =
-    (s : SysId) (before behind : List RingEntry) (entry : RingEntry) → m.entries ≡ before ++ entry ∷ behind → entry.from ≡ s →
-    is_at m.holder s ≡ true → (u : ℕ) → u ≢ s.0 → has entry.mask u ≡ false
+    (s : SysId) (before behind : List RingEntry) (entry : RingEntry) (q : Req) → m.entries ≡ before ++ entry ∷ behind
+    → entry.body ≡ Request q → entry.from ≡ s → is_at m.holder s ≡ true → OnlyLeft s entry
 
 -- So it is in each world that a run reaches.
 abbrev pub ComesBackLast : Type 0
 ComesBackLast = (deck : Deck) (events : List Event) → LastAtHome (run deck events).medium.message
+
+-- ---- the event that answers
+-- the entries that a reply gives a system to process, each as it stood in the message
+abbrev pub given_by : Reply → List RingEntry
+given_by (Turned es taken closed) = es
+given_by _ = []
+
+abbrev pub given_when : MediumState → SysId → Prepared → List RingEntry
+given_when m s (Call call) = given_by (reply_to m s call)
+given_when m s Quiet = []
+given_when m s Nothing = []
+
+abbrev pub given_at : Deck → World → Event → Option Node → List RingEntry
+given_at deck w e None = []
+given_at deck w e (Some n) = given_when w.medium e.system (prepare deck n e.choice)
+
+-- the entries that an event gives its system
+abbrev pub given : Deck → World → Event → List RingEntry
+given deck w e = given_at deck w e (slice_get w.nodes e.system.0)
+
+-- Where the next event gives a system a request that this system put in, which is then answered, every other system
+-- has processed it before.
+abbrev pub ProcessedLast : Deck → List Event → Event → Type 0
+ProcessedLast deck es e =
+    (before behind : List RingEntry) (entry : RingEntry) (q : Req) → given deck (run deck es) e ≡ before ++ entry ∷ behind
+    → entry.body ≡ Request q → entry.from ≡ e.system → OnlyLeft e.system entry
+
+-- whether a line tells a task the answer of one of its lines: a code, or a display
+abbrev pub answers : TaskId → ToldLine → Bool
+answers t (Coded u k part verb code) = same_task t u
+answers t (Shown u k verb code rows) = same_task t u
+answers t _ = false
+
+-- what the next event tells
+abbrev pub told_next : Deck → List Event → Event → List Told
+told_next deck es e = drop (length (told deck es)) (told deck (es ++ e ∷ []))
+
+-- Where the next event tells a task an answer, no other system has still to process a request of that task which
+-- stands in the message: so whatever answer is told, every other system has processed the request before that event.
+abbrev pub AnsweredLast : Deck → List Event → Event → Type 0
+AnsweredLast deck es e =
+    (t : TaskId) → list_any (λ x. answers t x.line) (told_next deck es e) ≡ true
+    → (before behind : List RingEntry) (entry : RingEntry) (q : Req) → (run deck es).medium.message.entries ≡ before ++ entry ∷ behind
+    → entry.body ≡ Request q → q.task ≡ t → OnlyLeft t.system entry

@@ -1,44 +1,53 @@
--- Each system's table of the Systems resources is that of a front of the history.
-use Rattle.std.specs.Prelude.{◌≡◌, ℕ, Bool, true, false, ◌-◌, ◌==◌, cond, filter, List, [], ◌∷◌, Option, Some, None, slice_get}
+-- Each system's table of the Systems resources is that of a front of the history. The front is counted by what was
+-- fixed, since one entry of the message is one request or one removal, whatever lines of the history it makes.
+use Rattle.std.specs.Prelude.{◌≡◌, ℕ, Bool, true, false, ◌-◌, ◌==◌, cond, filter, List, [], ◌∷◌, Some, slice_get, unwrap_or}
 use Rattle.grs_base.specs.State.{State, is_systems}
 use Rattle.grs_base.specs.declared.resource.SysId.{SysId}
 use Rattle.grs_node.specs.Node.{Node}
+use Rattle.grs_wire.specs.History.{replay, answered}
+use Rattle.grs_wire.specs.Wants.{res_wanted}
 use Rattle.grs_wire.specs.declared.deck.Deck.{Deck}
 use Rattle.grs_wire.specs.declared.deck.Event.{Event}
-use Rattle.grs_wire.specs.declared.history.HistEntry.{HistEntry}
-use Rattle.grs_wire.specs.declared.history.HistEntry.TheVariants.{Enq, Deq, Release, Look, Remove}
-use Rattle.grs_wire.specs.History.{replay}
-use Rattle.rsa_message.specs.Message.{unseen, first_number}
-use Rattle.grs_world.specs.World.{run, hist}
+use Rattle.grs_wire.specs.declared.request.Fixed.{Fixed}
+use Rattle.grs_wire.specs.declared.request.Fixed.TheVariants.{Asked, LocalLook, Purged}
+use Rattle.ring_mode.specs.Ring.{is_for_all}
+use Rattle.rsa_message.specs.Message.{Message, unseen, first_number}
+use Rattle.grs_world.specs.Running.{is_live}
+use Rattle.grs_world.specs.World.{World, run}
 
--- whether an entry of the history went through the message: it is for a resource of the whole complex, or
--- removes a system; no look is put in yet
-abbrev pub went_through : HistEntry → Bool
-went_through (Enq t r c ret code) = is_systems r
-went_through (Deq t r have code) = is_systems r
-went_through (Release t r) = is_systems r
-went_through (Look t place f rows) = false
-went_through (Remove by target) = true
+-- Whether what was fixed is an entry of the message: a request for a resource of the whole complex, one for looks at
+-- slices, or a removal.
+abbrev pub went_through : Fixed → Bool
+went_through (Asked q) = is_for_all (res_wanted q.want)
+went_through (LocalLook t f) = false
+went_through (Purged target) = true
 
--- the part of a history that stands before the entry which has this number in the message, numbers from 1
-abbrev pub before_number : ℕ → List HistEntry → List HistEntry
+-- what was fixed before the entry that has this number in the message, numbers from 1
+abbrev pub before_number : ℕ → List (SysId × Fixed) → List (SysId × Fixed)
 before_number number [] = []
-before_number number (h ∷ hs) =
-    cond (went_through h) (cond (number == 1) [] (h ∷ before_number (number - 1) hs)) (h ∷ before_number number hs)
+before_number number (x ∷ xs) =
+    cond (went_through x.1) (cond (number == 1) [] (x ∷ before_number (number - 1) xs)) (x ∷ before_number number xs)
 
--- what a system has processed of a history, by the number of the first entry of the message that it has yet to
--- process: all, where there is none
-abbrev pub processed : Option ℕ → List HistEntry → List HistEntry
-processed None hist = hist
-processed (Some number) hist = before_number number hist
+-- the number of the first entry that a system has still to process: the next entry's, where it has processed all
+abbrev pub first_unseen : SysId → Message → ℕ
+first_unseen s m = unwrap_or (first_number (unseen s m.entries)) m.next
+
+-- the front of what was fixed that stands before a system's first unseen entry
+abbrev pub processed : World → SysId → List (SysId × Fixed)
+processed w s = before_number (first_unseen s w.medium.message) w.fixed
+
+-- Whether a system keeps a table: it is live, and it hasn't changed to star mode. No system changes yet; the mode of
+-- the system comes in here.
+abbrev pub keeps_table : World → SysId → Bool
+keeps_table w s = is_live w s
 
 -- the elements on resources of the whole complex
 abbrev pub systems_part : State → State
 systems_part s = filter (λ h. is_systems h.0) s
 
--- After these events the table of each system holds what the plain lists hold of the Systems resources once that
--- part of the history has been which the system has processed.
+-- After these events the table of each system that keeps one holds what the plain lists hold of the Systems resources
+-- behind the front that the system has processed.
 abbrev pub TablesAreFronts : Deck → List Event → Type 0
 TablesAreFronts deck es =
-    (s : SysId) (n : Node) → slice_get (run deck es).nodes s.0 ≡ Some n
-    → n.shared ≡ systems_part (replay deck.limit (processed (first_number (unseen s (run deck es).medium.message.entries)) (hist deck es)))
+    (s : SysId) (n : Node) → slice_get (run deck es).nodes s.0 ≡ Some n → keeps_table (run deck es) s ≡ true
+    → n.shared ≡ systems_part (replay deck.limit (answered (processed (run deck es) s)))

@@ -1,0 +1,231 @@
+-- An answer is told last: by an event that tells a task an answer, every other system has processed its requests.
+use Rattle.std.proofs.Common.{◌≡◌, ◌≢◌, ◌+◌, cond, Bool, true, false, ◌&&◌, ◌||◌, ℕ, List, [], ◌∷◌, ◌++◌, length, take, drop, Option, Some, None, refl, ap, sym, ◌∙◌, subst, append-nil, append_assoc}
+use Rattle.std.specs.Prelude.{filter, slice_get, ◌==◌}
+use Rattle.std.specs.List.{list_all, list_any}
+use Rattle.std.proofs.lemmas.Bool.{and_parts, eqb-true, eq-eqb}
+use Rattle.grs_base.specs.Same.{same_task}
+use Rattle.grs_base.specs.declared.resource.SysId.{SysId}
+use Rattle.grs_base.specs.declared.resource.TaskId.{TaskId}
+use Rattle.grs_base.proofs.SameLaws.{same_task-exact, same_task-itself}
+use Rattle.grs_node.specs.Node.{Node, Step, put_in, read_entries, most_additions}
+use Rattle.grs_wire.specs.Masks.{has}
+use Rattle.grs_wire.specs.declared.deck.Deck.{Deck}
+use Rattle.grs_wire.specs.declared.deck.Event.{Event}
+use Rattle.grs_wire.specs.declared.history.HistEntry.{HistEntry}
+use Rattle.grs_wire.specs.declared.medium.RingBody.{RingBody}
+use Rattle.grs_wire.specs.declared.medium.RingBody.TheVariants.{Request, Remove}
+use Rattle.grs_wire.specs.declared.medium.RingEntry.{RingEntry}
+use Rattle.grs_wire.specs.declared.request.Req.{Req}
+use Rattle.grs_wire.specs.declared.told.Told.{Told}
+use Rattle.grs_wire.specs.declared.told.ToldLine.{ToldLine}
+use Rattle.grs_wire.specs.declared.told.ToldLine.TheVariants as lines
+use Rattle.rsa_message.specs.Message.{Message, is_at, is_unseen, unseen}
+use Rattle.rsa_message.proofs.OrderLaws.{is_at-exact}
+use Rattle.grs_world.specs.Laps.{OnlyLeft, answers, told_next, AnsweredLast}
+use Rattle.grs_world.specs.World.{World, Turnout, told_by, counted, placed, happens, run, told, first_world}
+use Rattle.grs_world.proofs.Askers.{among-front}
+use Rattle.grs_world.proofs.Came.{Came, nothing, went_on, turn, each_event, IsHome, AllHome, Holds, holds}
+use Rattle.grs_world.proofs.Facts.{drop-seam, filter-append, filter-cons_kept, list_any-push, all-more}
+use Rattle.grs_world.proofs.Laps.{goes}
+use Rattle.grs_world.proofs.LapsMessage.{Round, EndsAtHome, AllEndAtHome, left_at_home}
+use Rattle.grs_world.proofs.Messages.{given-rest}
+use Rattle.grs_world.proofs.Outcomes.{turn_outcome}
+use Rattle.grs_world.proofs.Owners.{is_among}
+use Rattle.grs_world.proofs.Replied.{Replied, replied_none}
+use Rattle.grs_world.proofs.Runs.{GoodWorld, run-push}
+use Rattle.grs_world.proofs.Seen.{NodeLaws, QuietStep, keeps, fixes, ToldBy, Clears, askers, is_line_of}
+use Rattle.grs_world.proofs.Seen as seen
+use Rattle.grs_world.proofs.Sound.{good_run}
+use Rattle.grs_world.proofs.Stands.{Bodies}
+use Rattle.grs_world.proofs.Stands as stands
+use Rattle.grs_world.proofs.Tape.{Item, entries, requests, for_all, from, Tape, replied-tape}
+use Rattle.grs_world.proofs.Truths.{and_on, no_truth, or_first, or_second, or_other}
+use Rattle.grs_world.proofs.Views.{waits, waiting}
+
+-- ---- the entries of the message, one of them
+home_of : (before behind : List RingEntry) (e : RingEntry) → AllHome (before ++ e ∷ behind) → IsHome e.from e.body
+home_of [] behind e a = a.0
+home_of (x ∷ before) behind e a = home_of before behind e a.1
+
+ends_of : (before behind : List RingEntry) (e : RingEntry) → AllEndAtHome (before ++ e ∷ behind) → EndsAtHome e
+ends_of [] behind e a = a.0
+ends_of (x ∷ before) behind e a = ends_of before behind e a.1
+
+-- its task is among those of these requests
+among_bodies : (qs : List Req) (before behind : List RingEntry) (e : RingEntry) (q : Req) → Bodies qs (before ++ e ∷ behind) → e.body ≡ Request q → is_among q.task (askers qs) ≡ true
+among_bodies [] [] behind e q b body = elim b [ ]
+among_bodies [] (x ∷ before) behind e q b body = elim b [ ]
+among_bodies (p ∷ qs) [] behind e q (stands.more is b) body =
+    let same : p ≡ q = cc in
+    or_first (same_task q.task p.task) (is_among q.task (askers qs)) (subst (λ (x : Req). same_task q.task x.task ≡ true) (sym same) (same_task-itself q.task))
+among_bodies (p ∷ qs) (x ∷ before) behind e q (stands.more is b) body = or_second (same_task q.task p.task) (is_among q.task (askers qs)) (among_bodies qs before behind e q b body)
+
+-- a request of a system's task that it has still to process waits there
+among_waiting : (s : ℕ) (t : TaskId) → t.system.0 ≡ s → (xs : List Item) → is_among t (askers (requests (filter for_all xs))) ≡ true → is_among t (askers (requests (waiting s xs))) ≡ true
+among_waiting s t home [] a = cc
+among_waiting s t home (x ∷ xs) a = go (for_all x) (from s x) refl (same_task t x.req.task) refl (among_waiting s t home xs) a
+  where
+    Among : Bool → List Item → Type 0
+    Among b ys = is_among t (askers (requests (cond b (x ∷ ys) ys))) ≡ true
+
+    go : (all mine : Bool) → from s x ≡ mine → (here : Bool) → same_task t x.req.task ≡ here → (is_among t (askers (requests (filter for_all xs))) ≡ true → is_among t (askers (requests (waiting s xs))) ≡ true)
+        → Among all (filter for_all xs) → Among (all && mine) (waiting s xs)
+    go false mine f here h ih a = ih a
+    go true true f true h ih a = or_first _ _ h
+    go true true f false h ih a = or_second (same_task t x.req.task) _ (ih (or_other _ _ a h))
+    go true false f false h ih a = ih (or_other _ _ a h)
+    go true false f true h ih a =
+        let same : t ≡ x.req.task = same_task-exact t x.req.task h in
+        no_truth (from s x) (eq-eqb x.req.task.system.0 s (ap (λ (u : TaskId). u.system.0) (sym same) ∙ home)) f
+
+-- ---- the lines told
+answers_told : (t : TaskId) (k : ℕ) (c : SysId) (ls : List ToldLine) → list_any (λ x. answers t x.line) (told_by k c ls) ≡ list_any (answers t) ls
+answers_told t k c [] = refl
+answers_told t k c (l ∷ ls) = ap (λ b. answers t l || b) (answers_told t k c ls)
+
+same_system : (s : ℕ) (t u : TaskId) → same_task t u ≡ true → (u.system.0 == s) ≡ true → t.system.0 ≡ s
+same_system s t u same mine = ap (λ (x : TaskId). x.system.0) (same_task-exact t u same) ∙ eqb-true u.system.0 s mine
+
+line_home : (s : ℕ) (t : TaskId) (l : ToldLine) → is_line_of s l ≡ true → answers t l ≡ true → t.system.0 ≡ s
+line_home s t (lines.Coded u k part verb code) mine a = same_system s t u a mine
+line_home s t (lines.Shown u k verb code rows) mine a = same_system s t u a mine
+line_home s t (lines.Post u k) mine a = cc
+line_home s t (lines.Ended u code) mine a = cc
+line_home s t (lines.Desk k said) mine a = cc
+
+lines_home : (s : ℕ) (t : TaskId) (ls : List ToldLine) → list_all (is_line_of s) ls ≡ true → list_any (answers t) ls ≡ true → t.system.0 ≡ s
+lines_home s t [] mine a = cc
+lines_home s t (l ∷ ls) mine a = go (answers t l) refl (lines_home s t ls (and_parts _ _ mine).1)
+  where
+    go : (b : Bool) → answers t l ≡ b → (list_any (answers t) ls ≡ true → t.system.0 ≡ s) → t.system.0 ≡ s
+    go true is later = line_home s t l (and_parts _ _ mine).0 is
+    go false is later = later (or_other (answers t l) (list_any (answers t) ls) a is)
+
+-- a task that is told an answer has none of these requests
+module _ (deck : Deck) (s : ℕ) (opens : List Req) (Q : List HistEntry) (t : TaskId) where
+  line_clear : (l : ToldLine) → Clears deck opens Q l → answers t l ≡ true → is_among t (askers opens) ≡ false
+  line_clear (lines.Coded u k part verb code) clear a = subst (λ (x : TaskId). is_among x (askers opens) ≡ false) (sym (same_task-exact t u a)) clear
+  line_clear (lines.Shown u k verb code rows) clear a = absurd clear
+  line_clear (lines.Post u k) clear a = cc
+  line_clear (lines.Ended u code) clear a = cc
+  line_clear (lines.Desk k said) clear a = cc
+
+  -- what a step told
+  record News (T0 T : List ToldLine) : Type 0 where
+    lines : List ToldLine
+    is : T ≡ T0 ++ lines
+    ours : list_all (is_line_of s) lines ≡ true
+    clear : list_any (answers t) lines ≡ true → is_among t (askers opens) ≡ false
+
+  news : {T0 T : List ToldLine} → ToldBy deck s opens Q T0 T → News T0 T
+  news {T0 = T0} seen.none = record { lines = []; is = sym (append-nil T0); ours = refl; clear = λ a. cc }
+  news {T0 = T0} (seen.more T l told mine agrees clear) =
+      let m = news told in
+      record {
+        lines = m.lines ++ l ∷ [];
+        is = ap (λ ls. ls ++ l ∷ []) m.is ∙ append_assoc T0 m.lines (l ∷ []);
+        ours = all-more (is_line_of s) m.lines l m.ours mine;
+        clear = λ a. go m.lines (list_any (answers t) m.lines) refl m.clear (sym (list_any-push (answers t) m.lines l) ∙ a);
+      }
+    where
+      go : (ls : List ToldLine) (b : Bool) → list_any (answers t) ls ≡ b → (list_any (answers t) ls ≡ true → is_among t (askers opens) ≡ false) → (list_any (answers t) ls || answers t l) ≡ true → is_among t (askers opens) ≡ false
+      go ls true is ih a = ih is
+      go ls false is ih a = line_clear l clear (or_other (list_any (answers t) ls) (answers t l) a is)
+
+-- ---- one event
+module _ (deck : Deck) (Seen : ℕ → List HistEntry → List Req → Node → Type 0) (laws : NodeLaws deck Seen) (es : List Event) (e : Event) where
+  abbrev w : World
+  w = run deck es
+
+  abbrev s : ℕ
+  s = e.system.0
+
+  -- only its own system has still to process an entry of this task
+  abbrev Last : TaskId → Type 0
+  Last t = (before behind : List RingEntry) (entry : RingEntry) (q : Req) → w.medium.message.entries ≡ before ++ entry ∷ behind → entry.body ≡ Request q → q.task ≡ t → OnlyLeft t.system entry
+
+  -- this was told behind the world's lines
+  abbrev Right : World → Type 0
+  Right after = (t : TaskId) → list_any (λ x. answers t x.line) (drop (length w.told) after.told) ≡ true → Last t
+
+  its_system : (t : TaskId) → t.system.0 ≡ s → t.system ≡ e.system
+  its_system t home = ap (λ (x : ℕ). let y : SysId = record { 0 = x } in y) home
+
+  from_home : (t : TaskId) (entry : RingEntry) (q : Req) → entry.body ≡ Request q → q.task ≡ t → IsHome entry.from entry.body → entry.from.0 ≡ t.system.0
+  from_home t entry q body same home = sym (subst (λ (b : RingBody). IsHome entry.from b) body home) ∙ ap (λ (u : TaskId). u.system.0) same
+
+  module _ (g : GoodWorld deck Seen es w) (n : Node) (at : slice_get w.nodes e.system.0 ≡ Some n) where
+    -- where the message stands at the task's system
+    at_home : is_at w.medium.message.holder e.system ≡ true → (t : TaskId) → t.system.0 ≡ s → Last t
+    at_home here t home before behind entry q is body same =
+        let m = w.medium.message in
+        let mine : IsHome entry.from entry.body = home_of before behind entry (subst AllHome is (holds deck Seen laws es).home) in
+        let from : entry.from ≡ t.system = ap (λ (x : ℕ). let y : SysId = record { 0 = x } in y) (from_home t entry q body same mine) in
+        left_at_home m.systems t.system m.entries before behind entry ((goes deck es).round.awaited t.system (is_at-exact m.holder e.system here ∙ ap Some (sym (its_system t home)))) is from
+
+    -- where the task has no request that its system has still to process
+    at_rest : (t : TaskId) → t.system.0 ≡ s → is_among t (askers (requests (waiting e.system.0 (g.rest e.system.0)))) ≡ false → Last t
+    unfolding unseen
+    at_rest t home none before behind entry q is body same u other = ends_of before behind entry (subst AllEndAtHome is (goes deck es).round.ends) (seen_by (has entry.mask entry.from.0) refl) u
+      where
+        here : SysId
+        here = e.system
+
+        mine : entry.from.0 ≡ e.system.0
+        mine = from_home t entry q body same (home_of before behind entry (subst AllHome is (holds deck Seen laws es).home)) ∙ home
+
+        given : Bodies (requests (filter for_all (g.rest e.system.0))) (unseen e.system w.medium.message.entries)
+        given = given-rest w.medium e.system g.front (g.rest s) g.T (g.whole s) (g.alive s n at) g.message
+
+        split : is_unseen e.system entry ≡ true → unseen e.system w.medium.message.entries ≡ unseen e.system before ++ entry ∷ unseen e.system behind
+        split due = ap (unseen e.system) is ∙ (filter-append (is_unseen e.system) before (entry ∷ behind) ∙ ap (λ xs. unseen e.system before ++ xs) (filter-cons_kept (is_unseen e.system) entry behind due))
+
+        seen_by : (b : Bool) → has entry.mask entry.from.0 ≡ b → has entry.mask entry.from.0 ≡ false
+        seen_by false m = m
+        seen_by true m =
+            let due : is_unseen e.system entry ≡ true = subst (λ (x : ℕ). has entry.mask x ≡ true) mine m in
+            let among = among_bodies (requests (filter for_all (g.rest s))) (unseen e.system before) (unseen e.system behind) entry q (subst (Bodies (requests (filter for_all (g.rest s)))) (split due) given) body in
+            no_truth (is_among t (askers (requests (waiting s (g.rest s))))) (among_waiting s t home (g.rest s) (subst (λ (x : TaskId). is_among x (askers (requests (filter for_all (g.rest s)))) ≡ true) same among)) none
+
+    -- these lines were told
+    told_now : (k : Node) (ls : List ToldLine) → k.tasks.told ≡ n.tasks.told ++ ls → (t : TaskId) → list_any (λ x. answers t x.line) (drop (length w.told) (w.told ++ told_by (w.events + 1) e.system (drop (length n.tasks.told) k.tasks.told))) ≡ true → list_any (answers t) ls ≡ true
+    told_now k ls is t a =
+        let new : drop (length n.tasks.told) k.tasks.told ≡ ls = ap (drop (length n.tasks.told)) is ∙ drop-seam n.tasks.told ls in
+        let all : drop (length w.told) (w.told ++ told_by (w.events + 1) e.system (drop (length n.tasks.told) k.tasks.told)) ≡ told_by (w.events + 1) e.system ls = drop-seam w.told _ ∙ ap (told_by (w.events + 1) e.system) new in
+        sym (answers_told t (w.events + 1) e.system ls) ∙ (sym (ap (list_any (λ x. answers t x.line)) all) ∙ a)
+
+    by_step : (Q : List HistEntry) (out : List Req) (step : Step) → out ≡ requests (waiting e.system.0 (g.rest e.system.0)) → ToldBy deck e.system.0 (out ++ step.node.outbox) Q n.tasks.told step.node.tasks.told → Right (placed w e.system n (record { medium = w.medium; step = step }))
+    unfolding placed
+    by_step Q out step same told t a =
+        let m = news deck s (out ++ step.node.outbox) Q t told in
+        let answered = told_now step.node m.lines m.is t a in
+        let none : is_among t (askers out) ≡ false = among-front t out step.node.outbox (m.clear answered) in
+        at_rest t (lines_home s t m.lines m.ours answered) (subst (λ qs. is_among t (askers qs) ≡ false) same none)
+
+    by_quiet : (Q : List HistEntry) (out : List Req) (step : Step) → out ≡ requests (waiting e.system.0 (g.rest e.system.0)) → QuietStep deck Seen e.system.0 Q out n step → Right (placed w e.system n (record { medium = w.medium; step = step }))
+    by_quiet Q out step same (keeps none seen told) = by_step Q out step same told
+    by_quiet Q out step same (fixes t w r h one a b c wanted d f g k l p) = by_step (Q ++ h ∷ []) out step same p
+
+    right : (o : Turnout) → Came deck w e.system n o → Right (placed w e.system n o)
+    unfolding placed
+    right o (nothing m k same told) t a = let none : false ≡ true = told_now k [] (told ∙ sym (append-nil n.tasks.told)) t a in absurd cc
+    right o (went_on task may) t a = by_quiet (entries (g.Q s)) (requests (waiting s (g.rest s))) _ refl (laws.quiet s (entries (g.Q s)) (requests (waiting s (g.rest s))) n task (g.seen s n at) may) t a
+    right o (turn m here is) t a =
+        let whole = g.whole s in
+        let tape : Tape deck [] (g.front s ++ g.rest s) = subst (Tape deck []) (sym whole) g.tape in
+        let replied : Replied deck.limit (entries (g.front s ++ g.rest s)) = replied-tape deck [] (g.front s ++ g.rest s) (replied_none deck.limit) tape in
+        let given = given-rest w.medium e.system g.front (g.rest s) g.T whole (g.alive s n at) g.message in
+        let out = turn_outcome deck Seen s (g.front s) (g.rest s) (g.Q s) n (g.view s) replied laws tape (length (take most_additions n.outbox)) (g.seen s n at) (unseen e.system w.medium.message.entries) given in
+        let after : Node = (put_in (read_entries deck n (unseen e.system w.medium.message.entries)) (length (take most_additions n.outbox))).node in
+        at_home here t (lines_home s t out.news.lines out.news.ours (told_now after out.news.lines out.news.is t a))
+
+  pub answered_last : AnsweredLast deck es e
+  answered_last t a =
+      let g = good_run deck Seen laws es in
+      let all : Right (happens deck w e) = each_event deck w e Right g.message.no_turn
+      (λ u none. nobody u (sym (ap (list_any (λ x. answers u x.line)) (ap (drop (length w.told)) (sym (append-nil w.told)) ∙ drop-seam w.told [])) ∙ none))
+      (λ n o at c. right g n at o c) in
+      all t (ap (λ (x : World). list_any (λ y. answers t y.line) (drop (length w.told) x.told)) (sym (run-push deck es (first_world deck) e)) ∙ a)
+    where
+      nobody : (t : TaskId) → false ≡ true → Last t
+      nobody t e = absurd cc

@@ -1,0 +1,143 @@
+-- Worked fronts and a worked ring, by which the definitions of tables, of what is kept, and of the event that answers
+-- are checked.
+use Rattle.std.proofs.Common.{◌≡◌, ℕ, Bool, true, false, List, [], ◌∷◌, map, Some, None, refl}
+use Rattle.grs_base.specs.Looks.{look}
+use Rattle.grs_base.specs.State.{State}
+use Rattle.grs_base.specs.declared.decision.Code.TheVariants.{C00}
+use Rattle.grs_base.specs.declared.line.Line.TheVariants as lines
+use Rattle.grs_base.specs.declared.line.Scope.TheVariants.{Systems}
+use Rattle.grs_base.specs.declared.look.Filter.TheVariants.{All}
+use Rattle.grs_base.specs.declared.resource.Ctl.TheVariants.{E}
+use Rattle.grs_base.specs.declared.resource.Elem.{Elem}
+use Rattle.grs_base.specs.declared.resource.Res.{Res}
+use Rattle.grs_base.specs.declared.resource.Res.TheVariants as kinds
+use Rattle.grs_base.specs.declared.resource.Ret.TheVariants.{RetNone}
+use Rattle.grs_base.specs.declared.resource.SysId.{SysId}
+use Rattle.grs_base.specs.declared.resource.TaskId.{TaskId}
+use Rattle.grs_base.specs.declared.rnl.Which.TheVariants as which
+use Rattle.grs_base.specs.Rnl.{no_entries}
+use Rattle.grs_medium.specs.Apply.{turn_row, row, apply}
+use Rattle.grs_node.specs.Node.{decide, post, ask, wait, take_line, end_step, ready_step, phase_step, may_go, prepare, finish_quiet, read_entries, all_sent, put_in, finish_call, finish, first_node}
+use Rattle.grs_wire.specs.History.{answered, replay}
+use Rattle.grs_wire.specs.Masks.{has, without, with_also}
+use Rattle.grs_wire.specs.declared.deck.Choice.TheVariants as choices
+use Rattle.grs_wire.specs.declared.deck.Deck.{Deck}
+use Rattle.grs_wire.specs.declared.deck.Event.{Event}
+use Rattle.grs_wire.specs.declared.medium.RingBody.TheVariants.{Request}
+use Rattle.grs_wire.specs.declared.medium.RingEntry.{RingEntry}
+use Rattle.grs_wire.specs.declared.request.Fixed.{Fixed}
+use Rattle.grs_wire.specs.declared.request.Fixed.TheVariants.{Asked, LocalLook, Purged}
+use Rattle.grs_wire.specs.declared.request.Req.{Req}
+use Rattle.grs_wire.specs.declared.request.Want.TheVariants.{Enq, Look}
+use Rattle.grs_wire.specs.declared.told.Told.{Told}
+use Rattle.grs_wire.specs.declared.told.ToldLine.TheVariants.{Coded}
+use Rattle.grs_wire.specs.declared.told.Verb.TheVariants as verbs
+use Rattle.ring_mode.specs.Ring.{answer_own, process, process_entry, process_all}
+use Rattle.rsa_message.specs.Message.{first_after, unseen, any_unseen, cleared, stamped, turn_reply, wakes, rest_after_turn, turned}
+use Rattle.task_state.specs.Replies.{tell_code, record_enq, answered as answered_task, replied, passes_wait, tell_line, tell_untold, tell_control, tell_all, tell_new, recalled, settled, settled_any}
+use Rattle.task_state.specs.View.{state_of, with_state, with_line, with_phase, with_outstanding, with_record, without_record, with_told, with_exclusive, telling}
+use Rattle.grs_world.specs.Kept.{places, kept}
+use Rattle.grs_world.specs.Laps.{given, told_next}
+use Rattle.grs_world.specs.Tables.{before_number, first_unseen, systems_part}
+use Rattle.grs_world.specs.World.{World, first_world, carry_out, chosen, placed, happens_at, happens, run}
+
+abbrev sys : ℕ → SysId
+sys n = record { 0 = n }
+
+-- the only task of a system, the resource (A, B) of the whole complex, and the task's exclusive request for it
+abbrev task_of : ℕ → TaskId
+task_of s = record { system = sys s; job = 0; task = 0 }
+
+abbrev shared : Res
+shared = kinds.Systems (65 ∷ []) (66 ∷ [])
+
+abbrev enq_by : ℕ → Req
+enq_by s = record { task = task_of s; want = Enq shared E RetNone false }
+
+abbrev element : ℕ → Elem
+element s = record { task = task_of s; ctl = E }
+
+-- ---- fronts of a bare list of what was fixed
+-- Looks at three slices are entry 1 of the message, and an ENQ is entry 2. Between them stand a look at the own lists
+-- and behind them a removal, entry 3. (By the lines of the history, of which the looks make three, or none, the ENQ would
+-- stand before entry 2.)
+abbrev looks : SysId × Fixed
+looks = (sys 0, Asked (record { task = task_of 0; want = Look 0 3 All }))
+
+abbrev local_look : SysId × Fixed
+local_look = (sys 1, LocalLook (task_of 1) All)
+
+abbrev enq : SysId × Fixed
+enq = (sys 1, Asked (enq_by 1))
+
+abbrev removal : SysId × Fixed
+removal = (sys 1, Purged (sys 0))
+
+abbrev fixed : List (SysId × Fixed)
+fixed = looks ∷ local_look ∷ enq ∷ removal ∷ []
+
+abbrev table_before : ℕ → State
+table_before number = systems_part (replay 4096 (answered (before_number number fixed)))
+
+fronts :
+    (before_number 1 fixed ≡ [])
+    × (before_number 2 fixed ≡ looks ∷ local_look ∷ [])
+    × (before_number 3 fixed ≡ looks ∷ local_look ∷ enq ∷ [])
+    × (before_number 4 fixed ≡ fixed)
+    × (table_before 2 ≡ [])
+    × (table_before 3 ≡ (shared, element 1) ∷ [])
+fronts = (refl, refl, refl, refl, refl, refl)
+
+-- ---- a ring of two systems, one of which asks
+abbrev ring : Deck
+ring = record {
+  star = false;
+  entries = 1;
+  limit = 4096;
+  lists = record { incl = no_entries which.Incl; excl = no_entries which.Excl; con = no_entries which.Con };
+  systems = record { name = 83 ∷ []; desk = []; jobs = record { name = 74 ∷ []; tasks = record { name = 84 ∷ []; lines = lines.Enq (record { q = 65 ∷ []; r = 66 ∷ []; ctl = E; scope = Systems } ∷ []) RetNone true ∷ [] } ∷ [] } ∷ [] }
+      ∷ record { name = 83 ∷ []; desk = []; jobs = [] } ∷ [];
+  events = [];
+}
+
+abbrev goes : Event
+goes = record { system = sys 0; choice = choices.Task (task_of 0) }
+
+abbrev turn : ℕ → Event
+turn s = record { system = sys s; choice = choices.Turn }
+
+-- the request is put in, the other system processes it, and then its own
+abbrev put : List Event
+put = goes ∷ turn 0 ∷ []
+
+abbrev half_way : List Event
+half_way = goes ∷ turn 0 ∷ turn 1 ∷ []
+
+abbrev entry : ℕ → RingEntry
+entry mask = record { number = 1; from = sys 0; body = Request (enq_by 0); mask = mask }
+
+abbrev tables : List Event → List State
+tables es = map (λ n. n.shared) (run ring es).nodes
+
+abbrev firsts : List Event → List ℕ
+firsts es = map (λ s. first_unseen (sys s) (run ring es).medium.message) (0 ∷ 1 ∷ [])
+
+abbrev all_kept : List Event → List (List Elem)
+all_kept es = map (λ s. kept ring (run ring es) (sys s) shared) (0 ∷ 1 ∷ [])
+
+-- In the history at once, in a table only once the entry is processed there, and kept by both systems from the first.
+-- The asker is told in the event that gives its system the entry, which by then the other has processed.
+keeps :
+    (tables put ≡ [] ∷ [] ∷ [])
+    × (firsts put ≡ 1 ∷ 1 ∷ [])
+    × (tables half_way ≡ [] ∷ ((shared, element 0) ∷ []) ∷ [])
+    × (firsts half_way ≡ 1 ∷ 2 ∷ [])
+    × (places ring put shared ≡ element 0 ∷ [])
+    × (all_kept put ≡ (element 0 ∷ []) ∷ (element 0 ∷ []) ∷ [])
+    × (all_kept half_way ≡ (element 0 ∷ []) ∷ (element 0 ∷ []) ∷ [])
+    × (given ring (run ring put) (turn 1) ≡ entry 3 ∷ [])
+    × (given ring (run ring half_way) (turn 0) ≡ entry 1 ∷ [])
+    × (told_next ring put (turn 1) ≡ [])
+    × (told_next ring half_way (turn 0) ≡ record { event = 4; system = sys 0; line = Coded (task_of 0) 1 0 verbs.Enq C00 } ∷ [])
+unfolding state_of with_state with_line with_phase with_outstanding with_record without_record with_told with_exclusive telling tell_code record_enq answered_task replied passes_wait tell_line tell_untold tell_control tell_all tell_new recalled settled settled_any answer_own process process_entry process_all decide post ask wait take_line end_step ready_step phase_step may_go prepare finish_quiet read_entries all_sent put_in finish_call finish has without with_also first_after unseen any_unseen cleared stamped turn_reply wakes rest_after_turn turned turn_row row apply first_node first_world carry_out chosen placed happens_at happens
+keeps = (refl, refl, refl, refl, refl, refl, refl, refl, refl, refl, refl)

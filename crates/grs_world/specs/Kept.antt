@@ -1,0 +1,39 @@
+-- What the systems keep of the resources of the whole complex is what the history says of them.
+use Rattle.std.specs.Prelude.{◌≡◌, Bool, true, false, List, [], Option, Some, None, slice_get}
+use Rattle.grs_base.specs.State.{is_systems, list_of}
+use Rattle.grs_base.specs.declared.resource.Elem.{Elem}
+use Rattle.grs_base.specs.declared.resource.Res.{Res}
+use Rattle.grs_base.specs.declared.resource.SysId.{SysId}
+use Rattle.grs_node.specs.Node.{Node, read_entries}
+use Rattle.grs_wire.specs.History.{replay}
+use Rattle.grs_wire.specs.declared.deck.Deck.{Deck}
+use Rattle.grs_wire.specs.declared.deck.Event.{Event}
+use Rattle.rsa_message.specs.Message.{unseen}
+use Rattle.grs_world.specs.Running.{is_live}
+use Rattle.grs_world.specs.World.{World, run, hist}
+
+-- the list of a resource behind the whole history of a run
+abbrev pub places : Deck → List Event → Res → List Elem
+places deck es r = list_of (replay deck.limit (hist deck es)) r
+
+-- the list in a system's table, once the system has processed in order the entries of the message that it hasn't seen
+abbrev pub in_table : Deck → World → SysId → Option Node → Res → List Elem
+in_table deck w s None r = []
+in_table deck w s (Some n) r = list_of (read_entries deck n (unseen s w.medium.message.entries)).shared r
+
+-- A list of the whole complex as this live system sees it kept, a case a mode of the medium. In a ring (false) each
+-- live system keeps one in its table. In star mode (true) the manager of the resource's lock entry keeps it for all,
+-- and where there is no manager nothing is kept: no system comes to manage an entry yet.
+abbrev pub kept_in : Bool → Deck → World → SysId → Res → List Elem
+kept_in false deck w s r = in_table deck w s (slice_get w.nodes s.0) r
+kept_in true deck w s r = []
+
+abbrev pub kept : Deck → World → SysId → Res → List Elem
+kept deck w s r = kept_in w.medium.star deck w s r
+
+-- After these events the list that is kept of each resource of the whole complex, as each live system sees it, is the
+-- history's.
+abbrev pub KeptArePlaces : Deck → List Event → Type 0
+KeptArePlaces deck es =
+    (s : SysId) (r : Res) → is_live (run deck es) s ≡ true → is_systems r ≡ true
+    → kept deck (run deck es) s r ≡ places deck es r
