@@ -1,8 +1,7 @@
 -- What comes of an event of a system, by cases, and what holds of all that was fixed and of all that stands in the
 -- message.
-use Rattle.std.proofs.Common.{◌≡◌, ◌+◌, cond, Bool, true, false, ◌&&◌, ℕ, suc, List, [], ◌∷◌, ◌++◌, length, map, take, drop, Option, Some, None, refl, ap, sym, subst, append-nil, append_assoc}
+use Rattle.std.proofs.Common.{◌≡◌, cond, Bool, true, false, ◌&&◌, ℕ, suc, List, [], ◌∷◌, ◌++◌, length, map, take, drop, Option, Some, None, refl, ap, sym, subst, append-nil, append_assoc}
 use Rattle.std.specs.Prelude.{filter, slice_get, not, is_some, ◌==◌}
-use Rattle.std.specs.List.{list_all}
 use Rattle.grs_base.specs.declared.resource.SysId.{SysId}
 use Rattle.grs_base.specs.declared.resource.TaskId.{TaskId}
 use Rattle.grs_medium.specs.Apply.{apply, row, turn_row, rest_row, resting}
@@ -110,7 +109,7 @@ each_event deck w e P shut idle comes = go (slice_get w.nodes e.system.0) refl
     go (Some n) at = by_test P (has w.medium.removed e.system.0) (counted w) (placed w e.system n (chosen deck w.medium e.system n e.choice)) (λ r. idle) (λ r. comes n _ at (came deck w e.system n shut e.choice))
 
 -- ---- what was fixed, and what stands in the message
--- whether what was fixed is a request for a resource: no look is put in yet, and no system is removed
+-- What is fixed is a request for a resource: no look is put in yet, and no system is removed.
 abbrev pub is_plain_ask : Fixed → Bool
 is_plain_ask (Asked q) = is_some (res_wanted q.want)
 is_plain_ask (LocalLook t f) = false
@@ -120,7 +119,7 @@ abbrev pub AllAsk : List (SysId × Fixed) → Type 0
 AllAsk [] = Unit {0}
 AllAsk (x ∷ xs) = (is_plain_ask x.1 ≡ true) × AllAsk xs
 
--- an entry of the message is a request of a task of the system that put it in
+-- An entry of the message is a request of a task of the system that put it in.
 abbrev pub IsHome : SysId → RingBody → Type 0
 IsHome s (Request q) = q.task.system.0 ≡ s.0
 IsHome s (Remove t) = ⊥
@@ -150,7 +149,7 @@ home_cleared c (e ∷ es) a = go (not (e.mask == only c.0)) (home_cleared c es a
     go true ih = (a.0, ih)
     go false ih = ih
 
--- requests of the outbox ask for resources, and are of tasks of their system
+-- Requests of the outbox ask for resources, and are of tasks of their system.
 ask_put : (deck : Deck) (c : SysId) (s : ℕ) (Q : List HistEntry) (qs : List Req) → AllMayPut deck s Q qs → AllAsk (fixed_by c (map Asked qs))
 ask_put deck c s Q [] a = tt
 ask_put deck c s Q (q ∷ qs) a = let one : MayPut deck s Q q = a.0 in (ap is_some one.of_res, ask_put deck c s Q qs a.1)

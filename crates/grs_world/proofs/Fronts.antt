@@ -52,12 +52,12 @@ part-tape deck P (x ∷ xs) t =
     go true e = ap (λ s. wants_from s (filter for_all xs)) (sym (after_want-part is_systems (replay deck.limit P) x.req.task x.req.want x.res t.0.is.wanted e))
     go false e = ap (λ s. wants_from s (filter for_all xs)) (part-want_other is_systems (replay deck.limit P) x.req.task x.req.want x.res t.0.is.wanted e)
 
--- two histories with the same requests in the message lead to one table
+-- Two histories with the same requests in the message lead to one table.
 pub part-same : (deck : Deck) (xs ys : List Item) → Tape deck [] xs → Tape deck [] ys → filter for_all xs ≡ filter for_all ys → part is_systems (replay deck.limit (entries xs)) ≡ part is_systems (replay deck.limit (entries ys))
 part-same deck xs ys t u same = part-tape deck [] xs t ∙ (ap (wants_from (part is_systems (replay deck.limit []))) same ∙ sym (part-tape deck [] ys u))
 
 -- ---- fronts of the history, line by line
--- whether a line of the history is for a resource of the whole complex
+-- A line of the history may be for a resource of the whole complex; looks and removals don't come yet.
 abbrev through : HistEntry → Bool
 through (hists.Enq t r c ret code) = is_systems r
 through (hists.Deq t r have code) = is_systems r
@@ -65,12 +65,12 @@ through (hists.Release t r) = is_systems r
 through (hists.Look t place f rows) = false
 through (hists.Remove by target) = false
 
--- what stands before the line of this number among those, numbers from 1
+-- So much of the history stands before the line of this number among those. Numbers begin with 1.
 abbrev before_line : ℕ → List HistEntry → List HistEntry
 before_line number [] = []
 before_line number (h ∷ hs) = cond (through h) (cond (number == 1) [] (h ∷ before_line (number - 1) hs)) (h ∷ before_line number hs)
 
--- a request for a resource has one line
+-- A request for a resource has one line.
 one_line : (s : State) (t : TaskId) (w : Want) → is_some (res_wanted w) ≡ true → (h : HistEntry) × (entries_for s t w ≡ h ∷ []) × (through h ≡ is_for_all (res_wanted w))
 one_line s t (wants.Enq r c ret full) some = (_, refl, refl)
 one_line s t (wants.Deq r have) some = (_, refl, refl)
@@ -82,7 +82,7 @@ line_of s n (Asked q) ask = one_line s q.task q.want ask
 line_of s n (LocalLook t f) ask = absurd (cc)
 line_of s n (Purged target) ask = absurd (cc)
 
--- so a front by what was fixed is one by lines
+-- So a front by what was fixed is one by lines.
 before-answered : (s : State) (number : ℕ) (xs : List (SysId × Fixed)) → AllAsk xs → answered_from s (before_number number xs) ≡ before_line number (answered_from s xs)
 before-answered s number [] a = refl
 before-answered s number (x ∷ xs) a =
@@ -108,7 +108,7 @@ through-made s u (wants.Look from count f) r h e k = absurd (cc)
 through-item : (deck : Deck) (x : Item) → IsItem deck x → through x.entry ≡ for_all x
 through-item deck x i = through-made i.lists x.req.task x.req.want x.res x.entry i.made i.wanted
 
--- the front before a number, as items
+-- The front before a number is that of some items.
 record IsBefore (k : ℕ) (xs : List Item) : Type 0 where
   front : List Item
   behind : List Item
@@ -163,7 +163,7 @@ module _ (deck : Deck) (Seen : ℕ → List HistEntry → List Req → Node → 
   abbrev w : World
   w = run deck es
 
-  -- what a system has processed ends where its first unseen entry stands, and that is behind so many others
+  -- What a system has processed ends where its first unseen entry stands, and that is behind so many others.
   record Stops (g : GoodWorld deck Seen es w) (s : SysId) (number : ℕ) : Type 0 where
     count : ℕ
     is : number ≡ suc count

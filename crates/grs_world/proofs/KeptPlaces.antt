@@ -1,7 +1,6 @@
 -- What the systems keep is the history's state.
-use Rattle.std.proofs.Common.{◌≡◌, Bool, true, false, ◌&&◌, ℕ, suc, List, [], ◌∷◌, ◌++◌, length, Option, Some, None, refl, ap, sym, ◌∙◌, subst, arith}
+use Rattle.std.proofs.Common.{◌≡◌, Bool, true, false, ℕ, suc, List, [], ◌∷◌, ◌++◌, length, Option, Some, None, refl, ap, sym, ◌∙◌, subst, arith}
 use Rattle.std.specs.Prelude.{filter, slice_get}
-use Rattle.std.proofs.lemmas.Bool.{and_parts}
 use Rattle.grs_base.specs.State.{list_of, is_systems}
 use Rattle.grs_base.specs.declared.resource.Res.{Res}
 use Rattle.grs_base.specs.declared.resource.SysId.{SysId}
@@ -14,10 +13,10 @@ use Rattle.grs_wire.specs.declared.request.Req.{Req}
 use Rattle.rsa_message.specs.Message.{unseen}
 use Rattle.grs_world.specs.Kept.{places, in_table, kept_in, KeptArePlaces}
 use Rattle.grs_world.specs.Running.{is_live}
-use Rattle.grs_world.specs.World.{World, run, hist}
+use Rattle.grs_world.specs.World.{World, run}
 use Rattle.grs_world.proofs.Facts.{slice_get-past}
 use Rattle.grs_world.proofs.Fronts.{wants_from, part-tape, part-same}
-use Rattle.grs_world.proofs.Laps.{Goes, goes}
+use Rattle.grs_world.proofs.Laps.{goes}
 use Rattle.grs_world.proofs.Messages.{given-rest, length-requests}
 use Rattle.grs_world.proofs.Outcomes.{turn_outcome}
 use Rattle.grs_world.proofs.Parts.{list_of-part}
@@ -40,11 +39,11 @@ module _ (deck : Deck) (Seen : ℕ → List HistEntry → List Req → Node → 
   abbrev w : World
   w = run deck es
 
-  -- the history's list, by its part of the whole complex
+  -- The history's list stands in its part of the whole complex.
   by_part : (g : GoodWorld deck Seen es w) → list_of (part is_systems (replay deck.limit (entries g.T))) r ≡ places deck es r
   by_part g = list_of-part is_systems (replay deck.limit (entries g.T)) r all ∙ ap (λ hs. list_of (replay deck.limit hs) r) (sym g.hist_is)
 
-  -- a system that processes what it hasn't seen has processed all of the history
+  -- A system that processes what it hasn't seen has processed all of the history.
   in_ring : (s : SysId) (n : Node) (g : GoodWorld deck Seen es w) → slice_get w.nodes s.0 ≡ Some n → list_of (read_entries deck n (unseen s w.medium.message.entries)).shared r ≡ places deck es r
   in_ring s n g at =
       let whole = g.whole s.0 in
@@ -56,7 +55,7 @@ module _ (deck : Deck) (Seen : ℕ → List HistEntry → List Req → Node → 
       let shared : m.shared ≡ part is_systems (replay deck.limit (entries o.Q')) = sym (put-shared m 0) ∙ laws.shared s.0 (entries o.Q') (requests (waiting s.0 o.rest')) (put_in m 0).node o.seen in
       ap (λ st. list_of st r) (shared ∙ part-same deck o.Q' g.T o.view.tape g.tape (o.view.systems ∙ ap (filter for_all) whole)) ∙ by_part g
 
-  -- in star mode nothing goes with the message
+  -- In star mode nothing goes with the message.
   in_star : (g : GoodWorld deck Seen es w) → w.medium.star ≡ true → [] ≡ places deck es r
   in_star g star =
       let count : suc (length (filter for_all g.T)) ≡ 1 = ap suc (sym (length-requests (filter for_all g.T))) ∙ (sym g.message.next ∙ ((goes deck es).unused star).1) in

@@ -27,12 +27,12 @@ use Rattle.grs_world.specs.Laps.{OnlyLeft, ComesBackLast, given_by, given_when, 
 use Rattle.grs_world.specs.World.{World, first_world, carry_out, chosen, counted, placed, happens_at, happens, run_from, run}
 use Rattle.grs_world.proofs.LapsMessage.{Round, turned_round, left_at_home, last_at_home, unseen_awaited}
 
--- what holds of the medium in a run
+-- This holds of the medium in a run.
 pub record Goes (m : MediumState) : Type 0 where
-  -- nobody is removed, and the message goes round
+  -- Nobody is removed, and the message goes round.
   pub whole : m.removed ≡ 0
   pub round : Round m.message
-  -- in star mode there is no message, and never was
+  -- In star mode there is no message, and never was.
   pub unused : m.star ≡ true → (m.message.closed ≡ true) × (m.message.next ≡ 1)
 
 -- ---- at the start
@@ -57,7 +57,7 @@ goes_at_start n entries false = record { whole = refl; round = open_at_start n; 
 goes_at_start n entries true = record { whole = refl; round = closed_at_start n; unused = λ e. (refl, refl) }
 
 -- ---- a call
--- nobody has a Turn where the message stands nowhere
+-- Nobody has a Turn where the message stands nowhere.
 turned_nowhere : (m : Message) (c : SysId) (out : List Req) (live rest : ℕ) → m.holder ≡ None → turned m c out live rest ≡ m
 unfolding turned
 turned_nowhere m c out live rest none = ap (λ h. cond (is_at h c) (cond m.closed (turned_closed m c) (turned_open m c out live rest)) m) none
@@ -132,7 +132,7 @@ pub comes_back_last : ComesBackLast
 comes_back_last deck es = last_at_home _ (goes deck es).round
 
 -- ---- what the next event gives
--- of these entries a system's own are left to it alone
+-- Of these entries a system's own are left to it alone.
 abbrev Gives : SysId → List RingEntry → Type 0
 Gives s es = (before behind : List RingEntry) (entry : RingEntry) (q : Req) → es ≡ before ++ entry ∷ behind → entry.body ≡ Request q → entry.from ≡ s → OnlyLeft s entry
 

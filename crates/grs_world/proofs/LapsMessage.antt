@@ -38,13 +38,13 @@ AllEndAtHome (e ∷ es) = EndsAtHome e × AllEndAtHome es
 
 -- What holds of the message in a run.
 pub record Round (m : Message) : Type 0 where
-  -- closed, as it is in star mode, it stands nowhere
+  -- Closed, as it is in star mode, it stands nowhere.
   pub shut : m.closed ≡ true → m.holder ≡ None
-  -- it stands at one of the systems, if there is any
+  -- It stands at one of the systems, if there is any.
   pub inside : (h : SysId) → m.holder ≡ Some h → 0 < m.systems → h.0 < m.systems
-  -- whoever has still to process an entry is not passed over
+  -- Whoever has still to process an entry is not passed over.
   pub awaited : (h : SysId) → m.holder ≡ Some h → AllAwaited m.systems h m.entries
-  -- and an entry's own system is the last
+  -- An entry's own system is the last.
   pub ends : AllEndAtHome m.entries
 
 -- ---- the set of all systems
@@ -57,7 +57,7 @@ all-below (suc n) u e = go (ℕ_discrete u n) (all-below n u) (rw (has-zero n) a
     go (no other) below in_it = let l : u < n = below (sym (has-with_other (others n 0) n u other) ∙ in_it) in omega arith
 
 -- ---- one entry
--- some places further on, counted from two systems
+-- A place further on is the same, counted from two systems.
 further : (n c f gone j : ℕ) → (f + gone) % n ≡ c → (f + (gone + j)) % n ≡ (c + j) % n
 further n c f gone j stands =
     let more : f + (gone + j) ≡ (f + gone) + j = omega arith in
@@ -68,7 +68,7 @@ the_way n c f gone whole yet stands =
     let way : gone + (whole - gone) ≡ whole = omega arith in
     sym (further n c f gone (whole - gone) stands) ∙ ap (λ (x : ℕ). (f + x) % n) way
 
--- a system that is due is still ahead of the message when that has moved on
+-- A system that is due is still ahead of the message when that has moved on.
 onward : (n : ℕ) (c h : SysId) (test : SysId → Bool) → or_else (first_after n c test) c ≡ h →
     (f gone whole u : ℕ) → gone < whole → whole ≤ n → (f + gone) % n ≡ c.0 → (f + whole) % n ≡ u → test (record { 0 = u }) ≡ true → Ahead n f h.0 u
 onward n c h test moved f gone whole u far once stands comes due =
@@ -84,7 +84,7 @@ onward n c h test moved f gone whole u far once stands comes due =
       comes = comes;
     }
 
--- an entry that was there, now that the caller has processed it
+-- So it is of an entry that was there, now that the caller has processed it.
 entry_onward : (n : ℕ) (c h : SysId) (test : SysId → Bool) → or_else (first_after n c test) c ≡ h → (e : RingEntry) → ((u : ℕ) → u < n → has (without e.mask c.0) u ≡ true → test (record { 0 = u }) ≡ true)
     → Awaited n c e → Awaited n h (left_by c e)
 entry_onward n c h test moved e due ahead u here = go (ℕ_discrete u c.0)
@@ -96,7 +96,7 @@ entry_onward n c h test moved e due ahead u here = go (ℕ_discrete u c.0)
         let short : a.gone ≢ a.whole = λ same. other (sym a.comes ∙ ap (λ (x : ℕ). (e.from.0 + x) % n) (sym same) ∙ a.stands) in
         onward n c h test moved e.from.0 a.gone a.whole u (omega (arith, a.yet, short)) a.once a.stands a.comes (due u (inside_round n e.from.0 c.0 u a) here)
 
--- a new entry of the caller, which all have still to process
+-- So it is of a new entry of the caller, which all have still to process.
 new_onward : (n : ℕ) (c h : SysId) (test : SysId → Bool) → or_else (first_after n c test) c ≡ h → (0 < n → c.0 < n) → (e : RingEntry) → e.from ≡ c → e.mask ≡ others n 0
     → ((u : ℕ) → u < n → has e.mask u ≡ true → test (record { 0 = u }) ≡ true) → Awaited n h e
 new_onward n c h test moved inside e from all due u here =
@@ -107,7 +107,7 @@ new_onward n c h test moved inside e from all due u here =
     subst (λ (x : SysId). Ahead n x.0 h.0 u) (sym from) (onward n c h test moved c.0 0 k.0 u k.1 k.2 start k.3 (due u low here))
 
 -- ---- the last system of an entry
--- where the message stands at an entry's own system, only that one has still to process it
+-- Where the message stands at an entry's own system, only that one has still to process it.
 pub only_left : (n : ℕ) (c : SysId) (e : RingEntry) → e.from ≡ c → Awaited n c e → OnlyLeft c e
 only_left n c e from ahead u other = go (has e.mask u) refl
   where
@@ -126,7 +126,7 @@ left_ends n c e ahead ends done u = go (ℕ_discrete u c.0)
     go (yes same) = subst (λ (x : ℕ). has (without e.mask c.0) x ≡ false) (sym same) (has-without_same e.mask c.0)
     go (no other) = has-without_other e.mask c.0 u other ∙ by_home other (ℕ_discrete e.from.0 c.0)
 
--- a new entry has its own system in its mask, if any
+-- A new entry has its own system in its mask, if any.
 new_ends : (n : ℕ) (c : SysId) → (0 < n → c.0 < n) → has (others n 0) c.0 ≡ false → (u : ℕ) → has (others n 0) u ≡ false
 new_ends n c inside out u = go (has (others n 0) u) refl
   where
@@ -154,7 +154,7 @@ ends_joined [] ys a b = b
 ends_joined (x ∷ xs) ys a b = (a.0, ends_joined xs ys a.1 b)
 
 -- ---- all entries
--- a system that has still to process one of these passes the test
+-- A system that has still to process one of these passes the test.
 abbrev Passes : ℕ → (SysId → Bool) → List RingEntry → Type 0
 Passes n test es = (u : ℕ) → u < n → any_unseen (record { 0 = u }) es ≡ true → test (record { 0 = u }) ≡ true
 
@@ -242,14 +242,14 @@ awaited_of : (n : ℕ) (h : SysId) (before behind : List RingEntry) (e : RingEnt
 awaited_of n h [] behind e a = a.0
 awaited_of n h (x ∷ before) behind e a = awaited_of n h before behind e a.1
 
--- of these entries a system's own are left to it alone
+-- Of these entries a system's own are left to it alone.
 pub left_at_home : (n : ℕ) (s : SysId) (es before behind : List RingEntry) (e : RingEntry) → AllAwaited n s es → es ≡ before ++ e ∷ behind → e.from ≡ s → OnlyLeft s e
 left_at_home n s es before behind e all is from = only_left n s e from (awaited_of n s before behind e (subst (AllAwaited n s) is all))
 
 pub last_at_home : (m : Message) → Round m → LastAtHome m
 last_at_home m laws s before behind e q held body from here = left_at_home m.systems s m.entries before behind e (laws.awaited s (is_at-exact m.holder s here)) held from
 
--- the entries that a system has still to process are awaited as all are
+-- The entries that a system has still to process are awaited as all are.
 pub unseen_awaited : (n : ℕ) (s : SysId) (es : List RingEntry) → AllAwaited n s es → AllAwaited n s (unseen s es)
 unfolding unseen
 unseen_awaited n s [] a = tt

@@ -22,7 +22,7 @@ pub record Ahead (systems start here there : ℕ) : Type 0 where
 under : (n x : ℕ) → 0 < n → x % n < n
 under n x some = mod-lt x some
 
--- whoever comes to where it was has gone once round
+-- Whoever comes to where it was has gone once round.
 came_round : (n s k : ℕ) → s < n → 0 < k → k ≤ n → (s + k) % n ≡ s → k ≡ n
 came_round n s k low some most same = go (dec_lt (s + k) n)
   where
@@ -33,7 +33,7 @@ came_round n s k low some most same = go (dec_lt (s + k) n)
         let e : (s + k - n) % n ≡ s + k - n = mod-eq_of_lt (omega arith) in
         omega arith
 
--- the message has come home only when it has gone once round
+-- The message has come home only when it has gone once round.
 pub home : (n s u : ℕ) → Ahead n s s u → u ≡ s
 home n s u a =
     let some : 0 < n = omega (arith, a.left, a.yet, a.once) in
@@ -45,7 +45,7 @@ home n s u a =
 pub inside_round : (n s h u : ℕ) → Ahead n s h u → u < n
 inside_round n s h u a = subst (λ (x : ℕ). x < n) a.comes (under n (s + a.whole) (omega (arith, a.left, a.yet, a.once)))
 
--- each system is some places after another
+-- Each system is some places after another.
 pub after_some : (n c u : ℕ) → c < n → u < n → (k : ℕ) × (0 < k) × (k ≤ n) × ((c + k) % n ≡ u)
 after_some n c u low in_it = go (dec_lt c u)
   where
@@ -54,7 +54,7 @@ after_some n c u low in_it = go (dec_lt c u)
     go (no far) = (u + n - c, omega arith, omega arith, ap (λ (x : ℕ). x % n) (let w : c + (u + n - c) ≡ u + n = omega arith in w) ∙ add-mod_right u n ∙ mod-eq_of_lt in_it)
 
 -- ---- the first that passes a test
--- one that passes isn't passed over
+-- One that passes isn't passed over.
 found : (test : SysId → Bool) (g : ℕ → SysId) (k n i : ℕ) → k ≤ i → i < k + n → test (g i) ≡ true
     → (j : ℕ) × (k ≤ j) × (j ≤ i) × (find test (map g (range_with_len k n)) ≡ Some (g j))
 found test g k zero i from to passes = absurd (omega arith)
@@ -76,7 +76,7 @@ pub first_found : (test : SysId → Bool) (n : ℕ) (c : SysId) (i : ℕ) → 0 
 unfolding first_after
 first_found test n c i from to passes = found test (λ k. record { 0 = (c.0 + k) % n }) 1 n i (omega arith) (omega arith) passes
 
--- it is one of the systems
+-- It is one of the systems.
 found_inside : (test : SysId → Bool) (n c : ℕ) (ks : List ℕ) (h : SysId) → 0 < n → find test (map (λ k. record { 0 = (c + k) % n }) ks) ≡ Some h → h.0 < n
 found_inside test n c [] h some e = absurd cc
 found_inside test n c (k ∷ ks) h some e = go (test (record { 0 = (c + k) % n })) (found_inside test n c ks h some) e

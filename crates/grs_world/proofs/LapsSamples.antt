@@ -1,5 +1,5 @@
 -- Worked messages, by which the law that an answer comes back last is checked.
-use Rattle.std.proofs.Common.{◌≡◌, ℕ, true, false, List, [], ◌∷◌, ◌++◌, Some, refl, ap, ◌∙◌, arith}
+use Rattle.std.proofs.Common.{◌≡◌, ℕ, true, false, List, [], ◌∷◌, Some, refl, ap, ◌∙◌, arith}
 use Rattle.grs_base.specs.declared.resource.Ctl.TheVariants.{E}
 use Rattle.grs_base.specs.declared.resource.Ret.TheVariants.{RetNone}
 use Rattle.grs_base.specs.declared.resource.Res.TheVariants.{Systems}
@@ -18,14 +18,14 @@ use Rattle.grs_world.specs.Laps.{LastAtHome}
 abbrev sys : ℕ → SysId
 sys n = record { 0 = n }
 
--- a request of a task of system n, and its entry
+-- A task of system n makes this request, which has this entry.
 abbrev ask : ℕ → Req
 ask n = record { task = record { system = sys n; job = 0; task = 0 }; want = Enq (Systems (65 ∷ []) (66 ∷ [])) E RetNone false }
 
 abbrev entry : ℕ → ℕ → ℕ → RingEntry
 entry number n mask = record { number = number; from = sys n; body = Request (ask n); mask = mask }
 
--- the message of three systems after a Turn of each of these, which puts these requests in
+-- The medium is this after a Turn of each of these systems, which puts these requests in.
 abbrev after_turns : MediumState → List (ℕ × List Req) → MediumState
 after_turns m [] = m
 after_turns m ((c, out) ∷ turns) = after_turns (medium_after m (sys c) (record { known = 0; act = Turn out })) turns
@@ -45,7 +45,7 @@ goes_round :
 unfolding has without with_also first_after unseen any_unseen cleared stamped turn_reply wakes rest_after_turn turned turn_row row apply
 goes_round = (refl, refl, refl, refl)
 
--- a message that came home before system 1 has processed the entry
+-- No message comes home before system 1 has processed the entry.
 home_early : LastAtHome (message_at 0 (entry 1 0 3 ∷ []) 2) → ⊥
 unfolding has
 home_early law = let unseen_by_1 : true ≡ false = law (sys 0) [] [] (entry 1 0 3) (ask 0) refl refl refl refl 1 (λ e. omega arith) in absurd cc

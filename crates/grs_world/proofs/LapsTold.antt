@@ -1,5 +1,5 @@
 -- An answer is told last: by an event that tells a task an answer, every other system has processed its requests.
-use Rattle.std.proofs.Common.{◌≡◌, ◌≢◌, ◌+◌, cond, Bool, true, false, ◌&&◌, ◌||◌, ℕ, List, [], ◌∷◌, ◌++◌, length, take, drop, Option, Some, None, refl, ap, sym, ◌∙◌, subst, append-nil, append_assoc}
+use Rattle.std.proofs.Common.{◌≡◌, ◌+◌, cond, Bool, true, false, ◌&&◌, ◌||◌, ℕ, List, [], ◌∷◌, ◌++◌, length, take, drop, Some, refl, ap, sym, ◌∙◌, subst, append-nil, append_assoc}
 use Rattle.std.specs.Prelude.{filter, slice_get, ◌==◌}
 use Rattle.std.specs.List.{list_all, list_any}
 use Rattle.std.proofs.lemmas.Bool.{and_parts, eqb-true, eq-eqb}
@@ -13,21 +13,20 @@ use Rattle.grs_wire.specs.declared.deck.Deck.{Deck}
 use Rattle.grs_wire.specs.declared.deck.Event.{Event}
 use Rattle.grs_wire.specs.declared.history.HistEntry.{HistEntry}
 use Rattle.grs_wire.specs.declared.medium.RingBody.{RingBody}
-use Rattle.grs_wire.specs.declared.medium.RingBody.TheVariants.{Request, Remove}
+use Rattle.grs_wire.specs.declared.medium.RingBody.TheVariants.{Request}
 use Rattle.grs_wire.specs.declared.medium.RingEntry.{RingEntry}
 use Rattle.grs_wire.specs.declared.request.Req.{Req}
-use Rattle.grs_wire.specs.declared.told.Told.{Told}
 use Rattle.grs_wire.specs.declared.told.ToldLine.{ToldLine}
 use Rattle.grs_wire.specs.declared.told.ToldLine.TheVariants as lines
-use Rattle.rsa_message.specs.Message.{Message, is_at, is_unseen, unseen}
+use Rattle.rsa_message.specs.Message.{is_at, is_unseen, unseen}
 use Rattle.rsa_message.proofs.OrderLaws.{is_at-exact}
-use Rattle.grs_world.specs.Laps.{OnlyLeft, answers, told_next, AnsweredLast}
-use Rattle.grs_world.specs.World.{World, Turnout, told_by, counted, placed, happens, run, told, first_world}
+use Rattle.grs_world.specs.Laps.{OnlyLeft, answers, AnsweredLast}
+use Rattle.grs_world.specs.World.{World, Turnout, told_by, placed, happens, run, told, first_world}
 use Rattle.grs_world.proofs.Askers.{among-front}
-use Rattle.grs_world.proofs.Came.{Came, nothing, went_on, turn, each_event, IsHome, AllHome, Holds, holds}
+use Rattle.grs_world.proofs.Came.{Came, nothing, went_on, turn, each_event, IsHome, AllHome, holds}
 use Rattle.grs_world.proofs.Facts.{drop-seam, filter-append, filter-cons_kept, list_any-push, all-more}
 use Rattle.grs_world.proofs.Laps.{goes}
-use Rattle.grs_world.proofs.LapsMessage.{Round, EndsAtHome, AllEndAtHome, left_at_home}
+use Rattle.grs_world.proofs.LapsMessage.{EndsAtHome, AllEndAtHome, left_at_home}
 use Rattle.grs_world.proofs.Messages.{given-rest}
 use Rattle.grs_world.proofs.Outcomes.{turn_outcome}
 use Rattle.grs_world.proofs.Owners.{is_among}
@@ -39,8 +38,8 @@ use Rattle.grs_world.proofs.Sound.{good_run}
 use Rattle.grs_world.proofs.Stands.{Bodies}
 use Rattle.grs_world.proofs.Stands as stands
 use Rattle.grs_world.proofs.Tape.{Item, entries, requests, for_all, from, Tape, replied-tape}
-use Rattle.grs_world.proofs.Truths.{and_on, no_truth, or_first, or_second, or_other}
-use Rattle.grs_world.proofs.Views.{waits, waiting}
+use Rattle.grs_world.proofs.Truths.{no_truth, or_first, or_second, or_other}
+use Rattle.grs_world.proofs.Views.{waiting}
 
 -- ---- the entries of the message, one of them
 home_of : (before behind : List RingEntry) (e : RingEntry) → AllHome (before ++ e ∷ behind) → IsHome e.from e.body
@@ -51,7 +50,7 @@ ends_of : (before behind : List RingEntry) (e : RingEntry) → AllEndAtHome (bef
 ends_of [] behind e a = a.0
 ends_of (x ∷ before) behind e a = ends_of before behind e a.1
 
--- its task is among those of these requests
+-- The task of an entry is among those of the requests that the entries are.
 among_bodies : (qs : List Req) (before behind : List RingEntry) (e : RingEntry) (q : Req) → Bodies qs (before ++ e ∷ behind) → e.body ≡ Request q → is_among q.task (askers qs) ≡ true
 among_bodies [] [] behind e q b body = elim b [ ]
 among_bodies [] (x ∷ before) behind e q b body = elim b [ ]
@@ -60,7 +59,7 @@ among_bodies (p ∷ qs) [] behind e q (stands.more is b) body =
     or_first (same_task q.task p.task) (is_among q.task (askers qs)) (subst (λ (x : Req). same_task q.task x.task ≡ true) (sym same) (same_task-itself q.task))
 among_bodies (p ∷ qs) (x ∷ before) behind e q (stands.more is b) body = or_second (same_task q.task p.task) (is_among q.task (askers qs)) (among_bodies qs before behind e q b body)
 
--- a request of a system's task that it has still to process waits there
+-- A request of a system's task that the system has still to process waits there.
 among_waiting : (s : ℕ) (t : TaskId) → t.system.0 ≡ s → (xs : List Item) → is_among t (askers (requests (filter for_all xs))) ≡ true → is_among t (askers (requests (waiting s xs))) ≡ true
 among_waiting s t home [] a = cc
 among_waiting s t home (x ∷ xs) a = go (for_all x) (from s x) refl (same_task t x.req.task) refl (among_waiting s t home xs) a
@@ -101,7 +100,7 @@ lines_home s t (l ∷ ls) mine a = go (answers t l) refl (lines_home s t ls (and
     go true is later = line_home s t l (and_parts _ _ mine).0 is
     go false is later = later (or_other (answers t l) (list_any (answers t) ls) a is)
 
--- a task that is told an answer has none of these requests
+-- A task that is told an answer has none of these requests.
 module _ (deck : Deck) (s : ℕ) (opens : List Req) (Q : List HistEntry) (t : TaskId) where
   line_clear : (l : ToldLine) → Clears deck opens Q l → answers t l ≡ true → is_among t (askers opens) ≡ false
   line_clear (lines.Coded u k part verb code) clear a = subst (λ (x : TaskId). is_among x (askers opens) ≡ false) (sym (same_task-exact t u a)) clear
@@ -110,7 +109,7 @@ module _ (deck : Deck) (s : ℕ) (opens : List Req) (Q : List HistEntry) (t : Ta
   line_clear (lines.Ended u code) clear a = cc
   line_clear (lines.Desk k said) clear a = cc
 
-  -- what a step told
+  -- A step told these lines.
   record News (T0 T : List ToldLine) : Type 0 where
     lines : List ToldLine
     is : T ≡ T0 ++ lines
@@ -140,11 +139,11 @@ module _ (deck : Deck) (Seen : ℕ → List HistEntry → List Req → Node → 
   abbrev s : ℕ
   s = e.system.0
 
-  -- only its own system has still to process an entry of this task
+  -- Only its own system has still to process an entry of this task.
   abbrev Last : TaskId → Type 0
   Last t = (before behind : List RingEntry) (entry : RingEntry) (q : Req) → w.medium.message.entries ≡ before ++ entry ∷ behind → entry.body ≡ Request q → q.task ≡ t → OnlyLeft t.system entry
 
-  -- this was told behind the world's lines
+  -- Whoever was told an answer behind the world's lines has no entry that another system has still to process.
   abbrev Right : World → Type 0
   Right after = (t : TaskId) → list_any (λ x. answers t x.line) (drop (length w.told) after.told) ≡ true → Last t
 
@@ -155,7 +154,7 @@ module _ (deck : Deck) (Seen : ℕ → List HistEntry → List Req → Node → 
   from_home t entry q body same home = sym (subst (λ (b : RingBody). IsHome entry.from b) body home) ∙ ap (λ (u : TaskId). u.system.0) same
 
   module _ (g : GoodWorld deck Seen es w) (n : Node) (at : slice_get w.nodes e.system.0 ≡ Some n) where
-    -- where the message stands at the task's system
+    -- So it is where the message stands at the task's system,
     at_home : is_at w.medium.message.holder e.system ≡ true → (t : TaskId) → t.system.0 ≡ s → Last t
     at_home here t home before behind entry q is body same =
         let m = w.medium.message in
@@ -163,7 +162,7 @@ module _ (deck : Deck) (Seen : ℕ → List HistEntry → List Req → Node → 
         let from : entry.from ≡ t.system = ap (λ (x : ℕ). let y : SysId = record { 0 = x } in y) (from_home t entry q body same mine) in
         left_at_home m.systems t.system m.entries before behind entry ((goes deck es).round.awaited t.system (is_at-exact m.holder e.system here ∙ ap Some (sym (its_system t home)))) is from
 
-    -- where the task has no request that its system has still to process
+    -- and where the task has no request that its system has still to process.
     at_rest : (t : TaskId) → t.system.0 ≡ s → is_among t (askers (requests (waiting e.system.0 (g.rest e.system.0)))) ≡ false → Last t
     unfolding unseen
     at_rest t home none before behind entry q is body same u other = ends_of before behind entry (subst AllEndAtHome is (goes deck es).round.ends) (seen_by (has entry.mask entry.from.0) refl) u
@@ -187,7 +186,7 @@ module _ (deck : Deck) (Seen : ℕ → List HistEntry → List Req → Node → 
             let among = among_bodies (requests (filter for_all (g.rest s))) (unseen e.system before) (unseen e.system behind) entry q (subst (Bodies (requests (filter for_all (g.rest s)))) (split due) given) body in
             no_truth (is_among t (askers (requests (waiting s (g.rest s))))) (among_waiting s t home (g.rest s) (subst (λ (x : TaskId). is_among x (askers (requests (filter for_all (g.rest s)))) ≡ true) same among)) none
 
-    -- these lines were told
+    -- What was told in the event are these lines.
     told_now : (k : Node) (ls : List ToldLine) → k.tasks.told ≡ n.tasks.told ++ ls → (t : TaskId) → list_any (λ x. answers t x.line) (drop (length w.told) (w.told ++ told_by (w.events + 1) e.system (drop (length n.tasks.told) k.tasks.told))) ≡ true → list_any (answers t) ls ≡ true
     told_now k ls is t a =
         let new : drop (length n.tasks.told) k.tasks.told ≡ ls = ap (drop (length n.tasks.told)) is ∙ drop-seam n.tasks.told ls in

@@ -25,14 +25,14 @@ length-requests (x ∷ xs) = ap suc (length-requests xs)
 log-parts : (front rest T : List Item) → front ++ rest ≡ T → message_log T ≡ requests (filter for_all front) ++ requests (filter for_all rest)
 log-parts front rest T e = ap message_log (sym e) ∙ (ap requests (filter-append for_all front rest) ∙ requests-append (filter for_all front) (filter for_all rest))
 
-pub seen-within : (front rest T : List Item) → front ++ rest ≡ T → length (filter for_all front) ≤ length (message_log T)
+seen-within : (front rest T : List Item) → front ++ rest ≡ T → length (filter for_all front) ≤ length (message_log T)
 seen-within front rest T e =
     let a : length (message_log T) ≡ length (requests (filter for_all front) ++ requests (filter for_all rest)) = ap length (log-parts front rest T e) in
     let b : length (requests (filter for_all front) ++ requests (filter for_all rest)) ≡ length (requests (filter for_all front)) + length (requests (filter for_all rest)) = length-append (requests (filter for_all front)) (requests (filter for_all rest)) in
     let c : length (requests (filter for_all front)) ≡ length (filter for_all front) = length-requests (filter for_all front) in
     omega arith
 
--- the entries given to c are the requests that it has still to process
+-- The entries given to c are the requests that it has still to process.
 pub given-rest : (m : MediumState) (c : SysId) (front : ℕ → List Item) (rest T : List Item) → front c.0 ++ rest ≡ T → has (live m) c.0 ≡ true → GoodMessage m (message_log T) (seen_at front) → Bodies (requests (filter for_all rest)) (unseen c m.message.entries)
 given-rest m c front rest T whole alive g =
     let z : seen_at front c.0 - 0 ≡ seen_at front c.0 = omega arith in
@@ -40,7 +40,7 @@ given-rest m c front rest T whole alive g =
     ap (λ k. drop k (message_log T)) z ∙ (ap (drop (seen_at front c.0)) (log-parts (front c.0) rest T whole) ∙ (ap (λ k. drop k (requests (filter for_all (front c.0)) ++ requests (filter for_all rest))) (sym (length-requests (filter for_all (front c.0)))) ∙ drop-seam (requests (filter for_all (front c.0))) (requests (filter for_all rest)))) in
     subst (λ qs. Bodies qs (unseen c m.message.entries)) parts (unseen-drop c (seen_at front c.0) (waits_live (live m) (seen_at front) c.0 alive) g.stands)
 
--- nothing happens to the message
+-- Nothing happens to the message.
 pub message-same : (m m' : MediumState) (log : List Req) (front : ℕ → List Item) (s : ℕ) → m'.message ≡ m.message → live m' ≡ live m → GoodMessage m log (seen_at front) → GoodMessage m' (log ++ []) (seen_at (updated front s (front s)))
 message-same m m' log front s same same_live g =
     let still : (u : ℕ) → seen_at (updated front s (front s)) u ≡ seen_at front u = λ u. ap (λ xs. length (filter for_all xs)) (kept_at u (eqb u s) refl) in
@@ -57,7 +57,7 @@ message-same m m' log front s same same_live g =
     kept_at u true e = ap (λ b. cond b (front s) (front u)) e ∙ ap front (sym (eqb-true u s e))
     kept_at u false e = ap (λ b. cond b (front s) (front u)) e
 
--- c had its Turn
+-- Here c had its Turn.
 pub message-turned : (m m' : MediumState) (c : SysId) (out : List Req) (flags : ℕ) (front rest : ℕ → List Item) (front' T : List Item) → ((u : ℕ) → front u ++ rest u ≡ T) → front' ≡ T → m.message.closed ≡ false
     → m'.message ≡ turned_open m.message c out (live m) flags → live m' ≡ live m → GoodMessage m (message_log T) (seen_at front) → GoodMessage m' (message_log T ++ out) (seen_at (updated front c.0 front'))
 message-turned m m' c out flags front rest front' T whole here opened same same_live g =

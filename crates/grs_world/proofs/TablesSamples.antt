@@ -1,7 +1,6 @@
 -- Worked fronts and a worked ring, by which the definitions of tables, of what is kept, and of the event that answers
 -- are checked.
-use Rattle.std.proofs.Common.{◌≡◌, ℕ, Bool, true, false, List, [], ◌∷◌, map, Some, None, refl}
-use Rattle.grs_base.specs.Looks.{look}
+use Rattle.std.proofs.Common.{◌≡◌, ℕ, true, false, List, [], ◌∷◌, map, refl}
 use Rattle.grs_base.specs.State.{State}
 use Rattle.grs_base.specs.declared.decision.Code.TheVariants.{C00}
 use Rattle.grs_base.specs.declared.line.Line.TheVariants as lines
@@ -29,7 +28,6 @@ use Rattle.grs_wire.specs.declared.request.Fixed.{Fixed}
 use Rattle.grs_wire.specs.declared.request.Fixed.TheVariants.{Asked, LocalLook, Purged}
 use Rattle.grs_wire.specs.declared.request.Req.{Req}
 use Rattle.grs_wire.specs.declared.request.Want.TheVariants.{Enq, Look}
-use Rattle.grs_wire.specs.declared.told.Told.{Told}
 use Rattle.grs_wire.specs.declared.told.ToldLine.TheVariants.{Coded}
 use Rattle.grs_wire.specs.declared.told.Verb.TheVariants as verbs
 use Rattle.ring_mode.specs.Ring.{answer_own, process, process_entry, process_all}
@@ -39,12 +37,12 @@ use Rattle.task_state.specs.View.{state_of, with_state, with_line, with_phase, w
 use Rattle.grs_world.specs.Kept.{places, kept}
 use Rattle.grs_world.specs.Laps.{given, told_next}
 use Rattle.grs_world.specs.Tables.{before_number, first_unseen, systems_part}
-use Rattle.grs_world.specs.World.{World, first_world, carry_out, chosen, placed, happens_at, happens, run}
+use Rattle.grs_world.specs.World.{first_world, carry_out, chosen, placed, happens_at, happens, run}
 
 abbrev sys : ℕ → SysId
 sys n = record { 0 = n }
 
--- the only task of a system, the resource (A, B) of the whole complex, and the task's exclusive request for it
+-- Each system has one task at most, which asks for exclusive control of the resource (A, B) of the whole complex.
 abbrev task_of : ℕ → TaskId
 task_of s = record { system = sys s; job = 0; task = 0 }
 
@@ -58,9 +56,9 @@ abbrev element : ℕ → Elem
 element s = record { task = task_of s; ctl = E }
 
 -- ---- fronts of a bare list of what was fixed
--- Looks at three slices are entry 1 of the message, and an ENQ is entry 2. Between them stand a look at the own lists
--- and behind them a removal, entry 3. (By the lines of the history, of which the looks make three, or none, the ENQ would
--- stand before entry 2.)
+-- Looks at three slices are entry 1 of the message, an ENQ is entry 2 and a removal entry 3; a look at own lists is no
+-- entry. Were lines of the history counted, of which the looks make three, the ENQ would be entry 4; were looks passed
+-- over, it would be entry 1, and stand in the table before entry 2.
 abbrev looks : SysId × Fixed
 looks = (sys 0, Asked (record { task = task_of 0; want = Look 0 3 All }))
 
@@ -106,7 +104,7 @@ goes = record { system = sys 0; choice = choices.Task (task_of 0) }
 abbrev turn : ℕ → Event
 turn s = record { system = sys s; choice = choices.Turn }
 
--- the request is put in, the other system processes it, and then its own
+-- The request is put in, the other system processes it, and then its own.
 abbrev put : List Event
 put = goes ∷ turn 0 ∷ []
 

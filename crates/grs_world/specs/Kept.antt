@@ -12,18 +12,19 @@ use Rattle.rsa_message.specs.Message.{unseen}
 use Rattle.grs_world.specs.Running.{is_live}
 use Rattle.grs_world.specs.World.{World, run, hist}
 
--- the list of a resource behind the whole history of a run
+-- A resource has this list behind the whole history of a run.
 abbrev pub places : Deck → List Event → Res → List Elem
 places deck es r = list_of (replay deck.limit (hist deck es)) r
 
--- the list in a system's table, once the system has processed in order the entries of the message that it hasn't seen
+-- A system's table has this list once the system has processed, in order, the entries of the message that it hasn't
+-- seen.
 abbrev pub in_table : Deck → World → SysId → Option Node → Res → List Elem
 in_table deck w s None r = []
 in_table deck w s (Some n) r = list_of (read_entries deck n (unseen s w.medium.message.entries)).shared r
 
--- A list of the whole complex as this live system sees it kept, a case a mode of the medium. In a ring (false) each
--- live system keeps one in its table. In star mode (true) the manager of the resource's lock entry keeps it for all,
--- and where there is no manager nothing is kept: no system comes to manage an entry yet.
+-- This list of a resource of the whole complex is kept, as this live system sees it, a case a mode of the medium. In a
+-- ring (false) each live system keeps one in its table. In star mode (true) the manager of the resource's lock entry
+-- keeps it for all, and where there is no manager nothing is kept: no system comes to manage an entry yet.
 abbrev pub kept_in : Bool → Deck → World → SysId → Res → List Elem
 kept_in false deck w s r = in_table deck w s (slice_get w.nodes s.0) r
 kept_in true deck w s r = []

@@ -24,7 +24,7 @@ use Rattle.grs_wire.specs.declared.told.ToldLine.TheVariants.{Coded, Shown}
 use Rattle.rsa_message.specs.Message.{Message, is_at}
 use Rattle.grs_world.specs.World.{World, run, told}
 
--- no system but this one has still to process the entry
+-- No system but this one has still to process the entry.
 abbrev pub OnlyLeft : SysId → RingEntry → Type 0
 OnlyLeft s entry = (u : ℕ) → u ≢ s.0 → has entry.mask u ≡ false
 
@@ -40,7 +40,7 @@ abbrev pub ComesBackLast : Type 0
 ComesBackLast = (deck : Deck) (events : List Event) → LastAtHome (run deck events).medium.message
 
 -- ---- the event that answers
--- the entries that a reply gives a system to process, each as it stood in the message
+-- A reply gives a system these entries to process, each as it stood in the message.
 abbrev pub given_by : Reply → List RingEntry
 given_by (Turned es taken closed) = es
 given_by _ = []
@@ -54,7 +54,7 @@ abbrev pub given_at : Deck → World → Event → Option Node → List RingEntr
 given_at deck w e None = []
 given_at deck w e (Some n) = given_when w.medium e.system (prepare deck n e.choice)
 
--- the entries that an event gives its system
+-- An event gives its system what the reply to its call gives, if it makes one.
 abbrev pub given : Deck → World → Event → List RingEntry
 given deck w e = given_at deck w e (slice_get w.nodes e.system.0)
 
@@ -65,13 +65,13 @@ ProcessedLast deck es e =
     (before behind : List RingEntry) (entry : RingEntry) (q : Req) → given deck (run deck es) e ≡ before ++ entry ∷ behind
     → entry.body ≡ Request q → entry.from ≡ e.system → OnlyLeft e.system entry
 
--- whether a line tells a task the answer of one of its lines: a code, or a display
+-- A line answers a task where it tells it a code or a display.
 abbrev pub answers : TaskId → ToldLine → Bool
 answers t (Coded u k part verb code) = same_task t u
 answers t (Shown u k verb code rows) = same_task t u
 answers t _ = false
 
--- what the next event tells
+-- The next event tells what is told behind it and wasn't before.
 abbrev pub told_next : Deck → List Event → Event → List Told
 told_next deck es e = drop (length (told deck es)) (told deck (es ++ e ∷ []))
 

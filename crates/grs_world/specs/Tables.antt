@@ -15,33 +15,33 @@ use Rattle.rsa_message.specs.Message.{Message, unseen, first_number}
 use Rattle.grs_world.specs.Running.{is_live}
 use Rattle.grs_world.specs.World.{World, run}
 
--- Whether what was fixed is an entry of the message: a request for a resource of the whole complex, one for looks at
+-- What was fixed is an entry of the message where it is a request for a resource of the whole complex, one for looks at
 -- slices, or a removal.
 abbrev pub went_through : Fixed → Bool
 went_through (Asked q) = is_for_all (res_wanted q.want)
 went_through (LocalLook t f) = false
 went_through (Purged target) = true
 
--- what was fixed before the entry that has this number in the message, numbers from 1
+-- So much was fixed before the entry that has this number in the message. Numbers begin with 1.
 abbrev pub before_number : ℕ → List (SysId × Fixed) → List (SysId × Fixed)
 before_number number [] = []
 before_number number (x ∷ xs) =
     cond (went_through x.1) (cond (number == 1) [] (x ∷ before_number (number - 1) xs)) (x ∷ before_number number xs)
 
--- the number of the first entry that a system has still to process: the next entry's, where it has processed all
+-- The first entry that a system has still to process has this number: the next entry's, where it has processed all.
 abbrev pub first_unseen : SysId → Message → ℕ
 first_unseen s m = unwrap_or (first_number (unseen s m.entries)) m.next
 
--- the front of what was fixed that stands before a system's first unseen entry
+-- A system has processed the front of what was fixed that stands before its first unseen entry.
 abbrev pub processed : World → SysId → List (SysId × Fixed)
 processed w s = before_number (first_unseen s w.medium.message) w.fixed
 
--- Whether a system keeps a table: it is live, and it hasn't changed to star mode. No system changes yet; the mode of
--- the system comes in here.
+-- A system keeps a table where it is live and hasn't changed to star mode. No system changes yet; the mode of the
+-- system comes in here.
 abbrev pub keeps_table : World → SysId → Bool
 keeps_table w s = is_live w s
 
--- the elements on resources of the whole complex
+-- Of all elements these are on resources of the whole complex.
 abbrev pub systems_part : State → State
 systems_part s = filter (λ h. is_systems h.0) s
 
