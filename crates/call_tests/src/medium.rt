@@ -1,5 +1,5 @@
-//! What a call of the medium would be answered, told before it is made: no part of the program asks that yet. A value
-//! that is dear to drop is dropped on one path alone.
+//! What a Turn would be answered, told before it is made: no part of the program asks that yet, and of the calls it is
+//! the one whose preview takes memory. A value that is dear to drop is dropped on one path alone.
 ghost use Rattle.std.specs.Prelude.{◌≡◌, true, length, IfOk};
 ghost use Rattle.grs_medium.specs.Medium.{systems_of};
 ghost use Rattle.grs_medium.specs.Apply.{MayCall};
@@ -11,16 +11,13 @@ use grs_wire::{Act, Call, Reply, Req, Want};
 use std::alloc::Global;
 use std::test::Fail;
 
-/// What is said of a call: how many entries a Turn gives, 8 for Resting, 9 for Purged and 10 for any other reply;
-/// and whether it changes the medium.
+/// How many entries a Turn would give, 9 for any other reply; and whether it changes the medium.
 type Seen = (usize, bool);
 
 fn brief(reply: &Reply) -> usize {
     match reply {
         Reply::Turned { entries, .. } => entries.len(),
-        Reply::Resting => 8,
-        Reply::Purged => 9,
-        _ => 10,
+        _ => 9,
     }
 }
 
@@ -87,6 +84,7 @@ fn put(alloc: Global, medium: &mut Medium) -> Result<(), Fail>
     Ok(())
 }
 
+/// What system 1 would be answered at its Turn.
 fn turn_of(alloc: Global, medium: &Medium) -> Result<Seen, NoMemory>
     requires { systems_of medium.now.state ≡ 2 }
 {
@@ -96,42 +94,14 @@ fn turn_of(alloc: Global, medium: &Medium) -> Result<Seen, NoMemory>
     previewed(medium, SysId(1), &call)
 }
 
-fn rest_of(medium: &Medium) -> Result<Seen, NoMemory>
-    requires { systems_of medium.now.state ≡ 2 }
-{
-    let act = Act::Rest;
-    let call = Call { known: 0, act };
-    previewed(medium, SysId(1), &call)
-}
-
-fn removal_of(medium: &Medium) -> Result<Seen, NoMemory>
-    requires { systems_of medium.now.state ≡ 2 }
-{
-    let target = SysId(0);
-    let act = Act::Purge { target };
-    let call = Call { known: 0, act };
-    previewed(medium, SysId(1), &call)
-}
-
-/// What system 1 would be answered: its Turn, its Rest, and its removal of system 0.
-fn previews(alloc: Global, medium: &Medium) -> Result<[Seen; 3], NoMemory>
-    requires { systems_of medium.now.state ≡ 2 }
-{
-    Ok([
-        turn_of(alloc, medium)?,
-        rest_of(medium)?,
-        removal_of(medium)?,
-    ])
-}
-
-fn seen_of(alloc: Global, medium: &mut Medium) -> Result<[Seen; 3], Fail>
+fn seen_of(alloc: Global, medium: &mut Medium) -> Result<Seen, Fail>
     requires { systems_of medium.old.state ≡ 2 }
 {
     put(alloc, medium)?;
-    Ok(previews(alloc, medium)?)
+    Ok(turn_of(alloc, medium)?)
 }
 
-fn two_systems(alloc: Global) -> Result<[Seen; 3], Fail> {
+fn two_systems(alloc: Global) -> Result<Seen, Fail> {
     let mut medium = Medium::new(alloc, 2, 1, false)?;
     seen_of(alloc, &mut medium)
 }
@@ -139,6 +109,6 @@ fn two_systems(alloc: Global) -> Result<[Seen; 3], Fail> {
 #[test]
 fn tells_before(rt: HostRuntime) -> Result<(), Fail> {
     let seen = two_systems(rt.alloc())?;
-    assert_eq!(rt; seen, [(1, true), (8, true), (9, true)]);
+    assert_eq!(rt; seen, (1, true));
     Ok(())
 }
