@@ -21,15 +21,6 @@ use Rattle.grs_base.proofs.ListLaws.{same_task-sym, is_owner-standing}
 use Rattle.grs_base.proofs.StateLaws.{list_at-without, res_equality, list_of-effect, only_owner}
 use Rattle.grs_wire.specs.Wants.{became_owners}
 
-owns_shared-any : (es : List Elem) (t : TaskId) → owns_shared es t ≡ list_any (λ e. same_task t e.task) (take (shared_front es) es)
-owns_shared-any [] t = refl
-owns_shared-any (e ∷ es) t = grind (arith, owns_shared-any es t)
-
--- an owner is one of the first elements
-pub owns-any : (es : List Elem) (t : TaskId) → owns es t ≡ list_any (λ e. same_task t e.task) (take (owners es) es)
-owns-any [] t = refl
-owns-any (e ∷ es) t = grind (arith, owns_shared-any es t)
-
 module _ (p : Elem → Bool) where
   none_in_front : (es : List Elem) → ((x : Elem) → owns_shared es x.task ≡ true → p x ≡ false) → pick p (λ e. e.task) (take (shared_front es) es) ≡ []
   none_in_front [] h = refl
@@ -195,27 +186,4 @@ became_owners-without es t apart =
     ∙ pick-behind new (λ e. e.task) n front back fails passes
     ∙ ap (λ (l : List Elem). map (λ (e : Elem). e.task) (drop (length front) (take n l))) (sym split)
 
-take_all : {X : Type 0} (xs : List X) (n : ℕ) → length xs ≤ n → take n xs ≡ xs
-take_all [] zero h = refl
-take_all [] (suc n) h = refl
-take_all (x ∷ xs) zero h = absurd (omega arith)
-take_all (x ∷ xs) (suc n) h = ap (λ l. x ∷ l) (take_all xs n (omega arith))
-
--- the end of a slice from k on
-rest_slice : {X : Type 0} (xs : List X) (k : ℕ) → take (length xs - k) (drop k xs) ≡ drop k xs
-rest_slice xs k = take_all (drop k xs) (length xs - k) (grind (arith, length-drop k xs))
-
--- the same of a list, its owners and a count that are equal to those
-pub owners-behind : (es rest own : List Elem) (t : TaskId) (k : ℕ) → is_apart es ≡ true → rest ≡ list_without es t → own ≡ take (owners rest) rest → k ≡ length (list_without (take (owners es) es) t) → map (λ e. e.task) (take (length own - k) (drop k own)) ≡ became_owners es (list_without es t) t
-owners-behind es rest own t k apart is_rest is_own is_k =
-    ap (map (λ (e : Elem). e.task)) (rest_slice own k)
-    ∙ ap (λ (n : ℕ). map (λ (e : Elem). e.task) (drop n own)) is_k
-    ∙ ap (λ (l : List Elem). map (λ (e : Elem). e.task) (drop (length (list_without (take (owners es) es) t)) l)) (is_own ∙ ap (λ (l : List Elem). take (owners l) l) is_rest)
-    ∙ sym (became_owners-without es t apart)
-
--- and where no owners are behind those
-pub owners-none : (es rest own : List Elem) (t : TaskId) (k : ℕ) → is_apart es ≡ true → rest ≡ list_without es t → own ≡ take (owners rest) rest → k ≡ length (list_without (take (owners es) es) t) → length own ≤ k → [] ≡ became_owners es (list_without es t) t
-owners-none es rest own t k apart is_rest is_own is_k past =
-    ap (map (λ (e : Elem). e.task)) (sym (drop_of_length-le own past) ∙ sym (rest_slice own k)) ∙ owners-behind es rest own t k apart is_rest is_own is_k
-
-pub ruleset outcomes = (owns-any, became_owners-same, became_owners-enq, list_of-deq, list_of-release)
+pub ruleset outcomes = (became_owners-same, became_owners-enq, list_of-deq, list_of-release)

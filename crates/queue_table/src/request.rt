@@ -2,7 +2,6 @@
 ghost use Rattle.std.specs.Prelude.{◌≡◌, IfOk, OnOk, OnErr};
 ghost use Rattle.grs_wire.specs.Wants.{answer_to, after_want, new_owners};
 
-use super::owners::{owners_behind, owners_behind_owner};
 use super::slices::look_slices;
 use super::table::Table;
 use grs_base::{Code, List, NoMemory, Queues, TaskId};
@@ -49,21 +48,16 @@ impl<Q: Queues> Table<Q> {
                 ret,
                 full,
             } => {
-                let res = res.copy(alloc)?;
-                self.reserve(&res)?;
-                let code = self.enq(res, req.task, *ctl, *ret, *full);
+                self.reserve(res)?;
+                let code = self.enq_copied(alloc, res, req.task, *ctl, *ret, *full)?;
                 Ok(unranked(Answer::Coded(code), List::new(alloc)))
             }
             Want::Deq { res, have } => {
-                let list = self.list(alloc, res)?;
-                let owners = owners_behind_owner(alloc, list.as_slice(), req.task)?;
-                let code = self.deq(res, req.task, *have);
+                let (code, owners) = self.deq_told(alloc, res, req.task, *have)?;
                 Ok(unranked(Answer::Coded(code), owners))
             }
             Want::Release { res } => {
-                let list = self.list(alloc, res)?;
-                let owners = owners_behind(alloc, list.as_slice(), req.task)?;
-                self.release(res, req.task);
+                let owners = self.release_told(alloc, res, req.task)?;
                 Ok(unranked(Answer::Coded(Code::C00), owners))
             }
             Want::Look {
