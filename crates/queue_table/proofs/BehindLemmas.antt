@@ -1,12 +1,12 @@
 -- Who gets control behind an element that leaves, by its place.
-use Rattle.std.proofs.Common.{◌≡◌, ◌≤◌, ◌<◌, ◌+◌, ℕ, zero, suc, Bool, true, false, not, cond, ◌&&◌, List, [], ◌∷◌, ◌++◌, take, drop, length, map, refl, ap, sym, ◌∙◌, arith, eqb, leb, Option, Some}
+use Rattle.std.proofs.Common.{◌≡◌, ◌≤◌, ◌+◌, ℕ, zero, suc, Bool, true, false, cond, List, [], ◌∷◌, take, drop, length, map, refl, ap, sym, ◌∙◌, arith, eqb, leb, Some}
 use Rattle.std.specs.Prelude.{slice_get}
 use Rattle.std.proofs.Math.ListN.{drop_of_length-le}
 use Rattle.std.proofs.lemmas.Bool.Decides.{nat_tests}
 use Rattle.std.proofs.lemmas.List.{length-take-le}
 use Rattle.grs_base.specs.Same.{same_task}
-use Rattle.grs_base.specs.Lists.{is_apart, has_task, is_shared, shared_front, owners, place_of, standing_of, list_without, is_owner}
-use Rattle.grs_base.specs.State.{State, list_of, deq_state, release_state}
+use Rattle.grs_base.specs.Lists.{is_apart, has_task, is_shared, shared_front, owners, place_of, list_without}
+use Rattle.grs_base.specs.State.{State, list_of, release_state}
 use Rattle.grs_base.specs.declared.resource.TaskId.{TaskId}
 use Rattle.grs_base.specs.declared.resource.Elem.{Elem}
 use Rattle.grs_base.specs.declared.resource.Res.{Res}

@@ -1,6 +1,6 @@
-use Rattle.std.proofs.Common.{◌≡◌, ◌≤◌, ◌∙◌, [], length, arith, nat_eq}
+use Rattle.std.proofs.Common.{◌≤◌, ◌∙◌, [], length, arith, nat_eq}
 use Rattle.grs_base.specs.Lists.{place_of}
-use Rattle.grs_base.specs.State.{list_at, list_of}
+use Rattle.grs_base.specs.State.{list_at}
 use Rattle.queue_table.specs.Names.{named}
 use Rattle.queue_table.proofs.NameLemmas.{release-none}
 use Rattle.queue_table.proofs.BehindLemmas.{told_none}
