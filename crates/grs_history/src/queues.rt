@@ -26,10 +26,9 @@ fn settle(
             ret,
             ..
         } => {
-            let res = res.copy(alloc)?;
-            table.reserve(&res)?;
+            table.reserve(res)?;
             let full = limit as usize <= table.count(*task);
-            table.enq(res, *task, *ctl, *ret, full);
+            table.enq_copied(alloc, res, *task, *ctl, *ret, full)?;
         }
         HistEntry::Deq {
             task,

@@ -70,10 +70,9 @@ fn settle(
             ret,
             full,
         } => {
-            let asked = res.copy(alloc)?;
+            table.reserve(res)?;
+            let code = table.enq_copied(alloc, res, task, *ctl, *ret, *full)?;
             let res = res.copy(alloc)?;
-            table.reserve(&asked)?;
-            let code = table.enq(asked, task, *ctl, *ret, *full);
             hist.push(HistEntry::Enq {
                 task,
                 res,
@@ -138,7 +137,7 @@ pub fn answers(alloc: Global, fixed: &[(SysId, Fixed)]) -> Result<List<HistEntry
     ensures { IfOk result (λ hist. hist ≡ answered fixed.now) }
 {
     let mut table = Table::new(alloc, PlainQueues::new(alloc));
-    let mut hist = List::new(alloc);
+    let mut hist = List::with_room(alloc, fixed.len())?;
     for one in fixed {
         fix(alloc, &mut table, one.0, &one.1, &mut hist)?;
     }
