@@ -1,6 +1,7 @@
 -- What a system does with the entries of the authority message, one by one: its table of the Systems resources,
 -- and what its tasks are told.
 use Rattle.std.specs.Prelude.{ℕ, Bool, true, false, cond, ◌&&◌, ◌==◌, List, [], ◌∷◌, Option, Some, None}
+use Rattle.std.specs.List.{list_all}
 use Rattle.std.specs.Str.{bytes_eq}
 use Rattle.grs_base.specs.Same.{same_res}
 use Rattle.grs_base.specs.State.{State, is_systems}
@@ -101,12 +102,30 @@ process n q = record {
   shared = after_want n.shared q.task q.want;
 }
 
--- An entry is processed. One that is for a resource of one system alone has no effect; none removes a system yet.
-unfoldable pub process_entry : Side → RingBody → Side
-process_entry n (Request q) = cond (is_for_all (res_wanted q.want)) (process n q) n
-process_entry n (Remove t) = n
+-- A request that the message brought is processed. One that is for a resource of one system alone has no effect.
+unfoldable pub process_entry : Side → Req → Side
+process_entry n q = cond (is_for_all (res_wanted q.want)) (process n q) n
 
--- these entries, in order
-unfoldable pub process_all : Side → List RingEntry → Side
+-- these requests, in order
+unfoldable pub process_all : Side → List Req → Side
 process_all n [] = n
-process_all n (e ∷ es) = process_all (process_entry n e.body) es
+process_all n (q ∷ qs) = process_all (process_entry n q) qs
+
+-- whether an entry is a request
+abbrev pub is_request : RingBody → Bool
+is_request (Request q) = true
+is_request (Remove t) = false
+
+-- whether all of these entries are requests
+abbrev pub are_requests : List RingEntry → Bool
+are_requests es = list_all (λ e. is_request e.body) es
+
+-- these requests behind that of an entry, if it is one
+abbrev pub request_then : RingBody → List Req → List Req
+request_then (Request q) qs = q ∷ qs
+request_then (Remove t) qs = qs
+
+-- the requests of these entries, in order
+abbrev pub requests_in : List RingEntry → List Req
+requests_in [] = []
+requests_in (e ∷ es) = request_then e.body (requests_in es)

@@ -1,10 +1,10 @@
 //! The entries of the authority message, at one system.
-ghost use Rattle.std.specs.Prelude.{◌≡◌, ◌&&◌, length, OnOk};
+ghost use Rattle.std.specs.Prelude.{◌≡◌, ◌&&◌, [], true, length, OnOk};
 ghost use Rattle.std.specs.Option.{option_copied};
 ghost use Rattle.grs_wire.specs.Wants.{res_wanted};
 ghost use Rattle.task_state.specs.View.{is_task, state_of};
 ghost use Rattle.ring_mode.specs.Ring as ring;
-ghost use Rattle.ring_mode.specs.Ring.{side_of};
+ghost use Rattle.ring_mode.specs.Ring.{side_of, is_request, are_requests, request_then, requests_in};
 
 use super::same::{is_asked, is_sent};
 use grs_base::{List, NoMemory, Queues, Res};
@@ -70,43 +70,62 @@ fn process<Q: Queues>(
     tell_new(tasks, res_of(&req.want), outcome.owners.as_slice())
 }
 
-/// Processes an entry. One for a resource of one system alone is passed over, and so is one that removes a
-/// system.
+/// Processes a request that the message brought. One for a resource of one system alone is passed over.
 #[tactic(auto, unfolding(crate::specs::Ring::process_entry))]
 fn process_entry<Q: Queues>(
     alloc: Global,
     table: &mut Table<Q>,
     tasks: &mut Tasks,
+    req: &Req,
+) -> Result<(), NoMemory>
+    ensures step { OnOk result (side_of tasks.new table.new.held ≡ ring.process_entry (side_of tasks.old table.old.held) req.now) }
+    ensures system { tasks.new.system ≡ tasks.old.system }
+    ensures count { length tasks.new.tasks ≡ length tasks.old.tasks }
+{
+    if is_for_all(res_of(&req.want)) {
+        process(alloc, table, tasks, req)
+    } else {
+        Ok(())
+    }
+}
+
+/// Processes what an entry says, which is a request.
+#[tactic(auto, unfolding(crate::specs::Ring::process_all))]
+fn process_body<Q: Queues>(
+    alloc: Global,
+    table: &mut Table<Q>,
+    tasks: &mut Tasks,
     body: &RingBody,
 ) -> Result<(), NoMemory>
-    ensures step { OnOk result (side_of tasks.new table.new.held ≡ ring.process_entry (side_of tasks.old table.old.held) body.now) }
+    requires { is_request body.now ≡ true }
+    ensures step { OnOk result (side_of tasks.new table.new.held ≡ ring.process_all (side_of tasks.old table.old.held) (request_then body.now [])) }
     ensures system { tasks.new.system ≡ tasks.old.system }
     ensures count { length tasks.new.tasks ≡ length tasks.old.tasks }
 {
     match body {
-        RingBody::Request(req) if is_for_all(res_of(&req.want)) => process(
-            alloc, table, tasks, req,
-        ),
-        RingBody::Request(_) | RingBody::Remove(_) => Ok(()),
+        RingBody::Request(req) => process_entry(alloc, table, tasks, req),
+        RingBody::Remove(_) => unreachable!(),
     }
 }
 
-/// Processes these entries in order on the table of the Systems resources, and tells the tasks of the system
-/// what concerns them. After NoMemory some entries may be processed, and the system is to be given up.
-#[tactic(auto, unfolding(crate::specs::Ring::process_all))]
+/// Processes these entries, each of which is a request, in order on the table of the Systems resources, and
+/// tells the tasks of the system what concerns them. After NoMemory some entries may be processed, and the
+/// system is to be given up.
+#[tactic(auto, using(crate::proofs::Requests::requests_first), unfolding(crate::specs::Ring::process_all))]
 pub fn on_turn<Q: Queues>(
     alloc: Global,
     table: &mut Table<Q>,
     tasks: &mut Tasks,
     entries: List<RingEntry>,
 ) -> Result<(), NoMemory>
-    ensures step { OnOk result (side_of tasks.new table.new.held ≡ ring.process_all (side_of tasks.old table.old.held) entries) }
+    requires { are_requests entries ≡ true }
+    ensures step { OnOk result (side_of tasks.new table.new.held ≡ ring.process_all (side_of tasks.old table.old.held) (requests_in entries)) }
     ensures system { tasks.new.system ≡ tasks.old.system }
     ensures count { length tasks.new.tasks ≡ length tasks.old.tasks }
 {
     let mut rest = entries.as_slice();
     while let Some((entry, tail)) = rest.split_first() {
-        process_entry(alloc, table, tasks, &entry.body)?;
+        process_body(alloc, table, tasks, &entry.body)?;
         rest = tail;
     }
     Ok(())
