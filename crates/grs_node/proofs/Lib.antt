@@ -2,4 +2,7 @@ pub mod ScriptCounts
 pub mod UnitCounts
 pub mod Places
 pub mod Kept
-pub mod OfDeck
+pub mod Deck
+pub mod Entries
+pub mod Finish
+pub mod Samples

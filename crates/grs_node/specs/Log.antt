@@ -1,5 +1,5 @@
 -- A system with its deck and what it keeps of its own events.
-use Rattle.std.specs.Prelude.{◌≡◌, ℕ, Bool, true, false, cond, List, [], ◌∷◌, ◌++◌, length, drop, Option, Some, None}
+use Rattle.std.specs.Prelude.{ℕ, Bool, true, false, cond, List, [], ◌∷◌, ◌++◌, length, drop, Option, Some, None}
 use Rattle.grs_wire.specs.declared.deck.Choice.{Choice}
 use Rattle.grs_wire.specs.declared.deck.Deck.{Deck}
 use Rattle.grs_wire.specs.declared.log.StepDone.{StepDone}
@@ -7,8 +7,7 @@ use Rattle.grs_wire.specs.declared.medium.Reply.{Reply}
 use Rattle.grs_wire.specs.declared.request.Fixed.{Fixed}
 use Rattle.grs_wire.specs.declared.seen.TaskEnd.{TaskEnd}
 use Rattle.grs_wire.specs.declared.seen.TaskEnd.TheVariants as ends
-use Rattle.grs_node.specs.Node.{Node, Step, first_node, prepare, finish}
-use Rattle.grs_node.specs.declared.prepared.Prepared.TheVariants.{Quiet}
+use Rattle.grs_node.specs.Node.{Node, Step, first_node, finish}
 use Rattle.task_state.specs.declared.state.Phase.{Phase}
 use Rattle.task_state.specs.declared.state.Phase.TheVariants as phases
 
@@ -39,11 +38,6 @@ step_done n choice journalled s = record {
 abbrev pub logged : NodeView → Choice → Bool → Step → NodeView
 logged v choice journalled s = record { deck = v.deck; node = s.node; log = v.log ++ step_done v.node choice journalled s ∷ [] }
 
--- the reply alone
-abbrev pub reply_in : Option (Reply × Bool) → Option Reply
-reply_in None = None
-reply_in (Some r) = Some r.0
-
 -- The system after a choice. What is done without a call goes into the log, and a call exactly where it has an
 -- entry in the journal.
 unfoldable pub finished : NodeView → Choice → Option (Reply × Bool) → NodeView
@@ -52,11 +46,6 @@ finished v choice (Some r) =
     cond r.1
     (logged v choice true (finish v.deck v.node choice (Some r.0)))
     (record v { node = (finish v.deck v.node choice (Some r.0)).node })
-
--- A choice is finished without a reply only where it is prepared to be done without a call.
-abbrev pub MayFinish : NodeView → Choice → Option (Reply × Bool) → Type 0
-MayFinish v choice None = prepare v.deck v.node choice ≡ Quiet
-MayFinish v choice (Some r) = Unit {0}
 
 -- the end of a task in this phase
 abbrev pub end_in : Phase → TaskEnd

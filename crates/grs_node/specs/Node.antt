@@ -1,9 +1,10 @@
 -- A system, event by event: what each choice comes to, and what the system is afterwards. An event is prepared,
 -- makes at most one call of the medium, and is finished with the reply.
-use Rattle.std.specs.Prelude.{ℕ, Bool, true, false, not, cond, ◌&&◌, ◌||◌, ◌==◌, nat_le, nat_lt, List, [], ◌∷◌, ◌++◌, length, map, filter, take, drop, Option, Some, None, slice_get, is_some}
+use Rattle.std.specs.Prelude.{ℕ, Bool, true, false, not, cond, ◌&&◌, ◌||◌, ◌==◌, nat_le, nat_lt, List, [], ◌∷◌, ◌++◌, length, map, take, drop, Option, Some, None, slice_get, is_some}
 use Rattle.std.specs.List.{list_any}
 use Rattle.grs_base.specs.State.{State}
 use Rattle.grs_base.specs.declared.resource.Res.{Res}
+use Rattle.grs_base.specs.declared.resource.SysId.{SysId}
 use Rattle.grs_base.specs.declared.resource.TaskId.{TaskId}
 use Rattle.grs_base.specs.declared.decision.Code.TheVariants.{C00, C08}
 use Rattle.grs_legal.specs.Asks.{lines_of, scripts_of}
@@ -29,7 +30,7 @@ use Rattle.grs_wire.specs.declared.told.Verb.TheVariants as verbs
 use Rattle.grs_wire.specs.declared.told.ToldLine.TheVariants as told
 use Rattle.grs_node.specs.declared.prepared.Prepared.{Prepared}
 use Rattle.grs_node.specs.declared.prepared.Prepared.TheVariants.{Quiet, Call, Nothing}
-use Rattle.ring_mode.specs.Ring.{Side, is_for_all, process_all}
+use Rattle.ring_mode.specs.Ring.{Side, side_of, is_for_all, process_entry}
 use Rattle.task_state.specs.Replies.{replied, tell_code, tell_new}
 use Rattle.task_state.specs.declared.state.Rec.{Rec}
 use Rattle.task_state.specs.declared.state.Phase.{Phase}
@@ -176,16 +177,27 @@ unfoldable pub finish_quiet : Deck → Node → Choice → Step
 finish_quiet deck n (choices.Task t) = task_step deck.limit n t (lines_of deck t)
 finish_quiet deck n _ = only n
 
--- whether an entry is of a task of the deck
-abbrev pub is_of_deck : Deck → RingBody → Bool
-is_of_deck deck (bodies.Request q) = is_some (lines_of deck q.task)
-is_of_deck deck (bodies.Remove t) = true
+-- a system with this part for the ring
+abbrev pub with_side : Node → Side → Node
+with_side n side = record n { tasks = side.tasks; shared = side.shared }
 
--- the entries of the message that the system was given, processed in order
+-- A system processes that another one is removed. Until removals are built it does nothing.
+abbrev pub process_removal : Node → SysId → Node
+process_removal n target = n
+
+-- whether a task is one of the deck
+abbrev pub is_of_deck : Deck → TaskId → Bool
+is_of_deck deck t = is_some (lines_of deck t)
+
+-- A system processes an entry of the message. A request of a task that isn't of the deck has no effect.
+abbrev pub read_entry : Deck → Node → RingBody → Node
+read_entry deck n (bodies.Request q) = cond (is_of_deck deck q.task) (with_side n (process_entry (side_of n.tasks n.shared) q)) n
+read_entry deck n (bodies.Remove target) = process_removal n target
+
+-- the entries of the message that the system was given, in order
 unfoldable pub read_entries : Deck → Node → List RingEntry → Node
-read_entries deck n es =
-    let side : Side = process_all (record { tasks = n.tasks; shared = n.shared }) (filter (λ e. is_of_deck deck e.body) es) in
-    record n { tasks = side.tasks; shared = side.shared }
+read_entries deck n [] = n
+read_entries deck n (e ∷ es) = read_entries deck (read_entry deck n e.body) es
 
 -- tasks whose requests were put in
 unfoldable pub all_sent : TasksView → List Req → TasksView

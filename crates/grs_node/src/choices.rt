@@ -1,14 +1,15 @@
 //! What a choice of a system comes to. Nothing here changes anything.
-ghost use Rattle.std.specs.Prelude.{◌≡◌, take, IfOk};
+ghost use Rattle.std.specs.Prelude.{◌≡◌, ◌&&◌, is_some, take, IfOk};
 ghost use Rattle.std.specs.List.{list_any};
 ghost use Rattle.std.specs.Option.{option_copied};
 ghost use Rattle.grs_node.specs.Node as steps;
-ghost use Rattle.grs_node.specs.Scripts.{all_scripts, may_go_among};
+ghost use Rattle.grs_legal.specs.Asks.{lines_in, scripts_of};
+ghost use Rattle.task_state.specs.View.{is_task, state_of};
 
 use super::lines::goes_on;
 use super::prepared::Prepared;
-use super::scripts::{Script, lines_within, system_at};
-use super::system::System;
+use super::scripts::{Script, lines_among, system_at};
+use super::state::NodeState;
 use grs_base::{List, NoMemory, TaskId, copy_all};
 use grs_wire::{Act, Call, Choice, Deck, Req, SystemDef};
 use std::alloc::Global;
@@ -49,7 +50,7 @@ fn any_goes_on(tasks: &[TaskState]) -> bool
     tasks.iter().any(|state| goes_on(&state.phase))
 }
 
-impl System {
+impl NodeState {
     /// Whether something is pending: a task that has something to do by itself, a request in the outbox, or a
     /// line of the desk.
     #[tactic(auto, unfolding(crate::specs::Node::is_pending))]
@@ -62,25 +63,24 @@ impl System {
     }
 
     /// Whether a task is of this system, has lines, and has something to do.
-    #[tactic(auto, unfolding(crate::specs::Scripts::may_go_among))]
-    fn may_go(&self, scripts: &[List<Script<'_>>], task: TaskId) -> bool
-        ensures { result ≡ may_go_among scripts.now self.now task }
+    fn may_go(&self, scripts: &[Script<'_>], task: TaskId) -> bool
+        ensures { result ≡ (is_task self.now.tasks task && (is_some (lines_in scripts.now task) && steps.goes_on (state_of self.now.tasks task).phase)) }
     {
         self.tasks.has(task)
-            && lines_within(scripts, task).is_some()
+            && lines_among(scripts, task).is_some()
             && goes_on(self.tasks.phase(task))
     }
 
     /// What a choice comes to.
-    #[tactic(auto, using(crate::proofs::OfDeck::of_deck), unfolding(crate::specs::Node::prepare))]
+    #[tactic(auto, using(crate::proofs::Deck::of_system), unfolding(crate::specs::Node::prepare))]
     pub(crate) fn prepare(
         &self,
         alloc: Global,
         deck: &Deck,
-        scripts: &[List<Script<'_>>],
+        scripts: &[Script<'_>],
         choice: Choice,
     ) -> Result<Prepared, NoMemory>
-        requires { scripts.now ≡ all_scripts deck.now.systems }
+        requires { scripts.now ≡ scripts_of deck.now self.now.tasks.system }
         ensures { IfOk result (λ prepared. prepared ≡ steps.prepare deck.now self.now choice) }
     {
         match choice {

@@ -3,11 +3,12 @@
 #![tactic(auto)]
 
 mod choices;
+pub mod laws;
 mod lines;
 mod node;
 mod prepared;
 mod scripts;
-mod system;
+mod state;
 mod turn;
 
 pub use node::Node;

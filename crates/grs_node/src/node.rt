@@ -4,13 +4,14 @@ ghost use Rattle.std.specs.Prelude.{◌≡◌, ◌<◌, ◌++◌, ◌∷◌, [],
 ghost use Rattle.task_state.specs.View.{is_task, state_of};
 ghost use Rattle.grs_node.specs.Node as steps;
 ghost use Rattle.grs_node.specs.Units.{counted, reserved_of};
-ghost use Rattle.grs_node.specs.Log.{MayFinish, starting, stepped, finished, end_in};
+ghost use Rattle.grs_node.specs.Finish.{MayFinish};
+ghost use Rattle.grs_node.specs.Log.{starting, stepped, finished, end_in};
 ghost use Rattle.grs_node.specs.declared.prepared.Prepared.TheVariants.{Quiet};
 
 use super::lines::end_by;
 use super::prepared::Prepared;
-use super::scripts::{Script, scripts_of_all, sizes_of};
-use super::system::System;
+use super::scripts::{Script, scripts_of, sizes_of};
+use super::state::NodeState;
 use grs_base::{List, NoMemory, SysId, TaskId, copy_all};
 use grs_wire::{Choice, Deck, Fixed, NodeLog, Reply, StepDone, TaskEnd, ToldLine};
 use std::alloc::Global;
@@ -20,22 +21,22 @@ use std::marker::Model;
 #[derive(Drop)]
 pub struct Node<'d> {
     deck: &'d Deck,
-    scripts: List<List<Script<'d>>>,
-    system: System,
+    scripts: List<Script<'d>>,
+    state: NodeState,
     log: NodeLog,
     alloc: Global,
 }
 
 impl<'d> Model for Node<'d> {
     ghost use Rattle.std.specs.Prelude.{◌≡◌};
-    ghost use Rattle.grs_node.specs.Scripts.{all_scripts};
+    ghost use Rattle.grs_legal.specs.Asks.{scripts_of};
     ghost use Rattle.grs_node.specs.Log.{NodeView};
 
     ghost Value = { NodeView };
 
-    ghost view = { λ a. record { deck = a.deck.now; node = a.system; log = a.log.steps } };
+    ghost view = { λ a. record { deck = a.deck.now; node = a.state; log = a.log.steps } };
 
-    ghost invariant = { λ a. a.scripts ≡ all_scripts a.deck.now.systems };
+    ghost invariant = { λ a. a.scripts ≡ scripts_of a.deck.now a.state.tasks.system };
 }
 
 /// The lines from a place on.
@@ -76,13 +77,13 @@ impl<'d> Node<'d> {
         requires { system.0 < length deck.now.systems }
         ensures { IfOk result (λ n. n ≡ starting deck.now system.0) }
     {
-        let scripts = scripts_of_all(alloc, deck.systems.as_slice())?;
+        let scripts = scripts_of(alloc, deck, system)?;
         let jobs = sizes_of(alloc, deck, system)?;
-        let system = System::new(alloc, system, jobs.as_slice())?;
+        let state = NodeState::new(alloc, system, jobs.as_slice())?;
         Ok(Node {
             deck,
             scripts,
-            system,
+            state,
             log: NodeLog {
                 steps: List::new(alloc),
             },
@@ -94,7 +95,7 @@ impl<'d> Node<'d> {
     pub fn prepare(&self, choice: &Choice) -> Result<Prepared, NoMemory>
         ensures { IfOk result (λ prepared. prepared ≡ steps.prepare self.now.deck self.now.node choice.now) }
     {
-        self.system
+        self.state
             .prepare(self.alloc, self.deck, self.scripts.as_slice(), *choice)
     }
 
@@ -110,7 +111,7 @@ impl<'d> Node<'d> {
         ensures node { self.new.node ≡ self.old.node }
         ensures deck { self.new.deck ≡ self.old.deck }
     {
-        let lines = self.system.tasks.told().as_slice();
+        let lines = self.state.tasks.told().as_slice();
         let step = step_of(self.alloc, choice, journalled, fixed, lines, place)?;
         self.log.steps.push(step)
     }
@@ -125,7 +126,7 @@ impl<'d> Node<'d> {
     {
         let alloc = self.alloc;
         let deck = self.deck;
-        self.system
+        self.state
             .finish_quiet(alloc, deck, self.scripts.as_slice(), choice)
     }
 
@@ -138,8 +139,7 @@ impl<'d> Node<'d> {
     {
         let alloc = self.alloc;
         let deck = self.deck;
-        self.system
-            .finish_call(alloc, deck, self.scripts.as_slice(), reply)
+        self.state.finish_call(alloc, deck, reply)
     }
 
     /// Finishes a choice: without a reply what was prepared to be done without a call, else with the reply to
@@ -153,7 +153,7 @@ impl<'d> Node<'d> {
         ensures deck { self.new.deck ≡ self.old.deck }
         ensures system { self.new.node.tasks.system ≡ self.old.node.tasks.system }
     {
-        let place = self.system.tasks.told().len();
+        let place = self.state.tasks.told().len();
         match reply {
             None => {
                 let fixed = self.finish_quiet(*choice)?;
@@ -174,7 +174,7 @@ impl<'d> Node<'d> {
     pub fn system(&self) -> SysId
         ensures { result.0 ≡ self.now.node.tasks.system }
     {
-        self.system.tasks.system()
+        self.state.tasks.system()
     }
 
     /// The events so far.
@@ -189,7 +189,7 @@ impl<'d> Node<'d> {
     pub fn pending(&self) -> bool
         ensures { result ≡ steps.is_pending self.now.deck self.now.node }
     {
-        self.system.is_pending(self.deck)
+        self.state.is_pending(self.deck)
     }
 
     /// How often each unit is reserved in hardware, by unit, without those that aren't reserved.
@@ -197,7 +197,7 @@ impl<'d> Node<'d> {
     pub fn units(&self) -> Result<List<(u16, u32)>, NoMemory>
         ensures { IfOk result (λ counts. counts ≡ counted (reserved_of self.now.node.tasks.tasks)) }
     {
-        let counts = self.system.tasks.units()?;
+        let counts = self.state.tasks.units()?;
         Ok(counts)
     }
 
@@ -205,7 +205,7 @@ impl<'d> Node<'d> {
     pub fn has(&self, task: TaskId) -> bool
         ensures { result ≡ is_task self.now.node.tasks task }
     {
-        self.system.tasks.has(task)
+        self.state.tasks.has(task)
     }
 
     /// How a task stands.
@@ -213,6 +213,6 @@ impl<'d> Node<'d> {
         requires { is_task self.now.node.tasks task ≡ true }
         ensures { result ≡ end_in (state_of self.now.node.tasks task).phase }
     {
-        end_by(self.system.tasks.phase(task))
+        end_by(self.state.tasks.phase(task))
     }
 }

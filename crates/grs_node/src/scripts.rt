@@ -1,7 +1,8 @@
 //! Which task has which lines. The lines stay in the deck.
-ghost use Rattle.std.specs.Prelude.{◌≡◌, ◌++◌, map, length, slice_get, sum, option_copied, IfOk};
-ghost use Rattle.grs_node.specs.Scripts.{all_scripts, lines_within};
-ghost use Rattle.grs_legal.specs.Asks.{lines_in, scripts_in, scripts_from, scripts_of};
+ghost use Rattle.std.specs.Prelude.{◌≡◌, ◌++◌, map, length, slice_get, is_some, sum, option_copied, IfOk};
+ghost use Rattle.grs_legal.specs.Asks as asks;
+ghost use Rattle.grs_legal.specs.Asks.{lines_in, scripts_in, scripts_from};
+ghost use Rattle.grs_node.specs.Node.{is_of_deck};
 
 use grs_base::{Line, List, NoMemory, SysId, TaskId};
 use grs_wire::{Deck, JobDef, SystemDef, TaskDef};
@@ -54,20 +55,6 @@ fn scripts_of_jobs(alloc: Global, jobs: &[JobDef]) -> Result<Vec<Script<'_>>, No
     Ok(scripts)
 }
 
-/// The scripts of the tasks of all systems, in order.
-pub(crate) fn scripts_of_all(
-    alloc: Global,
-    systems: &[SystemDef],
-) -> Result<List<List<Script<'_>>>, NoMemory>
-    ensures { IfOk result (λ all. all ≡ all_scripts systems.now) }
-{
-    let mut all = List::new(alloc);
-    for system in systems {
-        all.push(List::from_vec(scripts_of_jobs(alloc, system.jobs.as_slice())?))?;
-    }
-    Ok(all)
-}
-
 /// The number of tasks of a job. There is no memory for more than 4,294,967,295.
 fn size_of(job: &JobDef) -> Result<u32, NoMemory>
     ensures { IfOk result (λ size. size ≡ length job.now.tasks) }
@@ -99,10 +86,24 @@ pub(crate) fn system_at(deck: &Deck, system: SysId) -> Option<&SystemDef>
     deck.systems.as_slice().get(system.0 as usize)
 }
 
+/// The scripts of the tasks of a system.
+pub(crate) fn scripts_of(
+    alloc: Global,
+    deck: &Deck,
+    system: SysId,
+) -> Result<List<Script<'_>>, NoMemory>
+    ensures { IfOk result (λ scripts. scripts ≡ asks.scripts_of deck.now system.0) }
+{
+    match system_at(deck, system) {
+        None => Ok(List::new(alloc)),
+        Some(def) => Ok(List::from_vec(scripts_of_jobs(alloc, def.jobs.as_slice())?)),
+    }
+}
+
 /// The numbers of tasks of the jobs of a system.
 #[tactic(auto, using(crate::proofs::ScriptCounts::counts))]
 pub(crate) fn sizes_of(alloc: Global, deck: &Deck, system: SysId) -> Result<Vec<u32>, NoMemory>
-    ensures { IfOk result (λ sizes. sum sizes.items ≡ length (scripts_of deck.now system.0)) }
+    ensures { IfOk result (λ sizes. sum sizes.items ≡ length (asks.scripts_of deck.now system.0)) }
 {
     match system_at(deck, system) {
         None => Ok(Vec::new(alloc)),
@@ -111,7 +112,7 @@ pub(crate) fn sizes_of(alloc: Global, deck: &Deck, system: SysId) -> Result<Vec<
 }
 
 /// The lines of a task among the scripts of its system.
-fn lines_among<'d>(scripts: &[Script<'d>], task: TaskId) -> Option<&'d List<Line>>
+pub(crate) fn lines_among<'d>(scripts: &[Script<'d>], task: TaskId) -> Option<&'d List<Line>>
     ensures { option_copied result ≡ lines_in scripts.now task }
 {
     let script = scripts.get(task.task as usize)?;
@@ -122,10 +123,30 @@ fn lines_among<'d>(scripts: &[Script<'d>], task: TaskId) -> Option<&'d List<Line
     }
 }
 
-/// The lines of a task among the scripts of all systems.
-pub(crate) fn lines_within<'d>(all: &[List<Script<'d>>], task: TaskId) -> Option<&'d List<Line>>
-    ensures { option_copied result ≡ lines_within all.now task }
+/// Whether a task is one of these jobs of its system, each of which has its own tasks behind those of the jobs
+/// before it.
+#[tactic(auto, using(crate::proofs::Deck::of_deck))]
+fn is_among(jobs: &[JobDef], task: TaskId) -> bool
+    ensures { result ≡ is_some (lines_in (scripts_from 0 jobs.now) task) }
 {
-    let scripts = all.get(task.system.0 as usize)?;
-    lines_among(scripts.as_slice(), task)
+    let mut place = task.task as usize;
+    for (number, job) in jobs.iter().enumerate() {
+        let count = job.tasks.len();
+        if place < count {
+            return number == task.job as usize;
+        }
+        place -= count;
+    }
+    false
+}
+
+/// Whether a task is one of the deck.
+#[tactic(auto, using(crate::proofs::Deck::of_deck))]
+pub(crate) fn is_of_deck(deck: &Deck, task: TaskId) -> bool
+    ensures { result ≡ is_of_deck deck.now task }
+{
+    match system_at(deck, task.system) {
+        None => false,
+        Some(def) => is_among(def.jobs.as_slice(), task),
+    }
 }

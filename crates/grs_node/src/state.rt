@@ -2,8 +2,7 @@
 //! gives what it fixed.
 ghost use Rattle.std.specs.Prelude.{◌≡◌, ◌∷◌, [], true, map, length, sum, option_copied, IfOk, OnOk};
 ghost use Rattle.task_state.specs.View.{new_tasks, is_task, state_of, record_of};
-ghost use Rattle.grs_legal.specs.Asks.{meaning_of, meanings};
-ghost use Rattle.grs_node.specs.Scripts.{all_scripts};
+ghost use Rattle.grs_legal.specs.Asks.{meaning_of, meanings, scripts_of};
 ghost use Rattle.grs_node.specs.declared.prepared.Prepared.TheVariants.{Quiet};
 ghost use Rattle.grs_wire.specs.declared.request.Fixed.TheVariants as fixes;
 ghost use Rattle.grs_node.specs.Node as steps;
@@ -11,7 +10,7 @@ ghost use Rattle.grs_node.specs.Node.{are_of};
 ghost use Rattle.grs_node.specs.Log.{stepped};
 
 use super::lines::meaning_at;
-use super::scripts::{Script, lines_within};
+use super::scripts::{Script, lines_among};
 use grs_base::{Code, Line, List, Lists, NoMemory, Res, SysId, TaskId};
 use grs_legal::Meaning;
 use grs_wire::{Choice, Deck, Fixed, Req, ToldLine, Verb, Want};
@@ -25,7 +24,7 @@ use task_state::{Asked, Phase, Tasks, replied, tell_code, tell_new};
 
 /// A system.
 #[derive(Drop)]
-pub(crate) struct System {
+pub(crate) struct NodeState {
     pub(crate) tasks: Tasks,
     pub(crate) held: Local,
     pub(crate) shared: Table<PlainQueues>,
@@ -34,7 +33,7 @@ pub(crate) struct System {
     pub(crate) done: u32,
 }
 
-impl Model for System {
+impl Model for NodeState {
     ghost use Rattle.std.specs.Prelude.{◌≡◌, true, length};
     ghost use Rattle.grs_node.specs.Node.{are_of};
     ghost use Rattle.grs_node.specs.Node as steps;
@@ -73,12 +72,12 @@ fn wait(tasks: &mut Tasks, task: TaskId, res: Res) -> Result<(), NoMemory>
     }
 }
 
-impl System {
+impl NodeState {
     /// A system at the start, and nothing queued. `jobs` has the number of tasks of each of its jobs.
-    pub(crate) fn new(alloc: Global, system: SysId, jobs: &[u32]) -> Result<System, NoMemory>
+    pub(crate) fn new(alloc: Global, system: SysId, jobs: &[u32]) -> Result<NodeState, NoMemory>
         ensures { IfOk result (λ n. n ≡ record { tasks = record { system = system.0; tasks = new_tasks (sum jobs.now); told = [] }; held = []; shared = []; outbox = []; known = 0; done = 0 }) }
     {
-        Ok(System {
+        Ok(NodeState {
             tasks: Tasks::new(alloc, system, jobs)?,
             held: Local::new(alloc, system),
             shared: Table::new(alloc, PlainQueues::new(alloc)),
@@ -302,22 +301,22 @@ impl System {
     }
 
     /// A choice that is done without a call of the medium.
-    #[tactic(auto, using(crate::proofs::OfDeck::of_deck), unfolding(crate::specs::Node::finish_quiet))]
+    #[tactic(auto, using(crate::proofs::Deck::of_system), unfolding(crate::specs::Node::finish_quiet))]
     pub(crate) fn finish_quiet(
         &mut self,
         alloc: Global,
         deck: &Deck,
-        scripts: &[List<Script<'_>>],
+        scripts: &[Script<'_>],
         choice: Choice,
     ) -> Result<List<Fixed>, NoMemory>
-        requires scripts { scripts.now ≡ all_scripts deck.now.systems }
+        requires scripts { scripts.now ≡ scripts_of deck.now self.old.tasks.system }
         requires quiet { steps.prepare deck.now self.old choice ≡ Quiet }
         ensures step { IfOk result (λ fixed. stepped self.new fixed ≡ steps.finish_quiet deck.now self.old choice) }
         ensures system { self.new.tasks.system ≡ self.old.tasks.system }
     {
         match choice {
             Choice::Task(task) => {
-                let lines = lines_within(scripts, task);
+                let lines = lines_among(scripts, task);
                 self.task_step(alloc, &deck.lists, task, lines, deck.limit)
             }
             Choice::Turn

@@ -1,43 +1,63 @@
 //! A system's part of a turn: it reads the entries that it hasn't seen, and its requests are put in.
-ghost use Rattle.std.specs.Prelude.{◌≡◌, true, filter, take, drop, length, map, IfOk, OnOk};
+ghost use Rattle.std.specs.Prelude.{◌≡◌, ◌<◌, ◌+◌, true, filter, take, drop, length, map, IfOk, IfSome, OnOk};
 ghost use Rattle.grs_wire.specs.declared.request.Fixed.TheVariants as fixes;
+ghost use Rattle.grs_node.specs.Entries.{is_known, removal_from};
 ghost use Rattle.grs_node.specs.Node as steps;
-ghost use Rattle.grs_node.specs.Node.{are_of};
-ghost use Rattle.grs_node.specs.Scripts.{all_scripts, is_among, read_among};
+ghost use Rattle.grs_node.specs.Node.{are_of, with_side};
 ghost use Rattle.grs_node.specs.Log.{stepped};
+ghost use Rattle.ring_mode.specs.Ring.{side_of, process_all, are_requests, requests_in};
 
-use super::scripts::{Script, lines_within};
-use super::system::System;
-use grs_base::{List, NoMemory};
+use super::scripts::is_of_deck;
+use super::state::NodeState;
+use grs_base::{List, NoMemory, SysId};
 use grs_wire::{Deck, Fixed, Reply, Req, RingBody, RingEntry};
 use ring_mode::on_turn;
 use std::alloc::Global;
 use task_state::{Phase, Tasks};
 
-/// Whether an entry is of a task that has lines.
-fn is_among(scripts: &[List<Script<'_>>], body: &RingBody) -> bool
-    ensures { result ≡ is_among scripts.now body.now }
+/// Whether an entry is of a task of the deck, or removes a system.
+fn is_known(deck: &Deck, body: &RingBody) -> bool
+    ensures { result ≡ is_known deck.now body.now }
 {
     match body {
-        RingBody::Request(req) => lines_within(scripts, req.task).is_some(),
+        RingBody::Request(req) => is_of_deck(deck, req.task),
         RingBody::Remove(_) => true,
     }
 }
 
-/// Entries of other tasks than those that have lines go.
-fn keep_known(entries: &mut Vec<RingEntry>, scripts: &[List<Script<'_>>])
-    ensures { entries.new.items ≡ filter (λ e. is_among scripts.now e.body) entries.old.items }
+/// Entries of tasks that aren't of the deck go.
+fn keep_known(deck: &Deck, entries: &mut Vec<RingEntry>)
+    ensures { entries.new.items ≡ filter (λ e. is_known deck.now e.body) entries.old.items }
 {
-    entries.retain(|entry| is_among(scripts, &entry.body));
+    entries.retain(|entry| is_known(deck, &entry.body));
 }
 
-/// The entries of tasks that have lines.
-fn known_entries(scripts: &[List<Script<'_>>], entries: List<RingEntry>) -> List<RingEntry>
-    ensures { result ≡ filter (λ e. is_among scripts.now e.body) entries }
+/// The place of the first entry that removes a system, and that system.
+fn first_removal(entries: &[RingEntry]) -> Option<(usize, SysId)>
+    ensures first { result ≡ removal_from 0 entries.now }
+    ensures within { IfSome result (λ found. found.0 < length entries.now) }
 {
-    let mut known = entries.into_vec();
-    keep_known(&mut known, scripts);
-    List::from_vec(known)
+    for (place, entry) in entries.iter().enumerate() {
+        if let RingBody::Remove(target) = &entry.body {
+            return Some((place, *target));
+        }
+    }
+    None
+}
+
+/// Takes the entry at a place out, and gives those behind it. Those before it stay.
+fn cut(entries: &mut Vec<RingEntry>, place: usize) -> Result<Vec<RingEntry>, NoMemory>
+    requires { place < length entries.old.items }
+    ensures before { OnOk result (entries.new.items ≡ take place entries.old.items) }
+    ensures behind { IfOk result (λ behind. behind.items ≡ drop (place + 1) entries.old.items) }
+{
+    match entries.split_off(place + 1) {
+        Ok(behind) => {
+            entries.truncate(place);
+            Ok(behind)
+        }
+        Err(_) => Err(NoMemory),
+    }
 }
 
 /// The tasks of these requests have sent them.
@@ -79,20 +99,43 @@ fn divided(reqs: List<Req>, taken: u32) -> Result<(Vec<Req>, List<Req>), NoMemor
     }
 }
 
-impl System {
-    /// The system reads the entries of the message that it was given, in order.
-    #[tactic(auto, using(crate::proofs::Kept::kept), unfolding(crate::specs::Scripts::read_among))]
+impl NodeState {
+    /// The system processes requests of the message in order.
+    #[tactic(auto, using(crate::proofs::Kept::kept))]
+    fn read_requests(&mut self, alloc: Global, requests: Vec<RingEntry>) -> Result<(), NoMemory>
+        requires { are_requests requests.items ≡ true }
+        ensures step { OnOk result (self.new ≡ with_side self.old (process_all (side_of self.old.tasks self.old.shared) (requests_in requests.items))) }
+        ensures system { self.new.tasks.system ≡ self.old.tasks.system }
+    {
+        let requests = List::from_vec(requests);
+        on_turn(alloc, &mut self.shared, &mut self.tasks, requests)
+    }
+
+    /// The system processes that another one is removed. Until removals are built it does nothing.
+    fn process_removal(&mut self, _target: SysId)
+        ensures { self.new ≡ steps.process_removal self.old _target }
+    {}
+
+    /// The system processes the entries of the message that it was given, in order: they are cut at each removal.
+    #[tactic(auto, using(crate::proofs::Entries::cut_entries))]
     pub(crate) fn read_entries(
         &mut self,
         alloc: Global,
-        scripts: &[List<Script<'_>>],
+        deck: &Deck,
         entries: List<RingEntry>,
     ) -> Result<(), NoMemory>
-        ensures step { OnOk result (self.new ≡ read_among scripts.now self.old entries) }
+        ensures step { OnOk result (self.new ≡ steps.read_entries deck.now self.old entries) }
         ensures system { self.new.tasks.system ≡ self.old.tasks.system }
     {
-        let known = known_entries(scripts, entries);
-        on_turn(alloc, &mut self.shared, &mut self.tasks, known)
+        let mut rest = entries.into_vec();
+        keep_known(deck, &mut rest);
+        while let Some((place, target)) = first_removal(rest.as_slice()) {
+            let behind = cut(&mut rest, place)?;
+            self.read_requests(alloc, rest)?;
+            self.process_removal(target);
+            rest = behind;
+        }
+        self.read_requests(alloc, rest)
     }
 
     /// The first requests of the outbox were put in.
@@ -109,21 +152,19 @@ impl System {
     }
 
     /// What the reply to a call comes to. Those that say nothing new change nothing.
-    #[tactic(auto, using(crate::proofs::OfDeck::of_deck), unfolding(crate::specs::Node::finish_call))]
+    #[tactic(auto, unfolding(crate::specs::Node::finish_call))]
     pub(crate) fn finish_call(
         &mut self,
         alloc: Global,
         deck: &Deck,
-        scripts: &[List<Script<'_>>],
         reply: Reply,
     ) -> Result<List<Fixed>, NoMemory>
-        requires { scripts.now ≡ all_scripts deck.now.systems }
         ensures step { IfOk result (λ fixed. stepped self.new fixed ≡ steps.finish_call deck.now self.old reply) }
         ensures system { self.new.tasks.system ≡ self.old.tasks.system }
     {
         match reply {
             Reply::Turned { entries, taken, .. } => {
-                self.read_entries(alloc, scripts, entries)?;
+                self.read_entries(alloc, deck, entries)?;
                 self.put_in(alloc, taken)
             }
             Reply::Stale { set } => {
