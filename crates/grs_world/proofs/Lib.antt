@@ -61,3 +61,4 @@ pub mod First
 pub mod Happens
 pub mod Samples
 pub mod AgreeSamples
+pub mod Listed

@@ -6,7 +6,7 @@ use Rattle.grs_base.specs.State.{State, is_systems}
 use Rattle.grs_base.specs.declared.resource.Res.{Res}
 use Rattle.grs_base.specs.declared.resource.TaskId.{TaskId}
 use Rattle.grs_legal.specs.Asks.{lines_of}
-use Rattle.grs_node.specs.Node.{Node, read_entries, is_of_deck}
+use Rattle.grs_node.specs.Node.{Node, with_side, read_entry, read_entries}
 use Rattle.grs_wire.specs.History.{entries_for}
 use Rattle.grs_wire.specs.Wants.{res_wanted}
 use Rattle.grs_wire.specs.declared.deck.Deck.{Deck}
@@ -16,7 +16,7 @@ use Rattle.grs_wire.specs.declared.medium.RingEntry.{RingEntry}
 use Rattle.grs_wire.specs.declared.request.Req.{Req}
 use Rattle.grs_wire.specs.declared.request.Want.{Want}
 use Rattle.grs_wire.specs.declared.request.Want.TheVariants as wants
-use Rattle.ring_mode.specs.Ring.{Side, process, process_entry, process_all}
+use Rattle.ring_mode.specs.Ring.{Side, process, process_entry}
 use Rattle.grs_world.proofs.Carried.{ToldNews, no_news, more_news, told-whole, at-view}
 use Rattle.grs_world.proofs.Replied.{Replied, replied_for, only_entry}
 use Rattle.grs_world.proofs.Seen.{NodeLaws, ToldBy, Reads, after_read, is_elsewhere, is_res_of, own-one_system}
@@ -31,20 +31,20 @@ abbrev pub read_all : Node → List Req → Node
 read_all n [] = n
 read_all n (q ∷ qs) = read_all (after_read n q) qs
 
-process-request : (n : Side) (e : RingEntry) (x : Item) (deck : Deck) → IsItem deck x → for_all x ≡ true → e.body ≡ Request x.req → process_entry n e.body ≡ process n x.req
+process-request : (n : Side) (x : Item) (deck : Deck) → IsItem deck x → for_all x ≡ true → process_entry n x.req ≡ process n x.req
 unfolding process_entry
-process-request n e x deck i all body = subst (λ b. process_entry n b ≡ process n x.req) (sym body) (rw (i.wanted, all) refl)
+process-request n x deck i all = rw (i.wanted, all) refl
 
 read-one : (deck : Deck) (n : Node) (x : Item) (e : RingEntry) (es : List RingEntry) → IsItem deck x → for_all x ≡ true → e.body ≡ Request x.req → read_entries deck n (e ∷ es) ≡ read_entries deck (after_read n x.req) es
-unfolding read_entries process_all
+unfolding read_entries
 read-one deck n x e es i all body =
     let side : Side = record { tasks = n.tasks; shared = n.shared } in
-    let known : is_of_deck deck e.body ≡ true = subst (λ b. is_of_deck deck b ≡ true) (sym body) i.known in
-    ap (λ fs. let t : Side = process_all side fs in record n { tasks = t.tasks; shared = t.shared }) (filter-cons_kept (λ f. is_of_deck deck f.body) e es known)
-    ∙ ap (λ (m : Side). let t : Side = process_all m (filter (λ f. is_of_deck deck f.body) es) in record n { tasks = t.tasks; shared = t.shared }) (process-request side e x deck i all body)
+    ap (λ b. read_entries deck (read_entry deck n b) es) body
+    ∙ (ap (λ b. read_entries deck (cond b (with_side n (process_entry side x.req)) n) es) i.known
+    ∙ ap (λ m. read_entries deck (with_side n m) es) (process-request side x deck i all))
 
 pub read-entries : (deck : Deck) (n : Node) (xs : List Item) (es : List RingEntry) → Items deck xs → Bodies (requests (filter for_all xs)) es → read_entries deck n es ≡ read_all n (requests (filter for_all xs))
-unfolding read_entries process_all
+unfolding read_entries
 read-entries deck n [] [] i none = refl
 read-entries deck n [] (_ ∷ _) i b = elim b [ ]
 read-entries deck n (x ∷ xs) es i b = go (for_all x) refl es b (λ m fs c. read-entries deck m xs fs i.1 c)

@@ -2,7 +2,7 @@
 ghost use Rattle.std.specs.Prelude.{◌≡◌, ◌<◌, length, set, slice_get, Some, IfOk, OnOk};
 ghost use Rattle.grs_medium.specs.Apply.{reply_to, medium_after};
 ghost use Rattle.grs_medium.specs.Medium.{systems_of};
-ghost use Rattle.grs_node.specs.Log.{MayFinish};
+ghost use Rattle.grs_node.specs.Finish.{MayFinish};
 ghost use Rattle.grs_node.specs.Node as steps;
 ghost use Rattle.grs_node.specs.declared.prepared.Prepared.TheVariants.{Call as Calls};
 ghost use Rattle.grs_world.specs.World.{chosen};
@@ -62,7 +62,7 @@ fn finished(
 }
 
 /// A call that was prepared, and its reply.
-#[tactic(auto, using(crate::proofs::Calls::calls))]
+#[tactic(auto, using(crate::proofs::Calls::calls, crate::proofs::Listed::listed))]
 fn called(
     alloc: Global,
     medium: &mut Medium,
