@@ -85,12 +85,7 @@ fn put_elem(names: &Names, owns: bool, elem: Elem, out: &mut List<u8>) -> Result
 }
 
 /// Puts elements behind a text, of which so many own the resource, each with a blank before it.
-fn put_elems(
-    names: &Names,
-    owners: u32,
-    elems: &[Elem],
-    out: &mut List<u8>,
-) -> Result<(), NoMemory>
+fn put_elems(names: &Names, owners: u32, elems: &[Elem], out: &mut List<u8>) -> Result<(), NoMemory>
     ensures { OnOk result (out.new ≡ out.old ++ spaced (elem_words names.now owners elems.now)) }
 {
     let mut left = owners;
@@ -166,11 +161,7 @@ pub(crate) fn put_place(place: Place, out: &mut List<u8>) -> Result<(), NoMemory
 }
 
 /// Puts the qname that a look asks for behind a text, where it asks for one.
-fn put_asked_qname(
-    alloc: Global,
-    q: &Option<Qname>,
-    out: &mut List<u8>,
-) -> Result<(), NoMemory>
+fn put_asked_qname(alloc: Global, q: &Option<Qname>, out: &mut List<u8>) -> Result<(), NoMemory>
     ensures { OnOk result (out.new ≡ out.old ++ name_word q.now) }
 {
     match q {
@@ -180,11 +171,7 @@ fn put_asked_qname(
 }
 
 /// Puts a comma and the rname that a look asks for behind a text, where it asks for one.
-fn put_asked_rname(
-    alloc: Global,
-    r: &Option<Rname>,
-    out: &mut List<u8>,
-) -> Result<(), NoMemory>
+fn put_asked_rname(alloc: Global, r: &Option<Rname>, out: &mut List<u8>) -> Result<(), NoMemory>
     ensures { OnOk result (out.new ≡ out.old ++ rname_word r.now) }
 {
     match r {
@@ -198,11 +185,7 @@ fn put_asked_rname(
 
 /// Puts what a look shows behind a text.
 #[tactic(auto, unfolding(crate::specs::Rows::filter_word))]
-pub(crate) fn put_filter(
-    alloc: Global,
-    filter: &Filter,
-    out: &mut List<u8>,
-) -> Result<(), NoMemory>
+pub(crate) fn put_filter(alloc: Global, filter: &Filter, out: &mut List<u8>) -> Result<(), NoMemory>
     ensures { OnOk result (out.new ≡ out.old ++ filter_word filter.now) }
 {
     match filter {

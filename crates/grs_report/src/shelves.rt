@@ -97,10 +97,7 @@ fn task_number(line: &ToldLine) -> Option<u16>
 }
 
 /// Lines under the numbers of the systems that told them.
-pub(crate) fn sorted_by_system<'t>(
-    alloc: Global,
-    told: &'t [Told],
-) -> Result<Shelves<'t>, NoMemory>
+pub(crate) fn sorted_by_system<'t>(alloc: Global, told: &'t [Told]) -> Result<Shelves<'t>, NoMemory>
     ensures { IfOk result (λ shelves. (n : ℕ) → lines_under n shelves ≡ told_by n told.now) }
 {
     let mut shelves = Shelves::new(alloc);
@@ -152,10 +149,7 @@ impl<'s, 't> SystemLines<'s, 't> {
 }
 
 /// Lines under the numbers of the tasks to which they are told, without those at a desk.
-fn sorted_by_task<'t>(
-    alloc: Global,
-    told: &[&'t Told],
-) -> Result<Shelves<'t>, NoMemory>
+fn sorted_by_task<'t>(alloc: Global, told: &[&'t Told]) -> Result<Shelves<'t>, NoMemory>
     ensures { IfOk result (λ shelves. (n : ℕ) → lines_under n shelves ≡ told_under n (map (λ t. t.now) told.now)) }
 {
     let mut shelves = Shelves::new(alloc);

@@ -30,11 +30,7 @@ pub(crate) fn put_queues(
 
 /// Puts the count of a unit's hardware reserves behind a text.
 #[tactic(auto, unfolding(crate::specs::State::unit_line, crate::specs::Lines::line))]
-fn put_unit(
-    names: &Names,
-    unit: (SysId, u16, u32),
-    out: &mut List<u8>,
-) -> Result<(), NoMemory>
+fn put_unit(names: &Names, unit: (SysId, u16, u32), out: &mut List<u8>) -> Result<(), NoMemory>
     ensures { OnOk result (out.new ≡ out.old ++ unit_line names.now unit) }
 {
     out.push(b'U')?;
@@ -125,12 +121,7 @@ fn put_manager(names: &Names, word: u32, out: &mut List<u8>) -> Result<(), NoMem
 
 /// Puts a lock word behind a text.
 #[tactic(auto, unfolding(crate::specs::State::word_line, crate::specs::Lines::line))]
-fn put_lock_word(
-    names: &Names,
-    entry: u64,
-    word: u32,
-    out: &mut List<u8>,
-) -> Result<(), NoMemory>
+fn put_lock_word(names: &Names, entry: u64, word: u32, out: &mut List<u8>) -> Result<(), NoMemory>
     ensures { OnOk result (out.new ≡ out.old ++ word_line names.now entry word) }
 {
     out.push(b'W')?;
@@ -141,11 +132,7 @@ fn put_lock_word(
     out.push(b'\n')
 }
 
-fn put_lock_words(
-    names: &Names,
-    words: &[u32],
-    out: &mut List<u8>,
-) -> Result<(), NoMemory>
+fn put_lock_words(names: &Names, words: &[u32], out: &mut List<u8>) -> Result<(), NoMemory>
     ensures { OnOk result (out.new ≡ out.old ++ word_lines names.now 0 words.now) }
 {
     for (entry, word) in words.iter().enumerate() {
@@ -158,11 +145,7 @@ fn put_lock_words(
 
 /// Puts the lock words that aren't 0 behind a text.
 #[tactic(auto, unfolding(crate::specs::State::words_text))]
-pub(crate) fn put_words(
-    names: &Names,
-    words: &[u32],
-    out: &mut List<u8>,
-) -> Result<(), NoMemory>
+pub(crate) fn put_words(names: &Names, words: &[u32], out: &mut List<u8>) -> Result<(), NoMemory>
     ensures { OnOk result (out.new ≡ out.old ++ words_text names.now words.now) }
 {
     put_line(&[b"WORDS".as_slice()], out)?;

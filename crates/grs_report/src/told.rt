@@ -231,7 +231,7 @@ fn put_system(
 ) -> Result<(), NoMemory>
     ensures { OnOk result (out.new ≡ out.old
         ++ ((line (codes "SYSTEM" ∷ def.now.name ∷ []) ++ told_lines names.now (told_at_desk (map (λ t. t.now) told.now)))
-            ++ jobs_text names.now (map (λ t. t.now) told.now) ended.now system 0 0 def.now.jobs)) }
+        ++ jobs_text names.now (map (λ t. t.now) told.now) ended.now system 0 0 def.now.jobs)) }
 {
     put_line(&[b"SYSTEM".as_slice(), def.name.as_slice()], out)?;
     put_told_at_desk(alloc, names, told, out)?;

@@ -35,13 +35,7 @@ fn put_answer(k: u32, verb: Verb, code: Code, out: &mut List<u8>) -> Result<(), 
 
 /// Puts the code of a line behind a text.
 #[tactic(auto, unfolding(crate::specs::Lines::line))]
-fn put_coded(
-    k: u32,
-    verb: Verb,
-    code: Code,
-    event: u64,
-    out: &mut List<u8>,
-) -> Result<(), NoMemory>
+fn put_coded(k: u32, verb: Verb, code: Code, event: u64, out: &mut List<u8>) -> Result<(), NoMemory>
     ensures { OnOk result (out.new ≡ out.old
         ++ line (codes "T" ∷ decimal k ∷ verb_word verb ∷ code_word code ∷ event_word event ∷ [])) }
 {
