@@ -1,10 +1,10 @@
 //! The line that tells a deck's first fault.
-ghost use Rattle.std.specs.Prelude.{◌≡◌, ◌++◌, OnOk, IfOk};
-ghost use Rattle.std.specs.Fmt.{decimal};
+ghost use Rattle.std.specs.Prelude.{◌≡◌, IfOk};
 ghost use Rattle.grs_deck.specs.Faults.{number};
 ghost use Rattle.grs_top.specs.Due.{fault_line};
 
 use grs_base::{DeckFault, Kind, List, NoMemory};
+use grs_report::put_number;
 use std::alloc::Global;
 
 fn kind_number(kind: Kind) -> u32
@@ -25,25 +25,15 @@ fn kind_number(kind: Kind) -> u32
     }
 }
 
-/// Puts a number behind a text, in decimal digits.
-fn put_number(alloc: Global, n: u32, out: &mut List<u8>) -> Result<(), NoMemory>
-    ensures { OnOk result (out.new ≡ out.old ++ decimal n) }
-{
-    match n.to_string(alloc) {
-        Ok(digits) => out.append(digits.as_bytes()),
-        Err(_) => Err(NoMemory),
-    }
-}
-
 /// The line of a fault.
 #[tactic(auto, unfolding(crate::specs::Due::fault_line))]
 pub(crate) fn fault_line(alloc: Global, fault: DeckFault) -> Result<List<u8>, NoMemory>
     ensures { IfOk result (λ text. text ≡ fault_line fault) }
 {
     let mut text = List::from_bytes(alloc, b"FAULT LINE ")?;
-    put_number(alloc, fault.line, &mut text)?;
+    put_number(u64::from(fault.line), &mut text)?;
     text.append(b" KIND ")?;
-    put_number(alloc, kind_number(fault.kind), &mut text)?;
+    put_number(u64::from(kind_number(fault.kind)), &mut text)?;
     text.push(b'\n')?;
     Ok(text)
 }
