@@ -30,6 +30,7 @@ use Rattle.rsa_message.specs.Message.{Message, is_at, unseen, opened, never_open
 use Rattle.grs_world.specs.World.{World, Turnout, fixed_by, carry_out, chosen, placed, counted, happens_at, happens, run, first_world}
 use Rattle.grs_world.proofs.Facts.{take-drop}
 use Rattle.grs_world.proofs.Putting.{AllMayPut, all_may}
+use Rattle.grs_world.proofs.Reading.{read_entries-outbox}
 use Rattle.grs_world.proofs.Runs.{GoodWorld, run-push}
 use Rattle.grs_world.proofs.Seen.{NodeLaws, QuietStep, keeps, fixes, MayPut}
 use Rattle.grs_world.proofs.Sound.{good_run}
@@ -168,7 +169,7 @@ module _ (deck : Deck) (Seen : ℕ → List HistEntry → List Req → Node → 
     may_take n at k = all_may deck Seen laws e.system.0 (entries (g.Q e.system.0)) (requests (waiting e.system.0 (g.rest e.system.0))) n (g.seen e.system.0 n at) [] (take k n.outbox) (drop k n.outbox) (sym (take-drop k n.outbox))
 
     holds_placed : (n : Node) (o : Turnout) → slice_get w.nodes e.system.0 ≡ Some n → Came deck w e.system n o → AllAsk (fixed_by e.system o.step.fixed) × AllHome o.medium.message.entries
-    unfolding put_in read_entries
+    unfolding put_in
     holds_placed n o at (nothing m k same told) = (tt, subst (λ (x : Message). AllHome x.entries) (sym same) h.home)
     holds_placed n o at (went_on t m) = (by_step (laws.quiet e.system.0 (entries (g.Q e.system.0)) (requests (waiting e.system.0 (g.rest e.system.0))) n t (g.seen e.system.0 n at) m), h.home)
       where
@@ -178,7 +179,8 @@ module _ (deck : Deck) (Seen : ℕ → List HistEntry → List Req → Node → 
     holds_placed n o at (turn m here is) =
         let out = take most_additions n.outbox in
         let old = w.medium.message in (
-          ask_put deck e.system e.system.0 (entries (g.Q e.system.0)) (take (length out) n.outbox) (may_take n at (length out)),
+          subst (λ qs. AllAsk (fixed_by e.system (map Asked (take (length out) qs)))) (sym (read_entries-outbox deck n (unseen e.system old.entries)))
+          (ask_put deck e.system e.system.0 (entries (g.Q e.system.0)) (take (length out) n.outbox) (may_take n at (length out))),
           subst (λ (x : Message). AllHome x.entries) (sym is)
               (home_append (cleared e.system old.entries) (stamped old.next e.system (live w.medium) out) (home_cleared e.system old.entries h.home) (home_put deck e.system (entries (g.Q e.system.0)) old.next (live w.medium) out (may_take n at most_additions))),
         )

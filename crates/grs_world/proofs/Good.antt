@@ -25,8 +25,7 @@ use Rattle.grs_wire.proofs.WantLaws.{owns-want, speaks_of, list_of-want_other, b
 use Rattle.grs_legal.specs.Asks.{lines_of}
 use Rattle.task_state.specs.declared.state.TaskState.{TaskState}
 use Rattle.task_state.specs.View.{TasksView, is_task, state_of}
-use Rattle.queue_table.proofs.OwnerLemmas.{owns-any}
-use Rattle.grs_world.proofs.Owners.{is_among, is_among-became}
+use Rattle.grs_world.proofs.Owners.{is_among, owns-any, is_among-became}
 use Rattle.grs_world.proofs.Entries.{line_entries-other, entries_of-other}
 use Rattle.grs_world.proofs.Invariant.{Past, IsTask}
 use Rattle.grs_world.proofs.Others.{KeepsTask, keeps-want, task-kept, task-told}

@@ -39,7 +39,7 @@ switch_listed : (m : MediumState) (c : SysId) (words : List ℕ) → is_listed (
 unfolding switch_row
 switch_listed m c words = by_star m.star (first_number (unseen c m.message.entries))
   where
-    by_star : (b : Bool) (o : Option ℕ) → is_listed (acts.Switch words) (cond b (Already, m) (switch_ring m c words o)).0 ≡ true
+    by_star : (b : Bool) (o : Option ℕ) → is_listed (acts.Switch words) (cond {A = Reply × MediumState} b (Already, m) (switch_ring m c words o)).0 ≡ true
     by_star true o = refl
     by_star false None = refl
     by_star false (Some first) = refl
@@ -48,7 +48,7 @@ submit_listed : (m : MediumState) (c : SysId) (entry : ℕ) (req : Req) → is_l
 unfolding submit_row
 submit_listed m c entry req = by_manager (manager (word m entry))
   where
-    by_self : (b : Bool) (x y : MediumState) → is_listed (acts.Submit entry req) (cond b (Sole, x) (Sent, y)).0 ≡ true
+    by_self : (b : Bool) (x y : MediumState) → is_listed (acts.Submit entry req) (cond {A = Reply × MediumState} b (Sole, x) (Sent, y)).0 ≡ true
     by_self true x y = refl
     by_self false x y = refl
 
@@ -76,7 +76,7 @@ purge_listed : (m : MediumState) (c target : SysId) → is_listed (acts.Purge ta
 unfolding purge_row
 purge_listed m c target = by_star m.star (is_live m target)
   where
-    by_star : (b d : Bool) → is_listed (acts.Purge target) (cond b (InStar, m) (cond d (Purged, without_system m c target) (NoSuch, m))).0 ≡ true
+    by_star : (b d : Bool) → is_listed (acts.Purge target) (cond {A = Reply × MediumState} b (InStar, m) (cond d (Purged, without_system m c target) (NoSuch, m))).0 ≡ true
     by_star true d = refl
     by_star false true = refl
     by_star false false = refl
@@ -111,7 +111,7 @@ pub is_listed-reply : (m : MediumState) (c : SysId) (call : CallOfMedium) → is
 unfolding apply
 is_listed-reply m c call = by_removed (has m.removed c.0) (call.known == m.removed)
   where
-    by_removed : (b d : Bool) → is_listed call.act (cond b (Removed, m) (cond d (row m c call.act) (Stale m.removed, m))).0 ≡ true
+    by_removed : (b d : Bool) → is_listed call.act (cond {A = Reply × MediumState} b (Removed, m) (cond d (row m c call.act) (Stale m.removed, m))).0 ≡ true
     by_removed true d = removed_listed call.act
     by_removed false true = row_listed m c call.act
     by_removed false false = stale_listed call.act m.removed

@@ -3,7 +3,7 @@ use Rattle.std.proofs.Common.{◌≡◌, Bool, true, false, not, ◌&&◌, ◌||
 use Rattle.std.specs.List.{list_any, list_all}
 use Rattle.std.proofs.lemmas.Bool.Decides.{nat_tests}
 use Rattle.grs_base.specs.Same.{same_task}
-use Rattle.grs_base.specs.Lists.{is_shared, owners, all_shared, can_have, standing_of, owns, owns_shared, has_task, is_apart, list_exclusive}
+use Rattle.grs_base.specs.Lists.{is_shared, shared_front, owners, all_shared, can_have, standing_of, owns, owns_shared, has_task, is_apart, list_exclusive}
 use Rattle.grs_base.specs.State.{pick}
 use Rattle.grs_base.specs.declared.resource.TaskId.{TaskId}
 use Rattle.grs_base.specs.declared.resource.Elem.{Elem}
@@ -12,7 +12,6 @@ use Rattle.grs_base.specs.declared.resource.Ctl.TheVariants.{E, S}
 use Rattle.grs_base.specs.declared.decision.Standing.TheVariants.{Exclusive, OnlyShared}
 use Rattle.grs_base.proofs.SameLaws.{same_task-exact, same_task-itself}
 use Rattle.grs_wire.specs.Wants.{became_owners}
-use Rattle.queue_table.proofs.OwnerLemmas.{owns-any}
 
 -- whether a task is among these
 abbrev pub is_among : TaskId → List TaskId → Bool
@@ -34,6 +33,15 @@ owns-push (e ∷ es) t S h = grind (arith, h, owns_shared-push es t S)
 pub owns-exclusive : (es : List Elem) (t : TaskId) → standing_of es t ≡ OnlyShared → owns (list_exclusive es t) t ≡ true
 owns-exclusive [] t h = grind (arith, nat_tests, h)
 owns-exclusive (e ∷ es) t h = grind (arith, nat_tests, h)
+
+owns_shared-any : (es : List Elem) (t : TaskId) → owns_shared es t ≡ list_any (λ e. same_task t e.task) (take (shared_front es) es)
+owns_shared-any [] t = refl
+owns_shared-any (e ∷ es) t = grind (arith, owns_shared-any es t)
+
+-- an owner is one of the first elements
+pub owns-any : (es : List Elem) (t : TaskId) → owns es t ≡ list_any (λ e. same_task t e.task) (take (owners es) es)
+owns-any [] t = refl
+owns-any (e ∷ es) t = grind (arith, owns_shared-any es t)
 
 is_among-pick : (p : TaskId → Bool) (es : List Elem) (t : TaskId) → is_among t (pick (λ e. p e.task) (λ e. e.task) es) ≡ (p t && list_any (λ e. same_task t e.task) es)
 is_among-pick p [] t = grind arith

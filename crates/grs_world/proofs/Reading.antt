@@ -6,17 +6,18 @@ use Rattle.grs_base.specs.State.{State, is_systems}
 use Rattle.grs_base.specs.declared.resource.Res.{Res}
 use Rattle.grs_base.specs.declared.resource.TaskId.{TaskId}
 use Rattle.grs_legal.specs.Asks.{lines_of}
-use Rattle.grs_node.specs.Node.{Node, with_side, read_entry, read_entries}
+use Rattle.grs_node.specs.Node.{Node, with_side, is_of_deck, read_entry, read_entries}
 use Rattle.grs_wire.specs.History.{entries_for}
 use Rattle.grs_wire.specs.Wants.{res_wanted}
 use Rattle.grs_wire.specs.declared.deck.Deck.{Deck}
 use Rattle.grs_wire.specs.declared.history.HistEntry.{HistEntry}
-use Rattle.grs_wire.specs.declared.medium.RingBody.TheVariants.{Request}
+use Rattle.grs_wire.specs.declared.medium.RingBody.{RingBody}
+use Rattle.grs_wire.specs.declared.medium.RingBody.TheVariants.{Request, Remove}
 use Rattle.grs_wire.specs.declared.medium.RingEntry.{RingEntry}
 use Rattle.grs_wire.specs.declared.request.Req.{Req}
 use Rattle.grs_wire.specs.declared.request.Want.{Want}
 use Rattle.grs_wire.specs.declared.request.Want.TheVariants as wants
-use Rattle.ring_mode.specs.Ring.{Side, process, process_entry}
+use Rattle.ring_mode.specs.Ring.{Side, side_of, process, process_entry}
 use Rattle.grs_world.proofs.Carried.{ToldNews, no_news, more_news, told-whole, at-view}
 use Rattle.grs_world.proofs.Replied.{Replied, replied_for, only_entry}
 use Rattle.grs_world.proofs.Seen.{NodeLaws, ToldBy, Reads, after_read, is_elsewhere, is_res_of, own-one_system}
@@ -53,6 +54,20 @@ read-entries deck n (x ∷ xs) es i b = go (for_all x) refl es b (λ m fs c. rea
     go false f es b ih = ih n es b
     go true f [] b ih = elim b [ ]
     go true f (e ∷ es) (more body b) ih = read-one deck n x e es i.0 f body ∙ ih (after_read n x.req) es b
+
+-- What a system reads leaves the requests that wait to be put in.
+pub read_entries-outbox : (deck : Deck) (n : Node) (es : List RingEntry) → (read_entries deck n es).outbox ≡ n.outbox
+unfolding read_entries
+read_entries-outbox deck n [] = refl
+read_entries-outbox deck n (e ∷ es) = read_entries-outbox deck (read_entry deck n e.body) es ∙ by_body e.body
+  where
+    by_known : (b : Bool) (side : Side) → (cond b (with_side n side) n).outbox ≡ n.outbox
+    by_known true side = refl
+    by_known false side = refl
+
+    by_body : (body : RingBody) → (read_entry deck n body).outbox ≡ n.outbox
+    by_body (Request q) = by_known (is_of_deck deck q.task) (process_entry (side_of n.tasks n.shared) q)
+    by_body (Remove target) = refl
 
 -- ---- what an item is to a system that learns of it
 elsewhere-made : (deck : Deck) (s : ℕ) (st : State) (u : TaskId) (w : Want) (r : Res) (h : HistEntry) → entries_for st u w ≡ h ∷ [] → res_wanted w ≡ Some r → (u.system.0 == s) ≡ false → is_some (lines_of deck u) ≡ true → is_systems r ≡ false → is_res_of s r ≡ false → is_elsewhere deck s h ≡ true
