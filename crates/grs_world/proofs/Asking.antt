@@ -40,13 +40,6 @@ unasked_by (Some a) x = record x { line = line_asked a.req.want x.line; phase = 
 abbrev pub unasked : TaskState → TaskState
 unasked x = unasked_by x.outstanding x
 
-pub unasked-records : (x : TaskState) (ys : List Rec) → unasked (record x { records = ys }) ≡ record (unasked x) { records = ys }
-unasked-records x ys = go x.outstanding
-  where
-    go : (o : Option Asked) → unasked_by o (record x { records = ys }) ≡ record (unasked_by o x) { records = ys }
-    go None = refl
-    go (Some a) = refl
-
 pub unasked-told : (x : TaskState) (r : Res) (f : Rec → Rec) → unasked (record x { records = on_record r f x.records }) ≡ record (unasked x) { records = on_record r f (unasked x).records }
 unasked-told x r f = go x.outstanding
   where

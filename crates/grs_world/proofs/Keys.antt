@@ -65,10 +65,6 @@ own-exclusive_already [] t r h = refl
 own-exclusive_already (x ∷ s) t r h = grind (arith, h, own-exclusive_already s t r)
 
 -- taking a record out
-pub has_res-without : (q r : Res) (xs : List Rec) → has_res q (without_first xs r) ≡ true → has_res q xs ≡ true
-has_res-without q r [] h = h
-has_res-without q r (x ∷ xs) h = grind (arith, h, has_res-without q r xs, cases_Bool (same_res q x.res), cases_Bool (same_res r x.res))
-
 without_absent : (r : Res) (xs : List Rec) → has_res r xs ≡ false → filter (λ k. not (same_res r k.0)) (map key xs) ≡ map key xs
 without_absent r [] h = refl
 without_absent r (x ∷ xs) h = grind (arith, h, without_absent r xs)

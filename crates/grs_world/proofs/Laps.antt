@@ -1,4 +1,4 @@
--- An answer comes back last: the message goes round in each world that a run reaches, so what an event gives a system
+-- A request comes back last: the message goes round in each world that a run reaches, so what an event gives a system
 -- of its own is left to it alone.
 use Rattle.std.proofs.Common.{ℕ, ◌≡◌, Bool, true, false, cond, ◌&&◌, List, [], ◌∷◌, ◌++◌, length, Option, Some, None, refl, sym, ap, subst, arith}
 use Rattle.std.specs.Prelude.{slice_get, take, ◌==◌}

@@ -1,4 +1,4 @@
--- Worked messages, by which the law that an answer comes back last is checked.
+-- Worked messages, by which the law that a request comes back last is checked.
 use Rattle.std.proofs.Common.{◌≡◌, ℕ, true, false, List, [], ◌∷◌, Some, refl, ap, ◌∙◌, arith}
 use Rattle.grs_base.specs.declared.resource.Ctl.TheVariants.{E}
 use Rattle.grs_base.specs.declared.resource.Ret.TheVariants.{RetNone}

@@ -225,27 +225,6 @@ list_of-replay limit P r all = list_of-replay_from limit [] P r all.right
 pub list_of-same : (limit : ℕ) (P Q : List HistEntry) (r : Res) → Replied limit P → Replied limit Q → on_res r P ≡ on_res r Q → list_of (replay limit P) r ≡ list_of (replay limit Q) r
 list_of-same limit P Q r here there same = list_of-replay limit P r here ∙ ap (list_told_after []) same ∙ sym (list_of-replay limit Q r there)
 
--- the reply of an entry depends on the list of its resource, and on whether its task is full
-pub reply_of-same : (limit : ℕ) (s u : State) (h : HistEntry) (t : TaskId) (r : Res) → is_by t h ≡ true → may_change h r ≡ true → list_of s r ≡ list_of u r → is_full limit s t ≡ is_full limit u t → reply_of limit s h ≡ reply_of limit u h
-reply_of-same limit s u (Enq v q c ret code) t r by on lists full =
-    subst (λ x. reply_of limit s (Enq x q c ret code) ≡ reply_of limit u (Enq x q c ret code)) (same_task-exact t v by)
-    (subst (λ y. reply_of limit s (Enq t y c ret code) ≡ reply_of limit u (Enq t y c ret code)) (same_res-exact r q on)
-    (ap (λ es. Coded (decide_enq es t c ret (is_full limit s t)).code) lists ∙ ap (λ b. Coded (enq_code u r t c ret b)) full))
-reply_of-same limit s u (Deq v q have code) t r by on lists full =
-    subst (λ y. reply_of limit s (Deq v y have code) ≡ reply_of limit u (Deq v y have code)) (same_res-exact r q on)
-    (ap (λ es. Coded (deq_code (standing_of es v) have)) lists)
-reply_of-same limit s u (Release v q) t r by on lists full = refl
-reply_of-same limit s u (Look v place f rows) t r by on lists full = absurd (cc)
-reply_of-same limit s u (Remove n target) t r by on lists full = absurd (cc)
-
-pub answer-same : (limit : ℕ) (P Q : List HistEntry) (h : HistEntry) (t : TaskId) (r : Res) → Replied limit P → Replied limit Q → entries_of t P ≡ entries_of t Q → on_res r P ≡ on_res r Q → is_by t h ≡ true → may_change h r ≡ true → answer_of h ≡ reply_of limit (replay limit P) h → answer_of h ≡ reply_of limit (replay limit Q) h
-answer-same limit P Q h t r here there mine same by on right =
-    right ∙ reply_of-same limit (replay limit P) (replay limit Q) h t r by on (list_of-same limit P Q r here there same) (is_full-same limit P Q t here there mine)
-
-pub list_of-part_other : (p : Res → Bool) (s : State) (r : Res) → p r ≡ false → list_of (part p s) r ≡ []
-list_of-part_other p [] r h = refl
-list_of-part_other p (x ∷ s) r h = grind (arith, h, list_of-part_other p s r h, same_res-exact r x.0)
-
 -- whether an entry is a DEQ or RELEASE of this task
 abbrev pub is_leave_of : TaskId → HistEntry → Bool
 is_leave_of t (Enq u r c ret code) = false

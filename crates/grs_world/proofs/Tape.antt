@@ -76,14 +76,6 @@ pub items-append : (deck : Deck) (xs ys : List Item) → Items deck xs → Items
 items-append deck [] ys a b = b
 items-append deck (x ∷ xs) ys a b = (a.0, items-append deck xs ys a.1 b)
 
-pub items-front : (deck : Deck) (xs ys : List Item) → Items deck (xs ++ ys) → Items deck xs
-items-front deck [] ys a = tt
-items-front deck (x ∷ xs) ys a = (a.0, items-front deck xs ys a.1)
-
-pub items-behind : (deck : Deck) (xs ys : List Item) → Items deck (xs ++ ys) → Items deck ys
-items-behind deck [] ys a = a
-items-behind deck (x ∷ xs) ys a = items-behind deck xs ys a.1
-
 pub items-tape : (deck : Deck) (P : List HistEntry) (xs : List Item) → Tape deck P xs → Items deck xs
 items-tape deck P [] a = tt
 items-tape deck P (x ∷ xs) a = let one : At deck P x = a.0 in (one.is, items-tape deck (P ++ x.entry ∷ []) xs a.1)
