@@ -13,6 +13,10 @@ pub among-front : (t : TaskId) (xs ys : List Req) → is_among t (askers (xs ++ 
 among-front t [] ys h = refl
 among-front t (x ∷ xs) ys h = grind (arith, h, among-front t xs ys, cases_Bool (same_task t x.task))
 
+pub among-back : (t : TaskId) (xs ys : List Req) → is_among t (askers (xs ++ ys)) ≡ false → is_among t (askers ys) ≡ false
+among-back t [] ys h = h
+among-back t (x ∷ xs) ys h = among-back t xs ys (or_false (same_task t x.task) (is_among t (askers (xs ++ ys))) h).1
+
 pub apart-front : (xs ys : List Req) → stand_apart (askers (xs ++ ys)) ≡ true → stand_apart (askers xs) ≡ true
 apart-front [] ys a = refl
 apart-front (x ∷ xs) ys a =

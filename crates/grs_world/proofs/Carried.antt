@@ -222,7 +222,7 @@ lines-append : (deck : Deck) (P : List HistEntry) (before ls ms : List ToldLine)
 lines-append deck P before [] ms a b = subst (λ T. LinesAgree deck P T ms) (append-nil before) b
 lines-append deck P before (l ∷ ls) ms a b = (a.0, lines-append deck P (before ++ l ∷ []) ls ms a.1 (subst (λ T. LinesAgree deck P T ms) (sym (append_assoc before (l ∷ []) ls)) b))
 
-all-append : (s : ℕ) (ls ms : List ToldLine) → list_all (is_line_of s) ls ≡ true → list_all (is_line_of s) ms ≡ true → list_all (is_line_of s) (ls ++ ms) ≡ true
+pub all-append : (s : ℕ) (ls ms : List ToldLine) → list_all (is_line_of s) ls ≡ true → list_all (is_line_of s) ms ≡ true → list_all (is_line_of s) (ls ++ ms) ≡ true
 all-append s [] ms a b = b
 all-append s (l ∷ ls) ms a b = and_on (is_line_of s l) _ (and_parts _ _ a).0 (all-append s ls ms (and_parts _ _ a).1 b)
 

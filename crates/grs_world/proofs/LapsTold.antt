@@ -1,4 +1,5 @@
--- An answer is told last: by an event that tells a task an answer, every other system has processed its requests.
+-- An answer is told last: by an event that tells a task an answer, every other system has processed its requests, and
+-- the event puts no request of that task in.
 use Rattle.std.proofs.Common.{◌≡◌, ◌+◌, cond, Bool, true, false, ◌&&◌, ◌||◌, ℕ, List, [], ◌∷◌, ◌++◌, length, take, drop, Some, refl, ap, sym, ◌∙◌, subst, append-nil, append_assoc}
 use Rattle.std.specs.Prelude.{filter, slice_get, ◌==◌}
 use Rattle.std.specs.List.{list_all, list_any}
@@ -18,22 +19,22 @@ use Rattle.grs_wire.specs.declared.medium.RingEntry.{RingEntry}
 use Rattle.grs_wire.specs.declared.request.Req.{Req}
 use Rattle.grs_wire.specs.declared.told.ToldLine.{ToldLine}
 use Rattle.grs_wire.specs.declared.told.ToldLine.TheVariants as lines
-use Rattle.rsa_message.specs.Message.{is_at, is_unseen, unseen}
+use Rattle.grs_medium.specs.Medium.{live}
+use Rattle.rsa_message.specs.Message.{Message, is_at, is_unseen, unseen}
 use Rattle.rsa_message.proofs.OrderLaws.{is_at-exact}
-use Rattle.grs_world.specs.Laps.{OnlyLeft, answers, AnsweredLast}
+use Rattle.grs_world.specs.Laps.{LeftHome, answers, AnsweredLast}
 use Rattle.grs_world.specs.World.{World, Turnout, told_by, placed, happens, run, told, first_world}
-use Rattle.grs_world.proofs.Askers.{among-front}
+use Rattle.grs_world.proofs.Answered.{Answered, answered-front, answered-by, left_turned}
 use Rattle.grs_world.proofs.Came.{Came, nothing, went_on, turn, each_event, IsHome, AllHome, holds}
 use Rattle.grs_world.proofs.Facts.{drop-seam, filter-append, filter-cons_kept, list_any-push, all-more}
 use Rattle.grs_world.proofs.Laps.{goes}
 use Rattle.grs_world.proofs.LapsMessage.{EndsAtHome, AllEndAtHome, left_at_home}
 use Rattle.grs_world.proofs.Messages.{given-rest}
-use Rattle.grs_world.proofs.Outcomes.{turn_outcome}
+use Rattle.grs_world.proofs.Outcomes.{turn_answered}
 use Rattle.grs_world.proofs.Owners.{is_among}
 use Rattle.grs_world.proofs.Replied.{Replied, replied_none}
 use Rattle.grs_world.proofs.Runs.{GoodWorld, run-push}
-use Rattle.grs_world.proofs.Seen.{NodeLaws, QuietStep, keeps, fixes, ToldBy, Clears, askers, is_line_of}
-use Rattle.grs_world.proofs.Seen as seen
+use Rattle.grs_world.proofs.Seen.{NodeLaws, QuietStep, keeps, fixes, ToldBy, askers, is_line_of}
 use Rattle.grs_world.proofs.Sound.{good_run}
 use Rattle.grs_world.proofs.Stands.{Bodies}
 use Rattle.grs_world.proofs.Stands as stands
@@ -100,37 +101,6 @@ lines_home s t (l ∷ ls) mine a = go (answers t l) refl (lines_home s t ls (and
     go true is later = line_home s t l (and_parts _ _ mine).0 is
     go false is later = later (or_other (answers t l) (list_any (answers t) ls) a is)
 
--- A task that is told an answer has none of these requests.
-module _ (deck : Deck) (s : ℕ) (opens : List Req) (Q : List HistEntry) (t : TaskId) where
-  line_clear : (l : ToldLine) → Clears deck opens Q l → answers t l ≡ true → is_among t (askers opens) ≡ false
-  line_clear (lines.Coded u k part verb code) clear a = subst (λ (x : TaskId). is_among x (askers opens) ≡ false) (sym (same_task-exact t u a)) clear
-  line_clear (lines.Shown u k verb code rows) clear a = absurd clear
-  line_clear (lines.Post u k) clear a = cc
-  line_clear (lines.Ended u code) clear a = cc
-  line_clear (lines.Desk k said) clear a = cc
-
-  -- A step told these lines.
-  record News (T0 T : List ToldLine) : Type 0 where
-    lines : List ToldLine
-    is : T ≡ T0 ++ lines
-    ours : list_all (is_line_of s) lines ≡ true
-    clear : list_any (answers t) lines ≡ true → is_among t (askers opens) ≡ false
-
-  news : {T0 T : List ToldLine} → ToldBy deck s opens Q T0 T → News T0 T
-  news {T0 = T0} seen.none = record { lines = []; is = sym (append-nil T0); ours = refl; clear = λ a. cc }
-  news {T0 = T0} (seen.more T l told mine agrees clear) =
-      let m = news told in
-      record {
-        lines = m.lines ++ l ∷ [];
-        is = ap (λ ls. ls ++ l ∷ []) m.is ∙ append_assoc T0 m.lines (l ∷ []);
-        ours = all-more (is_line_of s) m.lines l m.ours mine;
-        clear = λ a. go m.lines (list_any (answers t) m.lines) refl m.clear (sym (list_any-push (answers t) m.lines l) ∙ a);
-      }
-    where
-      go : (ls : List ToldLine) (b : Bool) → list_any (answers t) ls ≡ b → (list_any (answers t) ls ≡ true → is_among t (askers opens) ≡ false) → (list_any (answers t) ls || answers t l) ≡ true → is_among t (askers opens) ≡ false
-      go ls true is ih a = ih is
-      go ls false is ih a = line_clear l clear (or_other (list_any (answers t) ls) (answers t l) a is)
-
 -- ---- one event
 module _ (deck : Deck) (Seen : ℕ → List HistEntry → List Req → Node → Type 0) (laws : NodeLaws deck Seen) (es : List Event) (e : Event) where
   abbrev w : World
@@ -141,11 +111,12 @@ module _ (deck : Deck) (Seen : ℕ → List HistEntry → List Req → Node → 
 
   -- Only its own system has still to process an entry of this task.
   abbrev Last : TaskId → Type 0
-  Last t = (before behind : List RingEntry) (entry : RingEntry) (q : Req) → w.medium.message.entries ≡ before ++ entry ∷ behind → entry.body ≡ Request q → q.task ≡ t → OnlyLeft t.system entry
+  Last t = LeftHome t w.medium.message.entries
 
-  -- Whoever was told an answer behind the world's lines has no entry that another system has still to process.
+  -- Whoever was told an answer behind the world's lines has no entry that another system has still to process, before
+  -- the event and behind it.
   abbrev Right : World → Type 0
-  Right after = (t : TaskId) → list_any (λ x. answers t x.line) (drop (length w.told) after.told) ≡ true → Last t
+  Right after = (t : TaskId) → list_any (λ x. answers t x.line) (drop (length w.told) after.told) ≡ true → Last t × LeftHome t after.medium.message.entries
 
   its_system : (t : TaskId) → t.system.0 ≡ s → t.system ≡ e.system
   its_system t home = ap (λ (x : ℕ). let y : SysId = record { 0 = x } in y) home
@@ -196,10 +167,10 @@ module _ (deck : Deck) (Seen : ℕ → List HistEntry → List Req → Node → 
     by_step : (Q : List HistEntry) (out : List Req) (step : Step) → out ≡ requests (waiting e.system.0 (g.rest e.system.0)) → ToldBy deck e.system.0 (out ++ step.node.outbox) Q n.tasks.told step.node.tasks.told → Right (placed w e.system n (record { medium = w.medium; step = step }))
     unfolding placed
     by_step Q out step same told t a =
-        let m = news deck s (out ++ step.node.outbox) Q t told in
+        let m = answered-front s out step.node.outbox n.tasks.told step.node.tasks.told (answered-by deck s (out ++ step.node.outbox) Q told) in
         let answered = told_now step.node m.lines m.is t a in
-        let none : is_among t (askers out) ≡ false = among-front t out step.node.outbox (m.clear answered) in
-        at_rest t (lines_home s t m.lines m.ours answered) (subst (λ qs. is_among t (askers qs) ≡ false) same none)
+        let last : Last t = at_rest t (lines_home s t m.lines m.ours answered) (subst (λ qs. is_among t (askers qs) ≡ false) same (m.clear t answered)) in
+        (last, last)
 
     by_quiet : (Q : List HistEntry) (out : List Req) (step : Step) → out ≡ requests (waiting e.system.0 (g.rest e.system.0)) → QuietStep deck Seen e.system.0 Q out n step → Right (placed w e.system n (record { medium = w.medium; step = step }))
     by_quiet Q out step same (keeps none seen told) = by_step Q out step same told
@@ -209,14 +180,17 @@ module _ (deck : Deck) (Seen : ℕ → List HistEntry → List Req → Node → 
     unfolding placed
     right o (nothing m k same told) t a = let none : false ≡ true = told_now k [] (told ∙ sym (append-nil n.tasks.told)) t a in absurd cc
     right o (went_on task may) t a = by_quiet (entries (g.Q s)) (requests (waiting s (g.rest s))) _ refl (laws.quiet s (entries (g.Q s)) (requests (waiting s (g.rest s))) n task (g.seen s n at) may) t a
-    right o (turn m here is) t a =
+    right o (turn medium here is) t a =
         let whole = g.whole s in
         let tape : Tape deck [] (g.front s ++ g.rest s) = subst (Tape deck []) (sym whole) g.tape in
         let replied : Replied deck.limit (entries (g.front s ++ g.rest s)) = replied-tape deck [] (g.front s ++ g.rest s) (replied_none deck.limit) tape in
         let given = given-rest w.medium e.system g.front (g.rest s) g.T whole (g.alive s n at) g.message in
-        let out = turn_outcome deck Seen s (g.front s) (g.rest s) (g.Q s) n (g.view s) replied laws tape (length (take most_additions n.outbox)) (g.seen s n at) (unseen e.system w.medium.message.entries) given in
-        let after : Node = (put_in (read_entries deck n (unseen e.system w.medium.message.entries)) (length (take most_additions n.outbox))).node in
-        at_home here t (lines_home s t out.news.lines out.news.ours (told_now after out.news.lines out.news.is t a))
+        let out = take most_additions n.outbox in
+        let after : Node = (put_in (read_entries deck n (unseen e.system w.medium.message.entries)) (length out)).node in
+        let m : Answered s n.outbox n.tasks.told after.tasks.told = turn_answered deck Seen s (g.front s) (g.rest s) (g.Q s) n (g.view s) replied laws tape (length out) (g.seen s n at) (unseen e.system w.medium.message.entries) given in
+        let answered = told_now after m.lines m.is t a in
+        let last : Last t = at_home here t (lines_home s t m.lines m.ours answered) in
+        (last, subst (λ (x : Message). LeftHome t x.entries) (sym is) (left_turned t e.system w.medium.message.next (live w.medium) most_additions n.outbox w.medium.message.entries last (m.clear t answered)))
 
   pub answered_last : AnsweredLast deck es e
   answered_last t a =
@@ -224,7 +198,7 @@ module _ (deck : Deck) (Seen : ℕ → List HistEntry → List Req → Node → 
       let all : Right (happens deck w e) = each_event deck w e Right g.message.no_turn
       (λ u none. nobody u (sym (ap (list_any (λ x. answers u x.line)) (ap (drop (length w.told)) (sym (append-nil w.told)) ∙ drop-seam w.told [])) ∙ none))
       (λ n o at c. right g n at o c) in
-      all t (ap (λ (x : World). list_any (λ y. answers t y.line) (drop (length w.told) x.told)) (sym (run-push deck es (first_world deck) e)) ∙ a)
+      subst Right (sym (run-push deck es (first_world deck) e)) all t a
     where
-      nobody : (t : TaskId) → false ≡ true → Last t
+      nobody : (t : TaskId) → false ≡ true → Last t × Last t
       nobody t e = absurd cc

@@ -41,6 +41,7 @@ pub mod Transfer
 pub mod Truths
 pub mod Facts
 pub mod Askers
+pub mod Answered
 pub mod Stands
 pub mod Tape
 pub mod Views

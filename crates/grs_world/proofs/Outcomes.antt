@@ -12,6 +12,7 @@ use Rattle.grs_wire.specs.declared.history.HistEntry.{HistEntry}
 use Rattle.grs_wire.specs.declared.medium.RingEntry.{RingEntry}
 use Rattle.grs_wire.specs.declared.request.Fixed.TheVariants.{Asked}
 use Rattle.grs_wire.specs.declared.request.Req.{Req}
+use Rattle.grs_world.proofs.Answered.{Answered}
 use Rattle.grs_world.proofs.Carried.{ToldNews, told-whole, at-same, carries-whole, on-own, by-whole, none_by}
 use Rattle.grs_world.proofs.Owners.{is_among}
 use Rattle.grs_world.proofs.Putting.{PutIn, put-all, all_may}
@@ -158,3 +159,9 @@ module _ (deck : Deck) (Seen : ℕ → List HistEntry → List Req → Node → 
           seen = subst (λ out. Seen s (entries r.Q) out (put_in m k).node) all_taken (laws.put s (entries r.Q) [] m k r.seen);
           news = subst (λ T. ToldNews deck s (entries ((front ++ rest) ++ p.items)) n.tasks.told T) (sym (laws.put_told m k)) r.news;
         })
+
+    -- Who is told an answer in it has no request that waits to be put in.
+    pub turn_answered : (es : List RingEntry) → Bodies (requests (filter for_all rest)) es → Answered s n.outbox n.tasks.told (put_in (read_entries deck n es) k).node.tasks.told
+    turn_answered es given =
+        subst (λ (l : Node). Answered s n.outbox n.tasks.told (put_in l k).node.tasks.told) (sym (read-entries deck n rest es v.rest_items given))
+        (subst (Answered s n.outbox n.tasks.told) (sym (laws.put_told (read_all n (requests (filter for_all rest))) k)) reads.answered)

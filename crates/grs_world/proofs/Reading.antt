@@ -18,6 +18,7 @@ use Rattle.grs_wire.specs.declared.request.Req.{Req}
 use Rattle.grs_wire.specs.declared.request.Want.{Want}
 use Rattle.grs_wire.specs.declared.request.Want.TheVariants as wants
 use Rattle.ring_mode.specs.Ring.{Side, side_of, process, process_entry}
+use Rattle.grs_world.proofs.Answered.{Answered, none_answered, more_answered, answered-back, answered-by}
 use Rattle.grs_world.proofs.Carried.{ToldNews, no_news, more_news, told-whole, at-view}
 use Rattle.grs_world.proofs.Replied.{Replied, replied_for, only_entry}
 use Rattle.grs_world.proofs.Seen.{NodeLaws, ToldBy, Reads, after_read, is_elsewhere, is_res_of, own-one_system}
@@ -93,6 +94,8 @@ pub record ReadTo (deck : Deck) (Seen : ℕ → List HistEntry → List Req → 
   pub seen : Seen s (entries Q) [] m
   pub news : ToldNews deck s (entries (T ++ extra)) n.tasks.told m.tasks.told
   pub outbox : m.outbox ≡ n.outbox
+  -- and who is told an answer has no request that waits to be put in
+  pub answered : Answered s n.outbox n.tasks.told m.tasks.told
 
 module _ (deck : Deck) (Seen : ℕ → List HistEntry → List Req → Node → Type 0) (laws : NodeLaws deck Seen) (s : ℕ) (T extra : List Item) (later : List Req) (here : Replied deck.limit (entries (T ++ extra))) where
   abbrev Reading : List Item → Type 0
@@ -106,6 +109,7 @@ module _ (deck : Deck) (Seen : ℕ → List HistEntry → List Req → Node → 
     seen = seen;
     news = no_news deck s (entries (T ++ extra)) n.tasks.told;
     outbox = refl;
+    answered = none_answered s n.outbox n.tasks.told;
   }
 
   module _ (x : Item) (rest : List Item) (ih : Reading rest) (front Q : List Item) (n : Node) (whole : front ++ x ∷ rest ≡ T) (v : View deck s front (x ∷ rest ++ extra) Q)
@@ -185,6 +189,8 @@ module _ (deck : Deck) (Seen : ℕ → List HistEntry → List Req → Node → 
             seen = on.seen;
             news = more_news deck s (entries (T ++ extra)) n.tasks.told m.tasks.told (read_all m (requests (filter for_all rest))).tasks.told news on.news;
             outbox = on.outbox;
+            answered = more_answered s n.outbox n.tasks.told m.tasks.told (read_all m (requests (filter for_all rest))).tasks.told
+                (answered-back s (requests (waiting s rest)) n.outbox n.tasks.told m.tasks.told (answered-by deck s (requests (waiting s rest) ++ n.outbox) (entries Q ++ x.entry ∷ []) reads.told)) on.answered;
           })
 
       read_for_all : for_all x ≡ true → Seen s (entries Q) (requests (waiting s (x ∷ rest))) n → ReadTo deck Seen s T extra n (read_all n (requests (filter for_all (x ∷ rest))))

@@ -1,6 +1,6 @@
 -- Worked fronts and a worked ring, by which the definitions of tables, of what is kept, and of the event that answers
 -- are checked.
-use Rattle.std.proofs.Common.{◌≡◌, ℕ, true, false, List, [], ◌∷◌, map, refl}
+use Rattle.std.proofs.Common.{◌≡◌, ℕ, true, false, List, [], ◌∷◌, map, refl, arith}
 use Rattle.grs_base.specs.State.{State}
 use Rattle.grs_base.specs.declared.decision.Code.TheVariants.{C00}
 use Rattle.grs_base.specs.declared.line.Line.TheVariants as lines
@@ -35,7 +35,7 @@ use Rattle.rsa_message.specs.Message.{first_after, unseen, any_unseen, cleared, 
 use Rattle.task_state.specs.Replies.{tell_code, record_enq, answered as answered_task, replied, passes_wait, tell_line, tell_untold, tell_control, tell_all, tell_new, recalled, settled, settled_any}
 use Rattle.task_state.specs.View.{state_of, with_state, with_line, with_phase, with_outstanding, with_record, without_record, with_told, with_exclusive, telling}
 use Rattle.grs_world.specs.Kept.{places, kept}
-use Rattle.grs_world.specs.Laps.{given, told_next}
+use Rattle.grs_world.specs.Laps.{LeftHome, given, told_next}
 use Rattle.grs_world.specs.Tables.{before_number, first_unseen, systems_part}
 use Rattle.grs_world.specs.World.{first_world, carry_out, chosen, placed, happens_at, happens, run}
 
@@ -139,3 +139,11 @@ keeps :
     × (told_next ring half_way (turn 0) ≡ record { event = 4; system = sys 0; line = Coded (task_of 0) 1 0 verbs.Enq C00 } ∷ [])
 unfolding state_of with_state with_line with_phase with_outstanding with_record without_record with_told with_exclusive telling tell_code record_enq answered_task replied passes_wait tell_line tell_untold tell_control tell_all tell_new recalled settled settled_any answer_own process process_entry process_all decide post ask wait take_line end_step ready_step phase_step may_go prepare finish_quiet read_entries all_sent put_in finish_call finish has without with_also first_after unseen any_unseen cleared stamped turn_reply wakes rest_after_turn turned turn_row row apply first_node first_world carry_out chosen placed happens_at happens
 keeps = (refl, refl, refl, refl, refl, refl, refl, refl, refl, refl, refl)
+
+-- Were the asker told by the Turn that puts its request in, it would be told too early: the message was empty before, but
+-- behind that Turn the other system has still to process the request.
+told_at_once :
+    ((run ring (goes ∷ [])).medium.message.entries ≡ [])
+    × (LeftHome (task_of 0) (run ring put).medium.message.entries → ⊥)
+unfolding state_of with_state with_line with_phase with_outstanding with_record without_record with_told with_exclusive telling tell_code record_enq answered_task replied passes_wait tell_line tell_untold tell_control tell_all tell_new recalled settled settled_any answer_own process process_entry process_all decide post ask wait take_line end_step ready_step phase_step may_go prepare finish_quiet read_entries all_sent put_in finish_call finish has without with_also first_after unseen any_unseen cleared stamped turn_reply wakes rest_after_turn turned turn_row row apply first_node first_world carry_out chosen placed happens_at happens
+told_at_once = (refl, λ law. let unseen_by_1 : true ≡ false = law [] [] (entry 3) (enq_by 0) refl refl refl 1 (λ e. omega arith) in absurd cc)

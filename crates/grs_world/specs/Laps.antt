@@ -1,5 +1,5 @@
--- An answer comes back last. A request goes with the message from system to system, and its asker is answered when
--- the message has come back to the system that put it in: by then every other system has processed it.
+-- A request comes back last. It goes with the message from system to system, and its asker is answered when the
+-- message has come back to the system that put it in: by then every other system has processed it.
 use Rattle.std.specs.Prelude.{◌≡◌, ◌≢◌, ℕ, Bool, true, false, drop, length, List, [], ◌∷◌, ◌++◌, Option, Some, None, slice_get}
 use Rattle.std.specs.List.{list_any}
 use Rattle.grs_base.specs.Same.{same_task}
@@ -75,10 +75,16 @@ answers t _ = false
 abbrev pub told_next : Deck → List Event → Event → List Told
 told_next deck es e = drop (length (told deck es)) (told deck (es ++ e ∷ []))
 
+-- Of these entries no other system than a task's own has still to process a request of that task.
+abbrev pub LeftHome : TaskId → List RingEntry → Type 0
+LeftHome t es =
+    (before behind : List RingEntry) (entry : RingEntry) (q : Req) → es ≡ before ++ entry ∷ behind
+    → entry.body ≡ Request q → q.task ≡ t → OnlyLeft t.system entry
+
 -- Where the next event tells a task an answer, no other system has still to process a request of that task which
--- stands in the message: so whatever answer is told, every other system has processed the request before that event.
+-- stands in the message, neither before that event nor behind it. So whatever answer is told, every other system has
+-- processed the request before; and no request is answered by the very event that puts it in.
 abbrev pub AnsweredLast : Deck → List Event → Event → Type 0
 AnsweredLast deck es e =
     (t : TaskId) → list_any (λ x. answers t x.line) (told_next deck es e) ≡ true
-    → (before behind : List RingEntry) (entry : RingEntry) (q : Req) → (run deck es).medium.message.entries ≡ before ++ entry ∷ behind
-    → entry.body ≡ Request q → q.task ≡ t → OnlyLeft t.system entry
+    → LeftHome t (run deck es).medium.message.entries × LeftHome t (run deck (es ++ e ∷ [])).medium.message.entries

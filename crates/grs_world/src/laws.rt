@@ -32,7 +32,7 @@ pub fn requests_come_back_last()
 
 /// So an answer comes last. In every run, where the next event gives a system a request that this system put in, which
 /// is then answered, every other system has processed it before; and by the event that tells a task an answer, every
-/// other system has processed all that this task asked.
+/// other system has processed each request of that task that stands in the message before that event or behind it.
 pub fn answers_come_last()
     ensures given { (deck : Deck) (events : List Event) (next : Event) → ProcessedLast deck events next }
     ensures told { (deck : Deck) (events : List Event) (next : Event) → AnsweredLast deck events next }
