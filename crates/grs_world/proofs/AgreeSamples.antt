@@ -1,10 +1,10 @@
 -- Worked lines, by which the definition of agreement is checked: what it accepts, and what it refuses.
-use Rattle.std.proofs.Common.{◌≡◌, true, false, List, [], ◌∷◌, ◌++◌, map, refl, ap, arith}
+use Rattle.std.proofs.Common.{◌≡◌, ℕ, true, false, List, [], ◌∷◌, ◌++◌, map, refl, ap, arith}
 use Rattle.std.specs.Prelude.{◌==◌}
 use Rattle.grs_base.specs.declared.resource.Ctl.TheVariants.{E}
 use Rattle.grs_base.specs.declared.resource.Ret.TheVariants.{RetNone, RetEcb}
 use Rattle.grs_base.specs.declared.resource.SysId.{SysId}
-use Rattle.grs_base.specs.declared.decision.Code.TheVariants.{C00, C04}
+use Rattle.grs_base.specs.declared.decision.Code.TheVariants.{C00, C04, C08, Wait}
 use Rattle.grs_base.specs.declared.line.Scope.TheVariants.{System}
 use Rattle.grs_node.specs.Node.{decide, post, ask, wait, take_line, end_step, ready_step, phase_step, may_go, prepare, finish_quiet, finish, first_node}
 use Rattle.grs_wire.specs.Masks.{has}
@@ -18,7 +18,8 @@ use Rattle.grs_wire.specs.declared.history.HistEntry.TheVariants.{Enq, Deq, Remo
 use Rattle.grs_wire.specs.declared.request.Fixed.{Fixed}
 use Rattle.grs_wire.specs.declared.request.Fixed.TheVariants.{Purged}
 use Rattle.grs_wire.specs.declared.told.Told.{Told}
-use Rattle.grs_wire.specs.declared.told.ToldLine.TheVariants.{Coded, Post, Desk}
+use Rattle.grs_wire.specs.declared.told.ToldLine.{ToldLine}
+use Rattle.grs_wire.specs.declared.told.ToldLine.TheVariants.{Coded, Post, Ended, Desk}
 use Rattle.grs_wire.specs.declared.told.Said.TheVariants.{StarDone, StarAlready, VaryDone, VaryNoSuch, VaryInStar}
 use Rattle.grs_wire.specs.declared.told.Verb.TheVariants as verbs
 use Rattle.task_state.specs.Replies.{tell_code, record_enq, answered, replied, passes_wait, tell_line, tell_untold, tell_control, tell_all, tell_new}
@@ -64,18 +65,58 @@ runs_again = (refl, refl)
 
 -- behind the post the WAIT may be told 00
 waits_told : Agrees asks_again (behind again_history (before_post ++ the_post ∷ [])) the_wait
-waits_told = (refl, (omega arith, (refl, refl), refl, refl))
+waits_told = (refl, (refl, (omega arith, (refl, refl), refl, refl)))
 
 -- without it not: the control told in line 1 is that of an element that was given up
 waits_untold : Agrees asks_again (behind again_history before_post) the_wait → ⊥
-waits_untold a = let e : false ≡ true = a.1.1.1 in absurd (cc)
+waits_untold a = let e : false ≡ true = a.1.1.1.1 in absurd (cc)
 
 -- an element that was never given up needs no more than the code of its line
 abbrev asks_once : Deck
 asks_once = deck_of (((enq 66 E System RetNone ∷ wait_for 66 ∷ []) ∷ []) ∷ [])
 
 waits_at_once : Agrees asks_once (behind (Enq (task_of 0 0) (own 66) E RetNone C00 ∷ []) (at 1 0 (Coded (task_of 0 0) 1 0 verbs.Enq C00) ∷ [])) (at 2 0 (Coded (task_of 0 0) 2 0 verbs.Wait C00))
-waits_at_once = (refl, (omega arith, (refl, refl), refl, refl))
+waits_at_once = (refl, (refl, (omega arith, (refl, refl), refl, refl)))
+
+-- ---- a task's lines that are wrong, or told out of their order
+-- the first task is told this, in this event
+abbrev told_first : ℕ → ToldLine → Told
+told_first e line = at e 0 line
+
+abbrev first_code : ToldLine
+first_code = Coded (task_of 0 0) 1 0 verbs.Enq C00
+
+enq_wrong : Agrees asks_again (behind again_history []) (told_first 1 (Coded (task_of 0 0) 1 0 verbs.Enq C04)) → ⊥
+enq_wrong a = let e : C00 ≡ C04 = a.1.1.1.0 in absurd (cc)
+
+deq_wrong : Agrees asks_again (behind again_history []) (told_first 2 (Coded (task_of 0 0) 2 0 verbs.Deq C08)) → ⊥
+deq_wrong a = let e : C00 ≡ C08 = a.1.1.1 in absurd (cc)
+
+part_wrong : Agrees asks_again (behind again_history []) (told_first 1 (Coded (task_of 0 0) 1 1 verbs.Enq C00)) → ⊥
+part_wrong a = absurd (omega (arith, a.0))
+
+-- no control where another task has it
+control_early : Agrees asks_again (behind (Enq (task_of 0 1) (own 66) E RetNone C00 ∷ Enq (task_of 0 0) (own 66) E RetNone Wait ∷ []) []) (told_first 2 first_code) → ⊥
+control_early a = let e : false ≡ true = a.1.1.1.1 refl in absurd (cc)
+
+post_early : Agrees asks_again (behind again_history []) the_post → ⊥
+post_early a = let e : false ≡ true = a.1.2 in absurd (cc)
+
+post_twice : Agrees asks_again (behind again_history (before_post ++ the_post ∷ [])) the_post → ⊥
+post_twice a = let e : true ≡ false = a.1.3 in absurd (cc)
+
+codes_backwards : Agrees asks_again (behind again_history (told_first 2 (Coded (task_of 0 0) 2 0 verbs.Deq C00) ∷ [])) (told_first 3 first_code) → ⊥
+codes_backwards a = let e : false ≡ true = a.1.1.2 in absurd (cc)
+
+behind_end : Agrees asks_again (behind again_history (told_first 1 (Ended (task_of 0 0) 0) ∷ [])) (told_first 2 first_code) → ⊥
+behind_end a = let e : true ≡ false = a.1.1.3 in absurd (cc)
+
+ends_early : Agrees asks_again (behind (Enq (task_of 0 0) (own 66) E RetNone C00 ∷ []) []) (told_first 2 (Ended (task_of 0 0) 0)) → ⊥
+ends_early a = let e : own 66 ∷ [] ≡ [] = a.1.0 in absurd (cc)
+
+-- nor is a WAIT told 08 where an element is
+waits_for_none : Agrees asks_again (behind again_history (before_post ++ the_post ∷ [])) (told_first 6 (Coded (task_of 0 0) 4 0 verbs.Wait C08)) → ⊥
+waits_for_none a = let e : true ≡ false = a.1.1.1 in absurd (cc)
 
 -- ---- who tells
 other_system : system 1 ≡ system 0 → ⊥
@@ -83,7 +124,7 @@ other_system e = let f : false ≡ true = ap (λ (s : SysId). s.0 == 0) e in abs
 
 -- no system tells the tasks of another
 told_elsewhere : Agrees asks_again (behind again_history (before_post ++ the_post ∷ [])) (record the_wait { system = system 1 }) → ⊥
-told_elsewhere a = other_system a.0
+told_elsewhere a = other_system a.1.0
 
 -- ---- desks
 -- a system without tasks, at whose desk these commands stand

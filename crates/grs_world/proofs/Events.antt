@@ -185,12 +185,12 @@ past-release limit P h t mine asked = rw (asked, entries_of-own t P h mine, last
 agreed-code : (deck : Deck) (s : ℕ) (opens : List Req) (Q : List HistEntry) (T : List ToldLine) (t : TaskId) (ls : List Meaning) (k : ℕ) (verb : Verb) → (t.system.0 == s) ≡ true → is_among t (askers opens) ≡ false → lines_of deck t ≡ Some ls → (c : Code) →
     (told_as c ≡ c → LineAgrees deck.limit ls Q T (Coded t k 0 verb c)) → ToldBy deck s opens Q T (told_after T t k verb c)
 agreed-code deck s opens Q T t ls k verb line away e Wait h = none
-agreed-code deck s opens Q T t ls k verb line away e C00 h = more T (Coded t k 0 verb C00) none line (agrees-ours deck t ls Q T (Coded t k 0 verb C00) e (h refl)) away
-agreed-code deck s opens Q T t ls k verb line away e C04 h = more T (Coded t k 0 verb C04) none line (agrees-ours deck t ls Q T (Coded t k 0 verb C04) e (h refl)) away
-agreed-code deck s opens Q T t ls k verb line away e C08 h = more T (Coded t k 0 verb C08) none line (agrees-ours deck t ls Q T (Coded t k 0 verb C08) e (h refl)) away
-agreed-code deck s opens Q T t ls k verb line away e C14 h = more T (Coded t k 0 verb C14) none line (agrees-ours deck t ls Q T (Coded t k 0 verb C14) e (h refl)) away
-agreed-code deck s opens Q T t ls k verb line away e C18 h = more T (Coded t k 0 verb C18) none line (agrees-ours deck t ls Q T (Coded t k 0 verb C18) e (h refl)) away
-agreed-code deck s opens Q T t ls k verb line away e (End m) h = more T (Coded t k 0 verb (End m)) none line (agrees-ours deck t ls Q T (Coded t k 0 verb (End m)) e (h refl)) away
+agreed-code deck s opens Q T t ls k verb line away e C00 h = more T (Coded t k 0 verb C00) none line (refl, agrees-ours deck t ls Q T (Coded t k 0 verb C00) e (h refl)) away
+agreed-code deck s opens Q T t ls k verb line away e C04 h = more T (Coded t k 0 verb C04) none line (refl, agrees-ours deck t ls Q T (Coded t k 0 verb C04) e (h refl)) away
+agreed-code deck s opens Q T t ls k verb line away e C08 h = more T (Coded t k 0 verb C08) none line (refl, agrees-ours deck t ls Q T (Coded t k 0 verb C08) e (h refl)) away
+agreed-code deck s opens Q T t ls k verb line away e C14 h = more T (Coded t k 0 verb C14) none line (refl, agrees-ours deck t ls Q T (Coded t k 0 verb C14) e (h refl)) away
+agreed-code deck s opens Q T t ls k verb line away e C18 h = more T (Coded t k 0 verb C18) none line (refl, agrees-ours deck t ls Q T (Coded t k 0 verb C18) e (h refl)) away
+agreed-code deck s opens Q T t ls k verb line away e (End m) h = more T (Coded t k 0 verb (End m)) none line (refl, agrees-ours deck t ls Q T (Coded t k 0 verb (End m)) e (h refl)) away
 
 -- what a ready task's next line asks is what it asks next, and it may
 module _ (limit : ℕ) (ls : List Meaning) (P : List HistEntry) (T : List ToldLine) (t : TaskId) (n code : ℕ) (xs : List Rec) (o : Option Asked) (ws : List Row) (l : Meaning) (a : Ask) (knows : Res → Bool × Bool)

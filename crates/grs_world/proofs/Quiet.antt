@@ -261,7 +261,7 @@ module _ (deck : Deck) (s : ℕ) (Q : List HistEntry) (out : List Req) (n : Node
           (by_task (telling (with_line n.tasks t) told_line) _ _ did1 refl tt
           (task-waited ls (past deck.limit Q t) T (by_lists (replay deck.limit Q) t) t x.line x.code x.records None x.rows l is_ready at asks c lets)
           (λ u ms q knows y apart j. task-told ms q T knows u y told_line apart j)
-          (more T told_line none (ours-line deck s n.tasks t ls ours) (agrees-ours deck t ls Q T told_line ours.lines agrees) free))
+          (more T told_line none (ours-line deck s n.tasks t ls ours) (refl, agrees-ours deck t ls Q T told_line ours.lines agrees) free))
 
       -- a WAIT line
       wait_outcome : (q : Res) → slice_get ls (state_of n.tasks t).line ≡ Some (lines.Wait q) →

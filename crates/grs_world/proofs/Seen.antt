@@ -86,7 +86,7 @@ IsEnqOf r (Some (entries.Remove by target)) = ⊥
 
 -- a line that is told to a task agrees with a history, behind lines told before
 abbrev pub AgreesBehind : Deck → List HistEntry → List ToldLine → ToldLine → Type 0
-AgreesBehind deck Q T (told.Coded t k part verb code) = AgreesOf deck.limit (lines_of deck t) Q T (told.Coded t k part verb code)
+AgreesBehind deck Q T (told.Coded t k part verb code) = (part ≡ 0) × AgreesOf deck.limit (lines_of deck t) Q T (told.Coded t k part verb code)
 AgreesBehind deck Q T (told.Shown t k verb code rows) = ⊥
 AgreesBehind deck Q T (told.Post t k) = AgreesOf deck.limit (lines_of deck t) Q T (told.Post t k)
 AgreesBehind deck Q T (told.Ended t code) = AgreesOf deck.limit (lines_of deck t) Q T (told.Ended t code)

@@ -143,7 +143,7 @@ module _ (deck : Deck) (s : ℕ) (os : Opens) (P : List HistEntry) (T0 : List To
       let both = task-coded deck.limit ls P v.told K t r y x.line x.code x.records x.outstanding x.rows k k_rec same at own in
       let z : TaskState = record { line = x.line; phase = phases.Ready; code = x.code; records = on_record r told_rec x.records; outstanding = x.outstanding; rows = x.rows } in
       let l : ToldLine = Coded t y.line 0 verbs.Enq C00 in
-      learned-by v _ l z h ours agreed (λ u. refl) (ours-line deck s v t ls ours) (agrees-ours deck t ls P v.told l ours.lines both.1)
+      learned-by v _ l z h ours agreed (λ u. refl) (ours-line deck s v t ls ours) (refl, agrees-ours deck t ls P v.told l ours.lines both.1)
       (asked-none t os.all (subst (λ o. IsAskedBy t o os.all) none_open here.asked))
       (changed-then v (with_told v t r) _ t (changed-told v t r) (changed-then (with_told v t r) (with_phase (with_told v t r) t phases.Ready) _ t (changed-phase (with_told v t r) t phases.Ready) (changed-telling _ t _)))
       (told-telling _ _ ∙ ap (λ T. T ++ Coded t y.line 0 verbs.Enq C00 ∷ []) (told-phase (with_told v t r) t phases.Ready ∙ told-told v t r))
@@ -244,7 +244,7 @@ module _ (deck : Deck) (s : ℕ) (os : Opens) (P : List HistEntry) (T0 : List To
             (λ u ms o apart m. subst (λ T. IsHere deck os P knows T u ms (state_of v u)) (sym told) (here-told deck os P knows v.told u ms (state_of v u) l apart m))
             (subst (λ T. IsHere deck os P knows T t ls (state_of (telling (with_phase v t phases.Ready) l) t)) (sym told)
             (subst (λ z. IsHere deck os P knows (v.told ++ l ∷ []) t ls z) (sym (state_of-telling _ t l ∙ state-phase v t phases.Ready ours.here)) here_now));
-        agreed = subst (λ T. ToldBy deck s os.all P T0 T) (sym told) (more v.told l agreed (ours-line deck s v t ls ours) (agrees-ours deck t ls P v.told l ours.lines both.1) (asked-none t os.all (subst (λ o. IsAskedBy t o os.all) none_open here.asked)));
+        agreed = subst (λ T. ToldBy deck s os.all P T0 T) (sym told) (more v.told l agreed (ours-line deck s v t ls ours) (refl, agrees-ours deck t ls P v.told l ours.lines both.1) (asked-none t os.all (subst (λ o. IsAskedBy t o os.all) none_open here.asked)));
       }
 
   passes : (v : TasksView) → Holds deck s os P knows v → IsOurs deck s v t ls → ToldBy deck s os.all P T0 v.told → owns (list_of (replay deck.limit P) r) t ≡ true →

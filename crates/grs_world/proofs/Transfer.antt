@@ -264,7 +264,7 @@ coded-carried_of limit n P Q before after t j part verb code (Some ls) k lines h
 pub coded-carried : (deck : Deck) (n : ℕ) (P Q : List HistEntry) (before after : List ToldLine) (t : TaskId) (k part : ℕ) (verb : Verb) (code : Code)
     → Carries deck.limit t P Q → t.system.0 ≡ n → before ≡ filter (is_line_of n) after → AgreesBehind deck Q before (Coded t k part verb code) → AgreesBehind deck P after (Coded t k part verb code)
 coded-carried deck n P Q before after t k part verb code carries home theirs a =
-    coded-carried_of deck.limit n P Q before after t k part verb code (lines_of deck t) carries (record { theirs = theirs }) home a
+    (a.0, coded-carried_of deck.limit n P Q before after t k part verb code (lines_of deck t) carries (record { theirs = theirs }) home a.1)
 
 ended-carried_of : (limit : ℕ) (n : ℕ) (P Q : List HistEntry) (before after : List ToldLine) (t : TaskId) (code : ℕ) (ls : Option (List Meaning))
     → Replied limit P → Replied limit Q → entries_of t P ≡ entries_of t Q → Lines n before after → t.system.0 ≡ n → AgreesOf limit ls Q before (Ended t code) → AgreesOf limit ls P after (Ended t code)

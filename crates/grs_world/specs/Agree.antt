@@ -252,9 +252,9 @@ DeskAgrees deck m e s k said =
 abbrev pub TaskAgrees : Deck → Moment → SysId → TaskId → ToldLine → Type 0
 TaskAgrees deck m s t line = (s ≡ t.system) × AgreesOf deck.limit (lines_of deck t) m.history (lines_of_told m.before) line
 
--- a line that event e of system s tells agrees; no display is shown yet
+-- a line that event e of system s tells agrees; a code is that of its whole line, part 0, and no display is shown yet
 abbrev pub AgreesBy : Deck → Moment → ℕ → SysId → ToldLine → Type 0
-AgreesBy deck m e s (Coded t k part verb code) = TaskAgrees deck m s t (Coded t k part verb code)
+AgreesBy deck m e s (Coded t k part verb code) = (part ≡ 0) × TaskAgrees deck m s t (Coded t k part verb code)
 AgreesBy deck m e s (Shown t k verb code rows) = ⊥
 AgreesBy deck m e s (Post t k) = TaskAgrees deck m s t (Post t k)
 AgreesBy deck m e s (Ended t code) = TaskAgrees deck m s t (Ended t code)
