@@ -24,7 +24,7 @@ use Rattle.grs_wire.specs.declared.told.Said.TheVariants.{StarDone, StarAlready,
 use Rattle.grs_wire.specs.declared.told.Verb.TheVariants as verbs
 use Rattle.task_state.specs.Replies.{tell_code, record_enq, answered, replied, passes_wait, tell_line, tell_untold, tell_control, tell_all, tell_new}
 use Rattle.task_state.specs.View.{state_of, with_state, with_line, with_phase, with_outstanding, with_record, without_record, with_told, with_exclusive, telling}
-use Rattle.grs_world.specs.Agree.{Agrees, Moment}
+use Rattle.grs_world.specs.Agree.{Agrees, Moment, RemovalsTold, is_of_event}
 use Rattle.grs_world.specs.World.{first_world, carry_out, chosen, placed, happens_at, happens, hist, told}
 use Rattle.grs_world.proofs.Samples.{system, task_of, own, enq, deq, wait_for, deck_of, goes, at}
 
@@ -119,6 +119,14 @@ waits_for_none : Agrees asks_again (behind again_history (before_post ++ the_pos
 waits_for_none a = let e : true ≡ false = a.1.1.1 in absurd (cc)
 
 -- ---- who tells
+-- a line is told by its event, and by the system of that event
+of_event :
+    (is_of_event again_events the_wait ≡ true)
+    × (is_of_event again_events (record the_wait { system = system 1 }) ≡ false)
+    × (is_of_event again_events (record the_wait { event = 7 }) ≡ false)
+    × (is_of_event again_events (record the_wait { event = 0 }) ≡ false)
+of_event = (refl, refl, refl, refl)
+
 other_system : system 1 ≡ system 0 → ⊥
 other_system e = let f : false ≡ true = ap (λ (s : SysId). s.0 == 0) e in absurd (cc)
 
@@ -161,6 +169,10 @@ star_at_once a = let e : false ≡ true = a.2 in absurd (cc)
 -- a removal is told by the event that makes it, and of its own system
 removed : Agrees desks (fixing ((system 0, Purged (system 2)) ∷ []) []) (at 3 0 (Desk 2 VaryDone))
 removed = (omega arith, refl, refl)
+
+-- an event that makes one tells it
+removal_untold : RemovalsTold desks 3 ((system 0, Purged (system 2)) ∷ []) [] → ⊥
+removal_untold told = let e : false ≡ true = told (system 0) (system 2) refl in absurd (cc)
 
 removed_by_none : Agrees desks (fixing [] []) (at 3 0 (Desk 2 VaryDone)) → ⊥
 removed_by_none a = let e : false ≡ true = a.2 in absurd (cc)

@@ -42,6 +42,7 @@ pub mod Truths
 pub mod Facts
 pub mod Askers
 pub mod Answered
+pub mod OfEvents
 pub mod Stands
 pub mod Tape
 pub mod Views

@@ -25,6 +25,7 @@ use Rattle.rsa_message.specs.Message.{Message, is_at, unseen, turn_reply, turned
 use Rattle.grs_world.specs.Agree.{Sound}
 use Rattle.grs_world.specs.World.{World, Turnout, idle, carry_out, chosen, placed, counted, happens_at, happens, run, first_nodes, first_world}
 use Rattle.grs_world.proofs.Messages.{message-same, message-turned, given-rest}
+use Rattle.grs_world.proofs.OfEvents.{told_of_events}
 use Rattle.grs_world.proofs.Outcomes.{Outcome, quiet_outcome, still_outcome, turn_outcome}
 use Rattle.grs_world.proofs.Removals.{none_purged}
 use Rattle.grs_world.proofs.Replied.{Replied, replied_none}
@@ -272,6 +273,7 @@ sound deck Seen laws es =
       legal = subst (Legal deck) (sym g.hist_is) g.legal;
       agree = record {
         lines = g.agree;
+        events = told_of_events deck es;
         removals = λ e s target h.
             let now = good_run deck Seen laws (take e es) in
             absurd (none_purged s target deck (run deck (take e es)).fixed (subst (Legal deck) (sym now.hist_is) now.legal) (length (run deck (take (e - 1) es)).fixed) h);

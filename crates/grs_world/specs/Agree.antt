@@ -291,12 +291,27 @@ tells_removal deck s target _ = false
 abbrev pub is_removal : Deck → ℕ → SysId → SysId → Told → Bool
 is_removal deck e s target x = (x.event == e) && ((x.system.0 == s.0) && tells_removal deck s target x.line)
 
+-- Each removal among what event e fixed is told by that event.
+abbrev pub RemovalsTold : Deck → ℕ → List (SysId × Fixed) → List Told → Type 0
+RemovalsTold deck e fixed lines = (s target : SysId) → purges s target fixed ≡ true → list_any (is_removal deck e s target) lines ≡ true
+
+-- whether an event is there, and is this system's
+abbrev pub is_event_of : SysId → Option Event → Bool
+is_event_of s None = false
+is_event_of s (Some e) = e.system.0 == s.0
+
+-- whether a line is told by one of these events, numbered from 1, and by the system of that event
+abbrev pub is_of_event : List Event → Told → Bool
+is_of_event es x = nat_lt 0 x.event && is_event_of x.system (slice_get es (x.event - 1))
+
 -- What a run tells agrees with its history.
 pub record Agree (deck : Deck) (es : List Event) : Type 0 where
   -- each line that is told agrees
   pub lines : AllAgree deck es [] (told deck es)
+  -- and is told by an event, and by the system of that event,
+  pub events : list_all (is_of_event es) (told deck es) ≡ true
   -- and each removal is told by the event that makes it
-  pub removals : (e : ℕ) (s target : SysId) → purges s target (fixed_in deck es e) ≡ true → list_any (is_removal deck e s target) (told deck es) ≡ true
+  pub removals : (e : ℕ) → RemovalsTold deck e (fixed_in deck es e) (told deck es)
 
 -- A run is sound: its history is legal, and what it tells agrees with that history.
 pub record Sound (deck : Deck) (es : List Event) : Type 0 where
