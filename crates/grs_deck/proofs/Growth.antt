@@ -1,7 +1,7 @@
 -- What each statement adds to the names, the task lines and the entries of a deck: they stay within their limits.
 use Rattle.std.proofs.Common.{◌≡◌, inl, inr, ◌⊎◌, ℕ, ◌+◌, ◌-◌, ◌<◌, Bool, true, false, cond, not, eqb, leb, List, [], ◌∷◌, ◌++◌, length, map, filter, Option, Some, None, refl, sym, ap, subst, ◌∙◌, arith, append_assoc, length-append}
-use Rattle.std.specs.Prelude.{All, codes, ◌&&◌, ◌||◌}
-use Rattle.std.specs.List.{flat_map}
+use Rattle.std.specs.Prelude.{All, codes, ◌||◌}
+use Rattle.std.specs.List.{flat_map, list_all}
 use Rattle.std.proofs.lemmas.Bool.{and_parts, and_from, leb-true, le-leb}
 use Rattle.std.proofs.lemmas.List.{append-nil, map-append}
 use Rattle.std.proofs.lemmas.List.Elements.{All-nil, All-push, filter-append}
@@ -10,7 +10,6 @@ use Rattle.grs_base.specs.Names.{before_rest, trim_blanks, is_qname, is_rname, I
 use Rattle.grs_base.specs.declared.line.Line.{Line}
 use Rattle.grs_base.specs.declared.rnl.Which.{Which}
 use Rattle.grs_base.specs.declared.rnl.Which.TheVariants.{Incl, Excl, Con}
-use Rattle.grs_base.specs.declared.rnl.RnlEntry.{RnlEntry}
 use Rattle.grs_base.specs.declared.rnl.Lists.{Lists}
 use Rattle.grs_base.proofs.NameLaws.{trim_blanks-le}
 use Rattle.grs_wire.specs.declared.deck.TaskDef.{TaskDef}
@@ -21,10 +20,16 @@ use Rattle.grs_wire.specs.declared.deck.Deck.{Deck}
 use Rattle.deck_scan.specs.Lengths.{is_bad_rname}
 use Rattle.deck_scan.specs.declared.token.Token.{Token}
 use Rattle.deck_scan.specs.declared.token.TokenLine.{TokenLine}
+use Rattle.deck_scan.specs.declared.token.Token.TheVariants.{Word}
+use Rattle.deck_scan.specs.Named.{are_bytes, IsMaybeRname}
+use Rattle.job_syntax.specs.declared.ask.Ask.{Ask}
 use Rattle.job_syntax.specs.declared.said.Said.{Said}
 use Rattle.job_syntax.specs.declared.said.Said.TheVariants as said
 use Rattle.job_syntax.specs.Lines.{are_bad_names, has_bad_name as line_has_bad_name, line_of}
+use Rattle.job_syntax.specs.Laws.{AreNames, IsDeckLine}
+use Rattle.job_syntax.specs.Spelled.{IsAsk, IsSaid}
 use Rattle.rnl_syntax.specs.declared.operands.Rnldef.{Rnldef}
+use Rattle.rnl_syntax.specs.Laws.{IsEntry}
 use Rattle.rnl_syntax.specs.Operands.{entry_of, has_bad_name as rnldef_has_bad_name}
 use Rattle.rnl_syntax.specs.Spelled.{IsRnldef}
 use Rattle.deck_form.specs.declared.form.Stmt.{Stmt}
@@ -37,8 +42,10 @@ use Rattle.grs_deck.specs.Places.{at_last, jobs_now, tasks_now, event_of}
 use Rattle.grs_deck.specs.Grow.{on_last, add_job, add_task, add_line, in_jobs, in_tasks, with_event, in_list, grow}
 use Rattle.grs_deck.specs.Reading.{no_draft}
 use Rattle.grs_deck.specs.Spells.{IsRight}
-use Rattle.grs_deck.specs.Whole.{all_names, IsShortName, all_lines, is_display, IsLine, IsEntryOf, AreEntries}
+use Rattle.grs_deck.specs.Whole.{all_names, IsShortName, all_lines, is_display, AreEntries}
 use Rattle.grs_deck.proofs.SpellsLaws.{no_test}
+use Rattle.grs_deck.proofs.TokenBytes.{says_bytes, are_of_bytes}
+use Rattle.grs_deck.proofs.NameBytes.{BothBytes, trim_bytes, ask_bytes, ask_unit, unit_or, IsMaybeBytes, rnldef_bytes}
 
 -- ---- the last of a list
 
@@ -167,34 +174,43 @@ not_bad true false h = (refl, refl)
 not_bad true true h = absurd cc
 not_bad false b h = absurd cc
 
-one_of : {A : Type 0} (P : A → Type 0) (x : A) → P x → All P (x ∷ [])
-one_of P x h = All-push P [] x (All-nil P) h
+-- behind a first word
+behind_bytes : (w : List ℕ) (ts behind : List Token) → ts ≡ Word w ∷ behind → list_all says_bytes ts ≡ true → list_all says_bytes behind ≡ true
+behind_bytes w ts behind is all = (and_parts (are_bytes w) (list_all says_bytes behind) (subst (λ (x : List Token). list_all says_bytes x ≡ true) is all)).1
 
 -- a line as it is built, which shows nothing
 abbrev IsBuiltLine : Line → Type 0
-IsBuiltLine l = IsLine l × (is_display l ≡ false)
+IsBuiltLine l = IsDeckLine l × (is_display l ≡ false)
 
-named_line : (l : Line) (q r : List ℕ) → are_bad_names q r ≡ false → (All IsQname (trim_blanks q ∷ []) → All (λ (r : List ℕ). is_rname r ≡ true) (r ∷ []) → IsLine l) → IsLine l
-named_line l q r h make = let k = not_either (is_qname q) (is_rname r) h in make (one_of IsQname (trim_blanks q) (built q k.0)) (one_of (λ (r : List ℕ). is_rname r ≡ true) r k.1)
+named : (q r : List ℕ) → are_bad_names q r ≡ false → BothBytes q r → AreNames (trim_blanks q) r
+named q r good bytes =
+    let k = not_either (is_qname q) (is_rname r) good in
+    record { qname = built q k.0; q_bytes = trim_bytes q bytes.0; rname = k.1; r_bytes = bytes.1 }
 
-line_built : (ts : List Token) (s : Said) → IsFirst ts (stmts.Line s) → line_has_bad_name s ≡ false → IsBuiltLine (line_of s)
+asked : (front ts : List Token) (a : Ask) → IsAsk front ts a → list_all says_bytes ts ≡ true → are_bad_names a.q a.r ≡ false → AreNames (trim_blanks a.q) a.r
+asked front ts a h all good = named a.q a.r good (ask_bytes front ts a h all)
+
+said_built : (ts : List Token) (s : Said) (h : IsSaid ts s) → is_unbuilt_word h.word ≡ false → list_all says_bytes h.behind ≡ true → line_has_bad_name s ≡ false → IsBuiltLine (line_of s)
 unfolding is_unbuilt_word
-line_built ts (said.Enq e) h good = (named_line (line_of (said.Enq e)) e.ask.q e.ask.r good (λ q r. record { one = refl; qnames = q; rnames = r }), refl)
-line_built ts (said.Reserve e) h good = (named_line (line_of (said.Reserve e)) e.ask.q e.ask.r good (λ q r. record { one = refl; qnames = q; rnames = r }), refl)
-line_built ts (said.Deq a) h good = (named_line (line_of (said.Deq a)) a.q a.r good (λ q r. record { one = refl; qnames = q; rnames = r }), refl)
-line_built ts (said.Wait a) h good = (named_line (line_of (said.Wait a)) a.q a.r good (λ q r. record { one = refl; qnames = q; rnames = r }), refl)
-line_built ts (said.Gqscan x) h good = absurd (let k : true ≡ false = subst (λ (w : List ℕ). is_unbuilt_word w ≡ false) h.0.is_word h.1 in cc)
-line_built ts (said.Display x) h good = absurd (other h.0.is_word)
+said_built ts (said.Enq e) h known all good = ((_, refl, asked _ h.behind e.ask h.is_behind.0 all good), refl)
+said_built ts (said.Reserve e) h known all good = ((asked _ h.behind e.ask h.is_behind.0 all good, unit_or e.ask.opts.unit (ask_unit _ h.behind e.ask h.is_behind.0)), refl)
+said_built ts (said.Deq a) h known all good = ((asked _ h.behind a h.is_behind.0 all good, ask_unit _ h.behind a h.is_behind.0), refl)
+said_built ts (said.Wait a) h known all good = (asked _ h.behind a h.is_behind.0 all good, refl)
+said_built ts (said.Gqscan x) h known all good = absurd (let k : true ≡ false = subst (λ (w : List ℕ). is_unbuilt_word w ≡ false) h.is_word known in cc)
+said_built ts (said.Display x) h known all good = absurd (other h.is_word)
   where
-    other : (h.0.word ≡ codes "DISPLAY") ⊎ (h.0.word ≡ codes "D") → ⊥
-    other (inl is) = let k : true ≡ false = subst (λ (w : List ℕ). is_unbuilt_word w ≡ false) is h.1 in cc
-    other (inr is) = let k : true ≡ false = subst (λ (w : List ℕ). is_unbuilt_word w ≡ false) is h.1 in cc
+    other : (h.word ≡ codes "DISPLAY") ⊎ (h.word ≡ codes "D") → ⊥
+    other (inl is) = let k : true ≡ false = subst (λ (w : List ℕ). is_unbuilt_word w ≡ false) is known in cc
+    other (inr is) = let k : true ≡ false = subst (λ (w : List ℕ). is_unbuilt_word w ≡ false) is known in cc
+
+line_built : (ts : List Token) (s : Said) → list_all says_bytes ts ≡ true → IsFirst ts (stmts.Line s) → line_has_bad_name s ≡ false → IsBuiltLine (line_of s)
+line_built ts s all h good = said_built ts s h.0 h.1 (behind_bytes h.0.word ts h.0.behind h.0.parts all) good
 
 -- ---- a deck so far
 
 pub record Keeps (d : Draft) : Type 0 where
   pub names : All IsShortName (all_names d.deck.systems)
-  pub lines : All IsLine (all_lines d.deck.systems)
+  pub lines : All IsDeckLine (all_lines d.deck.systems)
   pub displays : filter is_display (all_lines d.deck.systems) ≡ []
   pub room : length (all_lines d.deck.systems) + d.room ≡ most_lines
   pub entries : AreEntries d.deck.lists
@@ -202,17 +218,17 @@ pub record Keeps (d : Draft) : Type 0 where
 pub keeps_none : Keeps no_draft
 keeps_none = record {
   names = All-nil IsShortName;
-  lines = All-nil IsLine;
+  lines = All-nil IsDeckLine;
   displays = refl;
   room = refl;
-  entries = record { incl = All-nil IsEntryOf; excl = All-nil IsEntryOf; con = All-nil IsEntryOf };
+  entries = record { incl = All-nil IsEntry; excl = All-nil IsEntry; con = All-nil IsEntry };
 }
 
 -- no line more
 no_line : (d e : Draft) → Keeps d → all_lines e.deck.systems ≡ all_lines d.deck.systems → e.room ≡ d.room → All IsShortName (all_names e.deck.systems) → AreEntries e.deck.lists → Keeps e
 no_line d e h same room names entries = record {
   names = names;
-  lines = subst (All IsLine) (sym same) h.lines;
+  lines = subst (All IsDeckLine) (sym same) h.lines;
   displays = ap (filter is_display) same ∙ h.displays;
   room = rw (same, room) h.room;
   entries = entries;
@@ -222,13 +238,24 @@ no_line d e h same room names entries = record {
 name_more : (d : Draft) (name : List ℕ) (all : List (List ℕ)) → Keeps d → all ≡ all_names d.deck.systems ++ name ∷ [] → IsShortName name → All IsShortName all
 name_more d name all h is short = subst (All IsShortName) (sym is) (All-push IsShortName (all_names d.deck.systems) name h.names short)
 
-entry_more : (r : Rnldef) (lists : Lists) → IsEntryOf (entry_of r) → AreEntries lists → (which : Which) → AreEntries (in_list which (entry_of r) lists)
-entry_more r lists e h Incl = record { incl = All-push IsEntryOf lists.incl.entries (entry_of r) h.incl e; excl = h.excl; con = h.con }
-entry_more r lists e h Excl = record { incl = h.incl; excl = All-push IsEntryOf lists.excl.entries (entry_of r) h.excl e; con = h.con }
-entry_more r lists e h Con = record { incl = h.incl; excl = h.excl; con = All-push IsEntryOf lists.con.entries (entry_of r) h.con e }
+entry_more : (r : Rnldef) (lists : Lists) → IsEntry (entry_of r) → AreEntries lists → (which : Which) → AreEntries (in_list which (entry_of r) lists)
+entry_more r lists e h Incl = record { incl = All-push IsEntry lists.incl.entries (entry_of r) h.incl e; excl = h.excl; con = h.con }
+entry_more r lists e h Excl = record { incl = h.incl; excl = All-push IsEntry lists.excl.entries (entry_of r) h.excl e; con = h.con }
+entry_more r lists e h Con = record { incl = h.incl; excl = h.excl; con = All-push IsEntry lists.con.entries (entry_of r) h.con e }
 
-entry_built : (ts : List Token) (r : Rnldef) → IsRnldef ts r → rnldef_has_bad_name r ≡ false → IsEntryOf (entry_of r)
-entry_built ts r h good = let k = not_bad (is_qname r.q) (is_bad_rname r.r) good in record { qname = built r.q k.0; rname = k.1; needed = h.needed }
+maybe_rname : (o : Option (List ℕ)) → is_bad_rname o ≡ false → IsMaybeBytes o → IsMaybeRname o
+maybe_rname None h bytes = tt
+maybe_rname (Some r) h bytes = (not_false (is_rname r) h, bytes)
+  where
+    not_false : (b : Bool) → not b ≡ false → b ≡ true
+    not_false true e = refl
+    not_false false e = absurd cc
+
+entry_built : (ts : List Token) (r : Rnldef) → list_all says_bytes ts ≡ true → IsRnldef ts r → rnldef_has_bad_name r ≡ false → IsEntry (entry_of r)
+entry_built ts r all h good =
+    let k = not_bad (is_qname r.q) (is_bad_rname r.r) good in
+    let bytes = rnldef_bytes ts r h all in
+    record { q = built r.q k.0; q_bytes = trim_bytes r.q bytes.0; r = maybe_rname r.r k.1 bytes.1; needed = h.needed }
 
 room_same : (n : ℕ) → n - 0 ≡ n
 room_same n = omega arith
@@ -238,36 +265,36 @@ line_more d line h task some new e is room lists =
     let all : all_lines e.deck.systems ≡ all_lines d.deck.systems ++ line ∷ [] = ap all_lines is ∙ lines_line line d.deck.systems task in
     record {
       names = subst (All IsShortName) (sym (ap all_names is ∙ names_line line d.deck.systems)) h.names;
-      lines = subst (All IsLine) (sym all) (All-push IsLine (all_lines d.deck.systems) line h.lines new.0);
+      lines = subst (All IsDeckLine) (sym all) (All-push IsDeckLine (all_lines d.deck.systems) line h.lines new.0);
       displays = ap (filter is_display) all ∙ filter-append is_display (all_lines d.deck.systems) (line ∷ []) ∙ rw (h.displays, new.1) refl;
       room = (let long : length (all_lines e.deck.systems) ≡ length (all_lines d.deck.systems) + 1 = ap length all ∙ length-append (all_lines d.deck.systems) (line ∷ []) in omega (arith, long, room, some, h.room));
       entries = subst AreEntries (sym lists) h.entries;
     }
 
-first_keeps : (d : Draft) (ts : List Token) (st : Stmt) → IsFirst ts st → IsRight d st → Keeps d → Keeps (grow d st)
-first_keeps d ts stmts.Unbuilt s right h = no_line d (grow d stmts.Unbuilt) h refl (room_same d.room) h.names h.entries
-first_keeps d ts (stmts.Complex c) s right h = no_line d (grow d (stmts.Complex c)) h refl (room_same d.room) h.names h.entries
-first_keeps d ts (stmts.Rnldef r) s right h =
-    let e = entry_built s.0 r s.2 (no_test d (stmts.Rnldef r) right).long in
+first_keeps : (d : Draft) (ts : List Token) (st : Stmt) → list_all says_bytes ts ≡ true → IsFirst ts st → IsRight d st → Keeps d → Keeps (grow d st)
+first_keeps d ts stmts.Unbuilt all s right h = no_line d (grow d stmts.Unbuilt) h refl (room_same d.room) h.names h.entries
+first_keeps d ts (stmts.Complex c) all s right h = no_line d (grow d (stmts.Complex c)) h refl (room_same d.room) h.names h.entries
+first_keeps d ts (stmts.Rnldef r) all s right h =
+    let e = entry_built s.0 r (behind_bytes (codes "RNLDEF") ts s.0 s.1 all) s.2 (no_test d (stmts.Rnldef r) right).long in
     no_line d (grow d (stmts.Rnldef r)) h refl (room_same d.room) h.names (entry_more r d.deck.lists e h.entries r.which)
-first_keeps d ts (stmts.System n) s right h =
+first_keeps d ts (stmts.System n) all s right h =
     no_line d (grow d (stmts.System n)) h (lines_system n d.deck.systems) (room_same d.room) (name_more d n _ h (names_system n d.deck.systems) (s.1, right.0.0)) h.entries
-first_keeps d ts (stmts.Job n) s right h =
+first_keeps d ts (stmts.Job n) all s right h =
     no_line d (grow d (stmts.Job n)) h (lines_job n d.deck.systems) (room_same d.room) (name_more d n _ h (names_job n d.deck.systems right.0.2) (s.1, right.0.0)) h.entries
-first_keeps d ts (stmts.Task n) s right h =
+first_keeps d ts (stmts.Task n) all s right h =
     no_line d (grow d (stmts.Task n)) h (lines_task n d.deck.systems) (room_same d.room) (name_more d n _ h (names_task n d.deck.systems right.0.2) (s.1, right.0.0)) h.entries
-first_keeps d ts (stmts.Line x) s right h =
-    line_more d (line_of x) h right.0.1 right.0.2 (line_built ts x s (no_test d (stmts.Line x) right).long) (grow d (stmts.Line x)) refl refl refl
-first_keeps d ts stmts.Schedule s right h = no_line d (grow d stmts.Schedule) h refl (room_same d.room) h.names h.entries
-first_keeps d ts (stmts.Event n a) s right h = absurd s
+first_keeps d ts (stmts.Line x) all s right h =
+    line_more d (line_of x) h right.0.1 right.0.2 (line_built ts x all s (no_test d (stmts.Line x) right).long) (grow d (stmts.Line x)) refl refl refl
+first_keeps d ts stmts.Schedule all s right h = no_line d (grow d stmts.Schedule) h refl (room_same d.room) h.names h.entries
+first_keeps d ts (stmts.Event n a) all s right h = absurd s
 
 event_keeps : (d : Draft) (o : Option Event) (e : Draft) → e.deck ≡ with_event o d.deck → e.room ≡ d.room → Keeps d → Keeps e
 event_keeps d None e is room h = no_line d e h (ap (λ (x : Deck). all_lines x.systems) is) room (subst (λ (x : Deck). All IsShortName (all_names x.systems)) (sym is) h.names) (subst (λ (x : Deck). AreEntries x.lists) (sym is) h.entries)
 event_keeps d (Some v) e is room h = no_line d e h (ap (λ (x : Deck). all_lines x.systems) is) room (subst (λ (x : Deck). All IsShortName (all_names x.systems)) (sym is) h.names) (subst (λ (x : Deck). AreEntries x.lists) (sym is) h.entries)
 
 -- A statement that is right keeps the limits of names, task lines and entries.
-pub keeps_grow : (d : Draft) (l : TokenLine) (st : Stmt) → Spells d.scheduled d.deck.entries l st → IsRight d st → Keeps d → Keeps (grow d st)
-keeps_grow d l st s right h = go d.scheduled s
+pub keeps_grow : (d : Draft) (l : TokenLine) (st : Stmt) → are_of_bytes l ≡ true → Spells d.scheduled d.deck.entries l st → IsRight d st → Keeps d → Keeps (grow d st)
+keeps_grow d l st all s right h = go d.scheduled s
   where
     event : (x : Stmt) → Spells true d.deck.entries l x → Keeps (grow d x)
     event (stmts.Event n a) k = event_keeps d (event_of d.deck.systems n a) (grow d (stmts.Event n a)) refl (room_same d.room) h
@@ -275,4 +302,4 @@ keeps_grow d l st s right h = go d.scheduled s
 
     go : (b : Bool) → Spells b d.deck.entries l st → Keeps (grow d st)
     go true k = event st k
-    go false k = first_keeps d l.tokens st k.1 right h
+    go false k = first_keeps d l.tokens st all k.1 right h

@@ -5,6 +5,8 @@ pub mod Loop
 pub mod SpellsLaws
 pub mod Least
 pub mod First
+pub mod TokenBytes
+pub mod NameBytes
 pub mod Growth
 pub mod WholeLaws
 pub mod Samples

@@ -1,5 +1,5 @@
 -- What the definitions say of some small texts.
-use Rattle.std.proofs.Common.{◌≡◌, ◌≤◌, arith, ℕ, List, [], ◌∷◌, ◌++◌, Option, Some, None, Ok, true, false, refl}
+use Rattle.std.proofs.Common.{◌≡◌, ◌≤◌, ◌<◌, arith, ℕ, List, [], ◌∷◌, ◌++◌, Option, Some, None, Ok, true, false, refl}
 use Rattle.std.specs.Prelude.{codes}
 use Rattle.grs_base.specs.declared.fault.DeckFault.{DeckFault}
 use Rattle.grs_base.specs.declared.fault.Kind.{Kind}
@@ -8,6 +8,7 @@ use Rattle.grs_base.specs.declared.resource.Ctl.TheVariants.{E, S}
 use Rattle.grs_base.specs.declared.resource.Ret.TheVariants.{RetNone, RetUse}
 use Rattle.grs_base.specs.declared.rnl.Which.TheVariants.{Excl}
 use Rattle.grs_base.specs.declared.rnl.Form.TheVariants.{Pattern}
+use Rattle.grs_base.specs.declared.look.Filter.TheVariants as filters
 use Rattle.grs_base.specs.declared.line.Scope.TheVariants as scopes
 use Rattle.grs_base.specs.declared.line.Line.{Line}
 use Rattle.grs_base.specs.declared.line.Line.TheVariants as lines
@@ -230,7 +231,7 @@ item q = record { q = q; r = codes "B"; ctl = E; scope = scopes.Systems }
 
 -- no deck has an ENQ of two items
 two_items : IsDeck (of_lines (codes "SYA") (lines.Enq (item (codes "A") ∷ item (codes "C") ∷ []) RetNone true ∷ [])) → ⊥
-two_items h = let k : false ≡ true = (h.lines.each 0 lines.DisplayC (omega arith)).one in cc
+two_items h = let k = (h.lines.each 0 lines.DisplayC (omega arith)).1 in cc
 
 -- nor a system with a name of nine bytes, or of a digit first
 long_name : IsDeck (of_lines (codes "ABCDEFGHI") []) → ⊥
@@ -241,5 +242,20 @@ unfolding is_name_byte all_name is_name
 digit_name h = let k : false ≡ true = (h.names 0 [] (omega arith)).0 in cc
 
 -- nor a qname that a blank ends
-blank_name : IsDeck (of_lines (codes "SYA") (lines.Enq (item (codes "A ") ∷ []) RetNone true ∷ [])) → ⊥
-blank_name h = let k : codes "A" ≡ codes "A " = ((h.lines.each 0 lines.DisplayC (omega arith)).qnames 0 [] (omega arith)).trimmed in cc
+blank_name : IsDeck (of_lines (codes "SYA") (lines.Wait (codes "A ") (codes "B") scopes.Systems true ∷ [])) → ⊥
+blank_name h = let k : codes "A" ≡ codes "A " = (h.lines.each 0 lines.DisplayC (omega arith)).qname.trimmed in cc
+
+-- nor one with a number that is no byte
+no_byte : IsDeck (of_lines (codes "SYA") (lines.Wait (256 ∷ []) (codes "B") scopes.Systems true ∷ [])) → ⊥
+no_byte h = let k : false ≡ true = (h.lines.each 0 lines.DisplayC (omega arith)).q_bytes in cc
+
+-- nor a unit of more than 16 bits
+wide_unit : IsDeck (of_lines (codes "SYA") (lines.Reserve (codes "A") (codes "B") E 65536 RetNone true ∷ [])) → ⊥
+wide_unit h = let k : 65536 < 65536 = (h.lines.each 0 lines.DisplayC (omega arith)).1 in omega (arith, k)
+
+-- nor a GQSCAN of a qname of nine bytes, or of neither name
+long_filter : IsDeck (of_lines (codes "SYA") (lines.Gqscan true (filters.Named (Some (codes "ABCDEFGHI")) None) ∷ [])) → ⊥
+long_filter h = let k : false ≡ true = (h.lines.each 0 lines.DisplayC (omega arith)).0.0.made in cc
+
+empty_filter : IsDeck (of_lines (codes "SYA") (lines.Gqscan true (filters.Named None None) ∷ [])) → ⊥
+empty_filter h = let k : true ≡ false = (h.lines.each 0 lines.DisplayC (omega arith)).2 in cc

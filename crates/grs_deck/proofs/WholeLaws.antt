@@ -3,7 +3,8 @@ use Rattle.std.proofs.Common.{◌≡◌, ℕ, ◌+◌, ◌-◌, ◌<◌, Bool, t
 use Rattle.std.specs.Prelude.{All, slice_get, unwrap_or, Result, Ok, Err, IfOk}
 use Rattle.grs_base.specs.declared.fault.ReadError.{ReadError}
 use Rattle.deck_scan.specs.Gives.{Gives}
-use Rattle.std.proofs.lemmas.Bool.{eqb-false}
+use Rattle.std.specs.List.{list_all}
+use Rattle.std.proofs.lemmas.Bool.{eqb-false, and_parts}
 use Rattle.std.proofs.lemmas.List.Elements.{All-nil, All-push}
 use Rattle.std.proofs.lemmas.List.Quantifiers.{position-Some}
 use Rattle.std.proofs.lemmas.Option.{slice_get_within}
@@ -40,6 +41,7 @@ use Rattle.grs_base.specs.declared.rnl.RnlEntry.{RnlEntry}
 use Rattle.grs_deck.specs.Whole.{IsListOf, AreLists, IsTaskOf, IsChoiceOf, IsBuilt, IsEventOf, all_lines, is_display, AreLines, IsDeck}
 use Rattle.grs_deck.proofs.FitsLaws.{fits_grow, lists_grow}
 use Rattle.grs_deck.proofs.SpellsLaws.{no_test, reading_spells}
+use Rattle.grs_deck.proofs.TokenBytes.{are_of_bytes, spelled_bytes, statements_bytes}
 use Rattle.grs_deck.proofs.Growth.{Keeps, keeps_none, keeps_grow}
 
 abbrev some : {A : Type 0} → A → Option A
@@ -221,9 +223,11 @@ no_list which = record { which_is = refl; few = omega arith; own = All-nil (λ (
 first_draft : IsDraft no_draft
 first_draft = record { lists = record { incl = no_list Incl; excl = no_list Excl; con = no_list Con }; fits = record { few = omega arith; each = λ k x lt. absurd (omega (arith, lt)) }; ring = refl; entries = refl; limit = refl; events = All-nil (IsEventOf [] 64); quiet = λ e. refl }
 
-says_keep : (ls : List TokenLine) (d e : Draft) → Says d ls e → Keeps d → Keeps e
-says_keep [] d e s h = subst Keeps s h
-says_keep (l ∷ ls) d e s h = says_keep ls (grow d s.0) e s.3 (keeps_grow d l s.0 s.1 s.2 h)
+says_keep : (ls : List TokenLine) (d e : Draft) → list_all are_of_bytes ls ≡ true → Says d ls e → Keeps d → Keeps e
+says_keep [] d e all s h = subst Keeps s h
+says_keep (l ∷ ls) d e all s h =
+    let k = and_parts (are_of_bytes l) (list_all are_of_bytes ls) all in
+    says_keep ls (grow d s.0) e k.1 s.3 (keeps_grow d l s.0 k.0 s.1 s.2 h)
 
 lines_of_deck : (d : Draft) → Keeps d → AreLines (all_lines d.deck.systems)
 lines_of_deck d h =
@@ -235,7 +239,7 @@ pub spelled_whole : (text : List ℕ) (d : Deck) → SpellsDeck text d → IsDec
 spelled_whole text d h =
     let w = says_keeps (statements h.lines) no_draft h.draft h.says first_draft in
     let some : 0 < length h.draft.deck.systems = subst (λ (x : Deck). 0 < length x.systems) (sym h.is) h.system in
-    let k = says_keep (statements h.lines) no_draft h.draft h.says keeps_none in
+    let k = says_keep (statements h.lines) no_draft h.draft (statements_bytes h.lines (spelled_bytes text h.lines h.spelled)) h.says keeps_none in
     let made : IsDeck h.draft.deck = record { some = some; fits = w.fits; names = k.names; lines = lines_of_deck h.draft k; named = k.entries; ring = w.ring; entries = w.entries; limit = w.limit; lists = w.lists; events = w.events } in
     subst IsDeck h.is made
 

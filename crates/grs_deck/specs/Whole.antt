@@ -1,7 +1,6 @@
 -- What each deck that is read is like: within the limits, and its events speak of what is there.
-use Rattle.std.specs.Prelude.{◌≡◌, ◌≢◌, ℕ, Bool, true, false, ◌&&◌, ◌==◌, ◌+◌, ◌<◌, ◌≤◌, List, [], ◌∷◌, length, take, map, filter, slice_get, Some, is_none, All}
+use Rattle.std.specs.Prelude.{◌≡◌, ◌≢◌, ℕ, Bool, true, false, ◌+◌, ◌<◌, ◌≤◌, List, ◌∷◌, length, take, map, filter, slice_get, Some, All}
 use Rattle.std.specs.List.{flat_map}
-use Rattle.grs_base.specs.Names.{is_rname, IsQname}
 use Rattle.grs_base.specs.declared.line.Line.{Line}
 use Rattle.grs_base.specs.declared.line.Line.TheVariants as lines
 use Rattle.grs_base.specs.Rnl.{RnlView}
@@ -17,8 +16,8 @@ use Rattle.grs_wire.specs.declared.deck.Event.{Event}
 use Rattle.grs_wire.specs.declared.deck.Choice.{Choice}
 use Rattle.grs_wire.specs.declared.deck.Choice.TheVariants as choices
 use Rattle.grs_wire.specs.declared.deck.Deck.{Deck}
-use Rattle.deck_scan.specs.Lengths.{is_bad_rname}
-use Rattle.rnl_syntax.specs.Operands.{is_specific}
+use Rattle.job_syntax.specs.Laws.{IsDeckLine}
+use Rattle.rnl_syntax.specs.Laws.{IsEntry}
 use Rattle.deck_form.specs.Complex.{is_entries, is_limit}
 use Rattle.deck_form.specs.Words.{is_name}
 use Rattle.grs_base.specs.Limits.{most_entries}
@@ -83,29 +82,6 @@ IsShortName n = (is_name n ≡ true) × (length n ≤ most_name_bytes)
 abbrev pub all_lines : List SystemDef → List Line
 all_lines systems = flat_map (λ s. flat_map (λ j. flat_map (λ t. t.lines) j.tasks) s.jobs) systems
 
--- The qnames that a line says.
-abbrev pub qnames : Line → List (List ℕ)
-qnames (lines.Enq items ret rnl) = map (λ i. i.q) items
-qnames (lines.Reserve q r ctl unit ret rnl) = q ∷ []
-qnames (lines.Deq q r scope have unit rnl) = q ∷ []
-qnames (lines.Wait q r scope rnl) = q ∷ []
-qnames (lines.DisplayRes q r) = q ∷ []
-qnames _ = []
-
--- The rnames that a line says.
-abbrev pub rnames : Line → List (List ℕ)
-rnames (lines.Enq items ret rnl) = map (λ i. i.r) items
-rnames (lines.Reserve q r ctl unit ret rnl) = r ∷ []
-rnames (lines.Deq q r scope have unit rnl) = r ∷ []
-rnames (lines.Wait q r scope rnl) = r ∷ []
-rnames (lines.DisplayRes q r) = r ∷ []
-rnames _ = []
-
--- How many resources a line asks for or shows by their names; an ENQ is of one.
-abbrev pub is_of_one : Line → Bool
-is_of_one (lines.Enq items ret rnl) = length items == 1
-is_of_one _ = true
-
 -- A line shows something.
 abbrev pub is_display : Line → Bool
 is_display (lines.Gqscan global filter) = true
@@ -113,29 +89,18 @@ is_display lines.DisplayC = true
 is_display (lines.DisplayRes q r) = true
 is_display _ = false
 
--- A line of a task: an ENQ has one item, and the names have their forms and lengths.
-pub record IsLine (l : Line) : Type 0 where
-  pub one : is_of_one l ≡ true
-  pub qnames : All IsQname (qnames l)
-  pub rnames : All (λ r. is_rname r ≡ true) (rnames l)
-
--- The task lines: at most 16,384, of which at most 256 show something.
+-- The task lines: at most 16,384, of which at most 256 show something. Each is one that is read back from its
+-- printed form: an ENQ has one item, and names, filters and units are within their limits.
 pub record AreLines (all : List Line) : Type 0 where
   pub few : length all ≤ most_lines
   pub displays : length (filter is_display all) ≤ most_displays
-  pub each : All IsLine all
+  pub each : All IsDeckLine all
 
--- An entry of a name list: its names have their lengths, and a SPECIFIC one has an rname.
-pub record IsEntryOf (e : RnlEntry) : Type 0 where
-  pub qname : IsQname e.q
-  pub rname : is_bad_rname e.r ≡ false
-  pub needed : (is_specific e.form && is_none e.r) ≡ false
-
--- The entries of the three name lists.
+-- The entries of the three name lists: each is one that an RNLDEF can make.
 pub record AreEntries (lists : Lists) : Type 0 where
-  pub incl : All IsEntryOf lists.incl.entries
-  pub excl : All IsEntryOf lists.excl.entries
-  pub con : All IsEntryOf lists.con.entries
+  pub incl : All IsEntry lists.incl.entries
+  pub excl : All IsEntry lists.excl.entries
+  pub con : All IsEntry lists.con.entries
 
 -- A deck: at least one system and at most eight, each with at most 64 commands at its desk, 64 jobs and 64
 -- tasks, all with names of their form; at most 16,384 task lines, of which at most 256 show something; ring

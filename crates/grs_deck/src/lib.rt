@@ -12,4 +12,3 @@ mod read;
 pub use grs_wire::{Choice, Deck, Event, JobDef, Name, SystemDef, TaskDef};
 pub use laws::one_deck;
 pub use read::read_deck;
-
