@@ -1,7 +1,9 @@
-use Rattle.std.proofs.Common.{◌≡◌, ◌++◌, drop}
+use Rattle.std.proofs.Common.{◌≡◌, ◌+◌, ◌++◌, drop}
+use Rattle.grs_deck.specs.Places.{task_count}
 use Rattle.grs_top.specs.Tasks.{tasks_from}
 use Rattle.grs_top.proofs.ends.put_jobs.Given as goal
 
 abbrev pub invariant-loop-job : goal.invariant-loop-job
 invariant-loop-job l =
-    l.out ++ tasks_from l.system l.job l.first (drop l.job l.jobs) ≡ l.initial.out ++ tasks_from l.system 0 0 l.jobs
+    (l.first + task_count (drop l.job l.jobs) ≡ task_count l.jobs)
+    × (l.out ++ tasks_from l.system l.job l.first (drop l.job l.jobs) ≡ l.initial.out ++ tasks_from l.system 0 0 l.jobs)

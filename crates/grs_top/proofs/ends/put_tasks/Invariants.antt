@@ -1,7 +1,8 @@
-use Rattle.std.proofs.Common.{◌≡◌, ◌++◌, drop}
+use Rattle.std.proofs.Common.{◌≡◌, ◌+◌, ◌++◌, drop, length}
 use Rattle.grs_top.specs.Tasks.{tasks_in}
 use Rattle.grs_top.proofs.ends.put_tasks.Given as goal
 
 abbrev pub invariant-loop-task : goal.invariant-loop-task
 invariant-loop-task l =
-    l.out ++ tasks_in l.system l.job l.place (drop l._task-index l.tasks) ≡ l.initial.out ++ tasks_in l.system l.job l.initial.place l.tasks
+    (l.task + length (drop l._task-index l.tasks) ≡ l.initial.first + length l.tasks)
+    × (l.out ++ tasks_in l.system l.job l.task (drop l._task-index l.tasks) ≡ l.initial.out ++ tasks_in l.system l.job l.initial.first l.tasks)
