@@ -12,3 +12,4 @@ pub mod BadBytes
 pub mod Taking
 pub mod Again
 pub mod AnyLemmas
+pub mod Counted

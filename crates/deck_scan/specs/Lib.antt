@@ -3,6 +3,7 @@ pub mod Bytes
 pub mod Pieces
 pub mod Scan
 pub mod Reading
+pub mod Closes
 pub mod Named
 pub mod Lengths
 pub mod Next

@@ -12,7 +12,7 @@ use grs_base::{List, NoMemory};
 use std::alloc::Global;
 
 /// The greatest number of a line. No memory holds the tokens of more, and blank lines are counted no further.
-const MOST_LINES: u32 = u32::MAX - 2;
+pub(crate) const MOST_LINES: u32 = u32::MAX - 2;
 
 /// Takes what stands for a byte that no deck may have.
 fn take_wrong(scan: &mut Scan, alloc: Global) -> Result<(), NoMemory>

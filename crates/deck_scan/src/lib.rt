@@ -4,6 +4,7 @@
 
 mod any_bytes;
 mod bytes;
+mod closes;
 mod laws;
 mod lengths;
 mod miss;
@@ -12,6 +13,7 @@ mod scan;
 mod token;
 
 pub use any_bytes::any_lines;
+pub use closes::bytes_to_close;
 pub use laws::{bad_bytes, printed_names, spelled_lines};
 pub use lengths::{is_bad_qname, is_bad_rname, maybe_qname, maybe_rname, qname_of, rname_of};
 pub use miss::{Miss, or_bad, refused};

@@ -12,18 +12,16 @@ use Rattle.deck_scan.specs.declared.token.Token.TheVariants.{Word, Unclosed}
 use Rattle.deck_scan.specs.declared.token.TokenLine.{TokenLine}
 use Rattle.deck_scan.specs.AnyBytes.{readable}
 use Rattle.deck_scan.specs.Scan.{lines_of}
-use Rattle.deck_scan.specs.Pieces.{SpellsLines}
 use Rattle.deck_scan.specs.Gives.{◌>>=◌, refused, or_bad}
 use Rattle.deck_scan.proofs.AnyLemmas.{some_lines}
 use Rattle.deck_scan.proofs.Taking.{same_bytes}
 use Rattle.rnl_syntax.specs.declared.operands.Rnldef.{Rnldef}
 use Rattle.rnl_syntax.specs.Lines.{is_rnldef_word}
 use Rattle.rnl_syntax.specs.Operands.{rnldef_at, has_bad_name, entry_of}
-use Rattle.rnl_syntax.specs.Spelled.{IsRnldef}
 use Rattle.rnl_syntax.specs.Reading.{first_statement, by_word, by_first, rnldef_on, sized, entry_on, reading, MakesEntry, BeginsOtherwise, NoWord, IsStatement, IsWrong, IsFault, Answers, Found}
 use Rattle.rnl_syntax.proofs.Taken.{rnldef_taken}
 use Rattle.rnl_syntax.proofs.Again.{rnldef_again}
-use Rattle.rnl_syntax.proofs.ReadLaws.{lines_are, there_statement, statement_of, reading_makes, makes_reading, spells_by}
+use Rattle.rnl_syntax.proofs.ReadLaws.{lines_are, there_statement, statement_of, reading_makes, makes_reading}
 
 abbrev made : ℕ → Kind → DeckFault
 made at kind = record { line = at; kind = kind }
@@ -184,6 +182,6 @@ pub apart : (text : List ℕ) (e : RnlEntry) (f : DeckFault) → MakesEntry text
 apart text e f h k = let is : read_as e ≡ fault_as f = sym (makes_reading text e h) ∙ fault_reading text f k in cc
 
 pub answers : (text : List ℕ) (r : Result (RnlEntry × ℕ) ReadError) → Found r text → Answers r text
-answers text (Ok x) h = spells_by text x.0 x.1 h.0 h.1
+answers text (Ok x) h = h.1
 answers text (Err read_errors.NoMemory) h = tt
 answers text (Err (read_errors.Fault f)) h = reading_fault text f h

@@ -1,11 +1,13 @@
 -- A printed entry is read again.
-use Rattle.std.proofs.Common.{◌≡◌, ℕ, ◌+◌, ◌≤◌, Bool, true, false, cond, eqb, List, [], ◌∷◌, ◌++◌, length, take, Option, Some, None, refl, sym, ap, subst, ◌∙◌, arith, append_assoc, length-append, inl, inr}
+use Rattle.std.proofs.Common.{◌≡◌, ℕ, ◌+◌, Bool, true, false, cond, eqb, List, [], ◌∷◌, ◌++◌, length, take, Option, Some, None, refl, sym, ap, subst, ◌∙◌, arith, append_assoc, length-append, inl, inr}
 use Rattle.std.specs.Prelude.{codes, ◌&&◌, is_none}
 use Rattle.std.specs.List.{list_all}
 use Rattle.std.proofs.Math.Seq.{take-append_seam}
 use Rattle.std.proofs.lemmas.List.{append-nil}
 use Rattle.rnl_syntax.proofs.Closed.{ends_closed-snoc, line_closes}
-use Rattle.rnl_syntax.proofs.Exact.{all_closes, some, word_not, rnldef_closes}
+use Rattle.deck_scan.specs.Closes.{all_closes}
+use Rattle.deck_scan.proofs.Counted.{word_not}
+use Rattle.rnl_syntax.proofs.Exact.{some, rnldef_closes}
 use Rattle.rnl_syntax.proofs.Used.{no_shorter}
 use Rattle.std.proofs.lemmas.List.Folds.{list_all-append}
 use Rattle.grs_base.specs.Printed.{is_printable, printed_name}

@@ -1,20 +1,13 @@
 -- The reader of an RNLDEF answers what its text spells, and uses the bytes of the statement.
-use Rattle.std.proofs.Common.{◌≡◌, ℕ, ◌+◌, ◌<◌, ◌≤◌, Bool, true, false, cond, ltb, List, [], ◌∷◌, ◌++◌, length, take, Option, Some, None, Result, Ok, Err, refl, sym, ap, subst, ◌∙◌, arith, append_assoc, length-append}
+use Rattle.std.proofs.Common.{◌≡◌, ℕ, Bool, true, false, cond, ltb, List, [], ◌∷◌, ◌++◌, Option, Some, None, Result, Ok, Err, refl, sym, ap, subst, ◌∙◌, arith, append_assoc}
 use Rattle.std.specs.Prelude.{codes}
 use Rattle.std.specs.List.{flat_map}
-use Rattle.std.specs.Str.{bytes_eq}
-use Rattle.std.proofs.Math.Seq.{take-append_seam}
-use Rattle.std.proofs.lemmas.Bool.{ltb-false, ltb-true, and_parts}
+use Rattle.std.proofs.lemmas.Bool.{ltb-false, ltb-true}
 use Rattle.std.proofs.lemmas.List.{append-nil}
-use Rattle.std.proofs.lemmas.Slice.Eq.{bytes_eq-Decides}
 use Rattle.grs_base.specs.declared.fault.DeckFault.{DeckFault}
 use Rattle.grs_base.specs.declared.fault.Kind.TheVariants.{UnknownStatement, NameLength}
 use Rattle.grs_base.specs.declared.fault.ReadError.{ReadError}
 use Rattle.grs_base.specs.declared.fault.ReadError.TheVariants as read_errors
-use Rattle.grs_base.specs.declared.rnl.Which.{Which}
-use Rattle.grs_base.specs.declared.rnl.Which.TheVariants.{Incl, Excl, Con}
-use Rattle.grs_base.specs.declared.rnl.Form.{Form}
-use Rattle.grs_base.specs.declared.rnl.Form.TheVariants.{Specific, Generic, Pattern}
 use Rattle.grs_base.specs.declared.rnl.RnlEntry.{RnlEntry}
 use Rattle.deck_scan.specs.declared.token.Token.{Token}
 use Rattle.deck_scan.specs.declared.token.Token.TheVariants.{Word, Close, Unclosed}
@@ -33,10 +26,10 @@ use Rattle.rnl_syntax.specs.declared.operands.Rnldef.{Rnldef}
 use Rattle.rnl_syntax.specs.Lines.{goes_on, with_line, is_rnldef_word}
 use Rattle.rnl_syntax.specs.Operands.{no_operands, rnldef_at, has_bad_name, entry_of}
 use Rattle.rnl_syntax.specs.Spelled.{Operand, WithRnl, WithType, WithQname, WithRname, operand, IsFree, set, IsRnldef}
-use Rattle.rnl_syntax.specs.Reading.{first_from, first_statement, by_word, by_first, rnldef_on, sized, entry_on, reading, MakesEntry, ends_closed, IsFront, SpellsEntry, IsStatement, same_which, same_form, same_rname, same_entry, is_entry, is_front, IsFewest, Found}
+use Rattle.rnl_syntax.specs.Reading.{first_from, first_statement, by_word, by_first, rnldef_on, sized, entry_on, reading, MakesEntry, SpellsEntry, IsStatement, Found}
 use Rattle.rnl_syntax.proofs.Taken.{rnldef_taken}
 use Rattle.rnl_syntax.proofs.Again.{rnldef_again}
-use Rattle.rnl_syntax.proofs.Closed.{ends_closed-snoc, is_close, last_closes, line_closes, last_closes-append}
+use Rattle.rnl_syntax.proofs.Closed.{is_close, last_closes, line_closes, last_closes-append}
 use Rattle.rnl_syntax.proofs.Fronts.{front_spells}
 use Rattle.rnl_syntax.proofs.Readable.{cut_readable}
 
@@ -264,118 +257,20 @@ makes_front text e (l ∷ ls) h is =
       tokens = sym head.all ∙ ap (λ (s : TokenLine). s.tokens) (head.is ∙ same);
     }
 
--- ---- equal entries
-
-which_same : (a b : Which) → same_which a b ≡ true → a ≡ b
-which_same Incl Incl h = refl
-which_same Excl Excl h = refl
-which_same Con Con h = refl
-which_same _ _ h = absurd cc
-
-form_same : (a b : Form) → same_form a b ≡ true → a ≡ b
-form_same Specific Specific h = refl
-form_same Generic Generic h = refl
-form_same Pattern Pattern h = refl
-form_same _ _ h = absurd cc
-
-rname_same : (a b : Option (List ℕ)) → same_rname a b ≡ true → a ≡ b
-rname_same None None h = refl
-rname_same (Some r) (Some s) h = ap (λ (x : List ℕ). Some x) (same_bytes r s h)
-rname_same _ _ h = absurd cc
-
-entry_same : (e f : RnlEntry) → same_entry e f ≡ true → e ≡ f
-entry_same e f h =
-    let a = and_parts (same_which e.which f.which) _ h in
-    let b = and_parts (same_form e.form f.form) _ a.1 in
-    let c = and_parts (bytes_eq e.q f.q) _ b.1 in
-    rw (which_same e.which f.which a.0, form_same e.form f.form b.0, same_bytes e.q f.q c.0, rname_same e.r f.r c.1) refl
-
-bytes_self : (bs : List ℕ) → bytes_eq bs bs ≡ true
-bytes_self bs = (bytes_eq-Decides bs bs).1 refl
-
-which_self : (a : Which) → same_which a a ≡ true
-which_self Incl = refl
-which_self Excl = refl
-which_self Con = refl
-
-form_self : (a : Form) → same_form a a ≡ true
-form_self Specific = refl
-form_self Generic = refl
-form_self Pattern = refl
-
-rname_self : (a : Option (List ℕ)) → same_rname a a ≡ true
-rname_self None = refl
-rname_self (Some r) = bytes_self r
-
-entry_self : (e : RnlEntry) → same_entry e e ≡ true
-entry_self e = rw (which_self e.which, form_self e.form, bytes_self e.q, rname_self e.r) refl
-
--- ---- fronts as the reader tests them
-
-front_by : (front : List ℕ) (e : RnlEntry) → is_front front e ≡ true → (ends_closed front ≡ true) × MakesEntry front e
-unfolding is_front
-front_by front e h = go (ends_closed front) refl h
-  where
-    makes : (r : Result RnlEntry DeckFault) → reading front ≡ r → is_entry r e ≡ true → MakesEntry front e
-    makes (Ok f) is k = reading_makes front e (is ∙ ap read_as (entry_same f e k))
-    makes (Err d) is k = absurd cc
-
-    go : (b : Bool) → ends_closed front ≡ b → cond b (is_entry (reading front) e) false ≡ true → (ends_closed front ≡ true) × MakesEntry front e
-    go true is k = (is, makes (reading front) refl k)
-    go false is k = absurd cc
-
-by_front : (front : List ℕ) (e : RnlEntry) → ends_closed front ≡ true → MakesEntry front e → is_front front e ≡ true
-unfolding is_front
-by_front front e closed h = rw (closed, makes_reading front e h) (entry_self e)
-
--- a text that makes an entry has a front that is found
-pub found_front : (text : List ℕ) (e : RnlEntry) → reading text ≡ Ok e → (n : ℕ) × (n ≤ length text) × (is_front (take n text) e ≡ true)
-found_front text e h =
-    let made = reading_makes text e h in
-    let f = makes_front text e made.lines made refl in
-    let whole : List ℕ = f.front ++ 41 ∷ [] in
-    let parts : text ≡ whole ++ f.back = f.parts ∙ sym (append_assoc f.front (41 ∷ []) f.back) in
-    let long : length text ≡ length (whole ++ f.back) = ap length parts in
-    let cut : take (length whole) text ≡ whole = ap (take (length whole)) parts ∙ take-append_seam whole f.back in
-    (length whole, omega (arith, long, length-append whole f.back), ap (λ (x : List ℕ). is_front x e) cut ∙ by_front whole e (ends_closed-snoc f.front 41) f.makes)
-
-empty_front : (text : List ℕ) (e : RnlEntry) → is_front (take 0 text) e ≡ false
-unfolding is_front
-empty_front text e = refl
-
-pub no_front_yet : (text : List ℕ) (e : RnlEntry) (k : ℕ) → k < 1 → is_front (take k text) e ≡ false
-no_front_yet text e k lt = let z : 0 ≡ k = omega (arith, lt) in subst (λ (n : ℕ). is_front (take n text) e ≡ false) z (empty_front text e)
-
--- where no front up to the whole text is found, the text makes no entry
-pub none_found : (text : List ℕ) (e : RnlEntry) (n : ℕ) → length text ≤ n → ((k : ℕ) → k < n + 1 → is_front (take k text) e ≡ false) → reading text ≡ Ok e → ⊥
-none_found text e n long none h =
-    let f = found_front text e h in
-    let z : true ≡ false = sym f.2 ∙ none f.0 (omega (arith, f.1, long)) in cc
-
 -- ---- answers
 
-front_is : (text : List ℕ) (e : RnlEntry) (n : ℕ) → n ≤ length text → is_front (take n text) e ≡ true → IsFront text e n
-front_is text e n within h = let f = front_by (take n text) e h in (within, f.0, f.1)
-
-pub spells_by : (text : List ℕ) (e : RnlEntry) (n : ℕ) → reading text ≡ Ok e → IsFewest text e n → SpellsEntry text e n
-spells_by text e n read h = record {
-  makes = reading_makes text e read;
-  front = front_is text e n h.within h.is;
-  fewest = λ k lt f. let z : true ≡ false = sym (by_front (take k text) e f.1 f.2) ∙ h.fewest k lt in cc;
-}
-
 -- two numbers of bytes that are the fewest
-same_used : (text : List ℕ) (e : RnlEntry) (n m : ℕ) → IsFewest text e n → SpellsEntry text e m → n ≡ m
+pub same_used : (text : List ℕ) (e : RnlEntry) (n m : ℕ) → SpellsEntry text e n → SpellsEntry text e m → n ≡ m
 same_used text e n m a b = go (ltb n m) (ltb m n) refl refl
   where
     go : (x y : Bool) → ltb n m ≡ x → ltb m n ≡ y → n ≡ m
-    go true y is k = absurd (b.fewest n (ltb-true n m is) (front_is text e n a.within a.is))
-    go false true is k = absurd (let z : true ≡ false = sym (by_front (take m text) e b.front.1 b.front.2) ∙ a.fewest m (ltb-true m n k) in cc)
+    go true y is k = absurd (b.fewest n (ltb-true n m is) a.front)
+    go false true is k = absurd (a.fewest m (ltb-true m n k) b.front)
     go false false is k = let low = ltb-false n m is in let high = ltb-false m n k in omega (arith, low, high)
 
 pub only : (text : List ℕ) (r : Result (RnlEntry × ℕ) ReadError) → Found r text → (e : RnlEntry) (used : ℕ) → SpellsEntry text e used → IsOkUnlessMemory r (e, used)
 only text (Ok x) h e used s =
     let same : x.0 ≡ e = entry_is x.0 e (sym h.0 ∙ makes_reading text e s.makes) in
-    rw (same, same_used text e x.1 used (subst (λ (y : RnlEntry). IsFewest text y x.1) same h.1) s) refl
+    rw (same, same_used text e x.1 used (subst (λ (y : RnlEntry). SpellsEntry text y x.1) same h.1) s) refl
 only text (Err read_errors.NoMemory) h e used s = tt
 only text (Err (read_errors.Fault f)) h e used s = absurd (let k : read_as e ≡ Err f = sym (makes_reading text e s.makes) ∙ h in cc)

@@ -1,10 +1,9 @@
 -- The fronts of a text of any bytes, and of a text as it is read.
-use Rattle.std.proofs.Common.{◌≡◌, ℕ, Bool, true, false, cond, eqb, List, [], ◌∷◌, ◌++◌, get_or, Some, None, refl, sym, ap, subst, ◌∙◌, arith, inl, inr}
-use Rattle.std.specs.Prelude.{◌||◌, ◌&&◌}
+use Rattle.std.proofs.Common.{◌≡◌, ℕ, Bool, true, false, cond, List, [], ◌∷◌, ◌++◌, get_or, None, refl, sym, ap, subst, ◌∙◌, arith, inl, inr}
 use Rattle.std.specs.List.{list_all}
 use Rattle.std.proofs.lemmas.Bool.{eqb-true, and_parts}
 use Rattle.grs_base.specs.Printed.{is_printable}
-use Rattle.deck_scan.specs.Bytes.{begins, is_allowed, bad_line}
+use Rattle.deck_scan.specs.Bytes.{is_allowed, bad_line}
 use Rattle.deck_scan.specs.AnyBytes.{wrong_byte, readable}
 use Rattle.rnl_syntax.specs.Reading.{ends_closed}
 use Rattle.rnl_syntax.specs.Laws.{IsLineEnd}

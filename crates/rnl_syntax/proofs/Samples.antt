@@ -1,5 +1,5 @@
 -- What the definitions say of some entries.
-use Rattle.std.proofs.Common.{◌≡◌, ℕ, true, false, List, [], ◌∷◌, ◌++◌, take, Some, None, Result, Ok, Err, refl}
+use Rattle.std.proofs.Common.{◌≡◌, ℕ, List, [], ◌∷◌, ◌++◌, take, Some, None, Result, Ok, Err, refl}
 use Rattle.std.specs.Prelude.{codes}
 use Rattle.grs_base.specs.declared.fault.DeckFault.{DeckFault}
 use Rattle.grs_base.specs.declared.fault.Kind.{Kind}
@@ -12,8 +12,9 @@ use Rattle.rnl_syntax.specs.Operands.{which_of, form_of, value_of, operand_at, w
 use Rattle.deck_scan.specs.Bytes.{is_word, is_hex, digit, is_allowed, bad_line}
 use Rattle.deck_scan.specs.Scan.{put, put_word, put_open, end_line, break_off, begin_word, begin, step_in, step, scan_from, finish_in, lines_of}
 use Rattle.deck_scan.specs.AnyBytes.{readable}
+use Rattle.deck_scan.specs.Closes.{all_closes}
 use Rattle.rnl_syntax.specs.Printed.{printed_rnldef}
-use Rattle.rnl_syntax.specs.Reading.{first_from, rnldef_on, reading, is_front}
+use Rattle.rnl_syntax.specs.Reading.{first_from, rnldef_on, reading}
 
 -- an entry of each form, with and without an rname
 printed_entries :
@@ -40,17 +41,17 @@ entry = record { which = Incl; form = Generic; q = codes "A"; r = None }
 abbrev faulty : ℕ → Kind → Result RnlEntry DeckFault
 faulty line kind = Err (record { line = line; kind = kind })
 
--- an RNLDEF with more behind it: 39 bytes make it, and fewer don't; no statement; another statement; one that breaks off; a name too long, on a later line
+-- an RNLDEF with more behind it: 39 bytes have its closing parentheses, and fewer don't; those in a comment and in a name do not count; no statement; another statement; one that breaks off; a name too long, on a later line
 texts :
     (reading text ≡ Ok entry)
-    × (is_front (take 39 text) entry ≡ true)
-    × (is_front (take 30 text) entry ≡ false)
-    × (is_front (take 38 text) entry ≡ false)
+    × (all_closes (lines_of (take 39 text)) ≡ 3)
+    × (all_closes (lines_of (take 38 text)) ≡ 2)
+    × (all_closes (lines_of (codes "RNLDEF /*)*/ QNAME(')') RNL(INCL")) ≡ 1)
     × (reading [] ≡ faulty 1 UnknownStatement)
     × (reading (codes "SYSTEM SYA") ≡ faulty 1 UnknownStatement)
     × (reading (codes "RNLDEF RNL(INCL) TYPE(GENE") ≡ faulty 1 BadOperand)
     × (reading (10 ∷ codes "RNLDEF RNL(INCL) TYPE(GENERIC) QNAME(ABCDEFGHI)") ≡ faulty 2 NameLength)
-unfolding is_word is_hex digit is_allowed bad_line put put_word put_open end_line break_off begin_word begin step_in step scan_from finish_in lines_of readable which_of form_of value_of operand_at whole rnldef_at first_from rnldef_on reading is_front
+unfolding is_word is_hex digit is_allowed bad_line put put_word put_open end_line break_off begin_word begin step_in step scan_from finish_in lines_of readable which_of form_of value_of operand_at whole rnldef_at first_from rnldef_on reading
 texts = (refl, refl, refl, refl, refl, refl, refl, refl)
 
 -- bytes that no deck may have: in the first word; before it; between operands, in a comment; behind the last operand on its line; on a line behind the statement; in the first token of that line, which is an operand's word
@@ -62,5 +63,5 @@ bad_bytes :
     × (reading (text ++ 9 ∷ []) ≡ Ok entry)
     × (reading (codes "RNLDEF RNL(INCL) TYPE(GENERIC) QNAME(A)" ++ 10 ∷ 9 ∷ codes "RNAME(B)") ≡ Ok entry)
     × (reading (codes "RNLDEF RNL(INCL) TYPE(GENERIC) QNAME(A)" ++ 10 ∷ codes "RNAME" ++ 9 ∷ []) ≡ faulty 1 BadOperand)
-unfolding is_word is_hex digit is_allowed bad_line put put_word put_open end_line break_off begin_word begin step_in step scan_from finish_in lines_of readable which_of form_of value_of operand_at whole rnldef_at first_from rnldef_on reading is_front
+unfolding is_word is_hex digit is_allowed bad_line put put_word put_open end_line break_off begin_word begin step_in step scan_from finish_in lines_of readable which_of form_of value_of operand_at whole rnldef_at first_from rnldef_on reading
 bad_bytes = (refl, refl, refl, refl, refl, refl, refl)

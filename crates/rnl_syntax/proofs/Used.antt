@@ -1,5 +1,6 @@
 -- The bytes that an RNLDEF uses are its own: a shorter front has fewer closing parentheses.
-use Rattle.std.proofs.Common.{◌≡◌, ℕ, ◌+◌, ◌<◌, ◌≤◌, Bool, true, false, ltb, List, [], ◌∷◌, ◌++◌, length, take, drop, Some, None, refl, sym, ap, subst, ◌∙◌, arith, append_assoc, length-append}
+use Rattle.std.proofs.Common.{◌≡◌, ℕ, ◌+◌, ◌<◌, ◌≤◌, Bool, true, false, cond, ltb, List, [], ◌∷◌, ◌++◌, length, take, drop, Option, Some, None, Result, Ok, Err, IfOk, refl, sym, ap, subst, ◌∙◌, arith, append_assoc, length-append}
+use Rattle.std.specs.Prelude.{is_none}
 use Rattle.std.specs.List.{flat_map}
 use Rattle.std.proofs.Math.Seq.{take-append_seam}
 use Rattle.std.proofs.lemmas.Bool.{ltb-true, ltb-false}
@@ -13,11 +14,13 @@ use Rattle.deck_scan.specs.Pieces.{SpellsLines}
 use Rattle.deck_scan.proofs.AnyLemmas.{readable_all}
 use Rattle.rnl_syntax.proofs.Readable.{closed_allowed}
 use Rattle.deck_scan.proofs.Pieced.{spelled_is}
-use Rattle.rnl_syntax.specs.Reading.{first_from, first_statement, MakesEntry, ends_closed, IsFront, SpellsEntry}
+use Rattle.rnl_syntax.specs.Reading.{first_from, first_statement, MakesEntry, reading, ends_closed, operand_count, SpellsEntry}
 use Rattle.rnl_syntax.specs.Laws.{AreStatement}
 use Rattle.rnl_syntax.proofs.Closed.{ends_closed-snoc, line_closes}
-use Rattle.rnl_syntax.proofs.ReadLaws.{makes_front}
-use Rattle.rnl_syntax.proofs.Exact.{closes, all_closes, closes-append, some, front_closes, last_close, first_closes, rnldef_closes}
+use Rattle.rnl_syntax.proofs.ReadLaws.{MadeFront, makes_front, reading_makes, same_used}
+use Rattle.rnl_syntax.proofs.Exact.{some, last_close, first_closes, rnldef_closes}
+use Rattle.deck_scan.specs.Closes.{closes, all_closes, HaveCloses}
+use Rattle.deck_scan.proofs.Counted.{closes-append, front_closes, few_closes}
 
 -- the tokens of lines together
 abbrev row : List TokenLine → List Token
@@ -64,19 +67,43 @@ no_shorter text init behind e lines parts spelled last few n lt closed made =
     let count : all_closes (lines_of (init ++ 41 ∷ [])) ≡ all_closes lines = ap all_closes said in
     omega (arith, low, own, more, whole, end, count, few)
 
--- What is used is the statement.
-pub used_own : (text : List ℕ) (e : RnlEntry) (used : ℕ) → SpellsEntry text e used → AreStatement text used
-used_own text e used h =
-    let m = makes_front text e h.makes.lines h.makes refl in
+-- ---- the statement alone
+
+-- a text that makes an entry begins with these bytes, which are its statement
+record Own (text : List ℕ) (e : RnlEntry) (h : MakesEntry text e) : Type 0 where
+  made : MadeFront text e h.statement
+  parts : text ≡ (made.front ++ 41 ∷ []) ++ made.back
+  cut : take (length (made.front ++ 41 ∷ [])) text ≡ made.front ++ 41 ∷ []
+  count : all_closes (lines_of (made.front ++ 41 ∷ [])) ≡ 3 + some e.r
+  spells : SpellsEntry text e (length (made.front ++ 41 ∷ []))
+
+own : (text : List ℕ) (e : RnlEntry) (h : MakesEntry text e) → Own text e h
+own text e h =
+    let m = makes_front text e h.lines h refl in
     let whole : List ℕ = m.front ++ 41 ∷ [] in
     let parts : text ≡ whole ++ m.back = m.parts ∙ sym (append_assoc m.front (41 ∷ []) m.back) in
     let long : length text ≡ length (whole ++ m.back) = ap length parts in
     let cut : take (length whole) text ≡ whole = ap (take (length whole)) parts ∙ take-append_seam whole m.back in
-    let few : all_closes m.makes.lines ≡ 3 + some e.r = sym (row_closes m.makes.lines) ∙ ap closes m.tokens ∙ statement_closes text e h.makes in
-    let front : IsFront text e (length whole) = (omega (arith, long, length-append whole m.back), ap ends_closed cut ∙ ends_closed-snoc m.front 41, subst (λ (x : List ℕ). MakesEntry x e) (sym cut) m.makes) in
-    let shorter : used < length whole → ⊥ = λ lt. no_shorter whole m.front m.back e m.makes.lines refl m.plain m.closes few used lt (subst (λ (x : List ℕ). ends_closed (take used x) ≡ true) parts h.front.1) (subst (λ (x : List ℕ). MakesEntry (take used x) e) parts h.front.2) in
-    let same : length whole ≡ used = equal (length whole) used (λ lt. h.fewest (length whole) lt front) shorter in
-    let is : take used text ≡ whole = ap (λ (n : ℕ). take n text) (sym same) ∙ cut in
+    let few : all_closes m.makes.lines ≡ 3 + some e.r = sym (row_closes m.makes.lines) ∙ ap closes m.tokens ∙ statement_closes text e h in
+    record {
+      made = m;
+      parts = parts;
+      cut = cut;
+      count = ap all_closes (spelled_is whole m.makes.lines m.plain) ∙ few;
+      spells = record {
+        makes = h;
+        front = (omega (arith, long, length-append whole m.back), ap ends_closed cut ∙ ends_closed-snoc m.front 41, subst (λ (x : List ℕ). MakesEntry x e) (sym cut) m.makes);
+        fewest = λ n lt f. no_shorter whole m.front m.back e m.makes.lines refl m.plain m.closes few n lt (subst (λ (x : List ℕ). ends_closed (take n x) ≡ true) parts f.1) (subst (λ (x : List ℕ). MakesEntry (take n x) e) parts f.2);
+      };
+    }
+
+-- What is used is the statement.
+pub used_own : (text : List ℕ) (e : RnlEntry) (used : ℕ) → SpellsEntry text e used → AreStatement text used
+used_own text e used h =
+    let o = own text e h.makes in
+    let m = o.made in
+    let same : length (m.front ++ 41 ∷ []) ≡ used = same_used text e (length (m.front ++ 41 ∷ [])) used o.spells h in
+    let is : take used text ≡ m.front ++ 41 ∷ [] = ap (λ (n : ℕ). take n text) (sym same) ∙ o.cut in
     record {
       closed = h.front.1;
       all = h.makes.lines;
@@ -86,11 +113,71 @@ used_own text e used h =
       spelled = subst (λ (x : List ℕ). SpellsLines x m.makes.lines) (sym is) m.plain;
       tokens = m.tokens;
     }
+
+-- ---- as the reader finds them
+
+operands_some : (e : RnlEntry) → operand_count e ≡ 3 + some e.r
+operands_some e = go e.r
   where
-    equal : (a b : ℕ) → (a < b → ⊥) → (b < a → ⊥) → a ≡ b
-    equal a b f g = go (ltb a b) (ltb b a) refl refl
-      where
-        go : (x y : Bool) → ltb a b ≡ x → ltb b a ≡ y → a ≡ b
-        go true y p q = absurd (f (ltb-true a b p))
-        go false true p q = absurd (g (ltb-true b a q))
-        go false false p q = let low = ltb-false a b p in let high = ltb-false b a q in omega (arith, low, high)
+    go : (r : Option (List ℕ)) → cond (is_none r) 3 4 ≡ 3 + some r
+    go None = refl
+    go (Some x) = refl
+
+-- A text that makes an entry has a closing parenthesis for each operand.
+pub enough : (text : List ℕ) (e : RnlEntry) → reading text ≡ Ok e → operand_count e ≤ all_closes (lines_of text)
+enough text e read =
+    let o = own text e (reading_makes text e read) in
+    let more = front_closes (o.made.front ++ 41 ∷ []) o.made.back in
+    let all : all_closes (lines_of text) ≡ all_closes (lines_of ((o.made.front ++ 41 ∷ []) ++ o.made.back)) = ap (λ (t : List ℕ). all_closes (lines_of t)) o.parts in
+    let count = o.count in
+    let operands = operands_some e in
+    omega (arith, more, all, count, operands)
+
+-- a shorter front has fewer
+less_closes : (init : List ℕ) → line_closes (lines_of (init ++ 41 ∷ [])) ≡ true → (n : ℕ) → n ≤ length init → all_closes (lines_of (take n init)) < all_closes (lines_of (init ++ 41 ∷ []))
+less_closes init last n within = let few = few_closes init n in let end = last_close init last in omega (arith, few, end)
+
+-- The fewest bytes that have so many are the statement.
+used_by : (text : List ℕ) (e : RnlEntry) (used : ℕ) → reading text ≡ Ok e → HaveCloses text (operand_count e) used → SpellsEntry text e used
+used_by text e used read h = go (ltb used (length whole)) (ltb (length whole) used) refl refl
+  where
+    o : Own text e (reading_makes text e read)
+    o = own text e (reading_makes text e read)
+
+    whole : List ℕ
+    whole = o.made.front ++ 41 ∷ []
+
+    last : line_closes (lines_of whole) ≡ true
+    last = ap line_closes (spelled_is whole o.made.makes.lines o.made.plain) ∙ o.made.closes
+
+    low : used < length whole → ⊥
+    low lt =
+        let within : used ≤ length o.made.front = omega (arith, lt, length-append o.made.front (41 ∷ [])) in
+        let cut : take used text ≡ take used o.made.front = ap (take used) o.made.parts ∙ take-append-le used o.made.front (41 ∷ o.made.back) within in
+        let same : all_closes (lines_of (take used text)) ≡ all_closes (lines_of (take used o.made.front)) = ap (λ (t : List ℕ). all_closes (lines_of t)) cut in
+        let less = less_closes o.made.front last used within in
+        let count = o.count in
+        let operands = operands_some e in
+        let has = h.has in
+        omega (arith, same, less, count, operands, has)
+
+    high : length whole < used → ⊥
+    high lt =
+        let less = h.fewest (length whole) lt in
+        let same : all_closes (lines_of (take (length whole) text)) ≡ all_closes (lines_of whole) = ap (λ (t : List ℕ). all_closes (lines_of t)) o.cut in
+        let count = o.count in
+        let operands = operands_some e in
+        omega (arith, less, same, count, operands)
+
+    go : (x y : Bool) → ltb used (length whole) ≡ x → ltb (length whole) used ≡ y → SpellsEntry text e used
+    go true y p q = absurd (low (ltb-true used (length whole) p))
+    go false true p q = absurd (high (ltb-true (length whole) used q))
+    go false false p q =
+        let under = ltb-false used (length whole) p in
+        let over = ltb-false (length whole) used q in
+        let same : length whole ≡ used = omega (arith, under, over) in
+        subst (SpellsEntry text e) same o.spells
+
+pub used_by_all : {E : Type 0} (text : List ℕ) (e : RnlEntry) (r : Result ℕ E) → reading text ≡ Ok e → IfOk r (λ used. HaveCloses text (operand_count e) used) → IfOk r (λ used. SpellsEntry text e used)
+used_by_all text e (Ok used) read h = used_by text e used read h
+used_by_all text e (Err x) read h = tt

@@ -1,17 +1,12 @@
 -- The entry that a text makes whose first statement is an RNLDEF, and how many bytes that statement uses; or
 -- the fault of the statement. The text may have any length and any bytes: a byte that a deck may not have is
 -- part of no statement.
-use Rattle.std.specs.Prelude.{◌≡◌, ◌⊎◌, ℕ, Bool, true, false, ◌&&◌, ◌==◌, ◌<◌, ◌≤◌, List, [], ◌∷◌, length, take, codes, Option, Some, None, Result, Ok, Err, if◌then◌else◌}
-use Rattle.std.specs.Str.{bytes_eq}
+use Rattle.std.specs.Prelude.{◌≡◌, ◌⊎◌, ℕ, Bool, true, false, ◌==◌, ◌<◌, ◌≤◌, List, [], ◌∷◌, length, take, codes, Option, Some, None, is_none, Result, Ok, Err, if◌then◌else◌}
 use Rattle.grs_base.specs.declared.fault.DeckFault.{DeckFault}
 use Rattle.grs_base.specs.declared.fault.Kind.{Kind}
 use Rattle.grs_base.specs.declared.fault.Kind.TheVariants.{UnknownStatement, BadOperand, NameLength}
 use Rattle.grs_base.specs.declared.fault.ReadError.{ReadError}
 use Rattle.grs_base.specs.declared.fault.ReadError.TheVariants as read_errors
-use Rattle.grs_base.specs.declared.rnl.Which.{Which}
-use Rattle.grs_base.specs.declared.rnl.Which.TheVariants.{Incl, Excl, Con}
-use Rattle.grs_base.specs.declared.rnl.Form.{Form}
-use Rattle.grs_base.specs.declared.rnl.Form.TheVariants.{Specific, Generic, Pattern}
 use Rattle.grs_base.specs.declared.rnl.RnlEntry.{RnlEntry}
 use Rattle.deck_scan.specs.declared.token.Token.{Token}
 use Rattle.deck_scan.specs.declared.token.Token.TheVariants.{Word, Unclosed}
@@ -153,41 +148,11 @@ take_all g (l ∷ ls) = take_all (taken g l) ls
 abbrev pub no_front : Front
 no_front = record { statement = None; ended = false }
 
-abbrev pub same_which : Which → Which → Bool
-same_which Incl Incl = true
-same_which Excl Excl = true
-same_which Con Con = true
-same_which _ _ = false
-
-abbrev pub same_form : Form → Form → Bool
-same_form Specific Specific = true
-same_form Generic Generic = true
-same_form Pattern Pattern = true
-same_form _ _ = false
-
-abbrev pub same_rname : Option (List ℕ) → Option (List ℕ) → Bool
-same_rname None None = true
-same_rname (Some r) (Some s) = bytes_eq r s
-same_rname _ _ = false
-
-abbrev pub same_entry : RnlEntry → RnlEntry → Bool
-same_entry e f = same_which e.which f.which && (same_form e.form f.form && (bytes_eq e.q f.q && same_rname e.r f.r))
-
-abbrev pub is_entry : Result RnlEntry DeckFault → RnlEntry → Bool
-is_entry (Ok e) entry = same_entry e entry
-is_entry (Err f) entry = false
-
--- A text ends with a closing parenthesis and reads as this entry.
-unfoldable pub is_front : List ℕ → RnlEntry → Bool
-is_front front entry = if ends_closed front then is_entry (reading front) entry else false
-
--- So many bytes are the fewest that do.
-pub record IsFewest (text : List ℕ) (entry : RnlEntry) (n : ℕ) : Type 0 where
-  pub within : n ≤ length text
-  pub is : is_front (take n text) entry ≡ true
-  pub fewest : (k : ℕ) → k < n → is_front (take k text) entry ≡ false
+-- How many operands the RNLDEF of an entry has.
+abbrev pub operand_count : RnlEntry → ℕ
+operand_count e = if is_none e.r then 3 else 4
 
 -- An entry with the bytes used was found, or the fault, unless memory ran out.
 abbrev pub Found : Result (RnlEntry × ℕ) ReadError → List ℕ → Type 0
-Found (Ok x) text = (reading text ≡ Ok x.0) × IsFewest text x.0 x.1
+Found (Ok x) text = (reading text ≡ Ok x.0) × SpellsEntry text x.0 x.1
 Found (Err e) text = Fails e (reading text)

@@ -1,13 +1,13 @@
 //! Reads an RNLDEF from the front of a text of its own.
-ghost use Rattle.std.specs.Prelude.{◌≡◌, ◌<◌, take, Option, Ok, OnOk, IfOk, ℕ};
+ghost use Rattle.std.specs.Prelude.{◌≡◌, Option, Ok, OnOk, IfOk, ℕ};
 ghost use Rattle.grs_base.specs.declared.rnl.RnlEntry.{RnlEntry as EntryValue};
 ghost use Rattle.deck_scan.specs.Gives.{Gives, IsOkUnlessMemory};
-ghost use Rattle.rnl_syntax.specs.Reading.{first_statement, by_word, rnldef_on, sized, entry_on, reading, SpellsEntry, Answers, taken_behind, taken, same_which, same_form, same_rname, same_entry, ends_closed, is_front, IsFewest, Found};
+ghost use Rattle.rnl_syntax.specs.Reading.{first_statement, by_word, rnldef_on, sized, entry_on, reading, operand_count, SpellsEntry, Answers, taken_behind, taken, Found};
 
 use crate::lines::{goes_on, is_rnldef_word, with_line};
 use crate::operands::{Rnldef, entry_of, has_bad_name, rnldef_at};
-use deck_scan::{Token, TokenLine, any_lines, or_bad, refused};
-use grs_base::{Form, Kind, List, NoMemory, ReadError, Rname, RnlEntry, Which};
+use deck_scan::{Token, TokenLine, any_lines, bytes_to_close, or_bad, refused};
+use grs_base::{Kind, List, NoMemory, ReadError, RnlEntry};
 use std::alloc::Global;
 use std::mem;
 
@@ -123,82 +123,23 @@ fn read_entry(alloc: Global, text: &[u8]) -> Result<RnlEntry, ReadError>
     entry_on(alloc, statement)
 }
 
-fn same_which(a: Which, b: Which) -> bool
-    ensures { result ≡ same_which a b }
+/// How many operands the statement of an entry has.
+fn operand_count(entry: &RnlEntry) -> usize
+    ensures { result ≡ operand_count entry.now }
 {
-    match (a, b) {
-        (Which::Incl, Which::Incl) => true,
-        (Which::Excl, Which::Excl) => true,
-        (Which::Con, Which::Con) => true,
-        _ => false,
+    match entry.r {
+        None => 3,
+        Some(_) => 4,
     }
 }
 
-fn same_form(a: Form, b: Form) -> bool
-    ensures { result ≡ same_form a b }
-{
-    match (a, b) {
-        (Form::Specific, Form::Specific) => true,
-        (Form::Generic, Form::Generic) => true,
-        (Form::Pattern, Form::Pattern) => true,
-        _ => false,
-    }
-}
-
-fn same_rname(a: &Option<Rname>, b: &Option<Rname>) -> bool
-    ensures { result ≡ same_rname a.now b.now }
-{
-    match (a, b) {
-        (None, None) => true,
-        (Some(a), Some(b)) => a.bytes() == b.bytes(),
-        _ => false,
-    }
-}
-
-fn same_entry(a: &RnlEntry, b: &RnlEntry) -> bool
-    ensures { result ≡ same_entry a.now b.now }
-{
-    same_which(a.which, b.which)
-        && same_form(a.form, b.form)
-        && a.q.bytes() == b.q.bytes()
-        && same_rname(&a.r, &b.r)
-}
-
-fn ends_closed(text: &[u8]) -> bool
-    ensures { result ≡ ends_closed text.now }
-{
-    match text.split_last() {
-        Some((b, _)) => *b == b')',
-        None => false,
-    }
-}
-
-/// Whether a text ends with a closing parenthesis and makes this entry.
-#[tactic(auto, unfolding(crate::specs::Reading::is_front))]
-fn is_front(alloc: Global, text: &[u8], entry: &RnlEntry) -> Result<bool, NoMemory>
-    ensures { IfOk result (λ is. is ≡ is_front text.now entry.now) }
-{
-    if !ends_closed(text) {
-        return Ok(false);
-    }
-    match read_entry(alloc, text) {
-        Ok(read) => Ok(same_entry(&read, entry)),
-        Err(ReadError::Fault(_)) => Ok(false),
-        Err(ReadError::NoMemory) => Err(NoMemory),
-    }
-}
-
-/// How many bytes the statement of an entry uses in the text that makes it.
+/// How many bytes the statement of an entry uses in the text that makes it. Each operand ends with a closing
+/// parenthesis, and no other one is part of the statement or stands before it.
 fn bytes_used(alloc: Global, text: &[u8], entry: &RnlEntry) -> Result<usize, NoMemory>
     requires { reading text.now ≡ Ok entry.now }
-    ensures { IfOk result (λ used. IsFewest text.now entry.now used) }
+    ensures { IfOk result (λ used. SpellsEntry text.now entry.now used) }
 {
-    for i in 0..text.len() {
-        if is_front(alloc, &text[..i + 1], entry)? {
-            return Ok(i + 1);
-        }
-    }
-    unreachable!()
+    bytes_to_close(alloc, text, operand_count(entry))
 }
 
 /// What is read of a text, and how many bytes of it.

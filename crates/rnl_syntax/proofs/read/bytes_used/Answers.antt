@@ -1,8 +1,11 @@
-use Rattle.rnl_syntax.proofs.ReadLaws.{no_front_yet, none_found}
+use Rattle.std.proofs.Common.{subst}
+use Rattle.std.specs.Prelude.{ℕ, IfOk}
+use Rattle.deck_scan.specs.Closes.{HaveCloses}
+use Rattle.rnl_syntax.proofs.Used.{enough, used_by_all}
 use Rattle.rnl_syntax.proofs.read.bytes_used.Goals as goal
 
-pub loop-i-init : goal.loop-i-init
-loop-i-init c k lt = no_front_yet c.args.text.now c.args.entry.now k lt
+pub bytes_to_close-requires : goal.bytes_to_close-requires
+bytes_to_close-requires c = rw c.operand_count.ensures (enough c.args.text.now c.args.entry.now c.requires)
 
-pub unreachable-requires : goal.unreachable-requires
-unreachable-requires c = none_found c.args.text.now c.args.entry.now c.loop-i.i c.loop-i-test.false c.loop-i.invariant c.requires
+pub returns : goal.returns
+returns c = used_by_all c.args.text.now c.args.entry.now c.bytes_to_close.result c.requires (subst (λ (n : ℕ). IfOk c.bytes_to_close.result (λ used. HaveCloses c.args.text.now n used)) c.operand_count.ensures c.bytes_to_close.ensures)

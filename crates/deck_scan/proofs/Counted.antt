@@ -1,0 +1,335 @@
+-- A scan keeps the closing parentheses that it has taken, and a byte takes one or none.
+use Rattle.std.proofs.Common.{◌≡◌, ℕ, zero, suc, ◌+◌, ◌-◌, ◌<◌, ◌≤◌, Bool, true, false, cond, eqb, List, [], ◌∷◌, ◌++◌, length, take, drop, refl, sym, ap, subst, ◌∙◌, arith, append_assoc, append-nil, length-append}
+use Rattle.std.specs.Prelude.{◌&&◌}
+use Rattle.std.proofs.Math.Seq.{take-append_seam}
+use Rattle.std.proofs.lemmas.Bool.{eqb-true}
+use Rattle.std.proofs.lemmas.List.{take-append-le, take-append-drop}
+use Rattle.deck_scan.specs.declared.token.Token.{Token}
+use Rattle.deck_scan.specs.declared.token.Token.TheVariants.{Word, Name, Open, Close, Comma, Equals, Stray, Unclosed}
+use Rattle.deck_scan.specs.declared.token.TokenLine.{TokenLine}
+use Rattle.deck_scan.specs.declared.scan.Scan.{Scan}
+use Rattle.deck_scan.specs.declared.scan.Mode.{Mode}
+use Rattle.deck_scan.specs.declared.scan.Mode.TheVariants.{InBlank, AfterSlash, InWord, InQuote, AfterQuote, InHex, InHexLow, InBadHex, InComment, AfterStar}
+use Rattle.deck_scan.specs.Bytes.{is_word, is_hex}
+use Rattle.deck_scan.specs.Pieces.{lines_with}
+use Rattle.deck_scan.specs.Scan.{put, put_word, put_open, end_line, break_off, begin_word, begin, step_in, step, scan_from, finish_in, start, lines_of}
+use Rattle.deck_scan.specs.Closes.{closes, all_closes, weight, is_blank, is_closing, HaveCloses}
+
+-- ---- how many closing parentheses tokens and lines have
+
+pub closes-append : (ts us : List Token) → closes (ts ++ us) ≡ closes ts + closes us
+closes-append [] us = omega arith
+closes-append (t ∷ ts) us = let h = closes-append ts us in omega (arith, h)
+
+all_closes-push : (ls : List TokenLine) (l : TokenLine) → all_closes (ls ++ l ∷ []) ≡ all_closes ls + closes l.tokens
+all_closes-push [] l = omega arith
+all_closes-push (m ∷ ms) l = let h = all_closes-push ms l in omega (arith, h)
+
+none_closes : (ts : List Token) → eqb (length ts) 0 ≡ true → closes ts ≡ 0
+none_closes [] h = refl
+none_closes (t ∷ ts) h = absurd (let e = eqb-true (length (t ∷ ts)) 0 h in omega (arith, e))
+
+lines_closes : (at : ℕ) (ts : List Token) (joined : Bool) (ls : List TokenLine) → all_closes (lines_with at ts joined ls) ≡ closes ts + all_closes ls
+lines_closes at ts joined ls = go (eqb (length ts) 0) refl
+  where
+    go : (b : Bool) → eqb (length ts) 0 ≡ b → all_closes (cond b ls (ls ++ record { at = at; tokens = ts; joined = joined } ∷ [])) ≡ closes ts + all_closes ls
+    go true e = let h = none_closes ts e in omega (arith, h)
+    go false e = let h = all_closes-push ls (record { at = at; tokens = ts; joined = joined }) in omega (arith, h)
+
+-- ---- a scan keeps them
+
+abbrev pub count : Scan → ℕ
+count s = closes s.tokens + all_closes s.lines
+
+pub count-put : (t : Token) (s : Scan) → count (put t s) ≡ weight t + count s
+unfolding put
+count-put t s = let h = closes-append s.tokens (t ∷ []) in omega (arith, h)
+
+pub count-put_word : (s : Scan) → count (put_word s) ≡ count s
+unfolding put_word put
+count-put_word s = let h = closes-append s.tokens (Word s.part ∷ []) in omega (arith, h)
+
+count-put_open : (s : Scan) → count (put_open s) ≡ count s
+unfolding put_open put
+count-put_open s = let h = closes-append s.tokens (Open ∷ []) in omega (arith, h)
+
+count-end_line : (s : Scan) → count (end_line s) ≡ count s
+unfolding end_line
+count-end_line s = let h = lines_closes s.line s.tokens s.joined s.lines in omega (arith, h)
+
+-- at least so many
+module _ (n : ℕ) where
+  abbrev Has : Scan → Type 0
+  Has s = n ≤ count s
+
+  chosen : (b : Bool) (x y : Scan) → Has x → Has y → Has (cond b x y)
+  chosen true x y p q = p
+  chosen false x y p q = q
+
+  has-put : (t : Token) (s : Scan) → Has s → Has (put t s)
+  has-put t s h = let k = count-put t s in omega (arith, h, k)
+
+  has-put_word : (s : Scan) → Has s → Has (put_word s)
+  has-put_word s h = let k = count-put_word s in omega (arith, h, k)
+
+  has-end_line : (s : Scan) → Has s → Has (end_line s)
+  has-end_line s h = let k = count-end_line s in omega (arith, h, k)
+
+  has-break_off : (s : Scan) → Has s → Has (break_off s)
+  unfolding break_off
+  has-break_off s h = has-end_line (put Stray s) (has-put Stray s h)
+
+  has-begin : (s : Scan) (b : ℕ) → Has s → Has (begin s b)
+  unfolding begin begin_word
+  has-begin s b h =
+      chosen (eqb b 32) _ _ h
+      (chosen (eqb b 10) _ _ (has-end_line s h)
+      (chosen (eqb b 39) _ _ h
+      (chosen (eqb b 47) _ _ h
+      (chosen (eqb b 40) _ _ (let k = count-put_open s in omega (arith, h, k))
+      (chosen (eqb b 41) _ _ (has-put Close s h)
+      (chosen (eqb b 44) _ _ (has-put Comma s h)
+      (chosen (eqb b 61) _ _ (has-put Equals s h)
+      (chosen (is_word b) _ _ h (has-put Stray s h)))))))))
+
+  has-in : (m : Mode) (s : Scan) (b : ℕ) → Has s → Has (step_in m s b)
+  unfolding step_in
+  has-in InBlank s b h = has-begin s b h
+  has-in AfterSlash s b h = chosen (eqb b 42) _ _ h (has-begin (put Stray s) b (has-put Stray s h))
+  has-in InWord s b h = chosen (is_word b) _ _ h (chosen _ _ _ h (has-begin (put_word s) b (has-put_word s h)))
+  has-in InQuote s b h = chosen (eqb b 39) _ _ h (chosen (eqb b 10) _ _ (has-break_off s h) h)
+  has-in AfterQuote s b h = chosen (eqb b 39) _ _ h (has-begin (put (Name s.part) s) b (has-put (Name s.part) s h))
+  has-in InHex s b h = chosen (eqb b 39) _ _ (has-put (Name s.part) s h) (chosen (eqb b 10) _ _ (has-break_off s h) (chosen (is_hex b) _ _ h h))
+  has-in InHexLow s b h = chosen (eqb b 39) _ _ (has-put Stray s h) (chosen (eqb b 10) _ _ (has-break_off s h) (chosen (is_hex b) _ _ h h))
+  has-in InBadHex s b h = chosen (eqb b 39) _ _ (has-put Stray s h) (chosen (eqb b 10) _ _ (has-break_off s h) h)
+  has-in InComment s b h = chosen (eqb b 42) _ _ h (chosen (eqb b 10) _ _ (has-end_line s h) h)
+  has-in AfterStar s b h = chosen (eqb b 47) _ _ h (chosen (eqb b 42) _ _ h (chosen (eqb b 10) _ _ (has-end_line (record s { mode = InComment }) h) h))
+
+  has-step : (s : Scan) (b : ℕ) → Has s → Has (step s b)
+  unfolding step
+  has-step s b h = chosen (eqb b 13) _ _ h (has-in s.mode s b h)
+
+  has-scan : (s : Scan) (bs : List ℕ) → Has s → Has (scan_from s bs)
+  unfolding scan_from
+  has-scan s [] h = h
+  has-scan s (b ∷ bs) h = has-scan (step s b) bs (has-step s b h)
+
+-- the end of the text adds none
+end_closes : (s : Scan) → all_closes (end_line s).lines ≡ count s
+unfolding end_line
+end_closes s = lines_closes s.line s.tokens s.joined s.lines
+
+finish_closes : (m : Mode) (s : Scan) → count (finish_in m s) ≡ count s
+unfolding finish_in
+finish_closes InBlank s = refl
+finish_closes AfterSlash s = let k = count-put Stray s in omega (arith, k)
+finish_closes InWord s = count-put_word s
+finish_closes InQuote s = let k = count-put Stray s in omega (arith, k)
+finish_closes AfterQuote s = let k = count-put (Name s.part) s in omega (arith, k)
+finish_closes InHex s = let k = count-put Stray s in omega (arith, k)
+finish_closes InHexLow s = let k = count-put Stray s in omega (arith, k)
+finish_closes InBadHex s = let k = count-put Stray s in omega (arith, k)
+finish_closes InComment s = let k = count-put Unclosed (record (end_line s) { line = s.begun }) in let j = count-end_line s in omega (arith, k, j)
+finish_closes AfterStar s = let k = count-put Unclosed (record (end_line s) { line = s.begun }) in let j = count-end_line s in omega (arith, k, j)
+
+pub text_closes : (text : List ℕ) → all_closes (lines_of text) ≡ count (scan_from start text)
+unfolding lines_of
+text_closes text = let s = scan_from start text in end_closes (finish_in s.mode s) ∙ finish_closes s.mode s
+
+pub scan-append : (s : Scan) (xs ys : List ℕ) → scan_from s (xs ++ ys) ≡ scan_from (scan_from s xs) ys
+unfolding scan_from
+scan-append s [] ys = refl
+scan-append s (x ∷ xs) ys = scan-append (step s x) xs ys
+
+-- a front has no more
+pub front_closes : (front back : List ℕ) → all_closes (lines_of front) ≤ all_closes (lines_of (front ++ back))
+front_closes front back =
+    let s = scan_from start front in
+    let h = has-scan (count s) s back (omega arith) in
+    let a = text_closes front in
+    let b = text_closes (front ++ back) in
+    let c = ap count (scan-append start front back) in
+    omega (arith, h, a, b, c)
+
+-- ---- one byte
+
+-- a closing parenthesis where nothing stands open is one more
+pub begin_close : (s : Scan) → count (begin s 41) ≡ suc (count s)
+unfolding begin
+begin_close s = let h = count-put Close s in omega (arith, h)
+
+pub word_not : is_word 41 ≡ false
+unfolding is_word
+word_not = refl
+
+pub hex_not : is_hex 41 ≡ false
+unfolding is_hex
+hex_not = refl
+
+begin_mode : (s : Scan) → (begin s 41).mode ≡ InBlank
+unfolding begin put
+begin_mode s = refl
+
+-- so many as the mode behind it says
+abbrev Closed : Scan → Scan → Type 0
+Closed s x = count x ≡ cond (is_blank x.mode) (suc (count s)) (count s)
+
+begun_close : (s r : Scan) → count r ≡ count s → Closed s (begin r 41)
+begun_close s r e = rw (begin_mode r) (begin_close r ∙ ap suc e)
+
+put_none : (t : Token) (s : Scan) → weight t ≡ 0 → count (put t s) ≡ count s
+put_none t s w = let k = count-put t s in omega (arith, k, w)
+
+in_closed : (m : Mode) (s : Scan) → s.mode ≡ m → Closed s (step_in m s 41)
+unfolding step_in
+in_closed InBlank s e = begun_close s s refl
+in_closed AfterSlash s e = begun_close s (put Stray s) (put_none Stray s refl)
+in_closed InWord s e = rw word_not (begun_close s (put_word s) (count-put_word s))
+in_closed InQuote s e = rw e refl
+in_closed AfterQuote s e = begun_close s (put (Name s.part) s) (put_none (Name s.part) s refl)
+in_closed InHex s e = rw hex_not refl
+in_closed InHexLow s e = rw hex_not refl
+in_closed InBadHex s e = rw e refl
+in_closed InComment s e = rw e refl
+in_closed AfterStar s e = refl
+
+-- another byte takes none
+module _ (s : Scan) (b : ℕ) (other : eqb b 41 ≡ false) where
+  abbrev Same : Scan → Type 0
+  Same x = count x ≡ count s
+
+  either : (c : Bool) (x y : Scan) → Same x → Same y → Same (cond c x y)
+  either true x y p q = p
+  either false x y p q = q
+
+  put-same : (t : Token) (r : Scan) → weight t ≡ 0 → Same r → Same (put t r)
+  put-same t r w h = put_none t r w ∙ h
+
+  end_line-same : (r : Scan) → Same r → Same (end_line r)
+  end_line-same r h = count-end_line r ∙ h
+
+  break_off-same : (r : Scan) → Same r → Same (break_off r)
+  unfolding break_off
+  break_off-same r h = end_line-same (put Stray r) (put-same Stray r refl h)
+
+  begin-same : (r : Scan) → Same r → Same (begin r b)
+  unfolding begin begin_word
+  begin-same r h =
+      rw other (either (eqb b 32) _ _ h
+      (either (eqb b 10) _ _ (end_line-same r h)
+      (either (eqb b 39) _ _ h
+      (either (eqb b 47) _ _ h
+      (either (eqb b 40) _ _ (count-put_open r ∙ h)
+      (either (eqb b 44) _ _ (put-same Comma r refl h)
+      (either (eqb b 61) _ _ (put-same Equals r refl h)
+      (either (is_word b) _ _ h (put-same Stray r refl h)))))))))
+
+  in-same : (m : Mode) → Same (step_in m s b)
+  unfolding step_in
+  in-same InBlank = begin-same s refl
+  in-same AfterSlash = either (eqb b 42) _ _ refl (begin-same (put Stray s) (put-same Stray s refl refl))
+  in-same InWord = either (is_word b) _ _ refl (either _ _ _ refl (begin-same (put_word s) (count-put_word s)))
+  in-same InQuote = either (eqb b 39) _ _ refl (either (eqb b 10) _ _ (break_off-same s refl) refl)
+  in-same AfterQuote = either (eqb b 39) _ _ refl (begin-same (put (Name s.part) s) (put-same (Name s.part) s refl refl))
+  in-same InHex = either (eqb b 39) _ _ (put-same (Name s.part) s refl refl) (either (eqb b 10) _ _ (break_off-same s refl) (either (is_hex b) _ _ refl refl))
+  in-same InHexLow = either (eqb b 39) _ _ (put-same Stray s refl refl) (either (eqb b 10) _ _ (break_off-same s refl) (either (is_hex b) _ _ refl refl))
+  in-same InBadHex = either (eqb b 39) _ _ (put-same Stray s refl refl) (either (eqb b 10) _ _ (break_off-same s refl) refl)
+  in-same InComment = either (eqb b 42) _ _ refl (either (eqb b 10) _ _ (end_line-same s refl) refl)
+  in-same AfterStar = either (eqb b 47) _ _ refl (either (eqb b 42) _ _ refl (either (eqb b 10) _ _ (end_line-same (record s { mode = InComment }) refl) refl))
+
+another : (s : Scan) (b : ℕ) → eqb b 41 ≡ false → count (step s b) ≡ count s
+unfolding step
+another s b other = either s b other (eqb b 13) _ _ refl (in-same s b other s.mode)
+
+closing : (s : Scan) → Closed s (step s 41)
+unfolding step
+closing s = in_closed s.mode s refl
+
+-- A byte takes one where it is a closing parenthesis and nothing stands open behind it, else none.
+pub step-closes : (s : Scan) (b : ℕ) → count (step s b) ≡ cond (is_closing b (step s b).mode) (suc (count s)) (count s)
+step-closes s b = go (eqb b 41) refl
+  where
+    go : (x : Bool) → eqb b 41 ≡ x → count (step s b) ≡ cond (x && is_blank (step s b).mode) (suc (count s)) (count s)
+    go true e = let is : b ≡ 41 = eqb-true b 41 e in rw is (closing s)
+    go false e = another s b e
+
+-- ---- the bytes up to a closing parenthesis
+
+ne_pos : (n : ℕ) → (n ≡ 0 → ⊥) → 0 < n
+ne_pos zero h = absurd (h refl)
+ne_pos (suc n) h = omega arith
+
+-- Some bytes of a text are scanned, and so many closing parentheses are left of those sought.
+pub record Sought (text : List ℕ) (n : ℕ) (scan : Scan) (left : ℕ) (rest : List ℕ) : Type 0 where
+  pub front : List ℕ
+  pub parts : text ≡ front ++ rest
+  pub scanned : scan ≡ scan_from start front
+  pub sum : left + count scan ≡ n
+  pub fewest : (k : ℕ) → k < length front → all_closes (lines_of (take k front)) < n
+
+pub sought_none : (text : List ℕ) (n : ℕ) → Sought text n start n text
+unfolding scan_from
+sought_none text n = record { front = []; parts = refl; scanned = refl; sum = omega arith; fewest = λ k lt. absurd (omega (arith, lt)) }
+
+-- a front has no more
+pub few_closes : (text : List ℕ) (k : ℕ) → all_closes (lines_of (take k text)) ≤ all_closes (lines_of text)
+few_closes text k =
+    let h = front_closes (take k text) (drop k text) in
+    let e : all_closes (lines_of (take k text ++ drop k text)) ≡ all_closes (lines_of text) = ap (λ (t : List ℕ). all_closes (lines_of t)) (take-append-drop k text) in
+    omega (arith, h, e)
+
+pub sought_more : (text : List ℕ) (n : ℕ) (scan new : Scan) (left : ℕ) (rest : List ℕ) (b : ℕ) (tail : List ℕ) (closes : Bool) → rest ≡ b ∷ tail → new ≡ step scan b → (left ≡ 0 → ⊥)
+    → is_closing b new.mode ≡ closes → Sought text n scan left rest → Sought text n new (cond closes (left - 1) left) tail
+unfolding scan_from
+sought_more text n scan new left rest b tail closes is made more counts h = record {
+  front = h.front ++ b ∷ [];
+  parts = h.parts ∙ ap (λ (t : List ℕ). h.front ++ t) is ∙ sym (append_assoc h.front (b ∷ []) tail);
+  scanned = made ∙ ap (λ (s : Scan). step s b) h.scanned ∙ sym (scan-append start h.front (b ∷ []));
+  sum = total closes (ap count made ∙ step-closes scan b ∙ ap (λ (s : Scan). cond (is_closing b s.mode) (suc (count scan)) (count scan)) (sym made) ∙ ap (λ (c : Bool). cond c (suc (count scan)) (count scan)) counts);
+  fewest = λ k lt. shorter k (omega (arith, lt, length-append h.front (b ∷ [])));
+}
+  where
+    some : 0 < left
+    some = ne_pos left more
+
+    total : (c : Bool) → count new ≡ cond c (suc (count scan)) (count scan) → cond c (left - 1) left + count new ≡ n
+    total true q = let s = h.sum in omega (arith, q, s, some)
+    total false q = let s = h.sum in omega (arith, q, s)
+
+    shorter : (k : ℕ) → k ≤ length h.front → all_closes (lines_of (take k (h.front ++ b ∷ []))) < n
+    shorter k within =
+        let cut : all_closes (lines_of (take k (h.front ++ b ∷ []))) ≡ all_closes (lines_of (take k h.front)) = ap (λ (t : List ℕ). all_closes (lines_of t)) (take-append-le k h.front (b ∷ []) within) in
+        let few = few_closes h.front k in
+        let all = text_closes h.front in
+        let so_far : count scan ≡ count (scan_from start h.front) = ap count h.scanned in
+        let s = h.sum in
+        omega (arith, cut, few, all, so_far, s, some)
+
+-- they are found before the text ends
+pub sought_all : (text : List ℕ) (n : ℕ) (scan : Scan) (left : ℕ) (rest : List ℕ) → length rest ≡ 0 → n ≤ all_closes (lines_of text) → (left ≡ 0 → ⊥) → Sought text n scan left rest → ⊥
+sought_all text n scan left (b ∷ bs) none enough more h = absurd (omega (arith, none))
+sought_all text n scan left [] none enough more h =
+    let some : 0 < left = ne_pos left more in
+    let whole : all_closes (lines_of text) ≡ all_closes (lines_of h.front) = ap (λ (t : List ℕ). all_closes (lines_of t)) (h.parts ∙ append-nil h.front) in
+    let all = text_closes h.front in
+    let so_far : count scan ≡ count (scan_from start h.front) = ap count h.scanned in
+    let s = h.sum in
+    omega (arith, enough, some, whole, all, so_far, s)
+
+pub sought_within : (text : List ℕ) (n : ℕ) (scan : Scan) (left : ℕ) (rest : List ℕ) → Sought text n scan left rest → length rest ≤ length text
+sought_within text n scan left rest h = let e = ap length h.parts in omega (arith, e, length-append h.front rest)
+
+pub sought_found : (text : List ℕ) (n : ℕ) (scan : Scan) (left : ℕ) (rest : List ℕ) → left ≡ 0 → Sought text n scan left rest → HaveCloses text n (length text - length rest)
+sought_found text n scan left rest none h =
+    let e = ap length h.parts in
+    let used : length text - length rest ≡ length h.front = omega (arith, e, length-append h.front rest) in
+    let cut : take (length h.front) text ≡ h.front = ap (take (length h.front)) h.parts ∙ take-append_seam h.front rest in
+    let all = text_closes h.front in
+    let so_far : count scan ≡ count (scan_from start h.front) = ap count h.scanned in
+    let whole : all_closes (lines_of (take (length h.front) text)) ≡ all_closes (lines_of h.front) = ap (λ (t : List ℕ). all_closes (lines_of t)) cut in
+    let s = h.sum in
+    subst (HaveCloses text n) (sym used) (record {
+      within = omega (arith, e, length-append h.front rest);
+      has = omega (arith, all, so_far, whole, s, none);
+      fewest = λ k lt. subst (λ (t : List ℕ). all_closes (lines_of t) < n) (sym (ap (take k) h.parts ∙ take-append-le k h.front rest (omega (arith, lt)))) (h.fewest k lt);
+    })
