@@ -1,5 +1,6 @@
 //! What a Turn would be answered, told before it is made: no part of the program asks that yet, and of the calls it is
-//! the one whose preview takes memory. A value that is dear to drop is dropped on one path alone.
+//! the one whose preview takes memory. And a removal, which no deck asks for yet, with the Turn that gets its entry. A
+//! value that is dear to drop is dropped on one path alone.
 ghost use Rattle.std.specs.Prelude.{◌≡◌, true, length, IfOk};
 ghost use Rattle.grs_medium.specs.Medium.{systems_of};
 ghost use Rattle.grs_medium.specs.Apply.{MayCall};
@@ -34,10 +35,13 @@ fn give_up(_call: Call) -> NoMemory {
     NoMemory
 }
 
-/// A reply is let go.
-fn let_go(_reply: Reply) {}
+/// A reply is let go, and told in brief.
+fn let_go(reply: Reply) -> usize {
+    brief(&reply)
+}
 
-fn made(medium: &mut Medium, caller: SysId, call: Call) -> Result<(), NoMemory>
+/// How many entries a Turn gives, 9 for any other reply.
+fn made(medium: &mut Medium, caller: SysId, call: Call) -> Result<usize, NoMemory>
     requires call { MayCall medium.old.state caller call }
     requires built { is_built call.act ≡ true }
     ensures { systems_of medium.new.state ≡ systems_of medium.old.state }
@@ -94,21 +98,45 @@ fn turn_of(alloc: Global, medium: &Medium) -> Result<Seen, NoMemory>
     previewed(medium, SysId(1), &call)
 }
 
-fn seen_of(alloc: Global, medium: &mut Medium) -> Result<Seen, Fail>
+/// System 0 removes system 1.
+fn remove(medium: &mut Medium) -> Result<(), NoMemory>
+    requires { systems_of medium.old.state ≡ 2 }
+    ensures { systems_of medium.new.state ≡ 2 }
+{
+    let target = SysId(1);
+    let act = Act::Purge { target };
+    made(medium, SysId(0), Call { known: 0, act })?;
+    Ok(())
+}
+
+/// How many entries system 0 is given at its Turn, once it knows that system 1 is removed.
+fn turn_after(alloc: Global, medium: &mut Medium) -> Result<usize, NoMemory>
+    requires { systems_of medium.old.state ≡ 2 }
+{
+    let out = List::new(alloc);
+    let act = Act::Turn { out };
+    made(medium, SysId(0), Call { known: 2, act })
+}
+
+fn seen_of(alloc: Global, medium: &mut Medium) -> Result<(Seen, usize), Fail>
     requires { systems_of medium.old.state ≡ 2 }
 {
     put(alloc, medium)?;
-    Ok(turn_of(alloc, medium)?)
+    let seen = turn_of(alloc, medium)?;
+    remove(medium)?;
+    Ok((seen, turn_after(alloc, medium)?))
 }
 
-fn two_systems(alloc: Global) -> Result<Seen, Fail> {
+fn two_systems(alloc: Global) -> Result<(Seen, usize), Fail> {
     let mut medium = Medium::new(alloc, 2, 1, false)?;
     seen_of(alloc, &mut medium)
 }
 
 #[test]
-fn tells_before(rt: HostRuntime) -> Result<(), Fail> {
-    let seen = two_systems(rt.alloc())?;
+fn tells_before_and_removes(rt: HostRuntime) -> Result<(), Fail> {
+    let (seen, given) = two_systems(rt.alloc())?;
     assert_eq!(rt; seen, (1, true));
+    // the request that came back without system 1, and the removal
+    assert_eq!(rt; given, 2);
     Ok(())
 }

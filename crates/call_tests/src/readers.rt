@@ -89,6 +89,19 @@ fn task_lines(rt: HostRuntime) -> Result<(), Fail> {
             b"DEQ (ABCDEFGHI,B,SYSTEM)".as_slice(),
             (1, Kind::NameLength),
         ),
+        // a byte that no deck may have, in the first word and behind it
+        (
+            b"EN\x7fQ (A,B,E,SYSTEM)".as_slice(),
+            (1, Kind::UnknownStatement),
+        ),
+        (b"ENQ (A,'\xff',E,SYSTEM)".as_slice(), (1, Kind::BadOperand)),
+        // a further statement
+        (
+            b"D GRS,C\n\nDEQ (A,B,SYSTEM)".as_slice(),
+            (3, Kind::BadOperand),
+        ),
+        (b"D GRS,C\n/* open".as_slice(), (2, Kind::BadOperand)),
+        (b"\n/* alone */\n".as_slice(), (1, Kind::UnknownStatement)),
     ] {
         assert_eq!(rt; line_fault(alloc, text), Some(fault));
     }
@@ -133,6 +146,22 @@ fn entries(rt: HostRuntime) -> Result<(), Fail> {
             b"\nRNLDEF RNL(INCL) TYPE(GENERIC) QNAME(ABCDEFGHI)".as_slice(),
             (2, Kind::NameLength),
         ),
+        // a byte that no deck may have, in the first word and behind it
+        (
+            b"RNL\x00DEF RNL(EXCL) TYPE(GENERIC) QNAME(A)".as_slice(),
+            (1, Kind::UnknownStatement),
+        ),
+        (
+            b"RNLDEF RNL(EXCL) TYPE(GENERIC)\nQNAME('\x80')".as_slice(),
+            (1, Kind::BadOperand),
+        ),
+        // a further statement on the same line
+        (
+            b"RNLDEF RNL(EXCL)\nTYPE(GENERIC) QNAME(A) SYSTEM SYA".as_slice(),
+            (1, Kind::BadOperand),
+        ),
+        (b"\n/* RNLDEF".as_slice(), (2, Kind::BadOperand)),
+        (b"\n/* alone */\n".as_slice(), (1, Kind::UnknownStatement)),
     ] {
         assert_eq!(rt; entry_fault(alloc, text), Some(fault));
     }
