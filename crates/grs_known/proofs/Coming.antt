@@ -8,7 +8,7 @@ use Rattle.grs_base.specs.declared.resource.Res.{Res}
 use Rattle.grs_base.specs.declared.resource.TaskId.{TaskId}
 use Rattle.grs_base.proofs.SameLaws.{same_task-itself}
 use Rattle.grs_wire.specs.declared.request.Answer.{Answer}
-use Rattle.grs_known.specs.Items.{RunItem, is_of, removes, gives_back, Made, mine, lists, reply_in}
+use Rattle.grs_known.specs.Items.{RunItem, is_of, removes_system_of, gives_back, Made, mine, lists, reply_in}
 use Rattle.grs_known.specs.Known.{Known, last_of, outstanding, Still, IsRight, falls_behind, learns_item, learns_any, learns_control, News, Answers, Grants, Wants, is_answer_to, Coming, after_news}
 use Rattle.grs_known.specs.Laws.{OthersKeep, is_given_back, DecidedAtOnce, AnswerIsSent, AnswerIsLearned, ControlIsLearned, ControlIsSent, ReadRight, ReadInOrder}
 use Rattle.grs_known.proofs.Control.{still-other, still-own}
@@ -19,7 +19,7 @@ not_other : {P : Type 0} (t : TaskId) → same_task t t ≡ false → P
 not_other t f = absurd (let g : false ≡ true = sym f ∙ same_task-itself t in cc)
 
 -- ---- an item of another task
-coming-other : (t : TaskId) (T : List RunItem) (x : RunItem) → is_of t x.fixed ≡ false → removes t x.fixed ≡ false → (k : Known) (ns : List News) → Coming t k T ns → Coming t k (T ++ x ∷ []) ns
+coming-other : (t : TaskId) (T : List RunItem) (x : RunItem) → is_of t x.fixed ≡ false → removes_system_of t x.fixed ≡ false → (k : Known) (ns : List News) → Coming t k T ns → Coming t k (T ++ x ∷ []) ns
 coming-other t T x apart live k [] h = h
 coming-other t T x apart live k (Answers u a ∷ ns) h = (
   λ e. let c = h.0 e in (c.0, outstanding-other t k T x apart ∙ c.1, c.2, coming-other t T x apart live (learns_item k c.0) ns c.3),

@@ -27,20 +27,20 @@ use Rattle.grs_wire.specs.declared.request.Want.TheVariants as wants
 use Rattle.grs_wire.proofs.WantLaws.{owns-want, list_of-want_other, absent-has, by_res}
 use Rattle.grs_wire.proofs.RemoveLaws.{owns-remove}
 use Rattle.task_state.specs.Replies.{is_granted, gives_up}
-use Rattle.grs_known.specs.Items.{RunItem, is_of, removes, gives_back, took, has_control, tells, lists, Made}
+use Rattle.grs_known.specs.Items.{RunItem, is_of, removes_system_of, gives_back, took, has_control, tells, lists, Made}
 use Rattle.grs_known.specs.Known.{Still, Given}
 use Rattle.grs_known.proofs.ItemLaws.{lists-push}
 
 -- ---- another task's item
-pub owns-other : (T : List RunItem) (x : RunItem) (t : TaskId) (r : Res) → is_of t x.fixed ≡ false → removes t x.fixed ≡ false → owns (list_of (lists T) r) t ≡ true → owns (list_of (lists (T ++ x ∷ [])) r) t ≡ true
+pub owns-other : (T : List RunItem) (x : RunItem) (t : TaskId) (r : Res) → is_of t x.fixed ≡ false → removes_system_of t x.fixed ≡ false → owns (list_of (lists T) r) t ≡ true → owns (list_of (lists (T ++ x ∷ [])) r) t ≡ true
 owns-other T x t r apart live h = ap (λ s. owns (list_of s r) t) (lists-push T x) ∙ go x.fixed apart live
   where
-    go : (f : Fixed) → is_of t f ≡ false → removes t f ≡ false → owns (list_of (after_fixed (lists T) f) r) t ≡ true
+    go : (f : Fixed) → is_of t f ≡ false → removes_system_of t f ≡ false → owns (list_of (after_fixed (lists T) f) r) t ≡ true
     go (Asked q) a l = owns-want (lists T) q.task q.want r t a h
     go (LocalLook u f) a l = h
     go (Purged target) a l = owns-remove (lists T) target.0 r t l h
 
-module _ (t : TaskId) (T : List RunItem) (x : RunItem) (apart : is_of t x.fixed ≡ false) (live : removes t x.fixed ≡ false) where
+module _ (t : TaskId) (T : List RunItem) (x : RunItem) (apart : is_of t x.fixed ≡ false) (live : removes_system_of t x.fixed ≡ false) where
   pub still-other : (r : Res) (o : Option RunItem) → Still r t T o → Still r t (T ++ x ∷ []) o
   still-other r None h = owns-other T x t r apart live h
   still-other r (Some y) h = (λ e. owns-other T x t r apart live (h.0 e), h.1)

@@ -30,7 +30,7 @@ use Rattle.grs_wire.specs.declared.request.Want.TheVariants as wants
 use Rattle.grs_wire.proofs.WantLaws.{cond_both, apart-want}
 use Rattle.grs_wire.proofs.RemoveLaws.{apart-remove}
 use Rattle.task_state.specs.Replies.{is_granted}
-use Rattle.grs_known.specs.Items.{is_of, removes}
+use Rattle.grs_known.specs.Items.{is_of, removes_system_of}
 use Rattle.grs_known.specs.Past.{own_elements, made_exclusive, effect_told, own_by_effect, own_after}
 
 -- ---- a request of another task leaves them
@@ -160,7 +160,7 @@ own-fixed s t by (Asked q) apart own = subst (λ u. own_elements (after_want s u
 own-fixed s t by (LocalLook u f) apart own = refl
 own-fixed s t by (Purged target) apart own = cc
 
-pub own-fixed_other : (s : State) (t : TaskId) (f : Fixed) → is_of t f ≡ false → removes t f ≡ false → own_elements (after_fixed s f) t ≡ own_elements s t
+pub own-fixed_other : (s : State) (t : TaskId) (f : Fixed) → is_of t f ≡ false → removes_system_of t f ≡ false → own_elements (after_fixed s f) t ≡ own_elements s t
 own-fixed_other s t (Asked q) apart live = own-want_other s q.task q.want t apart
 own-fixed_other s t (LocalLook u f) apart live = refl
 own-fixed_other s t (Purged target) apart live = own-remove_other s target.0 t live

@@ -1,5 +1,6 @@
 -- What is known of a task stays right: through an item of another task, an item of its own, an answer, control.
 use Rattle.std.proofs.Common.{◌≡◌, Bool, true, false, cond, not, ◌&&◌, ◌||◌, List, [], ◌∷◌, ◌++◌, Some, None, refl, ap, sym, ◌∙◌, subst, arith, append-nil}
+use Rattle.std.specs.Prelude.{is_some}
 use Rattle.std.specs.List.{list_any}
 use Rattle.std.proofs.lemmas.List.Elements.{filter-append}
 use Rattle.grs_base.specs.Same.{same_res}
@@ -11,7 +12,7 @@ use Rattle.grs_base.specs.declared.resource.TaskId.{TaskId}
 use Rattle.grs_base.proofs.SameLaws.{same_res-exact}
 use Rattle.grs_wire.specs.declared.history.HistEntry.{HistEntry}
 use Rattle.grs_wire.specs.declared.history.HistEntry.TheVariants as entries
-use Rattle.grs_known.specs.Items.{RunItem, is_of, removes, gives_back, mine, took, gave, tells, lists, Made}
+use Rattle.grs_known.specs.Items.{RunItem, is_of, removes_system_of, gives_back, mine, took, gave, owns_told, owns_after, tells, lists, Made}
 use Rattle.grs_known.specs.Known.{Known, all_but_last, last_of, learned, outstanding, Still, Given, IsRight, falls_behind, learns_item, learns_control}
 use Rattle.grs_known.specs.Laws.{AllIsKnown}
 use Rattle.grs_known.proofs.Control.{still-other, given-other, still-own, given-own}
@@ -42,8 +43,9 @@ outstanding-other t k T x apart = ap (λ xs. cond k.behind (last_of xs) None) (m
 pub learned-other : (t : TaskId) (k : Known) (T : List RunItem) (x : RunItem) → is_of t x.fixed ≡ false → learned t k (T ++ x ∷ []) ≡ learned t k T
 learned-other t k T x apart = ap (λ xs. cond k.behind (all_but_last xs) xs) (mine-other T x t apart)
 
-pub right-other : (t : TaskId) (k : Known) (T : List RunItem) (x : RunItem) → is_of t x.fixed ≡ false → removes t x.fixed ≡ false → IsRight t k T → IsRight t k (T ++ x ∷ [])
+pub right-other : (t : TaskId) (k : Known) (T : List RunItem) (x : RunItem) → is_of t x.fixed ≡ false → removes_system_of t x.fixed ≡ false → IsRight t k T → IsRight t k (T ++ x ∷ [])
 right-other t k T x apart live h = record {
+  waits = λ e. ap is_some (outstanding-other t k T x apart) ∙ h.waits e;
   owned = λ r e. subst (λ o. Still r t (T ++ x ∷ []) o) (sym (outstanding-other t k T x apart)) (still-other t T x apart live r (outstanding t k T) (h.owned r e));
   given = subst (λ o. Given t (T ++ x ∷ []) o) (sym (outstanding-other t k T x apart)) (given-other t T x apart live (outstanding t k T) h.given);
 }
@@ -65,6 +67,7 @@ module _ (t : TaskId) (T : List RunItem) (x : RunItem) (own : is_of t x.fixed �
 
   pub right-own : (k : Known) → k.behind ≡ false → Made T x → IsRight t k T → IsRight t (falls_behind k) (T ++ x ∷ [])
   right-own k e made h = record {
+    waits = λ b. ap is_some (outstanding-own k);
     owned = λ r o. still-behind k e made r (h.owned r o);
     given = subst (λ o. Given t (T ++ x ∷ []) o) (sym (outstanding-own k)) (given-own t T x own made);
   }
@@ -91,6 +94,18 @@ gave-tells r (entries.Release u q ∷ hs) h = gave-tells r hs h
 gave-tells r (entries.Look u place f rows ∷ hs) h = gave-tells r hs h
 gave-tells r (entries.Remove by target ∷ hs) h = gave-tells r hs h
 
+-- what is owned after entries was owned and not taken, or was given
+owns_after-kept : (r : Res) (f : Res → Bool) (hs : List HistEntry) → owns_after f hs r ≡ true → ((f r && not (list_any (took r) hs)) || list_any (gave r) hs) ≡ true
+owns_after-kept r f [] h = go (f r) h
+  where
+    go : (a : Bool) → a ≡ true → ((a && true) || false) ≡ true
+    go true e = refl
+    go false e = cc
+owns_after-kept r f (x ∷ hs) h = go (f r) (took r x) (gave r x) (list_any (took r) hs) (list_any (gave r) hs) (owns_after-kept r (owns_told x f) hs h)
+  where
+    go : (a b c d e : Bool) → ((((a && not b) || c) && not d) || e) ≡ true → ((a && not (b || d)) || (c || e)) ≡ true
+    go a b c d e h = grind (arith, h)
+
 module _ (t : TaskId) (k : Known) (T : List RunItem) (x : RunItem) (is : outstanding t k T ≡ Some x) (h : IsRight t k T) where
   pub given-told : (r : Res) → list_any (tells r) x.entries ≡ true → owns (list_of (lists T) r) t ≡ true
   given-told = subst (Given t T) is h.given
@@ -104,7 +119,8 @@ module _ (t : TaskId) (k : Known) (T : List RunItem) (x : RunItem) (is : outstan
 
   pub right-answer : IsRight t (learns_item k x) T
   right-answer = record {
-    owned = λ r o. go r (k.owns r) (list_any (took r) x.entries) (list_any (gave r) x.entries) refl refl refl o;
+    waits = λ e. absurd (cc);
+    owned = λ r o. go r (k.owns r) (list_any (took r) x.entries) (list_any (gave r) x.entries) refl refl refl (owns_after-kept r k.owns x.entries o);
     given = tt;
   }
     where
@@ -117,7 +133,7 @@ module _ (t : TaskId) (k : Known) (T : List RunItem) (x : RunItem) (is : outstan
 
 -- ---- control
 pub right-control : (t : TaskId) (k : Known) (T : List RunItem) (r : Res) → IsRight t k T → Still r t T (outstanding t k T) → IsRight t (learns_control k r) T
-right-control t k T r h s = record { owned = λ q o. here q (k.owns q) refl o; given = h.given }
+right-control t k T r h s = record { waits = h.waits; owned = λ q o. here q (k.owns q) refl o; given = h.given }
   where
     here : (q : Res) (b : Bool) → k.owns q ≡ b → (b || same_res q r) ≡ true → Still q t T (outstanding t k T)
     here q true e o = h.owned q e

@@ -1,6 +1,5 @@
 -- The past of a task by what is known of it.
 use Rattle.std.proofs.Common.{◌≡◌, Bool, true, false, cond, not, ◌&&◌, ◌||◌, List, [], ◌∷◌, ◌++◌, Some, refl, ap, sym, ◌∙◌, subst, arith, append-nil, append_assoc, Option, None}
-use mathlib.Core.Path.{fun_ext}
 use Rattle.std.specs.Prelude.{filter}
 use Rattle.std.specs.List.{list_any}
 use Rattle.std.proofs.lemmas.List.Elements.{filter-append}
@@ -12,9 +11,9 @@ use Rattle.grs_base.specs.declared.resource.TaskId.{TaskId}
 use Rattle.grs_legal.specs.Legal.{entries_of, line_entries, last_entry, is_of_line}
 use Rattle.grs_wire.specs.History.{replay, after_fixed}
 use Rattle.grs_wire.specs.declared.history.HistEntry.{HistEntry}
-use Rattle.grs_known.specs.Items.{RunItem, is_of, removes, took, gave, mine, lists_from, lists, AllMade, history}
+use Rattle.grs_known.specs.Items.{RunItem, is_of, removes_system_of, owns_told, owns_after, mine, lists_from, lists, AllMade, history}
 use Rattle.grs_known.specs.Known.{Known, all_but_last, learned, outstanding, Still, learns_item}
-use Rattle.grs_known.specs.Past.{own_elements, own_told, own_after, after_entry, past_by, ElementsAreOfItems, PastGrows, PastSpeaks, PastSpeaksOf, may_leave}
+use Rattle.grs_known.specs.Past.{own_elements, own_told, own_after, after_entry, after_entries, past_by, ElementsAreOfItems, PastGrows, PastSpeaks, PastSpeaksOf, may_leave}
 use Rattle.grs_known.proofs.Elements.{apart-fixed, own-fixed, own-fixed_other}
 use Rattle.grs_known.proofs.ItemLaws.{lists-push, lists_are_replayed, entries_are_of_items}
 use Rattle.grs_known.proofs.Knowing.{learned-longer, all_is_known}
@@ -28,18 +27,18 @@ none_removes : (a b : Bool) → (a || b) ≡ false → (a ≡ false) × (b ≡ f
 none_removes true b e = absurd (cc)
 none_removes false b e = (refl, e)
 
-own-behind : (t : TaskId) (T xs : List RunItem) → ((r : Res) → is_apart (list_of (lists T) r) ≡ true) → AllMade T xs → list_any (λ x. removes t x.fixed) xs ≡ false →
+own-behind : (t : TaskId) (T xs : List RunItem) → ((r : Res) → is_apart (list_of (lists T) r) ≡ true) → AllMade T xs → list_any (λ x. removes_system_of t x.fixed) xs ≡ false →
     own_elements (lists_from (lists T) xs) t ≡ own_after (own_elements (lists T) t) (history (mine t xs))
 own-behind t T [] apart made live = refl
 own-behind t T (x ∷ xs) apart made live =
-    let l = none_removes (removes t x.fixed) (list_any (λ y. removes t y.fixed) xs) live in
+    let l = none_removes (removes_system_of t x.fixed) (list_any (λ y. removes_system_of t y.fixed) xs) live in
     let pushed : after_fixed (lists T) x.fixed ≡ lists (T ++ x ∷ []) = sym (lists-push T x) in
     ap (λ s. own_elements (lists_from s xs) t) pushed
     ∙ own-behind t (T ++ x ∷ []) xs (λ r. subst (λ s. is_apart (list_of s r) ≡ true) pushed (apart-fixed (lists T) x.fixed apart r)) made.1 l.1
     ∙ ap (λ s. own_after (own_elements s t) (history (mine t xs))) (lists-push T x)
     ∙ by_own (is_of t x.fixed) refl l.0
   where
-    by_own : (b : Bool) → is_of t x.fixed ≡ b → removes t x.fixed ≡ false → own_after (own_elements (after_fixed (lists T) x.fixed) t) (history (mine t xs)) ≡ own_after (own_elements (lists T) t) (history (cond b (x ∷ mine t xs) (mine t xs)))
+    by_own : (b : Bool) → is_of t x.fixed ≡ b → removes_system_of t x.fixed ≡ false → own_after (own_elements (after_fixed (lists T) x.fixed) t) (history (mine t xs)) ≡ own_after (own_elements (lists T) t) (history (cond b (x ∷ mine t xs) (mine t xs)))
     by_own true e l =
         ap (λ ks. own_after ks (history (mine t xs))) (own-fixed (lists T) t x.by x.fixed apart e ∙ ap (own_after (own_elements (lists T) t)) (sym made.0))
         ∙ sym (own_after-append (own_elements (lists T) t) x.entries (history (mine t xs)))
@@ -65,19 +64,20 @@ asked-push hs h = filter-append is_of_line hs (h ∷ []) ∙ go (is_of_line h)
     go true = refl
     go false = append-nil (filter is_of_line hs)
 
-or_none : (b : Bool) → (b || false) ≡ b
-or_none true = refl
-or_none false = refl
+past-push : (f : Res → Bool) (hs : List HistEntry) (h : HistEntry) → past_by (owns_told h f) (hs ++ h ∷ []) ≡ after_entry h (past_by f hs)
+past-push f hs h = rw (own_after-append [] hs (h ∷ []), asked-push hs h, last_entry-push hs h) refl
 
-past-push : (f g : Res → Bool) (hs : List HistEntry) (h : HistEntry) → g ≡ (λ r. (f r && not (took r h)) || gave r h) → past_by g (hs ++ h ∷ []) ≡ after_entry h (past_by f hs)
-past-push f g hs h e = rw (own_after-append [] hs (h ∷ []), asked-push hs h, last_entry-push hs h, e) refl
+past-append : (f : Res → Bool) (hs gs : List HistEntry) → past_by (owns_after f gs) (hs ++ gs) ≡ after_entries gs (past_by f hs)
+past-append f hs [] = ap (past_by f) (append-nil hs)
+past-append f hs (g ∷ gs) =
+    ap (past_by (owns_after (owns_told g f) gs)) (sym (append_assoc hs (g ∷ []) gs))
+    ∙ past-append (owns_told g f) (hs ++ g ∷ []) gs
+    ∙ ap (after_entries gs) (past-push f hs g)
 
 pub past_grows : PastGrows
-past_grows t k T x h is one =
-    let all : history (learned t (learns_item k x) T) ≡ history (learned t k T) ++ h ∷ [] = ap history (learned-longer t k T x is) ∙ history-append (learned t k T) (x ∷ []) ∙ ap (λ hs. history (learned t k T) ++ hs) (append-nil x.entries ∙ one) in
-    let owned : (learns_item k x).owns ≡ (λ r. (k.owns r && not (took r h)) || gave r h) =
-    ap (λ (hs : List HistEntry). λ (r : Res). (k.owns r && not (list_any (took r) hs)) || list_any (gave r) hs) one ∙ fun_ext (λ r. ap (λ b. (k.owns r && not b) || (gave r h || false)) (or_none (took r h)) ∙ ap (λ b. (k.owns r && not (took r h)) || b) (or_none (gave r h))) in
-    ap (past_by (learns_item k x).owns) all ∙ past-push k.owns (learns_item k x).owns (history (learned t k T)) h owned
+past_grows t k T x is =
+    ap (past_by (owns_after k.owns x.entries)) (ap history (learned-longer t k T x is) ∙ history-append (learned t k T) (x ∷ []) ∙ ap (λ hs. history (learned t k T) ++ hs) (append-nil x.entries))
+    ∙ past-append k.owns (history (learned t k T)) x.entries
 
 -- ---- the history
 lines-mine : (t : TaskId) (hs : List HistEntry) → line_entries t hs ≡ filter is_of_line (entries_of t hs)

@@ -18,10 +18,10 @@ use Rattle.grs_wire.specs.declared.request.Answer.TheVariants.{Coded}
 use Rattle.grs_wire.specs.declared.request.Fixed.{Fixed}
 use Rattle.grs_wire.specs.declared.request.Fixed.TheVariants.{Asked, Purged}
 use Rattle.grs_wire.specs.declared.request.Want.TheVariants as wants
-use Rattle.grs_known.specs.Items.{RunItem, rounds, is_of, removes, took, gave, tells, reply_in, lists, Made, history, items, Counts, mine}
+use Rattle.grs_known.specs.Items.{RunItem, rounds, is_of, removes_system_of, took, gave, tells, reply_in, lists, Made, history, items, Counts, mine}
 use Rattle.grs_known.specs.Known.{Known, learned, outstanding, Still, IsRight, learns_item, learns_control, Answers, Grants, Coming, after_news}
 use Rattle.grs_known.specs.Past.{own_told, after_entry, past_of, Speaks}
-use Rattle.grs_known.specs.Change.{Changing, NoneChanged, switched, kept, manager_of, store_shown, Ring}
+use Rattle.grs_known.specs.Change.{Changing, NoneChanged, switched, kept_in_change, manager_of, store_shown, Ring}
 
 abbrev system : ℕ → SysId
 system s = record { 0 = s }
@@ -101,10 +101,10 @@ change_tells = refl
 removal_of : is_of (task_of 1) (Purged (system 1)) ≡ false
 removal_of = refl
 
-removes_own : removes (task_of 1) (Purged (system 1)) ≡ true
+removes_own : removes_system_of (task_of 1) (Purged (system 1)) ≡ true
 removes_own = refl
 
-removes_other : removes (task_of 0) (Purged (system 1)) ≡ false
+removes_other : removes_system_of (task_of 0) (Purged (system 1)) ≡ false
 removes_other = refl
 
 -- a task may have one element, and has one: its flag has to say so
@@ -139,7 +139,7 @@ none_outstanding = refl
 
 -- it owns behind the other's DEQ, not before; and who gave the file back doesn't
 owner_right : IsRight (task_of 1) (has_file false) (take 3 run)
-owner_right = record { owned = λ r e. subst (λ q. owns (list_of (lists (take 3 run)) q) (task_of 1) ≡ true) (sym (same_res-exact r file e)) refl; given = tt }
+owner_right = record { waits = λ e. absurd (cc); owned = λ r e. subst (λ q. owns (list_of (lists (take 3 run)) q) (task_of 1) ≡ true) (sym (same_res-exact r file e)) refl; given = tt }
 
 waiter_wrong : IsRight (task_of 1) (has_file false) (take 2 run) → ⊥
 waiter_wrong h = let g : false ≡ true = h.owned file refl in absurd (cc)
@@ -150,9 +150,14 @@ leaver_wrong h = let g : false ≡ true = h.owned file refl in absurd (cc)
 -- but where its DEQ isn't learned yet it is known to own, and that is right
 leaver_behind : IsRight (task_of 0) (has_file true) (take 3 run)
 leaver_behind = record {
+  waits = λ e. refl;
   owned = λ r e. subst (λ q. Still q (task_of 0) (take 3 run) (Some (at 2 (deq 0)))) (sym (same_res-exact r file e)) ((λ f. absurd (cc)), (λ f. refl));
   given = λ r e. absurd (cc);
 }
+
+-- a task of which nothing was fixed can't be behind
+behind_nothing : IsRight (task_of 1) (has_none true) [] → ⊥
+behind_nothing h = let g : false ≡ true = h.waits refl in absurd (cc)
 
 -- ---- its past
 -- a task that asked by ECB has its element, and doesn't own
@@ -243,5 +248,5 @@ none_changed s = (lists (take 2 run), [], refl, refl)
 managed : behind_one.words.manager 0 ≡ Some 1
 managed = refl
 
-kept_list : kept one_entry behind_one file ≡ list_of (lists (take 3 run)) file
+kept_list : kept_in_change one_entry behind_one file ≡ list_of (lists (take 3 run)) file
 kept_list = refl

@@ -136,8 +136,8 @@ abbrev pub kept_at : Changing → Res → Option ℕ → List Elem
 kept_at w r None = []
 kept_at w r (Some s) = kept_by (w.unseen s) r (w.members s).role
 
-abbrev pub kept : (Res → ℕ) → Changing → Res → List Elem
-kept slot w r = kept_at w r (w.words.manager (slot r))
+abbrev pub kept_in_change : (Res → ℕ) → Changing → Res → List Elem
+kept_in_change slot w r = kept_at w r (w.words.manager (slot r))
 
 -- The stores are those of the history: a manager's lists of its entries are the history's; where there is no manager
 -- nothing is queued; and roles and interest go with the words.
@@ -190,4 +190,4 @@ SwitchShowsHistory = (slot : Res → ℕ) (T : List RunItem) (w : Changing) → 
 
 -- Where the view shows the history's lists, what is kept of a resource is the history's list.
 abbrev pub KeptIsShown : Type 0
-KeptIsShown = (slot : Res → ℕ) (T : List RunItem) (w : Changing) → AreStores slot T (view slot w) → (r : Res) → is_systems r ≡ true → kept slot w r ≡ list_of (lists T) r
+KeptIsShown = (slot : Res → ℕ) (T : List RunItem) (w : Changing) → AreStores slot T (view slot w) → (r : Res) → is_systems r ≡ true → kept_in_change slot w r ≡ list_of (lists T) r

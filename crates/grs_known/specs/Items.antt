@@ -1,5 +1,5 @@
 -- The items of a run: each thing that was fixed, in order, with who fixed it and the history lines that it makes.
-use Rattle.std.specs.Prelude.{◌≡◌, ℕ, Bool, true, false, ◌&&◌, ◌==◌, filter, List, [], ◌∷◌, ◌++◌}
+use Rattle.std.specs.Prelude.{◌≡◌, ℕ, Bool, true, false, not, ◌&&◌, ◌||◌, ◌==◌, filter, List, [], ◌∷◌, ◌++◌}
 use Rattle.grs_base.specs.Same.{same_res, same_task}
 use Rattle.grs_base.specs.State.{State, is_full, is_systems}
 use Rattle.grs_base.specs.declared.resource.Res.{Res}
@@ -34,10 +34,10 @@ is_of t (LocalLook u f) = same_task t u
 is_of t (Purged target) = false
 
 -- whether it removes this task's system
-abbrev pub removes : TaskId → Fixed → Bool
-removes t (Asked q) = false
-removes t (LocalLook u f) = false
-removes t (Purged target) = target.0 == t.system.0
+abbrev pub removes_system_of : TaskId → Fixed → Bool
+removes_system_of t (Asked q) = false
+removes_system_of t (LocalLook u f) = false
+removes_system_of t (Purged target) = target.0 == t.system.0
 
 -- whether it asks to give this resource up
 abbrev pub gives_back : Res → Fixed → Bool
@@ -82,6 +82,14 @@ gave r (Deq u q have code) = false
 gave r (Release u q) = false
 gave r (Look u place f rows) = false
 gave r (Remove by target) = false
+
+-- what its task owns after an entry, where it owned this before; and after several
+abbrev pub owns_told : HistEntry → (Res → Bool) → Res → Bool
+owns_told h f r = (f r && not (took r h)) || gave r h
+
+abbrev pub owns_after : (Res → Bool) → List HistEntry → Res → Bool
+owns_after f [] r = f r
+owns_after f (h ∷ hs) r = owns_after (owns_told h f) hs r
 
 -- whether an ENQ with this RET that was answered 00 has control: TEST only asks
 abbrev pub has_control : Ret → Bool

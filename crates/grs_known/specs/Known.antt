@@ -1,6 +1,6 @@
 -- What a system knows of one of its tasks, in any mode: how much of the run it has learned of the task, and what the
 -- task owns by what was learned; and what the system has still to learn.
-use Rattle.std.specs.Prelude.{◌≡◌, Bool, true, false, not, ◌&&◌, ◌||◌, cond, List, [], ◌∷◌, Option, Some, None}
+use Rattle.std.specs.Prelude.{◌≡◌, Bool, true, false, ◌||◌, cond, List, [], ◌∷◌, Option, Some, None, is_some}
 use Rattle.std.specs.List.{list_any}
 use Rattle.grs_base.specs.Same.{same_res, same_task}
 use Rattle.grs_base.specs.Lists.{owns}
@@ -9,7 +9,7 @@ use Rattle.grs_base.specs.declared.resource.Res.{Res}
 use Rattle.grs_base.specs.declared.resource.TaskId.{TaskId}
 use Rattle.grs_wire.specs.declared.request.Answer.{Answer}
 use Rattle.grs_wire.specs.declared.request.Req.{Req}
-use Rattle.grs_known.specs.Items.{RunItem, gives_back, took, gave, tells, reply_in, lists, mine}
+use Rattle.grs_known.specs.Items.{RunItem, gives_back, took, owns_after, tells, reply_in, lists, mine}
 
 -- What a system knows of a task: whether it has still to learn the task's last item, and what the task owns by what
 -- was learned.
@@ -45,8 +45,9 @@ abbrev pub Given : TaskId → List RunItem → Option RunItem → Type 0
 Given t T None = Unit {0}
 Given t T (Some x) = (r : Res) → list_any (tells r) x.entries ≡ true → owns (list_of (lists T) r) t ≡ true
 
--- What is known of a task is right.
+-- What is known of a task is right. A task is behind only where there is an item that it has still to learn.
 pub record IsRight (t : TaskId) (k : Known) (T : List RunItem) : Type 0 where
+  pub waits : k.behind ≡ true → is_some (outstanding t k T) ≡ true
   pub owned : (r : Res) → k.owns r ≡ true → Still r t T (outstanding t k T)
   pub given : Given t T (outstanding t k T)
 
@@ -58,7 +59,7 @@ falls_behind k = record { behind = true; owns = k.owns }
 
 -- an item is learned, by its reply
 abbrev pub learns_item : Known → RunItem → Known
-learns_item k x = record { behind = false; owns = λ r. (k.owns r && not (list_any (took r) x.entries)) || list_any (gave r) x.entries }
+learns_item k x = record { behind = false; owns = owns_after k.owns x.entries }
 
 abbrev pub learns_any : Known → Option RunItem → Known
 learns_any k None = k
@@ -85,7 +86,8 @@ is_answer_to t (Wants q) = false
 
 -- What comes of a task is right, in the order in which it comes. An answer is that of the outstanding item, with the
 -- reply which stands there; control is still there by what is known where it comes; and what comes behind each is
--- right by what is known then.
+-- right by what is known then. This is about what does come: nothing wrong comes. That what a task waits for is on its
+-- way, so that nothing is lost, isn't said here; a task may be behind with nothing that comes.
 abbrev pub Coming : TaskId → Known → List RunItem → List News → Type 0
 Coming t k T [] = Unit {0}
 Coming t k T (Answers u a ∷ ns) = (same_task t u ≡ true → (x : RunItem) × (outstanding t k T ≡ Some x) × (reply_in x.entries ≡ a) × Coming t (learns_item k x) T ns) × (same_task t u ≡ false → Coming t k T ns)

@@ -13,7 +13,7 @@ use Rattle.grs_wire.specs.Wants.{answer_to}
 use Rattle.grs_wire.specs.declared.request.Answer.{Answer}
 use Rattle.grs_wire.specs.declared.request.Fixed.{Fixed}
 use Rattle.grs_wire.specs.declared.request.Want.{Want}
-use Rattle.grs_known.specs.Items.{RunItem, is_of, removes, gives_back, mine, tells, reply_in, lists, Made, AllMade, history, items, AllCount}
+use Rattle.grs_known.specs.Items.{RunItem, is_of, removes_system_of, gives_back, mine, tells, reply_in, lists, Made, AllMade, history, items, AllCount}
 use Rattle.grs_known.specs.Known.{Known, learned, outstanding, Still, IsRight, falls_behind, learns_item, learns_control, News, Answers, Grants, Wants, is_answer_to, Coming, after_news}
 
 -- ---- items
@@ -43,7 +43,7 @@ pub record KeptAll (t : TaskId) (k : Known) (T : List RunItem) (x : RunItem) (ns
   pub same : learned t k (T ++ x ∷ []) ≡ learned t k T
 
 abbrev pub OthersKeep : Type 0
-OthersKeep = (t : TaskId) (k : Known) (T : List RunItem) (x : RunItem) (ns : List News) → is_of t x.fixed ≡ false → removes t x.fixed ≡ false →
+OthersKeep = (t : TaskId) (k : Known) (T : List RunItem) (x : RunItem) (ns : List News) → is_of t x.fixed ≡ false → removes_system_of t x.fixed ≡ false →
     IsRight t k T → Coming t k T ns → KeptAll t k T x ns
 
 -- An item of the task that another system fixes, as a manager does with a Settle: what is known is right and is as
@@ -121,5 +121,5 @@ first_mine t (x ∷ xs) = cond (is_of t x.fixed) (Some x) (first_mine t xs)
 -- An owner by a front of the items, behind which its task has at most one, is still one by all of them. So what a
 -- system of the ring sees in its table is right.
 abbrev pub FrontOwnersStay : Type 0
-FrontOwnersStay = (t : TaskId) (r : Res) (front rest : List RunItem) → AllMade front rest → list_any (λ x. removes t x.fixed) rest ≡ false → (mine t rest ≡ []) ⊎ ((x : RunItem) × (mine t rest ≡ x ∷ [])) →
+FrontOwnersStay = (t : TaskId) (r : Res) (front rest : List RunItem) → AllMade front rest → list_any (λ x. removes_system_of t x.fixed) rest ≡ false → (mine t rest ≡ []) ⊎ ((x : RunItem) × (mine t rest ≡ x ∷ [])) →
     owns (list_of (lists front) r) t ≡ true → Still r t (front ++ rest) (first_mine t rest)

@@ -1,6 +1,6 @@
 -- What a task's standing depends on: its own elements, what it owns, and its entries; and what each entry makes of that
 -- by its reply alone.
-use Rattle.std.specs.Prelude.{◌≡◌, ℕ, Bool, true, false, not, ◌&&◌, ◌||◌, cond, filter, map, List, [], ◌∷◌, ◌++◌, Option, Some, None}
+use Rattle.std.specs.Prelude.{◌≡◌, ℕ, Bool, true, false, not, cond, filter, map, List, [], ◌∷◌, ◌++◌, Option, Some, None}
 use Rattle.std.specs.List.{list_any}
 use Rattle.grs_base.specs.Same.{same_res, same_task}
 use Rattle.grs_base.specs.Lists.{owns}
@@ -18,7 +18,7 @@ use Rattle.grs_wire.specs.History.{replay}
 use Rattle.grs_wire.specs.declared.history.HistEntry.{HistEntry}
 use Rattle.grs_wire.specs.declared.history.HistEntry.TheVariants.{Enq, Deq, Release, Look, Remove}
 use Rattle.task_state.specs.Replies.{is_granted, is_queued, is_changed}
-use Rattle.grs_known.specs.Items.{RunItem, gives_back, took, gave, removes, lists, mine, history, AllMade, AllCount}
+use Rattle.grs_known.specs.Items.{RunItem, gives_back, owns_told, removes_system_of, lists, mine, history, AllMade, AllCount}
 use Rattle.grs_known.specs.Known.{Known, learned, outstanding, IsRight, learns_item}
 
 -- a task's own elements: their resources, each with its control, in the order in which they were queued
@@ -57,14 +57,18 @@ pub record Past : Type 0 where
   pub asked : List HistEntry
   pub last : Option HistEntry
 
--- the past after an entry
+-- the past after an entry, and after several
 abbrev pub after_entry : HistEntry → Past → Past
 after_entry h p = record {
   own = own_told h p.own;
-  owns = λ r. (p.owns r && not (took r h)) || gave r h;
+  owns = owns_told h p.owns;
   asked = cond (is_of_line h) (p.asked ++ h ∷ []) p.asked;
   last = Some h;
 }
+
+abbrev pub after_entries : List HistEntry → Past → Past
+after_entries [] p = p
+after_entries (h ∷ hs) p = after_entries hs (after_entry h p)
 
 -- the past of these entries, of a task that owns this
 abbrev pub past_by : (Res → Bool) → List HistEntry → Past
@@ -97,11 +101,11 @@ may_leave r (Some x) = gives_back r x.fixed
 
 -- A task's elements are those which its items queued, by their replies, unless its system was removed.
 abbrev pub ElementsAreOfItems : Type 0
-ElementsAreOfItems = (t : TaskId) (T : List RunItem) → AllMade [] T → list_any (λ x. removes t x.fixed) T ≡ false → own_elements (lists T) t ≡ own_after [] (history (mine t T))
+ElementsAreOfItems = (t : TaskId) (T : List RunItem) → AllMade [] T → list_any (λ x. removes_system_of t x.fixed) T ≡ false → own_elements (lists T) t ≡ own_after [] (history (mine t T))
 
--- Learning an item makes the past longer by its entry.
+-- Learning an item makes the past longer by its entries.
 abbrev pub PastGrows : Type 0
-PastGrows = (t : TaskId) (k : Known) (T : List RunItem) (x : RunItem) (h : HistEntry) → outstanding t k T ≡ Some x → x.entries ≡ h ∷ [] → past_of t (learns_item k x) T ≡ after_entry h (past_of t k T)
+PastGrows = (t : TaskId) (k : Known) (T : List RunItem) (x : RunItem) → outstanding t k T ≡ Some x → past_of t (learns_item k x) T ≡ after_entries x.entries (past_of t k T)
 
 -- Of a resource that the outstanding item doesn't give up the past by what is known is that of the history.
 abbrev pub PastSpeaksOf : Type 0
@@ -109,4 +113,4 @@ PastSpeaksOf = (limit : ℕ) (t : TaskId) (r : Res) (k : Known) (T : List RunIte
 
 -- Of a task with nothing outstanding the past by what is known is that of the history.
 abbrev pub PastSpeaks : Type 0
-PastSpeaks = (limit : ℕ) (t : TaskId) (k : Known) (T : List RunItem) → AllMade [] T → AllCount limit [] T → list_any (λ x. removes t x.fixed) T ≡ false → k.behind ≡ false → IsRight t k T → Speaks limit t (past_of t k T) (history T)
+PastSpeaks = (limit : ℕ) (t : TaskId) (k : Known) (T : List RunItem) → AllMade [] T → AllCount limit [] T → list_any (λ x. removes_system_of t x.fixed) T ≡ false → k.behind ≡ false → IsRight t k T → Speaks limit t (past_of t k T) (history T)

@@ -73,7 +73,7 @@ pub fn elements_are_of_items()
     ensures { ElementsAreOfItems }
 {}
 
-/// Learning an item makes the past of its task longer by the item's entry.
+/// Learning an item makes the past of its task longer by the item's entries.
 pub fn past_grows()
     ensures { PastGrows }
 {}
