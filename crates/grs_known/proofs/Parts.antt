@@ -1,5 +1,6 @@
 -- The part of the lists on resources of the whole complex is what the items that went with the message lead to.
 use Rattle.std.proofs.Common.{◌≡◌, ℕ, Bool, true, false, cond, List, [], ◌∷◌, ◌++◌, refl, ap, sym, ◌∙◌, arith, append-nil}
+use Rattle.std.specs.Prelude.{filter}
 use Rattle.std.proofs.lemmas.List.Elements.{filter-append}
 use Rattle.grs_base.specs.Same.{same_res}
 use Rattle.grs_base.specs.Lists.{is_owner, standing_of, decide_enq}
@@ -21,9 +22,13 @@ use Rattle.grs_known.specs.Items.{RunItem, wants_round, goes_round, rounds, list
 use Rattle.grs_known.specs.Change.{systems_part, TableIsPart}
 use Rattle.grs_known.proofs.ItemLaws.{lists_from-append}
 
+-- a part that has all elements of a resource has its list
+pub list_of-part : (p : Res → Bool) (s : State) (r : Res) → p r ≡ true → list_of (filter (λ h. p h.0) s) r ≡ list_of s r
+list_of-part p [] r h = refl
+list_of-part p (x ∷ s) r h = grind (arith, h, list_of-part p s r h, same_res-exact r x.0)
+
 pub list_of-systems : (s : State) (r : Res) → is_systems r ≡ true → list_of (systems_part s) r ≡ list_of s r
-list_of-systems [] r h = refl
-list_of-systems (x ∷ s) r h = grind (arith, h, list_of-systems s r h, same_res-exact r x.0)
+list_of-systems s r h = list_of-part is_systems s r h
 
 -- ---- what is done to a resource of the whole complex is done to the part
 part-without : (s : State) (r : Res) (t : TaskId) → systems_part (without same_res s r t) ≡ without same_res (systems_part s) r t

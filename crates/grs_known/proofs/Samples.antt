@@ -1,8 +1,8 @@
 -- Worked items, what is known by them, and the words of a table: what the definitions accept and what they refuse.
-use Rattle.std.proofs.Common.{◌≡◌, ℕ, Bool, true, false, List, [], ◌∷◌, take, Some, None, refl, sym, subst}
+use Rattle.std.proofs.Common.{◌≡◌, ◌∙◌, ℕ, zero, suc, Bool, true, false, List, [], ◌∷◌, take, Some, None, refl, sym, subst}
 use Rattle.grs_base.specs.Same.{same_res}
 use Rattle.grs_base.specs.Lists.{owns}
-use Rattle.grs_base.specs.State.{list_of}
+use Rattle.grs_base.specs.State.{State, list_of}
 use Rattle.grs_base.specs.declared.resource.Ctl.TheVariants.{E, S}
 use Rattle.grs_base.specs.declared.resource.Res.{Res}
 use Rattle.grs_base.specs.declared.resource.Res.TheVariants as kinds
@@ -220,9 +220,13 @@ least_manages = refl
 none_manages : manager_of one_entry (lists run) 0 ≡ None
 none_manages = refl
 
--- a system that has still to see the DEQ shows the list behind it, and isn't the manager
-shown_behind : list_of (store_shown one_entry 0 (at 2 (deq 0) ∷ []) (Ring (lists (take 2 run)) [])).lists file ≡ list_of (lists (take 3 run)) file
+-- The system that manages the file behind the DEQ shows the list behind it, though it has still to see the DEQ; the
+-- other, who has seen as much, isn't the manager, and keeps nothing of it.
+shown_behind : list_of (store_shown one_entry 1 (at 2 (deq 0) ∷ []) (Ring (lists (take 2 run)) [])).lists file ≡ list_of (lists (take 3 run)) file
 shown_behind = refl
+
+shown_other : (store_shown one_entry 0 (at 2 (deq 0) ∷ []) (Ring (lists (take 2 run)) [])).lists ≡ []
+shown_other = refl
 
 shown_manager : (store_shown one_entry 0 (at 2 (deq 0) ∷ []) (Ring (lists (take 2 run)) [])).manages 0 ≡ false
 shown_manager = refl
@@ -236,13 +240,14 @@ own_lists_stay = refl
 
 abbrev behind_one : Changing
 behind_one = record {
+  live = λ s. true;
   words = switched one_entry (take 3 run);
   unseen = λ s. at 2 (deq 0) ∷ [];
   members = λ s. record { tasks = λ t. has_none false; role = Ring (lists (take 2 run)) [] };
 }
 
 none_changed : NoneChanged (take 3 run) behind_one
-none_changed s = (lists (take 2 run), [], refl, refl)
+none_changed s l = (lists (take 2 run), [], refl, refl)
 
 -- the manager of the file is the system of its only owner, though its own table still has both
 managed : behind_one.words.manager 0 ≡ Some 1
@@ -250,3 +255,35 @@ managed = refl
 
 kept_list : kept_in_change one_entry behind_one file ≡ list_of (lists (take 3 run)) file
 kept_list = refl
+
+-- System 1 was removed, and keeps a table from before: of it nothing is asked, while of a live one in its place it
+-- would be.
+abbrev run_removed : List RunItem
+run_removed = items (enq 0 RetNone ∷ enq 1 RetEcb ∷ (system 0, Purged (system 1)) ∷ [])
+
+-- the table of a system: that of system 1 is older
+abbrev table_then : ℕ → State
+table_then zero = lists run_removed
+table_then (suc zero) = lists (take 2 run)
+table_then (suc (suc s)) = lists run_removed
+
+abbrev stays : ℕ → Bool
+stays zero = true
+stays (suc zero) = false
+stays (suc (suc s)) = true
+
+abbrev one_removed : (ℕ → Bool) → Changing
+one_removed live = record {
+  live = live;
+  words = switched one_entry run_removed;
+  unseen = λ s. [];
+  members = λ s. record { tasks = λ t. has_none false; role = Ring (table_then s) [] };
+}
+
+removed_apart : NoneChanged run_removed (one_removed stays)
+removed_apart zero l = (lists run_removed, [], refl, refl)
+removed_apart (suc zero) l = absurd (cc)
+removed_apart (suc (suc s)) l = (lists run_removed, [], refl, refl)
+
+still_live : NoneChanged run_removed (one_removed (λ s. true)) → ⊥
+still_live h = let a = h 1 refl in let same : Ring (lists (take 2 run)) [] ≡ Ring a.0 a.1 = a.2 in let table : lists (take 2 run) ≡ a.0 = cc in let g : lists (take 2 run) ≡ lists run_removed = table ∙ a.3 in absurd (cc)

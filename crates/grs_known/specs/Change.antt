@@ -21,8 +21,8 @@ pub record StarWords : Type 0 where
   pub interested : ℕ → ℕ → Bool
   pub inbox : ℕ → List News
 
--- A system's store in star mode: which lock entries it manages, its lists, in which entries it is interested, and
--- the requests that it has still to settle.
+-- A system's store in star mode: which lock entries it manages, the lists of those, in which entries it is interested,
+-- and the requests that it has still to settle. Ranks, and whether an owner was told, aren't in it yet.
 pub record StarStore : Type 0 where
   pub manages : ℕ → Bool
   pub lists : State
@@ -38,14 +38,17 @@ pub record Member : Type 0 where
   pub tasks : TaskId → Known
   pub role : Role
 
--- the complex: the medium has changed; each system has still to see some items of the closed message
+-- the complex: the medium has changed; some systems were removed; each system that is live has still to see some items
+-- of the closed message
 pub record Changing : Type 0 where
+  pub live : ℕ → Bool
   pub words : StarWords
   pub unseen : ℕ → List RunItem
   pub members : ℕ → Member
 
 -- the complex as it would stand had all systems changed
 pub record Changed : Type 0 where
+  pub live : ℕ → Bool
   pub words : StarWords
   pub stores : ℕ → StarStore
 
@@ -77,11 +80,18 @@ is_manager s (Some u) = eqb u s
 abbrev pub manager_of : (Res → ℕ) → State → ℕ → Option ℕ
 manager_of slot table e = least_system (under slot e table)
 
+-- the part of a table that its manager keeps: a system keeps the elements on resources of the entries that it manages
+abbrev pub is_managed : (Res → ℕ) → ℕ → State → Res → Bool
+is_managed slot s table r = is_systems r && is_manager s (manager_of slot table (slot r))
+
+abbrev pub managed_part : (Res → ℕ) → ℕ → State → State
+managed_part slot s table = filter (λ h. is_managed slot s table h.0) table
+
 -- the store to which a table comes at a system
 abbrev pub store_of : (Res → ℕ) → ℕ → State → StarStore
 store_of slot s table = record {
   manages = λ e. is_manager s (manager_of slot table e);
-  lists = table;
+  lists = managed_part slot s table;
   interest = λ e. has_element s (under slot e table);
   held = [];
 }
@@ -94,13 +104,14 @@ store_shown slot s unseen (Ring table outbox) = store_of slot s (lists_from tabl
 store_shown slot s unseen (Star store) = store
 
 unfoldable pub view : (Res → ℕ) → Changing → Changed
-view slot w = record { words = w.words; stores = λ s. store_shown slot s (w.unseen s) (w.members s).role }
+view slot w = record { live = w.live; words = w.words; stores = λ s. store_shown slot s (w.unseen s) (w.members s).role }
 
 -- ---- events
 
 -- the closed Turn of a system: it processes what it hasn't seen, whereby more is known of its tasks, and changes
 abbrev pub closed_turn : (Res → ℕ) → Changing → ℕ → (TaskId → Known) → Changing
 closed_turn slot w s tasks = record {
+  live = w.live;
   words = w.words;
   unseen = put_at w.unseen s [];
   members = put_at w.members s (record { tasks = tasks; role = Star (store_shown slot s (w.unseen s) (w.members s).role) });
@@ -113,17 +124,18 @@ Act = StarWords → StarStore → StarWords × StarStore
 -- such an event at a system that has changed, with this store; and the same event where all have changed
 abbrev pub star_event : Changing → ℕ → Act → StarStore → (TaskId → Known) → Changing
 star_event w s act store tasks = record {
+  live = w.live;
   words = (act w.words store).0;
   unseen = w.unseen;
   members = put_at w.members s (record { tasks = tasks; role = Star (act w.words store).1 });
 }
 
 abbrev pub star_event_of_all : Changed → ℕ → Act → Changed
-star_event_of_all v s act = record { words = (act v.words (v.stores s)).0; stores = put_at v.stores s (act v.words (v.stores s)).1 }
+star_event_of_all v s act = record { live = v.live; words = (act v.words (v.stores s)).0; stores = put_at v.stores s (act v.words (v.stores s)).1 }
 
 -- a Task event at a system that hasn't changed: its outbox and its tasks become others
 abbrev pub task_event : Changing → ℕ → State → List Req → (TaskId → Known) → Changing
-task_event w s table outbox tasks = record { words = w.words; unseen = w.unseen; members = put_at w.members s (record { tasks = tasks; role = Ring table outbox }) }
+task_event w s table outbox tasks = record { live = w.live; words = w.words; unseen = w.unseen; members = put_at w.members s (record { tasks = tasks; role = Ring table outbox }) }
 
 -- ---- the history
 
@@ -139,13 +151,13 @@ kept_at w r (Some s) = kept_by (w.unseen s) r (w.members s).role
 abbrev pub kept_in_change : (Res → ℕ) → Changing → Res → List Elem
 kept_in_change slot w r = kept_at w r (w.words.manager (slot r))
 
--- The stores are those of the history: a manager's lists of its entries are the history's; where there is no manager
--- nothing is queued; and roles and interest go with the words.
+-- The stores of the live systems are those of the history: a manager's lists of its entries are the history's; where
+-- there is no manager nothing is queued; and roles and interest go with the words.
 pub record AreStores (slot : Res → ℕ) (T : List RunItem) (v : Changed) : Type 0 where
-  pub managed : (s : ℕ) (r : Res) → is_systems r ≡ true → v.words.manager (slot r) ≡ Some s → list_of (v.stores s).lists r ≡ list_of (lists T) r
+  pub managed : (s : ℕ) (r : Res) → v.live s ≡ true → is_systems r ≡ true → v.words.manager (slot r) ≡ Some s → list_of (v.stores s).lists r ≡ list_of (lists T) r
   pub unmanaged : (r : Res) → is_systems r ≡ true → v.words.manager (slot r) ≡ None → list_of (lists T) r ≡ []
-  pub roles : (s e : ℕ) → (v.stores s).manages e ≡ is_manager s (v.words.manager e)
-  pub interests : (s e : ℕ) → (v.stores s).interest e ≡ v.words.interested e s
+  pub roles : (s e : ℕ) → v.live s ≡ true → (v.stores s).manages e ≡ is_manager s (v.words.manager e)
+  pub interests : (s e : ℕ) → v.live s ≡ true → (v.stores s).interest e ≡ v.words.interested e s
 
 -- the elements on resources of the whole complex
 abbrev pub systems_part : State → State
@@ -159,9 +171,9 @@ switched slot T = record {
   inbox = λ s. [];
 }
 
--- no system has changed, and what it has seen and what it hasn't are together the history's part
+-- no live system has changed, and what each has seen and what it hasn't are together the history's part
 abbrev pub NoneChanged : List RunItem → Changing → Type 0
-NoneChanged T w = (s : ℕ) → (table : State) × (outbox : List Req) × ((w.members s).role ≡ Ring table outbox) × (lists_from table (w.unseen s) ≡ systems_part (lists T))
+NoneChanged T w = (s : ℕ) → w.live s ≡ true → (table : State) × (outbox : List Req) × ((w.members s).role ≡ Ring table outbox) × (lists_from table (w.unseen s) ≡ systems_part (lists T))
 
 -- ---- laws
 
@@ -188,6 +200,8 @@ StarShowsItself = (slot : Res → ℕ) (w : Changing) (s : ℕ) (act : Act) (sto
 abbrev pub SwitchShowsHistory : Type 0
 SwitchShowsHistory = (slot : Res → ℕ) (T : List RunItem) (w : Changing) → w.words ≡ switched slot T → NoneChanged T w → AreStores slot T (view slot w)
 
--- Where the view shows the history's lists, what is kept of a resource is the history's list.
+-- Where the view shows the history's lists, what is kept of a resource whose manager, if it has one, is live is the
+-- history's list.
 abbrev pub KeptIsShown : Type 0
-KeptIsShown = (slot : Res → ℕ) (T : List RunItem) (w : Changing) → AreStores slot T (view slot w) → (r : Res) → is_systems r ≡ true → kept_in_change slot w r ≡ list_of (lists T) r
+KeptIsShown = (slot : Res → ℕ) (T : List RunItem) (w : Changing) → AreStores slot T (view slot w) → (r : Res) → is_systems r ≡ true →
+    ((s : ℕ) → w.words.manager (slot r) ≡ Some s → w.live s ≡ true) → kept_in_change slot w r ≡ list_of (lists T) r

@@ -113,7 +113,8 @@ pub fn switch_shows_history()
     ensures { SwitchShowsHistory }
 {}
 
-/// Where the view shows the history's lists, what is kept of a resource is the history's list.
+/// Where the view shows the history's lists, what is kept of a resource with a live manager, or none, is the
+/// history's list.
 pub fn kept_is_shown()
     ensures { KeptIsShown }
 {}
