@@ -12,7 +12,7 @@ use Rattle.grs_known.specs.Change.{put_at, StarWords, StarStore, Role, Ring, Sta
 use Rattle.grs_known.proofs.Parts.{list_of-part, list_of-systems}
 
 -- ---- one place of a function
-put_both : {A B : Type 0} (f : ℕ → A) (g : ℕ → B) (s u : ℕ) (x : A) (y : B) (P : A → B → Type 0) → (u ≡ s → P x y) → (u ≢ s → P (f u) (g u)) → P (put_at f s x u) (put_at g s y u)
+pub put_both : {A B : Type 0} (f : ℕ → A) (g : ℕ → B) (s u : ℕ) (x : A) (y : B) (P : A → B → Type 0) → (u ≡ s → P x y) → (u ≢ s → P (f u) (g u)) → P (put_at f s x u) (put_at g s y u)
 put_both f g s u x y P here there = go (eqb u s) refl
   where
     go : (b : Bool) → eqb u s ≡ b → P (cond b x (f u)) (cond b y (g u))

@@ -7,4 +7,5 @@ pub mod Elements
 pub mod Pasts
 pub mod Parts
 pub mod Changing
+pub mod Managers
 pub mod Samples

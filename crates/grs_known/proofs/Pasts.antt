@@ -1,5 +1,5 @@
 -- The past of a task by what is known of it.
-use Rattle.std.proofs.Common.{◌≡◌, Bool, true, false, cond, not, ◌&&◌, ◌||◌, List, [], ◌∷◌, ◌++◌, Some, refl, ap, sym, ◌∙◌, subst, arith, append-nil, append_assoc, Option, None}
+use Rattle.std.proofs.Common.{◌≡◌, Bool, true, false, cond, ◌||◌, List, [], ◌∷◌, ◌++◌, Some, refl, ap, sym, ◌∙◌, subst, arith, append-nil, append_assoc, Option, None}
 use Rattle.std.specs.Prelude.{filter}
 use Rattle.std.specs.List.{list_any}
 use Rattle.std.proofs.lemmas.List.Elements.{filter-append}
@@ -12,7 +12,7 @@ use Rattle.grs_legal.specs.Legal.{entries_of, line_entries, last_entry, is_of_li
 use Rattle.grs_wire.specs.History.{replay, after_fixed}
 use Rattle.grs_wire.specs.declared.history.HistEntry.{HistEntry}
 use Rattle.grs_known.specs.Items.{RunItem, is_of, removes_system_of, owns_told, owns_after, mine, lists_from, lists, AllMade, history}
-use Rattle.grs_known.specs.Known.{Known, all_but_last, learned, outstanding, Still, learns_item}
+use Rattle.grs_known.specs.Known.{Known, all_but_last, learned, outstanding, Still}
 use Rattle.grs_known.specs.Past.{own_elements, own_told, own_after, after_entry, after_entries, past_by, ElementsAreOfItems, PastGrows, PastSpeaks, PastSpeaksOf, may_leave}
 use Rattle.grs_known.proofs.Elements.{apart-fixed, own-fixed, own-fixed_other}
 use Rattle.grs_known.proofs.ItemLaws.{lists-push, lists_are_replayed, entries_are_of_items}

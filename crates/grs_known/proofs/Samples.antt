@@ -1,8 +1,10 @@
 -- Worked items, what is known by them, and the words of a table: what the definitions accept and what they refuse.
-use Rattle.std.proofs.Common.{◌≡◌, ◌∙◌, ℕ, zero, suc, Bool, true, false, List, [], ◌∷◌, take, Some, None, refl, sym, subst}
+use Rattle.std.proofs.Common.{◌≡◌, ◌∙◌, ℕ, zero, suc, Bool, true, false, List, [], ◌∷◌, ◌++◌, take, Some, None, refl, sym, subst}
 use Rattle.grs_base.specs.Same.{same_res}
 use Rattle.grs_base.specs.Lists.{owns}
-use Rattle.grs_base.specs.State.{State, list_of}
+use Rattle.grs_base.specs.State.{State, list_of, deq_state}
+use Rattle.grs_base.specs.declared.look.Filter.{Filter}
+use Rattle.grs_base.specs.declared.look.Place.TheVariants.{Slice}
 use Rattle.grs_base.specs.declared.resource.Ctl.TheVariants.{E, S}
 use Rattle.grs_base.specs.declared.resource.Res.{Res}
 use Rattle.grs_base.specs.declared.resource.Res.TheVariants as kinds
@@ -13,15 +15,17 @@ use Rattle.grs_base.specs.declared.resource.TaskId.{TaskId}
 use Rattle.grs_base.specs.declared.decision.Code.TheVariants.{C00, C04, C08, Wait}
 use Rattle.grs_base.proofs.SameLaws.{same_res-exact}
 use Rattle.grs_wire.specs.History.{fixed_entries}
-use Rattle.grs_wire.specs.declared.history.HistEntry.TheVariants.{Enq, Deq, Release}
+use Rattle.grs_wire.specs.declared.history.HistEntry.TheVariants.{Enq, Deq, Release, Look}
 use Rattle.grs_wire.specs.declared.request.Answer.TheVariants.{Coded}
 use Rattle.grs_wire.specs.declared.request.Fixed.{Fixed}
 use Rattle.grs_wire.specs.declared.request.Fixed.TheVariants.{Asked, Purged}
 use Rattle.grs_wire.specs.declared.request.Want.TheVariants as wants
-use Rattle.grs_known.specs.Items.{RunItem, rounds, is_of, removes_system_of, took, gave, tells, reply_in, lists, Made, history, items, Counts, mine}
+use Rattle.grs_known.specs.Items.{RunItem, rounds, is_of, removes_system_of, took, gave, owns_after, tells, reply_in, lists, Made, history, items, Counts, mine}
 use Rattle.grs_known.specs.Known.{Known, learned, outstanding, Still, IsRight, learns_item, learns_control, Answers, Grants, Coming, after_news}
-use Rattle.grs_known.specs.Past.{own_told, after_entry, past_of, Speaks}
-use Rattle.grs_known.specs.Change.{Changing, NoneChanged, switched, kept_in_change, manager_of, store_shown, Ring}
+use Rattle.grs_known.specs.Past.{own_told, after_entry, after_entries, past_of, Speaks}
+use Rattle.grs_known.specs.Change.{Changing, Act, AreStores, NoneChanged, switched, kept_in_change, manager_of, store_shown, view, star_event_of_all, Ring}
+use Rattle.grs_known.proofs.Changing.{switch_shows_history}
+use Rattle.grs_known.proofs.Managers.{manager_follows}
 
 abbrev system : ℕ → SysId
 system s = record { 0 = s }
@@ -287,3 +291,36 @@ removed_apart (suc (suc s)) l = (lists run_removed, [], refl, refl)
 
 still_live : NoneChanged run_removed (one_removed (λ s. true)) → ⊥
 still_live h = let a = h 1 refl in let same : Ring (lists (take 2 run)) [] ≡ Ring a.0 a.1 = a.2 in let table : lists (take 2 run) ≡ a.0 = cc in let g : lists (take 2 run) ≡ lists run_removed = table ∙ a.3 in absurd (cc)
+
+-- ---- a manager's list
+abbrev with_next : List RunItem
+with_next = take 3 run ++ at 3 (deq 1) ∷ []
+
+-- at the Switch the stores are the history's; a manager that hasn't carried the next DEQ out is behind
+stores_shown : AreStores one_entry (take 3 run) (view one_entry behind_one)
+stores_shown = switch_shows_history one_entry (take 3 run) behind_one refl none_changed
+
+not_followed : AreStores one_entry with_next (view one_entry behind_one) → ⊥
+unfolding view
+not_followed h = let g : list_of (lists (take 3 run)) file ≡ list_of (lists with_next) file = h.managed 1 file refl refl refl in absurd (cc)
+
+-- one that carries it out follows
+abbrev carry_out : Act
+carry_out words store = (words, record { manages = store.manages; lists = deq_state store.lists file (task_of 1); interest = store.interest; held = store.held })
+
+followed : AreStores one_entry with_next (star_event_of_all (view one_entry behind_one) 1 carry_out)
+unfolding view
+followed = manager_follows one_entry (take 3 run) (view one_entry behind_one) 1 carry_out (at 3 (deq 1)) (record { task = task_of 1; want = wants.Deq file false }) file refl refl refl
+    (record { manager = refl; interested = refl; manages = refl; interest = refl; lists = refl }) stores_shown
+
+followed_by : list_of ((star_event_of_all (view one_entry behind_one) 1 carry_out).stores 1).lists file ≡ []
+unfolding view
+followed_by = refl
+
+-- ---- a look at two slices
+looks_last : (f : Filter) → (after_entries (Look (task_of 1) (Slice 0) f [] ∷ Look (task_of 1) (Slice 1) f [] ∷ []) (past_of (task_of 1) (has_none true) run)).last ≡ Some (Look (task_of 1) (Slice 1) f [])
+looks_last f = refl
+
+-- what is given up last isn't owned
+given_then_taken : owns_after (λ r. false) (Enq (task_of 1) file E RetNone C00 ∷ Deq (task_of 1) file false C00 ∷ []) file ≡ false
+given_then_taken = refl

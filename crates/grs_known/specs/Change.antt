@@ -6,6 +6,8 @@ use Rattle.grs_base.specs.State.{State, list_of, is_systems}
 use Rattle.grs_base.specs.declared.resource.Res.{Res}
 use Rattle.grs_base.specs.declared.resource.Elem.{Elem}
 use Rattle.grs_base.specs.declared.resource.TaskId.{TaskId}
+use Rattle.grs_wire.specs.Wants.{after_want, res_wanted}
+use Rattle.grs_wire.specs.declared.request.Fixed.TheVariants.{Asked}
 use Rattle.grs_wire.specs.declared.request.Req.{Req}
 use Rattle.grs_known.specs.Items.{RunItem, rounds, lists, lists_from}
 use Rattle.grs_known.specs.Known.{Known, News}
@@ -159,6 +161,15 @@ pub record AreStores (slot : Res → ℕ) (T : List RunItem) (v : Changed) : Typ
   pub roles : (s e : ℕ) → v.live s ≡ true → (v.stores s).manages e ≡ is_manager s (v.words.manager e)
   pub interests : (s e : ℕ) → v.live s ≡ true → (v.stores s).interest e ≡ v.words.interested e s
 
+-- An event of star mode carries a request out at its system, as far as lists and roles go: it does to the system's lists
+-- what the request does, and leaves managers, interest and roles. What it takes from those held, or sends, is any.
+pub record CarriesOut (q : Req) (words after : StarWords) (store then : StarStore) : Type 0 where
+  pub manager : after.manager ≡ words.manager
+  pub interested : after.interested ≡ words.interested
+  pub manages : then.manages ≡ store.manages
+  pub interest : then.interest ≡ store.interest
+  pub lists : then.lists ≡ after_want store.lists q.task q.want
+
 -- the elements on resources of the whole complex
 abbrev pub systems_part : State → State
 systems_part s = filter (λ h. is_systems h.0) s
@@ -205,3 +216,9 @@ SwitchShowsHistory = (slot : Res → ℕ) (T : List RunItem) (w : Changing) → 
 abbrev pub KeptIsShown : Type 0
 KeptIsShown = (slot : Res → ℕ) (T : List RunItem) (w : Changing) → AreStores slot T (view slot w) → (r : Res) → is_systems r ≡ true →
     ((s : ℕ) → w.words.manager (slot r) ≡ Some s → w.live s ≡ true) → kept_in_change slot w r ≡ list_of (lists T) r
+
+-- Where a manager carries out a request for a resource of an entry that it manages, the stores are those of the history
+-- with this request behind it.
+abbrev pub ManagerFollows : Type 0
+ManagerFollows = (slot : Res → ℕ) (T : List RunItem) (v : Changed) (m : ℕ) (act : Act) (x : RunItem) (q : Req) (r : Res) → x.fixed ≡ Asked q → res_wanted q.want ≡ Some r → v.words.manager (slot r) ≡ Some m →
+    CarriesOut q v.words (act v.words (v.stores m)).0 (v.stores m) (act v.words (v.stores m)).1 → AreStores slot T v → AreStores slot (T ++ x ∷ []) (star_event_of_all v m act)

@@ -1,5 +1,5 @@
 //! Each function's contract is one law, and there is nothing to run.
-ghost use Rattle.grs_known.specs.Change.{TableIsPart, TurnShowsNothing, TaskShowsNothing, StarShowsItself, SwitchShowsHistory, KeptIsShown};
+ghost use Rattle.grs_known.specs.Change.{TableIsPart, TurnShowsNothing, TaskShowsNothing, StarShowsItself, SwitchShowsHistory, KeptIsShown, ManagerFollows};
 ghost use Rattle.grs_known.specs.Past.{ElementsAreOfItems, PastGrows, PastSpeaks, PastSpeaksOf};
 ghost use Rattle.grs_known.specs.Laws.{ItemsAreHistory, RepliesAreAnswers, ListsAreReplayed, EntriesAreOfItems, OthersKeep, DecidedAtOnce, AnswerIsSent, AnswerIsLearned, ControlIsLearned, ControlIsSent, ReadInOrder, AllIsKnown, FrontOwnersStay};
 
@@ -117,4 +117,9 @@ pub fn switch_shows_history()
 /// history's list.
 pub fn kept_is_shown()
     ensures { KeptIsShown }
+{}
+
+/// Where a manager carries out a request for a resource of its own, the stores follow the history.
+pub fn manager_follows()
+    ensures { ManagerFollows }
 {}
