@@ -24,7 +24,7 @@ use Rattle.grs_known.specs.Items.{RunItem, rounds, is_of, removes_system_of, too
 use Rattle.grs_known.specs.Known.{Known, learned, outstanding, Still, IsRight, learns_item, learns_control, Answers, Grants, Coming, after_news}
 use Rattle.grs_known.specs.Past.{own_told, after_entry, after_entries, past_of, Speaks}
 use Rattle.grs_known.specs.Change.{Changing, Act, AreStores, NoneChanged, switched, kept_in_change, manager_of, store_shown, view, star_event_of_all, Ring}
-use Rattle.grs_known.proofs.Changing.{switch_shows_history}
+use Rattle.grs_known.proofs.Changing.{kept_is_shown, switch_shows_history}
 use Rattle.grs_known.proofs.Managers.{manager_follows}
 
 abbrev system : ℕ → SysId
@@ -288,6 +288,13 @@ removed_apart : NoneChanged run_removed (one_removed stays)
 removed_apart zero l = (lists run_removed, [], refl, refl)
 removed_apart (suc zero) l = absurd (cc)
 removed_apart (suc (suc s)) l = (lists run_removed, [], refl, refl)
+
+-- so the stores of the others are the history's, and so is the list that is kept
+removed_shown : AreStores one_entry run_removed (view one_entry (one_removed stays))
+removed_shown = switch_shows_history one_entry run_removed (one_removed stays) refl removed_apart
+
+removed_kept : kept_in_change one_entry (one_removed stays) file ≡ list_of (lists run_removed) file
+removed_kept = kept_is_shown one_entry run_removed (one_removed stays) removed_shown file refl (λ s e. let same : 0 ≡ s = cc in subst (λ u. stays u ≡ true) same refl)
 
 still_live : NoneChanged run_removed (one_removed (λ s. true)) → ⊥
 still_live h = let a = h 1 refl in let same : Ring (lists (take 2 run)) [] ≡ Ring a.0 a.1 = a.2 in let table : lists (take 2 run) ≡ a.0 = cc in let g : lists (take 2 run) ≡ lists run_removed = table ∙ a.3 in absurd (cc)
