@@ -1,12 +1,11 @@
 -- The systems of a run by their places.
 use Rattle.std.proofs.Common.{◌≡◌, ◌<◌, ℕ, zero, suc, List, [], ◌∷◌, ◌++◌, length, set, get_or, refl, ap, ◌∙◌, arith, length-set}
-use Rattle.std.specs.Prelude.{◌+◌, not, ◌&&◌, ◌||◌, slice_get}
+use Rattle.std.specs.Prelude.{map, slice_get}
 use Rattle.std.specs.Option.{option_map}
-use Rattle.grs_wire.specs.Masks.{has}
 use Rattle.grs_wire.specs.declared.deck.Deck.{Deck}
 use Rattle.grs_node.specs.Log.{NodeView}
 use Rattle.grs_node.specs.Node.{Node, is_pending}
-use Rattle.grs_world.specs.Running.{AreOf, nodes_of, none_pending_at, none_pending}
+use Rattle.grs_world.specs.Running.{AreOf, nodes_of, pending_at}
 
 pub AreOf-get : (deck : Deck) (vs : List NodeView) (i : ℕ) (d : NodeView) → i < length vs → AreOf deck vs → (get_or vs i d).deck ≡ deck
 AreOf-get deck [] i d h a = absurd (omega arith)
@@ -38,11 +37,9 @@ slice_get-nodes_of [] i = refl
 slice_get-nodes_of (v ∷ vs) zero = refl
 slice_get-nodes_of (v ∷ vs) (suc i) = slice_get-nodes_of vs i
 
--- systems of a deck have it
-pub none_pending-of : (deck : Deck) (removed s : ℕ) (vs : List NodeView) → AreOf deck vs → none_pending_at removed s vs ≡ none_pending deck removed s (nodes_of vs)
-none_pending-of deck removed s [] a = refl
-none_pending-of deck removed s (v ∷ vs) a =
-    ap (λ (d : Deck). (has removed s || not (is_pending d v.node)) && none_pending_at removed (s + 1) vs) a.0
-    ∙ ap (λ b. (has removed s || not (is_pending deck v.node)) && b) (none_pending-of deck removed (s + 1) vs a.1)
+-- what is pending at systems of a deck is pending by it
+pub pending_at-of : (deck : Deck) (vs : List NodeView) → AreOf deck vs → pending_at vs ≡ map (is_pending deck) (nodes_of vs)
+pending_at-of deck [] a = refl
+pending_at-of deck (v ∷ vs) a = ap (λ (d : Deck). is_pending d v.node ∷ pending_at vs) a.0 ∙ ap (λ bs. is_pending deck v.node ∷ bs) (pending_at-of deck vs a.1)
 
-pub ruleset nodes = (AreOf-get, AreOf-set, AreOf-push, nodes_of-get, nodes_of-set, slice_get-nodes_of, none_pending-of, length-set)
+pub ruleset nodes = (AreOf-get, AreOf-set, AreOf-push, nodes_of-get, nodes_of-set, slice_get-nodes_of, pending_at-of, length-set)

@@ -48,20 +48,20 @@ is_live w s = nat_lt s.0 (length w.nodes) && not (has w.medium.removed s.0)
 abbrev pub node_at : Deck → List Node → SysId → Node
 node_at deck ns s = get_or ns s.0 (first_node deck s.0)
 
--- whether nothing is pending at these systems, of which the first has this number, but at removed ones
-abbrev pub none_pending : Deck → ℕ → ℕ → List Node → Bool
-none_pending deck removed s [] = true
-none_pending deck removed s (n ∷ ns) = (has removed s || not (is_pending deck n)) && none_pending deck removed (s + 1) ns
+-- whether nothing is pending at any of these systems, of which the first has this number, but at removed ones: each is
+-- given by whether something is pending there
+abbrev pub none_pending : ℕ → ℕ → List Bool → Bool
+none_pending removed s [] = true
+none_pending removed s (pending ∷ more) = (has removed s || not pending) && none_pending removed (s + 1) more
 
--- the same, each system of its own deck
-abbrev pub none_pending_at : ℕ → ℕ → List NodeView → Bool
-none_pending_at removed s [] = true
-none_pending_at removed s (v ∷ vs) = (has removed s || not (is_pending v.deck v.node)) && none_pending_at removed (s + 1) vs
+-- whether something is pending at each of these systems
+abbrev pub pending_at : List NodeView → List Bool
+pending_at vs = map (λ v. is_pending v.deck v.node) vs
 
 -- A world is at rest where nothing is pending at a system that wasn't removed, and nothing is left to do with the
 -- medium.
 unfoldable pub at_rest : Deck → World → Bool
-at_rest deck w = none_pending deck w.medium.removed 0 w.nodes && medium_at_end w.medium
+at_rest deck w = none_pending w.medium.removed 0 (map (is_pending deck) w.nodes) && medium_at_end w.medium
 
 -- the units that the tasks of these systems reserve, each with its count, by system and unit
 abbrev pub units_of : List Node → List (SysId × ℕ × ℕ)

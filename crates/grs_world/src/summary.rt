@@ -2,7 +2,7 @@
 ghost use Rattle.std.specs.Prelude.{◌≡◌, ◌≤◌, ◌++◌, map, length, IfOk, OnOk};
 ghost use Rattle.grs_base.specs.Limits.{most_systems};
 ghost use Rattle.grs_node.specs.Units.{units_at};
-ghost use Rattle.grs_world.specs.Running.{nodes_of, none_pending_at, units_of, end_of, task_end};
+ghost use Rattle.grs_world.specs.Running.{nodes_of, none_pending, pending_at, units_of, end_of, task_end};
 
 use grs_base::{List, NoMemory, SysId, TaskId};
 use grs_node::Node;
@@ -13,7 +13,7 @@ use std::alloc::Global;
 /// Whether nothing is pending at these systems, but at removed ones.
 pub(crate) fn none_pending(removed: u32, nodes: &[Node<'_>]) -> bool
     requires { length nodes.now ≤ most_systems }
-    ensures { result ≡ none_pending_at removed 0 nodes.now }
+    ensures { result ≡ none_pending removed 0 (pending_at nodes.now) }
 {
     for (place, node) in nodes.iter().enumerate() {
         if !has_system(removed, SysId(place as u8)) && node.pending() {
