@@ -42,7 +42,11 @@ pub fn bytes_to_close(alloc: Global, text: &[u8], closes: usize) -> Result<usize
             return Err(NoMemory);
         }
         scan.step(alloc, *b)?;
-        left = if is_closing(*b, scan.mode) { left - 1 } else { left };
+        left = if is_closing(*b, scan.mode) {
+            left - 1
+        } else {
+            left
+        };
         rest = tail;
     }
     Ok(text.len() - rest.len())

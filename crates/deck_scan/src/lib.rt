@@ -22,4 +22,3 @@ pub use next::{
 };
 pub use scan::{MOST_TEXT_BYTES, lines};
 pub use token::{Token, TokenLine};
-

@@ -13,4 +13,3 @@ pub use lines::{goes_on, is_rnldef_word, with_line};
 pub use operands::{Operands, Rnldef, entry_of, has_bad_name, rnldef_at};
 pub use print::print_rnldef;
 pub use read::read_rnldef;
-
