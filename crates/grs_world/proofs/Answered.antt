@@ -1,5 +1,5 @@
 -- Who is told an answer has nothing open at its system, and where its requests stand in the message.
-use Rattle.std.proofs.Common.{◌≡◌, ◌≢◌, Bool, true, false, cond, ◌||◌, ℕ, suc, List, [], ◌∷◌, ◌++◌, map, take, drop, refl, ap, sym, ◌∙◌, subst, append-nil, append_assoc}
+use Rattle.std.proofs.Common.{◌≡◌, Bool, true, false, cond, ◌||◌, ℕ, suc, List, [], ◌∷◌, ◌++◌, map, take, drop, refl, ap, sym, ◌∙◌, subst, append-nil, append_assoc}
 use Rattle.std.specs.Prelude.{filter, not, ◌==◌}
 use Rattle.std.specs.List.{list_all, list_any}
 use Rattle.std.proofs.lemmas.List.Folds.{list_any-append}
@@ -11,7 +11,6 @@ use Rattle.grs_base.proofs.SameLaws.{same_task-exact, same_task-itself}
 use Rattle.grs_wire.specs.Masks.{has, without, only}
 use Rattle.grs_wire.specs.declared.deck.Deck.{Deck}
 use Rattle.grs_wire.specs.declared.history.HistEntry.{HistEntry}
-use Rattle.grs_wire.specs.declared.medium.RingBody.{RingBody}
 use Rattle.grs_wire.specs.declared.medium.RingBody.TheVariants.{Request}
 use Rattle.grs_wire.specs.declared.medium.RingEntry.{RingEntry}
 use Rattle.grs_wire.specs.declared.request.Req.{Req}
@@ -26,7 +25,7 @@ use Rattle.grs_world.proofs.Facts.{all-more, list_any-push, take-drop}
 use Rattle.grs_world.proofs.Owners.{is_among}
 use Rattle.grs_world.proofs.Seen.{ToldBy, Clears, askers, is_line_of}
 use Rattle.grs_world.proofs.Seen as seen
-use Rattle.grs_world.proofs.Truths.{no_truth, or_first, or_other, or_false}
+use Rattle.grs_world.proofs.Truths.{no_truth, or_other, or_false}
 
 -- ---- the lines told
 -- On the way from T0 to T a system told these lines, and who is told an answer has none of these requests.

@@ -180,7 +180,7 @@ module _ (deck : Deck) (Seen : ℕ → List HistEntry → List Req → Node → 
         let out = take most_additions n.outbox in
         let old = w.medium.message in (
           subst (λ qs. AllAsk (fixed_by e.system (map Asked (take (length out) qs)))) (sym (read_entries-outbox deck n (unseen e.system old.entries)))
-          (ask_put deck e.system e.system.0 (entries (g.Q e.system.0)) (take (length out) n.outbox) (may_take n at (length out))),
+              (ask_put deck e.system e.system.0 (entries (g.Q e.system.0)) (take (length out) n.outbox) (may_take n at (length out))),
           subst (λ (x : Message). AllHome x.entries) (sym is)
               (home_append (cleared e.system old.entries) (stamped old.next e.system (live w.medium) out) (home_cleared e.system old.entries h.home) (home_put deck e.system (entries (g.Q e.system.0)) old.next (live w.medium) out (may_take n at most_additions))),
         )

@@ -1,6 +1,6 @@
 -- An answer is told last: by an event that tells a task an answer, every other system has processed its requests, and
 -- the event puts no request of that task in.
-use Rattle.std.proofs.Common.{◌≡◌, ◌+◌, cond, Bool, true, false, ◌&&◌, ◌||◌, ℕ, List, [], ◌∷◌, ◌++◌, length, take, drop, Some, refl, ap, sym, ◌∙◌, subst, append-nil, append_assoc}
+use Rattle.std.proofs.Common.{◌≡◌, ◌+◌, cond, Bool, true, false, ◌&&◌, ◌||◌, ℕ, List, [], ◌∷◌, ◌++◌, length, take, drop, Some, refl, ap, sym, ◌∙◌, subst, append-nil}
 use Rattle.std.specs.Prelude.{filter, slice_get, ◌==◌}
 use Rattle.std.specs.List.{list_all, list_any}
 use Rattle.std.proofs.lemmas.Bool.{and_parts, eqb-true, eq-eqb}
@@ -26,7 +26,7 @@ use Rattle.grs_world.specs.Laps.{LeftHome, answers, AnsweredLast}
 use Rattle.grs_world.specs.World.{World, Turnout, told_by, placed, happens, run, told, first_world}
 use Rattle.grs_world.proofs.Answered.{Answered, answered-front, answered-by, left_turned}
 use Rattle.grs_world.proofs.Came.{Came, nothing, went_on, turn, each_event, IsHome, AllHome, holds}
-use Rattle.grs_world.proofs.Facts.{drop-seam, filter-append, filter-cons_kept, list_any-push, all-more}
+use Rattle.grs_world.proofs.Facts.{drop-seam, filter-append, filter-cons_kept}
 use Rattle.grs_world.proofs.Laps.{goes}
 use Rattle.grs_world.proofs.LapsMessage.{EndsAtHome, AllEndAtHome, left_at_home}
 use Rattle.grs_world.proofs.Messages.{given-rest}

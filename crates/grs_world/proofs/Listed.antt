@@ -1,5 +1,5 @@
 -- Each reply of the medium is of a kind that is listed for its call, so a system may be finished with it.
-use Rattle.std.proofs.Common.{◌≡◌, ◌≤◌, ℕ, Bool, true, false, cond, List, [], ◌∷◌, length, Option, Some, None, refl, ap, sym, ◌∙◌, subst, arith}
+use Rattle.std.proofs.Common.{◌≡◌, ℕ, Bool, true, false, cond, List, [], ◌∷◌, length, Option, Some, None, refl, sym, subst, arith}
 use Rattle.std.proofs.lemmas.Bool.Decides.{nat_tests}
 use Rattle.std.specs.Prelude.{nat_le, ◌==◌, ◌&&◌}
 use Rattle.grs_base.specs.declared.resource.SysId.{SysId}
@@ -19,7 +19,6 @@ use Rattle.grs_wire.specs.declared.medium.Call.{Call as CallOfMedium}
 use Rattle.grs_wire.specs.declared.medium.Mail.{Mail}
 use Rattle.grs_wire.specs.declared.medium.Reply.{Reply}
 use Rattle.grs_wire.specs.declared.medium.Reply.TheVariants.{Turned, NotYours, Already, Sole, Sent, Left, Kept, Purged, NoSuch, InStar, Resting, Over, Stale, Removed}
-use Rattle.grs_wire.specs.declared.medium.RingEntry.{RingEntry}
 use Rattle.grs_wire.specs.declared.request.Req.{Req}
 use Rattle.rsa_message.specs.Message.{unseen, first_number, turn_reply, is_at}
 

@@ -36,7 +36,6 @@ use Rattle.grs_legal.specs.Legal.{entries_of}
 use Rattle.task_state.specs.Replies.{is_granted, is_queued, is_changed, gives_up}
 use Rattle.grs_world.proofs.Own.{own, exclusive_on, queued_by-own, has_task-own, own-want_other, own-push, own-without, own-exclusive}
 use Rattle.grs_world.proofs.Owners.{all_exclusive, owns-exclusive}
-use Rattle.grs_world.proofs.Seen.{part}
 use Rattle.grs_world.proofs.Replied.{is_plain, RepliedFrom, Replied, only_entry, one_look}
 use Rattle.grs_world.proofs.Truths.{not_true}
 use Rattle.grs_world.proofs.Facts.{some_value}
