@@ -44,6 +44,7 @@ use Rattle.grs_deck.specs.Reading.{no_draft}
 use Rattle.grs_deck.specs.Spells.{IsRight}
 use Rattle.grs_deck.specs.Whole.{all_names, IsShortName, all_lines, is_display, AreEntries}
 use Rattle.grs_deck.proofs.SpellsLaws.{no_test}
+use Rattle.grs_deck.proofs.Distinct.{map_same}
 use Rattle.grs_deck.proofs.TokenBytes.{says_bytes, are_of_bytes}
 use Rattle.grs_deck.proofs.NameBytes.{BothBytes, trim_bytes, ask_bytes, ask_unit, unit_or, IsMaybeBytes, rnldef_bytes}
 
@@ -59,11 +60,6 @@ flat_same : {A B : Type 0} (g : A → List B) (f : A → A) (xs : List A) → ((
 flat_same g f [] e = refl
 flat_same g f (x ∷ []) e = ap (λ z. z ++ []) (e x)
 flat_same g f (x ∷ y ∷ ys) e = ap (λ t. g x ++ t) (flat_same g f (y ∷ ys) e)
-
-map_same : {A B : Type 0} (g : A → B) (f : A → A) (xs : List A) → ((x : A) → g (f x) ≡ g x) → map g (on_last f xs) ≡ map g xs
-map_same g f [] e = refl
-map_same g f (x ∷ []) e = ap (λ z. z ∷ []) (e x)
-map_same g f (x ∷ y ∷ ys) e = ap (λ t. g x ∷ t) (map_same g f (y ∷ ys) e)
 
 not_empty : {A B : Type 0} (f : A → List B) (xs : List A) → 0 < length (at_last f xs) → 0 < length xs
 not_empty f [] h = h

@@ -7,6 +7,7 @@ pub mod Least
 pub mod First
 pub mod TokenBytes
 pub mod NameBytes
+pub mod Distinct
 pub mod Growth
 pub mod WholeLaws
 pub mod Samples

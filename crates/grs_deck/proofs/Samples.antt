@@ -259,3 +259,7 @@ long_filter h = let k : false ≡ true = (h.lines.each 0 lines.DisplayC (omega a
 
 empty_filter : IsDeck (of_lines (codes "SYA") (lines.Gqscan true (filters.Named None None) ∷ [])) → ⊥
 empty_filter h = let k : true ≡ false = (h.lines.each 0 lines.DisplayC (omega arith)).2 in cc
+
+-- nor two systems of one name
+one_name : IsDeck (record no_deck { systems = record { name = codes "SYA"; desk = []; jobs = [] } ∷ record { name = codes "SYA"; desk = []; jobs = [] } ∷ [] }) → ⊥
+one_name h = h.once.names 0 1 [] (omega arith) (omega arith) refl

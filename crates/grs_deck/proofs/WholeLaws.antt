@@ -38,9 +38,10 @@ use Rattle.grs_base.specs.Rnl.{no_entries}
 use Rattle.grs_base.specs.declared.rnl.Which.{Which}
 use Rattle.grs_base.specs.declared.rnl.Which.TheVariants.{Incl, Excl, Con}
 use Rattle.grs_base.specs.declared.rnl.RnlEntry.{RnlEntry}
-use Rattle.grs_deck.specs.Whole.{IsListOf, AreLists, IsTaskOf, IsChoiceOf, IsBuilt, IsEventOf, all_lines, is_display, AreLines, IsDeck}
+use Rattle.grs_deck.specs.Whole.{IsListOf, AreLists, IsTaskOf, IsChoiceOf, IsBuilt, IsEventOf, all_lines, is_display, AreLines, AreNamedOnce, IsDeck}
 use Rattle.grs_deck.proofs.FitsLaws.{fits_grow, lists_grow}
 use Rattle.grs_deck.proofs.SpellsLaws.{no_test, reading_spells}
+use Rattle.grs_deck.proofs.Distinct.{once_none, once_grow}
 use Rattle.grs_deck.proofs.TokenBytes.{are_of_bytes, spelled_bytes, statements_bytes}
 use Rattle.grs_deck.proofs.Growth.{Keeps, keeps_none, keeps_grow}
 
@@ -229,6 +230,10 @@ says_keep (l ∷ ls) d e all s h =
     let k = and_parts (are_of_bytes l) (list_all are_of_bytes ls) all in
     says_keep ls (grow d s.0) e k.1 s.3 (keeps_grow d l s.0 k.0 s.1 s.2 h)
 
+says_once : (ls : List TokenLine) (d e : Draft) → Says d ls e → AreNamedOnce d.deck.systems → AreNamedOnce e.deck.systems
+says_once [] d e s h = subst (λ (x : Draft). AreNamedOnce x.deck.systems) s h
+says_once (l ∷ ls) d e s h = says_once ls (grow d s.0) e s.3 (once_grow d s.0 s.2 h)
+
 lines_of_deck : (d : Draft) → Keeps d → AreLines (all_lines d.deck.systems)
 lines_of_deck d h =
     let none : length (filter is_display (all_lines d.deck.systems)) ≡ 0 = ap length h.displays in
@@ -240,7 +245,7 @@ spelled_whole text d h =
     let w = says_keeps (statements h.lines) no_draft h.draft h.says first_draft in
     let some : 0 < length h.draft.deck.systems = subst (λ (x : Deck). 0 < length x.systems) (sym h.is) h.system in
     let k = says_keep (statements h.lines) no_draft h.draft (statements_bytes h.lines (spelled_bytes text h.lines h.spelled)) h.says keeps_none in
-    let made : IsDeck h.draft.deck = record { some = some; fits = w.fits; names = k.names; lines = lines_of_deck h.draft k; named = k.entries; ring = w.ring; entries = w.entries; limit = w.limit; lists = w.lists; events = w.events } in
+    let made : IsDeck h.draft.deck = record { some = some; fits = w.fits; names = k.names; once = says_once (statements h.lines) no_draft h.draft h.says once_none; lines = lines_of_deck h.draft k; named = k.entries; ring = w.ring; entries = w.entries; limit = w.limit; lists = w.lists; events = w.events } in
     subst IsDeck h.is made
 
 pub whole : (text : List ℕ) (r : Result Deck ReadError) → Gives r (reading text) → IfOk r IsDeck

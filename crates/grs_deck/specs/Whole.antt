@@ -1,6 +1,6 @@
 -- What each deck that is read is like: within the limits, and its events speak of what is there.
 use Rattle.std.specs.Prelude.{◌≡◌, ◌≢◌, ℕ, Bool, true, false, ◌+◌, ◌<◌, ◌≤◌, List, ◌∷◌, length, take, map, filter, slice_get, Some, All}
-use Rattle.std.specs.List.{flat_map}
+use Rattle.std.specs.List.{flat_map, AllPairs}
 use Rattle.grs_base.specs.declared.line.Line.{Line}
 use Rattle.grs_base.specs.declared.line.Line.TheVariants as lines
 use Rattle.grs_base.specs.Rnl.{RnlView}
@@ -78,6 +78,20 @@ all_names systems = flat_map (λ s. s.name ∷ flat_map (λ j. j.name ∷ map (�
 abbrev pub IsShortName : List ℕ → Type 0
 IsShortName n = (is_name n ≡ true) × (length n ≤ most_name_bytes)
 
+-- No two of these names are the same.
+abbrev pub AreDistinct : List (List ℕ) → Type 0
+AreDistinct names = AllPairs (λ x y. x ≢ y) names
+
+-- No two jobs of a system have one name, nor two tasks of one of its jobs.
+pub record IsNamedOnce (s : SystemDef) : Type 0 where
+  pub jobs : AreDistinct (map (λ j. j.name) s.jobs)
+  pub tasks : All (λ (j : JobDef). AreDistinct (map (λ t. t.name) j.tasks)) s.jobs
+
+-- No two systems have one name, nor two jobs of one system, nor two tasks of one job.
+pub record AreNamedOnce (systems : List SystemDef) : Type 0 where
+  pub names : AreDistinct (map (λ s. s.name) systems)
+  pub each : All IsNamedOnce systems
+
 -- The lines of all tasks.
 abbrev pub all_lines : List SystemDef → List Line
 all_lines systems = flat_map (λ s. flat_map (λ j. flat_map (λ t. t.lines) j.tasks) s.jobs) systems
@@ -103,13 +117,14 @@ pub record AreEntries (lists : Lists) : Type 0 where
   pub con : All IsEntry lists.con.entries
 
 -- A deck: at least one system and at most eight, each with at most 64 commands at its desk, 64 jobs and 64
--- tasks, all with names of their form; at most 16,384 task lines, of which at most 256 show something; ring
+-- tasks, all with names of their form that are given once; at most 16,384 task lines, of which at most 256 show something; ring
 -- mode; one of the numbers of entries and of the limits that there may be; the three name lists; and events of
 -- its systems.
 pub record IsDeck (d : Deck) : Type 0 where
   pub some : 0 < length d.systems
   pub fits : Fits d.systems
   pub names : All IsShortName (all_names d.systems)
+  pub once : AreNamedOnce d.systems
   pub lines : AreLines (all_lines d.systems)
   pub ring : d.star ≡ false
   pub entries : is_entries d.entries ≡ true
