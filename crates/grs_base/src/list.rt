@@ -31,7 +31,8 @@ impl<T> List<T> {
         }
     }
 
-    /// A list without items, with room for so many.
+    /// A list without items, with room for so many. Room is no part of what contracts see of a list: it saves
+    /// growing it step by step.
     pub fn with_room(alloc: Global, room: usize) -> Result<Self, NoMemory>
         ensures { IfOk result (λ list. list ≡ []) }
     {

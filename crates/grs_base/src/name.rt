@@ -137,8 +137,8 @@ impl Hash for Qname {
     }
 }
 
-/// How many bytes of an rname are kept in place: with the tag and the length before them they take no more than
-/// a vector and its tag do.
+/// How many bytes of an rname are kept in place. With their length they take 24 bytes, so a resource whose names are
+/// in place is no larger than one that owns them, and the data sets' and volumes' usual names fit.
 const MOST_IN_PLACE: usize = 23;
 
 /// The bytes of an rname, in memory of their own only where they are many.
