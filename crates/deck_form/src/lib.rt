@@ -16,4 +16,3 @@ pub use form::{FormError, Stmt, statement};
 pub use grouping::statements;
 pub use laws::one_statement;
 pub use unbuilt::is_unbuilt;
-

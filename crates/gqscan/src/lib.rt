@@ -8,7 +8,6 @@ ghost use Rattle.gqscan.specs.Shown.{code_for};
 
 use grs_base::{Code, Filter, Place, Qname, Res, Rname, slice_of};
 
-
 /// Whether a qname is the one that is asked for, if one is.
 fn is_qname_named(wanted: &Option<Qname>, name: &Qname) -> bool
     ensures { result ≡ is_named wanted.now name.now }

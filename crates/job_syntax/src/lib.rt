@@ -22,4 +22,3 @@ pub use options::Opts;
 pub use print::print_line;
 pub use read::read_line;
 pub use said::{Said, Verb, said_at, verb_of};
-
