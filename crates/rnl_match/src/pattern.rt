@@ -1,83 +1,67 @@
-//! Patterns. A pattern is read from its end, and each place of the text is marked: whether what was read of
-//! the pattern matches the text from there on. So there are at most as many steps as the pattern's length
-//! times the number of places, however many stars the pattern has.
-ghost use Rattle.std.specs.Prelude.{◌≡◌, ◌≤◌, ◌∷◌, ◌==◌, ◌||◌, ◌&&◌, [], ℕ, Bool, List, length};
-ghost use Rattle.grs_base.specs.Limits.{most_rname_bytes};
-ghost use Rattle.rnl_match.specs.Matches.{matches_pattern, some_rest, one_byte};
-ghost use Rattle.rnl_match.specs.Marks.{Marks};
+//! Patterns. A star stands first for nothing, and for one byte more each time that what follows it fails. What an
+//! earlier star stands for isn't tried again, since the last star can stand for whatever that would change. So there
+//! are at most as many steps as the pattern's length and one times the text's length and one, however many stars the
+//! pattern has.
+ghost use Rattle.std.specs.Prelude.{◌≡◌, ◌==◌, ◌||◌, []};
+ghost use Rattle.rnl_match.specs.Matches.{matches_pattern, some_rest};
 
-use grs_base::MOST_RNAME_BYTES;
-
-/// A mark for each place of a text: before each of its bytes, and at its end.
-type PlaceMarks = [bool; MOST_RNAME_BYTES + 1];
-
-/// Marks the end of a text alone: nothing of a pattern matches nothing.
-fn at_end(text: &[u8]) -> PlaceMarks
-    requires { length text.now ≤ most_rname_bytes }
-    ensures { Marks result text.now (matches_pattern []) }
+/// Whether a pattern's byte that is no star stands for a byte of a text.
+fn stands_for(pattern: u8, byte: u8) -> bool
+    ensures { result ≡ (pattern == 63 || pattern == byte) }
 {
-    let end = text.len();
-    let mut marks = [false; MOST_RNAME_BYTES + 1];
-    marks[end] = true;
-    marks
+    pattern == b'?' || pattern == byte
 }
 
-/// Whether one of two marks is set.
-fn either(here: bool, later: bool) -> bool
-    ensures { result ≡ (here || later) }
+/// Whether a pattern matches nothing: whether all its bytes are stars.
+fn matches_nothing(pattern: &[u8]) -> bool
+    ensures { result ≡ matches_pattern pattern.now [] }
 {
-    here || later
-}
-
-/// Whether a pattern's byte stands for a byte of a text, and what is behind it passes.
-fn stands_for(pattern: u8, byte: u8, behind: bool) -> bool
-    ensures { result ≡ ((pattern == 63 || pattern == byte) && behind) }
-{
-    (pattern == b'?' || pattern == byte) && behind
-}
-
-/// Marks each place from which some rest of the text passes.
-fn some_rest(marks: &mut PlaceMarks, text: &[u8])
-    requires { length text.now ≤ most_rname_bytes }
-    ensures { (passes : List ℕ → Bool) → Marks marks.old text.now passes → Marks marks.new text.now (some_rest passes) }
-{
-    for i in (0..text.len()).rev() {
-        marks[i] = either(marks[i], marks[i + 1]);
+    for byte in pattern {
+        if *byte != b'*' {
+            return false;
+        }
     }
+    true
 }
 
-/// Marks each place where a byte stands that a pattern's byte stands for, and behind it the text passes.
-fn one_byte(marks: &mut PlaceMarks, text: &[u8], byte: u8)
-    requires { length text.now ≤ most_rname_bytes }
-    ensures { (passes : List ℕ → Bool) → Marks marks.old text.now passes → Marks marks.new text.now (one_byte byte passes) }
+/// Whether a pattern behind a star matches some rest of a text. Behind the last star that was passed, at `star` of the
+/// pattern, it was tried on the text from `from` on, up to `reached` of the pattern and `place` of the text.
+fn matches_some_rest(pattern: &[u8], text: &[u8]) -> bool
+    ensures { result ≡ some_rest (matches_pattern pattern.now) text.now }
 {
-    for i in 0..text.len() {
-        marks[i] = stands_for(byte, text[i], marks[i + 1]);
+    let mut star = 0;
+    let mut from = 0;
+    let mut reached = 0;
+    let mut place = 0;
+    'bytes: while place < text.len() {
+        if reached < pattern.len() && pattern[reached] == b'*' {
+            reached += 1;
+            star = reached;
+            from = place;
+        } else if reached < pattern.len() && stands_for(pattern[reached], text[place]) {
+            reached += 1;
+            place += 1;
+        } else {
+            from += 1;
+            reached = star;
+            place = from;
+        }
     }
-    marks[text.len()] = false;
+    matches_nothing(&pattern[reached..])
 }
 
-/// Goes on by one byte of a pattern.
-fn go_on(marks: &mut PlaceMarks, text: &[u8], byte: u8)
-    requires { length text.now ≤ most_rname_bytes }
-    ensures { (pattern : List ℕ) → Marks marks.old text.now (matches_pattern pattern) → Marks marks.new text.now (matches_pattern (byte ∷ pattern)) }
-{
-    if byte == b'*' {
-        some_rest(marks, text);
-    } else {
-        one_byte(marks, text, byte);
-    }
-}
-
-/// Whether a pattern matches a text of at most 255 bytes: `*` stands for any bytes or none, `?` for any
-/// byte, and every other byte for itself.
+/// Whether a pattern matches a text: `*` stands for any bytes or none, `?` for any byte, and every other byte for
+/// itself.
 pub fn matches_pattern(pattern: &[u8], text: &[u8]) -> bool
-    requires { length text.now ≤ most_rname_bytes }
     ensures { result ≡ matches_pattern pattern.now text.now }
 {
-    let mut marks = at_end(text);
-    for i in (0..pattern.len()).rev() {
-        go_on(&mut marks, text, pattern[i]);
+    for (place, byte) in pattern.iter().enumerate() {
+        if *byte == b'*' {
+            return matches_some_rest(&pattern[place + 1..], &text[place..]);
+        }
+        if place >= text.len() || !stands_for(*byte, text[place]) {
+            return false;
+        }
     }
-    marks[0]
+    pattern.len() == text.len()
 }
