@@ -1,0 +1,100 @@
+"""What the scripts of this folder share: which programs they time, and the table that they print.
+
+    bench/NAME [UNPROVED]
+
+The program is crates/grs/out/grs, which `cd crates/grs && rt run` makes, or the one that the environment names as GRS.
+Where an unproved program of the same tables is named, it runs each deck by turns with the first and has to write the
+same, and the table has ratios: how many times as long the first takes, and how many times as much memory.
+
+A time is that of the processor, the best of five runs; a peak of memory is watched in five runs of their own. `x` says how
+many times as long a deck takes as the one before it in its family, by each program.
+"""
+import contextlib
+import math
+import os
+import platform
+import subprocess
+import sys
+import tempfile
+
+TOP = os.path.join(os.path.dirname(os.path.abspath(__file__)), "..")
+PROGRAMS = [os.environ.get("GRS", os.path.join(TOP, "crates", "grs", "out", "grs"))] + sys.argv[1:2]
+ROUNDS = 5
+
+
+def joined(lines):
+    return "".join(line + "\n" for line in lines)
+
+
+@contextlib.contextmanager
+def started(program, deck, output=subprocess.DEVNULL):
+    """A program at work on a deck."""
+    with tempfile.TemporaryFile("w+") as source:
+        source.write(deck)
+        source.seek(0)
+        yield subprocess.Popen([program, "replay"], stdin=source, stdout=output)
+
+
+def written(program, deck):
+    """What a program writes of a deck."""
+    with started(program, deck, subprocess.PIPE) as child:
+        text = child.communicate()[0]
+    if child.returncode not in (0, 4):
+        sys.exit("%s answered status %d" % (program, child.returncode))
+    return text
+
+
+def seconds(program, deck):
+    """The processor time of a run on a deck."""
+    with started(program, deck) as child:
+        _, _, used = os.wait4(child.pid, 0)
+        child.returncode = 0
+    return used.ru_utime + used.ru_stime
+
+
+def peak(program, deck):
+    """The peak of memory of a program on a deck, in MB, as some runs of it were seen."""
+    most = 0
+    for _ in range(ROUNDS):
+        with started(program, deck) as child:
+            while child.poll() is None:
+                with open("/proc/%d/status" % child.pid) as status:
+                    most = max([most] + [int(line.split()[1]) for line in status if line.startswith("VmHWM:")])
+    return max(most, 1) / 1024
+
+
+def times(deck):
+    """The least time of each program on a deck."""
+    if len({written(program, deck) for program in PROGRAMS}) > 1:
+        sys.exit("the programs don't write the same")
+    best = [math.inf] * len(PROGRAMS)
+    for _ in range(ROUNDS):
+        best = [min(least, seconds(program, deck)) for least, program in zip(best, PROGRAMS)]
+    return best
+
+
+def machine():
+    with open("/proc/cpuinfo") as file:
+        model = next((line.split(":", 1)[1].strip() for line in file if line.startswith("model name")), "unknown processor")
+    memory = os.sysconf("SC_PAGE_SIZE") * os.sysconf("SC_PHYS_PAGES") // 2**20
+    return "%s, %d processors, %d MB, %s" % (model, os.cpu_count(), memory, platform.platform())
+
+
+def print_table(families):
+    """A line for each deck. Each family has a name, and decks in order, each with a name of its own."""
+    print(machine())
+    columns = "%9s %6s %7s"
+    head = columns % ("ms", "x", "MB")
+    compared = len(PROGRAMS) > 1
+    print("%-24s | " % "" + head + (" | " + head + " | %6s %6s" % ("time", "memory") if compared else ""))
+    for family, decks in families:
+        before = None
+        for name, deck in decks:
+            taken = times(deck)
+            peaks = [peak(program, deck) for program in PROGRAMS]
+            grown = ["%.2f" % (now / then) for now, then in zip(taken, before)] if before else [""] * len(taken)
+            cells = [columns % ("%.1f" % (time * 1000), growth, "%.1f" % memory) for time, growth, memory in zip(taken, grown, peaks)]
+            if compared:
+                cells.append("%6.2f %6.2f" % (taken[0] / taken[1], peaks[0] / peaks[1]))
+            print("%-24s | " % (family + " " + name) + " | ".join(cells), flush=True)
+            before = taken
