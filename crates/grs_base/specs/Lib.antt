@@ -1,6 +1,8 @@
 pub mod Limits
 pub mod Same
 pub mod Names
+pub mod ShortNames
+pub mod Lines
 pub mod Printed
 pub mod Lists
 pub mod State
@@ -9,4 +11,5 @@ pub mod Rows
 pub mod Slices
 pub mod Looks
 pub mod Rnl
+pub mod NameLists
 pub mod NameBytes

@@ -1,5 +1,5 @@
-//! The limits of a complex, each in one place. All are this project's own but those of names. (z/OS MVS
-//! Programming: Authorized Assembler Services Reference, "ENQ".)
+//! The limits of a complex and of a deck, each in one place. All are this project's own but those of names. (z/OS
+//! MVS Programming: Authorized Assembler Services Reference, "ENQ".)
 
 /// The most systems of a complex: a set of systems has a bit for each in one byte.
 pub const MOST_SYSTEMS: usize = 8;
@@ -12,3 +12,18 @@ pub const MOST_RNAME_BYTES: usize = 255;
 
 /// The most entries of a name list.
 pub const MOST_ENTRIES: usize = 4096;
+
+/// The greatest limit of concurrent requests of a task.
+pub const MOST_LIMIT: u32 = 4096;
+
+/// The most bytes of the name of a system, a job or a task.
+pub const MOST_NAME_BYTES: usize = 8;
+
+/// The most jobs of a system.
+pub const MOST_JOBS: usize = 64;
+
+/// The most tasks of a system, of all its jobs together.
+pub const MOST_TASKS: usize = 64;
+
+/// The most task lines of a deck.
+pub const MOST_LINES: u32 = 16_384;

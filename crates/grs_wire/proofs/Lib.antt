@@ -2,3 +2,4 @@ pub mod MaskLaws
 pub mod WantLaws
 pub mod RemoveLaws
 pub mod HistoryLaws
+pub mod DeckLaws

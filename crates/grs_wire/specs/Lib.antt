@@ -1,3 +1,4 @@
+pub mod Decks
 pub mod Masks
 pub mod LockWords
 pub mod Wants
