@@ -7,7 +7,7 @@ use super::resource::SysId;
 use std::alloc::Global;
 
 /// Which resources are shown.
-#[derive(Drop)]
+#[derive(PartialEq, Eq, Drop)]
 pub enum Filter {
     /// Every resource with a list that isn't empty.
     All,

@@ -5,7 +5,7 @@ use grs_base::{Code, Copied, Ctl, Filter, List, NoMemory, Res, Ret, Row, SysId, 
 use std::alloc::Global;
 
 /// What a task asks for. `full` tells whether the task had as many elements as it may when it asked.
-#[derive(Drop)]
+#[derive(PartialEq, Eq, Drop)]
 pub enum Want {
     /// Asks for control.
     Enq {
