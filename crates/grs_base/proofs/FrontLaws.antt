@@ -1,10 +1,9 @@
 -- The shared elements in front of a list in which an element comes, goes or is made exclusive.
-use Rattle.std.proofs.Common.{◌≡◌, ◌<◌, ◌+◌, ℕ, zero, suc, Bool, true, false, ◌&&◌, cond, List, [], ◌∷◌, ◌++◌, length, drop, set, refl, arith, eqb}
+use Rattle.std.proofs.Common.{◌≡◌, ◌<◌, ◌+◌, ℕ, zero, suc, false, ◌&&◌, cond, List, [], ◌∷◌, ◌++◌, length, drop, set, refl, arith, eqb}
 use Rattle.std.specs.Prelude.{remove, min}
 use Rattle.std.proofs.lemmas.Bool.Decides.{nat_tests}
 use Rattle.grs_base.specs.Lists.{is_shared, shared_front}
 use Rattle.grs_base.specs.declared.resource.Elem.{Elem}
-use Rattle.grs_base.proofs.ListLaws.{shared_front-le}
 
 pub shared_front-push : (es : List Elem) (e : Elem) → shared_front (es ++ e ∷ []) ≡ cond (eqb (shared_front es) (length es) && is_shared e.ctl) (suc (shared_front es)) (shared_front es)
 shared_front-push [] e = grind (arith, nat_tests)

@@ -90,7 +90,3 @@ shared_front-le (e ∷ es) = grind (arith, shared_front-le es)
 pub owners-le : (es : List Elem) → owners es ≤ length es
 owners-le [] = omega arith
 owners-le (e ∷ es) = grind (arith, shared_front-le es)
-
-pub place_of-exclusive : (es : List Elem) (t u : TaskId) → place_of (list_exclusive es u) t ≡ place_of es t
-place_of-exclusive [] t u = refl
-place_of-exclusive (e ∷ es) t u = grind (arith, place_of-exclusive es t u)

@@ -1,6 +1,5 @@
 -- Laws of the state: what each step leaves in the list of each resource, and in the order of each task.
 use Rattle.std.proofs.Common.{◌≡◌, Bool, true, false, cond, not, List, [], ◌∷◌, ◌++◌, refl, arith, append-nil}
-use Rattle.std.specs.Prelude.{filter}
 use Rattle.grs_base.specs.Same.{same_res, same_task}
 use Rattle.grs_base.specs.Lists.{list_after, list_exclusive, list_without, decide_enq, enq_decision, standing_of, can_have}
 use Rattle.grs_base.specs.declared.resource.Ret.{Ret}
@@ -14,7 +13,7 @@ use Rattle.grs_base.specs.declared.resource.Ctl.{Ctl}
 use Rattle.grs_base.specs.declared.resource.Ctl.TheVariants.{E}
 use Rattle.grs_base.specs.declared.decision.Effect.{Effect}
 use Rattle.grs_base.specs.declared.decision.Effect.TheVariants.{Nothing, Append, MakeExclusive}
-use Rattle.grs_base.proofs.SameLaws.{IsEquality, same_res-exact, same_res-itself, same_task-itself}
+use Rattle.grs_base.proofs.SameLaws.{IsEquality, same_res-exact, same_res-itself}
 use Rattle.grs_base.proofs.Picks.{pick-append, pick-filter, pick-filter_by, pick-map, pick-map_by}
 
 module _ {K : Type 0} (same : K → K → Bool) (equality : IsEquality same) where
@@ -58,15 +57,6 @@ list_of-effect_other s q r t c Append apart = list_at-push_other same_res res_eq
 list_of-effect_other s q r t c MakeExclusive apart = list_at-exclusive_other same_res res_equality s q r t apart
 
 -- the order in which a task queued
-pub queued_by-push : {K : Type 0} (s : Held K) (k : K) (e : Elem) → queued_by (s ++ (k, e) ∷ []) e.task ≡ queued_by s e.task ++ k ∷ []
-queued_by-push {K} s k e = grind (arith, pick-append (λ (h : K × Elem). same_task e.task h.1.task) (λ h. h.0) s ((k, e) ∷ []), same_task-itself e.task)
-
-pub queued_by-push_other : {K : Type 0} (s : Held K) (k : K) (e : Elem) (t : TaskId) → same_task t e.task ≡ false → queued_by (s ++ (k, e) ∷ []) t ≡ queued_by s t
-queued_by-push_other {K} s k e t apart = grind (arith, apart, append-nil, pick-append (λ (h : K × Elem). same_task t h.1.task) (λ h. h.0) s ((k, e) ∷ []))
-
-pub queued_by-without : {K : Type 0} (same : K → K → Bool) (s : Held K) (k : K) (t : TaskId) → queued_by (without same s k t) t ≡ filter (λ j. not (same k j)) (queued_by s t)
-queued_by-without same s k t = pick-filter_by (λ h. same_task t h.1.task) (λ h. h.0) (λ h. not (is_at same k t h)) (λ j. not (same k j)) (λ h p. grind (arith, p)) s
-
 pub queued_by-exclusive : {K : Type 0} (same : K → K → Bool) (s : Held K) (k : K) (t u : TaskId) → queued_by (with_exclusive same s k u) t ≡ queued_by s t
 queued_by-exclusive same s k t u = pick-map (λ h. same_task t h.1.task) (λ h. h.0) (λ h. cond (is_at same k u h) (h.0, record { task = h.1.task; ctl = E }) h) (λ h. grind arith) (λ h p. grind arith) s
 

@@ -97,17 +97,3 @@ with-present m s e = same_from_bits _ _ (λ i. go i (ℕ_discrete i s))
     go : (i : ℕ) → Dec (i ≡ s) → bit_at (bit_or m (2 ^ s)) i ≡ bit_at m i
     go i (yes same) = rw (same, bit_at_or, bit_at-pow_same, max_one (bit_at m s) (bit_at-lt m s)) (sym one)
     go i (no ne) = rw (bit_at_or, bit_at-pow_other s i ne, max_zero (bit_at m i)) refl
-
--- two sets with the same systems are one
-pub sets-same : (m k : ℕ) → ((s : ℕ) → has m s ≡ has k s) → m ≡ k
-unfolding has
-sets-same m k same = same_from_bits m k (λ i. go (bit_at m i) (bit_at k i) (bit_at-lt m i) (bit_at-lt k i) (same i))
-  where
-    go : (a b : ℕ) → a < 2 → b < 2 → eqb a 1 ≡ eqb b 1 → a ≡ b
-    go zero zero h k e = refl
-    go zero (suc zero) h k e = cc
-    go (suc zero) zero h k e = cc
-    go (suc zero) (suc zero) h k e = refl
-    go (suc (suc a)) b h k e = absurd (omega arith)
-    go zero (suc (suc b)) h k e = absurd (omega arith)
-    go (suc zero) (suc (suc b)) h k e = absurd (omega arith)
