@@ -60,7 +60,7 @@ owns-push [] t S h = grind (arith, same_task-itself t)
 owns-push (e ∷ es) t E h = grind (arith, h, owns_shared-push es t E)
 owns-push (e ∷ es) t S h = grind (arith, h, owns_shared-push es t S)
 
-owns-exclusive : (es : List Elem) (t : TaskId) → standing_of es t ≡ OnlyShared → owns (list_exclusive es t) t ≡ true
+pub owns-exclusive : (es : List Elem) (t : TaskId) → standing_of es t ≡ OnlyShared → owns (list_exclusive es t) t ≡ true
 owns-exclusive [] t h = grind (arith, nat_tests, h)
 owns-exclusive (e ∷ es) t h = grind (arith, nat_tests, h)
 
@@ -100,22 +100,22 @@ owns-then es t c MakeExclusive Waits at h = cc
 owns-then es t c MakeExclusive Absent at h = cc
 
 -- one that tells control is of an owner
-owns-granted : (s : State) (r : Res) (t : TaskId) (c : Ctl) (ret : Ret) (full : Bool) → has_control ret ≡ true → is_granted (enq_code s r t c ret full) ≡ true → owns (list_of (enq_state s r t c ret full) r) t ≡ true
+pub owns-granted : (s : State) (r : Res) (t : TaskId) (c : Ctl) (ret : Ret) (full : Bool) → has_control ret ≡ true → is_granted (enq_code s r t c ret full) ≡ true → owns (list_of (enq_state s r t c ret full) r) t ≡ true
 owns-granted s r t c ret full has g =
     ap (λ es. owns es t) (list_of-effect s r t c _)
     ∙ owns-then (list_of s r) t c _ (standing_of (list_of s r) t) refl (then_owns-granted (standing_of (list_of s r) t) ret full (can_have (list_of s r) c) has g)
 
 -- ---- a task's own request
-granted-deq : (st : Standing) (have : Bool) → is_owner st ≡ true → is_granted (deq_code st have) ≡ true
+pub granted-deq : (st : Standing) (have : Bool) → is_owner st ≡ true → is_granted (deq_code st have) ≡ true
 granted-deq st have h = grind (arith, h)
 
-want-keeps : (s : State) (t : TaskId) (w : Want) (r : Res) → gives_up r w ≡ false → owns (list_of s r) t ≡ true → owns (list_of (after_want s t w) r) t ≡ true
+pub want-keeps : (s : State) (t : TaskId) (w : Want) (r : Res) → gives_up r w ≡ false → owns (list_of s r) t ≡ true → owns (list_of (after_want s t w) r) t ≡ true
 want-keeps s t (wants.Enq q c ret full) r e h = owns-enq s r q t c ret full h
 want-keeps s t (wants.Deq q have) r e h = ap (λ es. owns es t) (list_of-want_other s t (wants.Deq q have) r e) ∙ h
 want-keeps s t (wants.Release q) r e h = ap (λ es. owns es t) (list_of-want_other s t (wants.Release q) r e) ∙ h
 want-keeps s t (wants.Look first count f) r e h = h
 
-want-takes : (s : State) (t : TaskId) (w : Want) (r : Res) → gives_up r w ≡ true → owns (list_of s r) t ≡ true → list_any (took r) (entries_for s t w) ≡ true
+pub want-takes : (s : State) (t : TaskId) (w : Want) (r : Res) → gives_up r w ≡ true → owns (list_of s r) t ≡ true → list_any (took r) (entries_for s t w) ≡ true
 want-takes s t (wants.Enq q c ret full) r e h = cc
 want-takes s t (wants.Deq q have) r e h =
     let own : owns (list_of s q) t ≡ true = subst (λ z. owns (list_of s z) t ≡ true) (same_res-exact r q e) h in
@@ -127,7 +127,7 @@ looks-tell : (s : State) (t : TaskId) (r : Res) (first count : ℕ) (f : _) → 
 looks-tell s t r first zero f = refl
 looks-tell s t r first (suc count) f = looks-tell s t r (suc first) count f
 
-want-tells : (s : State) (t : TaskId) (w : Want) (r : Res) → list_any (tells r) (entries_for s t w) ≡ true → owns (list_of (after_want s t w) r) t ≡ true
+pub want-tells : (s : State) (t : TaskId) (w : Want) (r : Res) → list_any (tells r) (entries_for s t w) ≡ true → owns (list_of (after_want s t w) r) t ≡ true
 want-tells s t (wants.Enq q c ret full) r h =
     let parts : (same_res r q ≡ true) × (is_granted (enq_code s q t c ret full) ≡ true) × (has_control ret ≡ true) = three (same_res r q) (is_granted (enq_code s q t c ret full)) (has_control ret) h in
     subst (λ z. owns (list_of (enq_state s q t c ret full) z) t ≡ true) (sym (same_res-exact r q parts.0)) (owns-granted s q t c ret full parts.2 parts.1)

@@ -50,7 +50,7 @@ own-effect_other s r t u c Nothing apart = refl
 own-effect_other s r t u c Append apart = own-push_other s r (record { task = u; ctl = c }) t apart
 own-effect_other s r t u c MakeExclusive apart = own-exclusive_other s r t u apart
 
-own-want_other : (s : State) (u : TaskId) (w : Want) (t : TaskId) → same_task t u ≡ false → own_elements (after_want s u w) t ≡ own_elements s t
+pub own-want_other : (s : State) (u : TaskId) (w : Want) (t : TaskId) → same_task t u ≡ false → own_elements (after_want s u w) t ≡ own_elements s t
 own-want_other s u (wants.Enq r c ret full) t apart = own-effect_other s r t u c _ apart
 own-want_other s u (wants.Deq r have) t apart = cond_both (is_owner (standing_of (list_of s r) u)) (without same_res s r u) s (λ x. own_elements x t ≡ own_elements s t) (own-without_other s r t u apart) refl
 own-want_other s u (wants.Release r) t apart = own-without_other s r t u apart
@@ -143,7 +143,7 @@ own_after-looks : (ks : List (Res × Ctl)) (s : State) (t : TaskId) (first count
 own_after-looks ks s t first zero f = refl
 own_after-looks ks s t first (suc count) f = own_after-looks ks s t (suc first) count f
 
-own-want : (s : State) (t : TaskId) (w : Want) → ((r : Res) → is_apart (list_of s r) ≡ true) → own_elements (after_want s t w) t ≡ own_after (own_elements s t) (entries_for s t w)
+pub own-want : (s : State) (t : TaskId) (w : Want) → ((r : Res) → is_apart (list_of s r) ≡ true) → own_elements (after_want s t w) t ≡ own_after (own_elements s t) (entries_for s t w)
 own-want s t (wants.Enq r c ret full) apart = own-enq s r t c ret full (apart r)
 own-want s t (wants.Deq r have) apart = own-deq s r t have (standing_of (list_of s r) t)
 own-want s t (wants.Release r) apart = own-without s r t

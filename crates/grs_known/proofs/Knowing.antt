@@ -81,7 +81,7 @@ learned-longer t k T x e = go k.behind e
     go false f = cc
 
 -- what an entry gave its task it tells
-gave-tells : (r : Res) (hs : List HistEntry) → list_any (gave r) hs ≡ true → list_any (tells r) hs ≡ true
+pub gave-tells : (r : Res) (hs : List HistEntry) → list_any (gave r) hs ≡ true → list_any (tells r) hs ≡ true
 gave-tells r [] h = cc
 gave-tells r (entries.Enq u q c RetNone code ∷ hs) h = grind (arith, h, gave-tells r hs)
 gave-tells r (entries.Enq u q c RetUse code ∷ hs) h = grind (arith, h, gave-tells r hs)

@@ -6,7 +6,7 @@ use Rattle.std.proofs.Math.Seq.{drop-length}
 use Rattle.std.proofs.lemmas.Bool.{and_parts, and_from, cases_Bool}
 use Rattle.std.proofs.lemmas.Bool.Decides.{nat_tests}
 use Rattle.grs_base.specs.Same.{same_res, same_task}
-use Rattle.grs_base.specs.State.{State}
+use Rattle.grs_base.specs.declared.resource.Ctl.{Ctl}
 use Rattle.grs_base.specs.declared.resource.Res.{Res}
 use Rattle.grs_base.specs.declared.resource.Row.{Row}
 use Rattle.grs_base.specs.declared.resource.TaskId.{TaskId}
@@ -21,17 +21,17 @@ use Rattle.grs_wire.specs.declared.told.ToldLine.{ToldLine}
 use Rattle.grs_wire.specs.declared.told.ToldLine.TheVariants.{Coded, Shown, Post, Ended, Desk}
 use Rattle.grs_wire.specs.History.{code_of}
 use Rattle.grs_legal.specs.Asks.{Ask, asks_of, asks_in}
-use Rattle.grs_legal.specs.Legal.{lets_pass, passed_behind, end_among, end_or}
+use Rattle.grs_legal.specs.Legal.{passed_behind, end_among, end_or}
+use Rattle.grs_known.specs.Past.{Past}
 use Rattle.task_state.specs.declared.state.Rec.{Rec}
 use Rattle.task_state.specs.declared.state.Phase.{Phase}
 use Rattle.task_state.specs.declared.state.Phase.TheVariants as phases
 use Rattle.task_state.specs.View.{code_in}
 use Rattle.task_state.specs.Replies.{is_held, phase_after}
 use Rattle.grs_world.specs.Agree.{entry_of_line, entries_behind, queues, queues_at, queued_last, is_control, tells_control, is_code_before, is_code_of, is_post_of, is_end_of}
-use Rattle.grs_world.proofs.Own.{own}
 use Rattle.grs_world.proofs.Entries.{asked_at-grows, end_among-push}
-use Rattle.grs_world.proofs.Lines.{asks-more, passed-none}
-use Rattle.grs_world.proofs.Invariant.{Each, key, has_res, is_distinct, IsEntryOn, IsEcb, IsRec, IsDue, Past, Passed, IsInPhase, IsTask, is_post_before, is_unsent, has_ended, code_bound}
+use Rattle.grs_world.proofs.Lines.{asks-more, asks_of-at, passed-none, passed-stop}
+use Rattle.grs_world.proofs.Invariant.{Each, key, has_res, is_distinct, IsEntryOn, IsEcb, IsRec, IsDue, may_pass, Passed, IsNext, IsInPhase, IsTask, is_post_before, has_ended, code_bound}
 use Rattle.grs_world.proofs.Granted.{codes_later, lt_suc}
 use Rattle.grs_world.proofs.Truths.{or_second}
 use Rattle.grs_world.proofs.Facts.{all-kept, all-more, any-more, none-more, slice_get-end, slice_get-within, take-more}
@@ -147,26 +147,30 @@ module _ (ls : List Meaning) (E : List HistEntry) (h : HistEntry) (t : TaskId) w
   any-kept p q k (x ∷ xs) e = grind (arith, e, k x, any-kept p q k xs, cases_Bool (p x), cases_Bool (q x))
 
   -- records that stood before, when the next line was answered
-  pub recs-asked : (T : List ToldLine) (knows knows' : Res → Bool × Bool) (n k : ℕ) (verb : Verb) (c : Code) (ph : Phase) (xs : List Rec) →
-      ((r : Res) → has_res r xs ≡ true → knows' r ≡ knows r) → ((r : Res) → has_res r xs ≡ true → queues r h ≡ false) → Each (IsRec ls E T knows t n phases.Ready) xs → Each (IsRec ls (E ++ h ∷ []) (told_after T t k verb c) knows' t (suc n) ph) xs
-  recs-asked T knows knows' n k verb c ph [] same none e = tt
-  recs-asked T knows knows' n k verb c ph (x ∷ xs) same none e = (
+  pub recs-asked : (T : List ToldLine) (has has' leaving : Res → Bool) (n k : ℕ) (verb : Verb) (c : Code) (ph : Phase) (xs : List Rec) →
+      ((r : Res) → has_res r xs ≡ true → has' r ≡ has r) → ((r : Res) → has_res r xs ≡ true → has r ≡ true → leaving r ≡ false) → ((r : Res) → has_res r xs ≡ true → queues r h ≡ false) →
+      Each (IsRec ls E T has leaving t n phases.Ready) xs → Each (IsRec ls (E ++ h ∷ []) (told_after T t k verb c) has' (λ r. false) t (suc n) ph) xs
+  recs-asked T has has' leaving n k verb c ph [] same stays none e = tt
+  recs-asked T has has' leaving n k verb c ph (x ∷ xs) same stays none e = (
     record {
       entry = grows-on x.res (entry_of_line ls E x.line) _ (grows-line x.line) e.0.entry;
       latest = grows-latest x.res x.line (none x.res among) e.0.latest;
       low = e.0.low;
       high = omega (arith, e.0.high);
-      known = e.0.known ∙ sym (ap (λ z. z.0) here);
-      control = λ f. any-after (tells_control t ls (E ++ h ∷ []) x.res) T t k verb c (any-kept (tells_control t ls E x.res) (tells_control t ls (E ++ h ∷ []) x.res) (grows-tells x.res (none x.res among)) T (e.0.control (ap (λ z. z.1) (sym here) ∙ f)));
+      known = e.0.known ∙ sym here;
+      control = λ f all. any-after (tells_control t ls (E ++ h ∷ []) x.res) T t k verb c (any-kept (tells_control t ls E x.res) (tells_control t ls (E ++ h ∷ []) x.res) (grows-tells x.res (none x.res among)) T (e.0.control (sym here ∙ f) (stays x.res among (sym here ∙ f))));
       due = λ f. still (e.0.due f);
     },
-    recs-asked T knows knows' n k verb c ph xs (λ r f. same r (or_second (same_res r x.res) (has_res r xs) f)) (λ r f. none r (or_second (same_res r x.res) (has_res r xs) f)) e.1,
+    recs-asked T has has' leaving n k verb c ph xs (λ r f. same r (later r f)) (λ r f. stays r (later r f)) (λ r f. none r (later r f)) e.1,
   )
     where
       among : has_res x.res (x ∷ xs) ≡ true
       among = grind (arith, same_res-itself x.res)
 
-      here : knows' x.res ≡ knows x.res
+      later : (r : Res) → has_res r xs ≡ true → has_res r (x ∷ xs) ≡ true
+      later r f = or_second (same_res r x.res) (has_res r xs) f
+
+      here : has' x.res ≡ has x.res
       here = same x.res among
 
       still : ((is_held phases.Ready ≡ true) × (x.line ≡ n)) ⊎ IsDue ls E T t x.line → ((is_held ph ≡ true) × (x.line ≡ suc n)) ⊎ IsDue ls (E ++ h ∷ []) (told_after T t k verb c) t x.line
@@ -178,12 +182,20 @@ module _ (ls : List Meaning) (E : List HistEntry) (h : HistEntry) (t : TaskId) w
       })
 
 -- a task's next line asks: what holds before, and which line it is
-pub record Asks (ls : List Meaning) (p : Past) (T : List ToldLine) (knows : Res → Bool × Bool) (t : TaskId) (n code : ℕ) (xs : List Rec) (o : Option Asked) (ws : List Row) (l : Meaning) (a : Ask) : Type 0 where
-  pub before : IsTask ls p T knows t (record { line = n; phase = phases.Ready; code = code; records = xs; outstanding = o; rows = ws })
+pub record Asks (ls : List Meaning) (p : Past) (T : List ToldLine) (leaving : Res → Bool) (t : TaskId) (n code : ℕ) (xs : List Rec) (o : Option Asked) (ws : List Row) (l : Meaning) (a : Ask) : Type 0 where
+  pub before : IsTask ls p T leaving t (record { line = n; phase = phases.Ready; code = code; records = xs; outstanding = o; rows = ws })
   pub at : slice_get ls n ≡ Some l
   pub asks : asks_in l ≡ a ∷ []
 
-module _ (ls : List Meaning) (p : Past) (T : List ToldLine) (knows : Res → Bool × Bool) (t : TaskId) (n code : ℕ) (xs : List Rec) (o : Option Asked) (ws : List Row) (l : Meaning) (a : Ask) (k : Asks ls p T knows t n code xs o ws l a) (s' : State) (h : HistEntry) where
+-- and it may
+pub next-asked : (ls : List Meaning) (p : Past) (T : List ToldLine) (leaving : Res → Bool) (t : TaskId) (n code : ℕ) (xs : List Rec) (o : Option Asked) (ws : List Row) (l : Meaning) (a : Ask) → Asks ls p T leaving t n code xs o ws l a → IsNext ls p a
+next-asked ls p T leaving t n code xs o ws l a k = record {
+  next = rw (k.before.phase.going.no_code, ap (slice_get (asks_of ls)) (k.before.count refl) ∙ asks_of-at ls n l a k.at k.asks) refl;
+  free = k.before.phase.free;
+  passed = rw (k.before.phase.going.no_code, passed-stop ls n l a k.at k.asks (length p.asked) (k.before.count refl)) k.before.phase.passed;
+}
+
+module _ (ls : List Meaning) (p : Past) (T : List ToldLine) (leaving : Res → Bool) (t : TaskId) (n code : ℕ) (xs : List Rec) (o : Option Asked) (ws : List Row) (l : Meaning) (a : Ask) (k : Asks ls p T leaving t n code xs o ws l a) (h : HistEntry) where
   pub of_new_line : entry_of_line ls (p.asked ++ h ∷ []) (suc n) ≡ Some h
   of_new_line =
       let line : slice_get ls (suc n - 1) ≡ Some l = ap (slice_get ls) (omega (arith)) ∙ k.at in
@@ -197,63 +209,59 @@ module _ (ls : List Meaning) (p : Past) (T : List ToldLine) (knows : Res → Boo
   pub latest_new : (r : Res) → queues r h ≡ true → queued_last ls (p.asked ++ h ∷ []) r (suc n) ≡ true
   latest_new r q = and_from (queues_at r (entry_of_line ls (p.asked ++ h ∷ []) (suc n))) _ (ap (queues_at r) of_new_line ∙ q) (ap (λ zs. not (list_any (queues r) zs)) (ap (λ m. drop m (p.asked ++ h ∷ [])) (sym count_new) ∙ drop-length (p.asked ++ h ∷ [])))
 
-  passed_new : Passed ls (record { lists = s'; asked = p.asked ++ h ∷ []; last = Some h }) t (suc n)
-  passed_new =
-      let none : passed_behind (length (p.asked ++ h ∷ [])) (take (suc n) ls) ≡ [] =
-      ap (λ z. passed_behind (length (p.asked ++ h ∷ [])) z) (ap (λ m. take m ls) (sym (add-one n)) ∙ take-more ls n l k.at)
-      ∙ passed-none (take n ls) l a k.asks (length (p.asked ++ h ∷ [])) (length-append p.asked (h ∷ []) ∙ add-one (length p.asked) ∙ ap suc (k.before.count refl)) in
-      ap (list_all (lets_pass s' t)) none
-
   ended_new : (c : Code) → code_of h ≡ c → end_among (p.asked ++ h ∷ []) ≡ end_or c None
   ended_new c e = end_among-push p.asked h k.before.phase.going.no_code ∙ ap (λ z. end_or z None) e
 
-  -- the phase by the code
-  phase_new : (verb : Verb) (c : Code) → code_of h ≡ c → IsInPhase ls (record { lists = s'; asked = p.asked ++ h ∷ []; last = Some h }) (told_after T t (suc n) verb c) t (suc n) (phase_after c)
-  phase_new verb Wait e = record {
-    going = record { no_code = ended_new Wait e; no_end = k.before.phase.going.no_end };
-    passed = passed_new;
-    last = h;
-    is_last = refl;
-    of_line = of_new_line;
-    waits = e;
-  }
-  phase_new verb C00 e = record { going = record { no_code = ended_new C00 e; no_end = no_end-after T t t (suc n) verb C00 k.before.phase.going.no_end }; free = λ w. absurd (cc); passed = passed_new }
-  phase_new verb C04 e = record { going = record { no_code = ended_new C04 e; no_end = no_end-after T t t (suc n) verb C04 k.before.phase.going.no_end }; free = λ w. absurd (cc); passed = passed_new }
-  phase_new verb C08 e = record { going = record { no_code = ended_new C08 e; no_end = no_end-after T t t (suc n) verb C08 k.before.phase.going.no_end }; free = λ w. absurd (cc); passed = passed_new }
-  phase_new verb C14 e = record { going = record { no_code = ended_new C14 e; no_end = no_end-after T t t (suc n) verb C14 k.before.phase.going.no_end }; free = λ w. absurd (cc); passed = passed_new }
-  phase_new verb C18 e = record { going = record { no_code = ended_new C18 e; no_end = no_end-after T t t (suc n) verb C18 k.before.phase.going.no_end }; free = λ w. absurd (cc); passed = passed_new }
-  phase_new verb (End c) e = record { no_end = no_end-after T t t (suc n) verb (End c) k.before.phase.going.no_end; code = ap (λ z. unwrap_or z 0) (sym (ended_new (End c) e)); free = λ w. absurd (cc); all_lines = λ none. absurd (let w : Some c ≡ None = sym (ended_new (End c) e) ∙ none in cc) }
+  -- the task afterwards, which has these elements and owns this
+  module _ (ks : List (Res × Ctl)) (has : Res → Bool) where
+    abbrev pub asked_past : Past
+    asked_past = record { own = ks; owns = has; asked = p.asked ++ h ∷ []; last = Some h }
 
-  unsent_after : (c : Code) → is_unsent (phase_after c) ≡ false
-  unsent_after Wait = refl
-  unsent_after C00 = refl
-  unsent_after C04 = refl
-  unsent_after C08 = refl
-  unsent_after C14 = refl
-  unsent_after C18 = refl
-  unsent_after (End c) = refl
+    passed_new : Passed ls asked_past (suc n)
+    passed_new =
+        let none : passed_behind (length (p.asked ++ h ∷ [])) (take (suc n) ls) ≡ [] =
+        ap (λ z. passed_behind (length (p.asked ++ h ∷ [])) z) (ap (λ m. take m ls) (sym (add-one n)) ∙ take-more ls n l k.at)
+        ∙ passed-none (take n ls) l a k.asks (length (p.asked ++ h ∷ [])) (length-append p.asked (h ∷ []) ∙ add-one (length p.asked) ∙ ap suc (k.before.count refl)) in
+        ap (list_all (may_pass asked_past)) none
 
-  not_ended_after : (c : Code) → has_ended (phase_after c) ≡ false
-  not_ended_after Wait = refl
-  not_ended_after C00 = refl
-  not_ended_after C04 = refl
-  not_ended_after C08 = refl
-  not_ended_after C14 = refl
-  not_ended_after C18 = refl
-  not_ended_after (End c) = refl
+    -- the phase by the code
+    phase_new : (verb : Verb) (c : Code) → code_of h ≡ c → IsInPhase ls asked_past (told_after T t (suc n) verb c) t (suc n) (phase_after c)
+    phase_new verb Wait e = record {
+      going = record { no_code = ended_new Wait e; no_end = k.before.phase.going.no_end };
+      passed = passed_new;
+      last = h;
+      is_last = refl;
+      of_line = of_new_line;
+      waits = e;
+    }
+    phase_new verb C00 e = record { going = record { no_code = ended_new C00 e; no_end = no_end-after T t t (suc n) verb C00 k.before.phase.going.no_end }; free = λ w. absurd (cc); passed = passed_new }
+    phase_new verb C04 e = record { going = record { no_code = ended_new C04 e; no_end = no_end-after T t t (suc n) verb C04 k.before.phase.going.no_end }; free = λ w. absurd (cc); passed = passed_new }
+    phase_new verb C08 e = record { going = record { no_code = ended_new C08 e; no_end = no_end-after T t t (suc n) verb C08 k.before.phase.going.no_end }; free = λ w. absurd (cc); passed = passed_new }
+    phase_new verb C14 e = record { going = record { no_code = ended_new C14 e; no_end = no_end-after T t t (suc n) verb C14 k.before.phase.going.no_end }; free = λ w. absurd (cc); passed = passed_new }
+    phase_new verb C18 e = record { going = record { no_code = ended_new C18 e; no_end = no_end-after T t t (suc n) verb C18 k.before.phase.going.no_end }; free = λ w. absurd (cc); passed = passed_new }
+    phase_new verb (End c) e = record { no_end = no_end-after T t t (suc n) verb (End c) k.before.phase.going.no_end; code = ap (λ z. unwrap_or z 0) (sym (ended_new (End c) e)); free = λ w. absurd (cc); all_lines = λ none. absurd (let w : Some c ≡ None = sym (ended_new (End c) e) ∙ none in cc) }
 
-  -- the task afterwards, given its records
-  pub task-asked : (verb : Verb) (c : Code) (knows' : Res → Bool × Bool) (ys : List Rec) → code_of h ≡ c → map key ys ≡ own s' t → is_distinct ys ≡ true →
-      Each (IsRec ls (p.asked ++ h ∷ []) (told_after T t (suc n) verb c) knows' t (suc n) (phase_after c)) ys →
-      IsTask ls (record { lists = s'; asked = p.asked ++ h ∷ []; last = Some h }) (told_after T t (suc n) verb c) knows' t (record { line = suc n; phase = phase_after c; code = code_in (phase_after c) code; records = ys; outstanding = o; rows = ws })
-  task-asked verb c knows' ys e keys distinct recs = record {
-    keys = keys;
-    distinct = distinct;
-    within = slice_get-within ls n l k.at;
-    count = λ u. count_new;
-    records = recs;
-    codes = codes-after T t (suc n) verb c k.before.codes;
-    posts = posts-after T t (suc n) (suc n) verb c k.before.posts;
-    phase = phase_new verb c e;
-    emptied = λ u. absurd (grind (arith, u, not_ended_after c));
-  }
+    not_ended_after : (c : Code) → has_ended (phase_after c) ≡ false
+    not_ended_after Wait = refl
+    not_ended_after C00 = refl
+    not_ended_after C04 = refl
+    not_ended_after C08 = refl
+    not_ended_after C14 = refl
+    not_ended_after C18 = refl
+    not_ended_after (End c) = refl
+
+    -- the task afterwards, given its records
+    pub task-asked : (verb : Verb) (c : Code) (ys : List Rec) → code_of h ≡ c → map key ys ≡ ks → is_distinct ys ≡ true →
+        Each (IsRec ls (p.asked ++ h ∷ []) (told_after T t (suc n) verb c) has (λ r. false) t (suc n) (phase_after c)) ys →
+        IsTask ls asked_past (told_after T t (suc n) verb c) (λ r. false) t (record { line = suc n; phase = phase_after c; code = code_in (phase_after c) code; records = ys; outstanding = o; rows = ws })
+    task-asked verb c ys e keys distinct recs = record {
+      keys = keys;
+      distinct = distinct;
+      within = slice_get-within ls n l k.at;
+      count = λ u. count_new;
+      records = recs;
+      codes = codes-after T t (suc n) verb c k.before.codes;
+      posts = posts-after T t (suc n) (suc n) verb c k.before.posts;
+      phase = phase_new verb c e;
+      emptied = λ u. absurd (grind (arith, u, not_ended_after c));
+    }

@@ -3,7 +3,7 @@ use Rattle.std.proofs.Common.{◌≡◌, ◌≢◌, ℕ, Bool, true, false, not,
 use Rattle.std.specs.Prelude.{is_some, ◌==◌}
 use Rattle.std.specs.List.{list_all}
 use Rattle.std.proofs.lemmas.Bool.{and_parts, eqb-true, eq-eqb}
-use Rattle.grs_base.specs.Same.{same_res, same_task}
+use Rattle.grs_base.specs.Same.{same_task}
 use Rattle.grs_base.specs.State.{State, is_systems}
 use Rattle.grs_base.specs.declared.resource.Res.{Res}
 use Rattle.grs_base.specs.declared.resource.Res.TheVariants as resources
@@ -19,7 +19,6 @@ use Rattle.grs_wire.specs.declared.history.HistEntry.TheVariants as entries
 use Rattle.grs_wire.specs.declared.request.Req.{Req}
 use Rattle.grs_wire.specs.declared.request.Want.{Want}
 use Rattle.grs_wire.specs.declared.request.Want.TheVariants.{Enq, Deq, Release, Look}
-use Rattle.grs_wire.proofs.WantLaws.{speaks_of}
 use Rattle.task_state.specs.View.{TasksView, is_task}
 use Rattle.task_state.proofs.ViewLaws.{is_task-system}
 use Rattle.grs_world.proofs.Seen.{part, is_res_of, is_home_at, askers, stand_apart, FullFits, own-one_system}
@@ -101,12 +100,6 @@ entry-after limit s t (Enq q c ret full) r h is fits e =
 entry-after limit s t (Deq q have) r h is fits e = let same : h ≡ entries.Deq t q have _ = sym (first_same _ _ e) in (ap (step limit s) same, λ u. ap (is_by u) same)
 entry-after limit s t (Release q) r h is fits e = let same : h ≡ entries.Release t q = sym (first_same _ _ e) in (ap (step limit s) same, λ u. ap (is_by u) same)
 entry-after limit s t (Look first count f) r h is fits e = absurd (cc)
-
-pub speaks-by : (w : Want) (r : Res) → res_wanted w ≡ Some r → (q : Res) → speaks_of w q ≡ same_res q r
-speaks-by (Enq x c ret full) r is q = let same : x ≡ r = cc in ap (same_res q) same
-speaks-by (Deq x have) r is q = let same : x ≡ r = cc in ap (same_res q) same
-speaks-by (Release x) r is q = let same : x ≡ r = cc in ap (same_res q) same
-speaks-by (Look first count f) r is q = absurd (cc)
 
 -- the lists of a system after a request for a resource of it alone, or of the whole complex
 module _ (deck : Deck) (s : ℕ) (Q : List HistEntry) (out : List Req) (n : Node) (seen : Seen deck s Q out n) (t : TaskId) (w : Want) (r : Res) (is : res_wanted w ≡ Some r) (h : HistEntry) (after : replay deck.limit (Q ++ h ∷ []) ≡ after_want (replay deck.limit Q) t w) where

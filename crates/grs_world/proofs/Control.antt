@@ -1,5 +1,5 @@
 -- Telling a task control that it got by another's request.
-use Rattle.std.proofs.Common.{◌≡◌, ℕ, suc, Bool, true, false, cond, ◌&&◌, ◌||◌, List, [], ◌∷◌, ◌++◌, map, Option, Some, None, refl, ap, sym, ◌∙◌, subst, arith, inl, inr}
+use Rattle.std.proofs.Common.{◌≡◌, ℕ, suc, Bool, true, false, cond, ◌&&◌, List, [], ◌∷◌, ◌++◌, map, Option, Some, None, refl, ap, sym, ◌∙◌, subst, arith, inl, inr}
 use Rattle.std.specs.Prelude.{slice_get, ◌⊎◌, ◌==◌}
 use Rattle.std.proofs.lemmas.Bool.{and_from, cases_Bool, eqb-true}
 use Rattle.grs_base.specs.Same.{same_res, same_task}
@@ -17,8 +17,9 @@ use Rattle.task_state.specs.declared.state.Phase.TheVariants as phases
 use Rattle.task_state.specs.View.{record_place, record_of, on_record}
 use Rattle.task_state.specs.Replies.{is_held}
 use Rattle.grs_world.specs.Agree.{entry_of_line, queued_last, tells_control, is_code_of, is_post_of}
-use Rattle.grs_world.proofs.Invariant.{Each, key, has_res, is_distinct, IsEntryOn, IsRec, IsDue}
-use Rattle.grs_world.proofs.Truths.{or_off, or_second}
+use Rattle.grs_world.proofs.Invariant.{Each, key, has_res, is_distinct, IsEntryOn, IsRec, IsDue, also}
+use Rattle.grs_world.proofs.Keys.{same_res-sym}
+use Rattle.grs_world.proofs.Truths.{no_truth, or_off, or_second}
 use Rattle.grs_world.proofs.Facts.{any-last, any-more, none-more}
 
 -- what is known of the record that is found
@@ -60,24 +61,20 @@ pub distinct-told : (r : Res) (xs : List Rec) → is_distinct (on_record r (λ y
 distinct-told r [] = refl
 distinct-told r (x ∷ xs) = grind (arith, distinct-told r xs, has_res-told x.res r xs)
 
--- knowledge with control of one resource more, told by a line
-abbrev pub also : (Res → Bool × Bool) → Res → Res → Bool × Bool
-also knows r q = ((knows q).0 || same_res r q, (knows q).1 || same_res r q)
+-- whether it is the same resource, the other way round
+turned : (r q : Res) (b : Bool) → same_res r q ≡ b → same_res q r ≡ b
+turned r q b e = same_res-sym q r ∙ e
 
--- the same, told by none
-abbrev pub marked : (Res → Bool × Bool) → Res → Res → Bool × Bool
-marked knows r q = ((knows q).0 || same_res r q, (knows q).1)
-
-module _ (ls : List Meaning) (E : List HistEntry) (T : List ToldLine) (knows : Res → Bool × Bool) (t : TaskId) (r : Res) (k : ℕ) (on : IsEntryOn r (entry_of_line ls E k)) where
+module _ (ls : List Meaning) (E : List HistEntry) (T : List ToldLine) (owns leaving : Res → Bool) (t : TaskId) (r : Res) (k : ℕ) (on : IsEntryOn r (entry_of_line ls E k)) where
   -- no other record is of that line
-  other_line : (line : ℕ) (ph : Phase) (y : Rec) → IsRec ls E T knows t line ph y → same_res r y.res ≡ false → y.line ≡ k → ⊥
+  other_line : (line : ℕ) (ph : Phase) (y : Rec) → IsRec ls E T owns leaving t line ph y → same_res r y.res ≡ false → y.line ≡ k → ⊥
   other_line line ph y h apart e =
       let same : y.res ≡ r = one_entry (entry_of_line ls E k) y.res r (subst (λ n. IsEntryOn y.res (entry_of_line ls E n)) e h.entry) on in
       grind (arith, apart, same, same_res-itself r)
 
   -- records after control is told by the code of line k, by which the task was held
-  pub recs-coded : (xs : List Rec) → Each (IsRec ls E T knows t k phases.HeldAnswer) xs → (l : ToldLine) → tells_control t ls E r l ≡ true → ((n : ℕ) → is_post_of t n l ≡ false) →
-      Each (IsRec ls E (T ++ l ∷ []) (also knows r) t k phases.Ready) (on_record r (λ y. record y { told = true }) xs)
+  pub recs-coded : (xs : List Rec) → Each (IsRec ls E T owns leaving t k phases.HeldAnswer) xs → (l : ToldLine) → tells_control t ls E r l ≡ true → ((n : ℕ) → is_post_of t n l ≡ false) →
+      Each (IsRec ls E (T ++ l ∷ []) (also r owns) leaving t k phases.Ready) (on_record r (λ y. record y { told = true }) xs)
   recs-coded [] h l control post = tt
   recs-coded (y ∷ ys) h l control post = (go (same_res r y.res) refl, recs-coded ys h.1 l control post)
     where
@@ -85,14 +82,14 @@ module _ (ls : List Meaning) (E : List HistEntry) (T : List ToldLine) (knows : R
       due apart u (inl a) = absurd (other_line k phases.HeldAnswer y h.0 apart a.1)
       due apart u (inr d) = inr (record { ecb = d.ecb; coded = any-more (is_code_of t y.line) T l d.coded; unposted = none-more (is_post_of t y.line) T l d.unposted (post y.line) })
 
-      go : (b : Bool) → same_res r y.res ≡ b → IsRec ls E (T ++ l ∷ []) (also knows r) t k phases.Ready (cond b (record y { told = true }) y)
+      go : (b : Bool) → same_res r y.res ≡ b → IsRec ls E (T ++ l ∷ []) (also r owns) leaving t k phases.Ready (cond b (record y { told = true }) y)
       go true s = record {
         entry = h.0.entry;
         latest = h.0.latest;
         low = h.0.low;
         high = h.0.high;
-        known = sym (or_second (knows y.res).0 (same_res r y.res) s);
-        control = λ c. any-last (tells_control t ls E y.res) T l (subst (λ q. tells_control t ls E q l ≡ true) (same_res-exact r y.res s) control);
+        known = sym (or_second (owns y.res) (same_res y.res r) (turned r y.res true s));
+        control = λ c stays. any-last (tells_control t ls E y.res) T l (subst (λ q. tells_control t ls E q l ≡ true) (same_res-exact r y.res s) control);
         due = λ u. absurd (cc);
       }
       go false s = record {
@@ -100,14 +97,14 @@ module _ (ls : List Meaning) (E : List HistEntry) (T : List ToldLine) (knows : R
         latest = h.0.latest;
         low = h.0.low;
         high = h.0.high;
-        known = h.0.known ∙ sym (or_off (knows y.res).0 (same_res r y.res) s);
-        control = λ c. any-more (tells_control t ls E y.res) T l (h.0.control (sym (or_off (knows y.res).1 (same_res r y.res) s) ∙ c));
+        known = h.0.known ∙ sym (or_off (owns y.res) (same_res y.res r) (turned r y.res false s));
+        control = λ c stays. any-more (tells_control t ls E y.res) T l (h.0.control (sym (or_off (owns y.res) (same_res y.res r) (turned r y.res false s)) ∙ c) stays);
         due = λ u. due s u (h.0.due u);
       }
 
   -- records after the ECB of line k is posted
-  pub recs-posted : queued_last ls E r k ≡ true → (line : ℕ) (ph : Phase) (xs : List Rec) → Each (IsRec ls E T knows t line ph) xs →
-      Each (IsRec ls E (T ++ Post t k ∷ []) (also knows r) t line ph) (on_record r (λ y. record y { told = true }) xs)
+  pub recs-posted : queued_last ls E r k ≡ true → (line : ℕ) (ph : Phase) (xs : List Rec) → Each (IsRec ls E T owns leaving t line ph) xs →
+      Each (IsRec ls E (T ++ Post t k ∷ []) (also r owns) leaving t line ph) (on_record r (λ y. record y { told = true }) xs)
   recs-posted latest line ph [] h = tt
   recs-posted latest line ph (y ∷ ys) h = (go (same_res r y.res) refl, recs-posted latest line ph ys h.1)
     where
@@ -125,14 +122,14 @@ module _ (ls : List Meaning) (E : List HistEntry) (T : List ToldLine) (knows : R
       due apart (inl a) = inl a
       due apart (inr d) = inr (record { ecb = d.ecb; coded = any-more (is_code_of t y.line) T (Post t k) d.coded; unposted = none-more (is_post_of t y.line) T (Post t k) d.unposted (other apart) })
 
-      go : (b : Bool) → same_res r y.res ≡ b → IsRec ls E (T ++ Post t k ∷ []) (also knows r) t line ph (cond b (record y { told = true }) y)
+      go : (b : Bool) → same_res r y.res ≡ b → IsRec ls E (T ++ Post t k ∷ []) (also r owns) leaving t line ph (cond b (record y { told = true }) y)
       go true s = record {
         entry = h.0.entry;
         latest = h.0.latest;
         low = h.0.low;
         high = h.0.high;
-        known = sym (or_second (knows y.res).0 (same_res r y.res) s);
-        control = λ c. any-last (tells_control t ls E y.res) T (Post t k) (subst (λ q. tells_control t ls E q (Post t k) ≡ true) (same_res-exact r y.res s) posts);
+        known = sym (or_second (owns y.res) (same_res y.res r) (turned r y.res true s));
+        control = λ c stays. any-last (tells_control t ls E y.res) T (Post t k) (subst (λ q. tells_control t ls E q (Post t k) ≡ true) (same_res-exact r y.res s) posts);
         due = λ u. absurd (cc);
       }
       go false s = record {
@@ -140,25 +137,25 @@ module _ (ls : List Meaning) (E : List HistEntry) (T : List ToldLine) (knows : R
         latest = h.0.latest;
         low = h.0.low;
         high = h.0.high;
-        known = h.0.known ∙ sym (or_off (knows y.res).0 (same_res r y.res) s);
-        control = λ c. any-more (tells_control t ls E y.res) T (Post t k) (h.0.control (sym (or_off (knows y.res).1 (same_res r y.res) s) ∙ c));
+        known = h.0.known ∙ sym (or_off (owns y.res) (same_res y.res r) (turned r y.res false s));
+        control = λ c stays. any-more (tells_control t ls E y.res) T (Post t k) (h.0.control (sym (or_off (owns y.res) (same_res y.res r) (turned r y.res false s)) ∙ c) stays);
         due = λ u. due s (h.0.due u);
       }
 
--- records of which one is marked, where no line tells it
-pub recs-marked : (ls : List Meaning) (E : List HistEntry) (T : List ToldLine) (knows : Res → Bool × Bool) (t : TaskId) (r : Res) (line : ℕ) (ph : Phase) (xs : List Rec) → Each (IsRec ls E T knows t line ph) xs →
-    Each (IsRec ls E T (marked knows r) t line ph) (on_record r (λ y. record y { told = true }) xs)
-recs-marked ls E T knows t r line ph [] h = tt
-recs-marked ls E T knows t r line ph (y ∷ ys) h = (go (same_res r y.res) refl, recs-marked ls E T knows t r line ph ys h.1)
+-- records of which one is marked, where no line tells it, since the task gives it up
+pub recs-marked : (ls : List Meaning) (E : List HistEntry) (T : List ToldLine) (owns leaving : Res → Bool) (t : TaskId) (r : Res) → leaving r ≡ true → (line : ℕ) (ph : Phase) (xs : List Rec) → Each (IsRec ls E T owns leaving t line ph) xs →
+    Each (IsRec ls E T (also r owns) leaving t line ph) (on_record r (λ y. record y { told = true }) xs)
+recs-marked ls E T owns leaving t r leaves line ph [] h = tt
+recs-marked ls E T owns leaving t r leaves line ph (y ∷ ys) h = (go (same_res r y.res) refl, recs-marked ls E T owns leaving t r leaves line ph ys h.1)
   where
-    go : (b : Bool) → same_res r y.res ≡ b → IsRec ls E T (marked knows r) t line ph (cond b (record y { told = true }) y)
+    go : (b : Bool) → same_res r y.res ≡ b → IsRec ls E T (also r owns) leaving t line ph (cond b (record y { told = true }) y)
     go true s = record {
       entry = h.0.entry;
       latest = h.0.latest;
       low = h.0.low;
       high = h.0.high;
-      known = sym (or_second (knows y.res).0 (same_res r y.res) s);
-      control = h.0.control;
+      known = sym (or_second (owns y.res) (same_res y.res r) (turned r y.res true s));
+      control = λ c stays. no_truth (leaving y.res) (subst (λ q. leaving q ≡ true) (same_res-exact r y.res s) leaves) stays;
       due = λ u. absurd (cc);
     }
     go false s = record {
@@ -166,7 +163,7 @@ recs-marked ls E T knows t r line ph (y ∷ ys) h = (go (same_res r y.res) refl,
       latest = h.0.latest;
       low = h.0.low;
       high = h.0.high;
-      known = h.0.known ∙ sym (or_off (knows y.res).0 (same_res r y.res) s);
-      control = h.0.control;
+      known = h.0.known ∙ sym (or_off (owns y.res) (same_res y.res r) (turned r y.res false s));
+      control = λ c stays. h.0.control (sym (or_off (owns y.res) (same_res y.res r) (turned r y.res false s)) ∙ c) stays;
       due = h.0.due;
     }

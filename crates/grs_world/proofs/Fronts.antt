@@ -21,7 +21,8 @@ use Rattle.grs_wire.specs.declared.request.Want.TheVariants as wants
 use Rattle.grs_medium.specs.Medium.{live}
 use Rattle.rsa_message.specs.Message.{unseen, first_number}
 use Rattle.ring_mode.specs.Ring.{is_for_all}
-use Rattle.grs_world.specs.Tables.{went_through, before_number, processed, systems_part, TablesAreFronts}
+use Rattle.grs_world.specs.Tables.{went_through, before_number, processed, TablesAreFronts}
+use Rattle.grs_known.specs.Change.{systems_part}
 use Rattle.grs_world.specs.World.{World, run}
 use Rattle.grs_world.proofs.Came.{is_plain_ask, AllAsk, holds}
 use Rattle.grs_world.proofs.Messages.{given-rest, length-requests}

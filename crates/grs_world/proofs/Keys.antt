@@ -1,20 +1,18 @@
 -- The records of a task as its own elements.
 use Rattle.std.proofs.Common.{◌≡◌, Bool, true, false, cond, not, ◌||◌, List, [], ◌∷◌, ◌++◌, map, refl, ap, sym, ◌∙◌, subst, arith}
 use Rattle.std.specs.Prelude.{filter}
-use Rattle.std.specs.List.{list_any, list_all}
 use Rattle.std.proofs.lemmas.Bool.{cases_Bool}
-use Rattle.grs_base.specs.Same.{same_res, same_task}
-use Rattle.grs_base.specs.Lists.{has_task, is_shared}
-use Rattle.grs_base.specs.State.{State, list_of}
+use Rattle.grs_base.specs.Same.{same_res}
 use Rattle.grs_base.specs.declared.resource.Res.{Res}
+use Rattle.grs_base.specs.declared.resource.Ctl.{Ctl}
 use Rattle.grs_base.specs.declared.resource.Ctl.TheVariants.{E}
-use Rattle.grs_base.specs.declared.resource.TaskId.{TaskId}
 use Rattle.grs_base.proofs.SameLaws.{same_res-exact, same_res-itself}
 use Rattle.task_state.specs.declared.state.Rec.{Rec}
 use Rattle.task_state.specs.View.{without_first, on_record}
-use Rattle.grs_world.proofs.Own.{own, exclusive_on, has_task-own}
-use Rattle.grs_world.proofs.Invariant.{Each, key, has_res, is_distinct}
+use Rattle.grs_known.specs.Past.{made_exclusive}
+use Rattle.grs_world.proofs.Invariant.{Each, key, has_res, has_own, is_distinct}
 use Rattle.grs_world.proofs.Facts.{map-append}
+use Rattle.grs_world.proofs.Truths.{no_truth, false_by}
 
 pub same_res-sym : (a b : Res) → same_res a b ≡ same_res b a
 same_res-sym a b = go (same_res a b) refl
@@ -27,13 +25,13 @@ same_res-sym a b = go (same_res a b) refl
         back true f = sym e ∙ subst (λ z. same_res z b ≡ true) (same_res-exact b a f) (same_res-itself b)
         back false f = refl
 
-pub has_res-keys : (r : Res) (xs : List Rec) → has_res r xs ≡ list_any (λ k. same_res r k.0) (map key xs)
-has_res-keys r [] = refl
-has_res-keys r (x ∷ xs) = grind (arith, has_res-keys r xs)
-
--- a task has an element of a resource just where it has a record of it
-pub has_res-task : (s : State) (t : TaskId) (r : Res) (xs : List Rec) → map key xs ≡ own s t → has_res r xs ≡ has_task (list_of s r) t
-has_res-task s t r xs e = has_res-keys r xs ∙ ap (list_any (λ k. same_res r k.0)) e ∙ sym (has_task-own s t r)
+-- a task has a record of a resource just where it has an element there
+pub has_res-own : (r : Res) (xs : List Rec) (ks : List (Res × Ctl)) → map key xs ≡ ks → has_res r xs ≡ has_own r ks
+has_res-own r xs ks e = has_keys xs ∙ ap (has_own r) e
+  where
+    has_keys : (ys : List Rec) → has_res r ys ≡ has_own r (map key ys)
+    has_keys [] = refl
+    has_keys (y ∷ ys) = ap (λ b. same_res r y.res || b) (has_keys ys)
 
 pub keys-push : (xs : List Rec) (y : Rec) → map key (xs ++ y ∷ []) ≡ map key xs ++ key y ∷ []
 keys-push xs y = map-append key xs (y ∷ [])
@@ -47,7 +45,7 @@ distinct-push [] y d a = refl
 distinct-push (x ∷ xs) y d a = grind (arith, d, a, distinct-push xs y, has_res-push x.res xs y, same_res-sym x.res y.res)
 
 -- making control exclusive
-pub keys-exclusive : (r : Res) (xs : List Rec) → map key (on_record r (λ z. record z { ctl = E }) xs) ≡ map (exclusive_on r) (map key xs)
+pub keys-exclusive : (r : Res) (xs : List Rec) → map key (on_record r (λ z. record z { ctl = E }) xs) ≡ map (made_exclusive r) (map key xs)
 keys-exclusive r [] = refl
 keys-exclusive r (x ∷ xs) = grind (arith, keys-exclusive r xs)
 
@@ -58,11 +56,6 @@ has_res-exclusive q r (x ∷ xs) = grind (arith, has_res-exclusive q r xs)
 pub distinct-exclusive : (r : Res) (xs : List Rec) → is_distinct (on_record r (λ z. record z { ctl = E }) xs) ≡ is_distinct xs
 distinct-exclusive r [] = refl
 distinct-exclusive r (x ∷ xs) = grind (arith, distinct-exclusive r xs, has_res-exclusive x.res r xs)
-
--- where all of the task's elements there are exclusive already, nothing changes
-pub own-exclusive_already : (s : State) (t : TaskId) (r : Res) → list_all (λ e. not (same_task t e.task) || not (is_shared e.ctl)) (list_of s r) ≡ true → map (exclusive_on r) (own s t) ≡ own s t
-own-exclusive_already [] t r h = refl
-own-exclusive_already (x ∷ s) t r h = grind (arith, h, own-exclusive_already s t r)
 
 -- taking a record out
 without_absent : (r : Res) (xs : List Rec) → has_res r xs ≡ false → filter (λ k. not (same_res r k.0)) (map key xs) ≡ map key xs
@@ -85,6 +78,10 @@ distinct-without r (x ∷ xs) d = grind (arith, d, distinct-without r xs, absent
 pub gone-without : (r : Res) (xs : List Rec) → is_distinct xs ≡ true → has_res r (without_first xs r) ≡ false
 gone-without r [] d = refl
 gone-without r (x ∷ xs) d = grind (arith, d, gone-without r xs, same_res-exact r x.res, cases_Bool (same_res r x.res))
+
+-- so what is left is on other resources
+pub other-without : (q r : Res) (xs : List Rec) → is_distinct xs ≡ true → has_res q (without_first xs r) ≡ true → same_res q r ≡ false
+other-without q r xs d has = false_by (same_res q r) (λ e. no_truth (has_res q (without_first xs r)) has (subst (λ z. has_res z (without_first xs r) ≡ false) (sym (same_res-exact q r e)) (gone-without r xs d)))
 
 pub each-without : (P : Rec → Type 0) (r : Res) (xs : List Rec) → Each P xs → Each P (without_first xs r)
 each-without P r [] h = h

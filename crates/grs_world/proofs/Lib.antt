@@ -1,12 +1,12 @@
-pub mod Own
 pub mod Owners
 pub mod Entries
 pub mod Lines
 pub mod Invariant
+pub mod Own
+pub mod Speaking
 pub mod Others
 pub mod Control
 pub mod Granted
-pub mod EnqCases
 pub mod Keys
 pub mod Asked
 pub mod Decided

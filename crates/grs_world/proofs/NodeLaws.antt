@@ -1,5 +1,5 @@
 -- The laws of the systems of a complex.
-use Rattle.std.proofs.Common.{◌≡◌, ℕ, zero, suc, true, List, [], length, Some, refl, ap, sym, ◌∙◌, subst, arith, get_or}
+use Rattle.std.proofs.Common.{◌≡◌, ℕ, zero, suc, true, false, List, [], length, Some, None, refl, ap, sym, ◌∙◌, subst, arith, get_or}
 use Rattle.std.specs.Prelude.{slice_get, ◌==◌, nat_lt}
 use Rattle.std.specs.List.{list_all}
 use Rattle.std.proofs.lemmas.Bool.{and_parts, eqb-true, eq-eqb, lt-ltb}
@@ -12,7 +12,7 @@ use Rattle.task_state.specs.View.{is_task, state_of, new_task, new_tasks}
 use Rattle.grs_node.specs.Node.{first_node}
 use Rattle.grs_world.proofs.Seen.{is_home_at, askers, stand_apart, NodeLaws}
 use Rattle.grs_world.proofs.Ours.{IsHere, script_at}
-use Rattle.grs_world.proofs.Good.{owned, IsGood}
+use Rattle.grs_world.proofs.Good.{IsGood}
 use Rattle.grs_world.proofs.AtNode.{Seen}
 use Rattle.grs_world.proofs.Processed.{read_own, read_other, elsewhere}
 use Rattle.grs_world.proofs.Puts.{put, put_told, may_put}
@@ -60,8 +60,10 @@ first_here deck s t h =
     let system : (s == t.system.0) ≡ true = eq-eqb _ _ (sym is_system) in
     rw (system, within) refl
 
-new_here : (deck : Deck) (t : TaskId) (ls : List Meaning) → IsHere deck (record { out = []; all = [] }) [] (owned deck []) [] t ls new_task
+new_here : (deck : Deck) (t : TaskId) (ls : List Meaning) → IsHere deck (record { out = []; all = [] }) [] [] t ls new_task
 new_here deck t ls = record {
+  past = record { own = []; owns = λ r. false; asked = []; last = None };
+  speaks = record { own = refl; owns = λ r e. cc; asked = refl; last = refl };
   task = record {
     keys = refl;
     distinct = refl;
@@ -81,8 +83,8 @@ new_here deck t ls = record {
 first_good : (deck : Deck) (s : ℕ) → IsGood deck s (record { out = []; all = [] }) [] (first_node deck s).tasks
 first_good deck s = record {
   tasks = record {
-    each = λ t ls o. subst (λ T. IsHere deck (record { out = []; all = [] }) [] (owned deck []) T t ls (state_of (first_node deck s).tasks t)) (sym (first_told deck s))
-        (subst (λ x. IsHere deck (record { out = []; all = [] }) [] (owned deck []) [] t ls x) (sym (first_state deck s t)) (new_here deck t ls));
+    each = λ t ls o. subst (λ T. IsHere deck (record { out = []; all = [] }) [] T t ls (state_of (first_node deck s).tasks t)) (sym (first_told deck s))
+        (subst (λ x. IsHere deck (record { out = []; all = [] }) [] [] t ls x) (sym (first_state deck s t)) (new_here deck t ls));
   };
   elems = refl;
   here = first_here deck s;

@@ -1,13 +1,13 @@
 -- What holds of all tasks of the system, and telling control to some of them.
-use Rattle.std.proofs.Common.{◌≡◌, ◌≢◌, ℕ, Bool, true, false, cond, not, ◌&&◌, ◌||◌, List, [], ◌∷◌, ◌++◌, Option, Some, None, refl, ap, sym, ◌∙◌, subst, arith}
+use Rattle.std.proofs.Common.{◌≡◌, ◌≢◌, ℕ, Bool, true, false, cond, List, Option, Some, None, refl, ap, sym, ◌∙◌, subst, arith}
 use Rattle.std.specs.Prelude.{slice_get, ◌==◌}
-use Rattle.std.proofs.lemmas.Bool.{cases_Bool, eqb-true, eq-eqb}
-use Rattle.grs_base.specs.Same.{same_res, same_task}
+use Rattle.std.proofs.lemmas.Bool.{eqb-true, eq-eqb}
+use Rattle.grs_base.specs.Same.{same_task}
 use Rattle.grs_base.specs.declared.resource.Res.{Res}
 use Rattle.grs_base.specs.declared.resource.TaskId.{TaskId}
 use Rattle.grs_base.specs.declared.rnl.Lists.{Lists}
 use Rattle.grs_legal.specs.declared.meaning.Meaning.{Meaning}
-use Rattle.grs_base.proofs.SameLaws.{same_res-exact, same_task-exact, same_task-itself}
+use Rattle.grs_base.proofs.SameLaws.{same_task-exact}
 use Rattle.grs_wire.specs.declared.deck.Deck.{Deck}
 use Rattle.grs_wire.specs.declared.history.HistEntry.{HistEntry}
 use Rattle.grs_wire.specs.declared.told.ToldLine.{ToldLine}
@@ -17,18 +17,15 @@ use Rattle.task_state.specs.View.{TasksView, is_task, state_of, with_state, tell
 use Rattle.task_state.proofs.ViewLaws.{state_of-other, is_task-state, state_of-telling, is_task-telling}
 use Rattle.task_state.proofs.Stays.{system-state, system-telling}
 use Rattle.grs_world.specs.Agree.{AgreesOf, LineAgrees, entry_of_line}
-use Rattle.grs_world.proofs.Invariant.{IsEntryOn, has_res, Past, IsTask}
-use Rattle.grs_world.proofs.Others.{is_told_to, recs-knows, task-told}
-use Rattle.grs_world.proofs.Asking.{unasked, records-unasked, IsOpen, Opens, IsAskedBy, are_sent}
+use Rattle.grs_world.proofs.Invariant.{IsEntryOn, IsTask}
+use Rattle.grs_world.proofs.Asking.{unasked, IsOpen, Opens, IsAskedBy, are_sent}
 use Rattle.grs_world.proofs.Seen.{IsEnqOf, none_leaves, Clears}
 use Rattle.grs_wire.specs.declared.request.Req.{Req}
 use Rattle.grs_wire.specs.declared.told.ToldLine.TheVariants.{Post}
 use Rattle.grs_wire.specs.declared.history.HistEntry.TheVariants as entries
 use Rattle.grs_legal.specs.Legal.{line_entries}
 use Rattle.task_state.specs.Replies.{is_leaving}
-use Rattle.task_state.specs.declared.state.Asked.{Asked}
-use Rattle.grs_world.proofs.Control.{also, marked}
-use Rattle.grs_world.proofs.Granted.{past}
+use Rattle.grs_known.specs.Past.{Past, Speaks}
 
 -- a task of the deck that is of this system
 pub record IsOurs (deck : Deck) (s : ℕ) (v : TasksView) (t : TaskId) (ls : List Meaning) : Type 0 where
@@ -36,21 +33,18 @@ pub record IsOurs (deck : Deck) (s : ℕ) (v : TasksView) (t : TaskId) (ls : Lis
   pub home : t.system.0 ≡ s
   pub here : is_task v t ≡ true
 
--- what a task was told of a resource: whether its control is marked, and whether a line told it, which it did
--- where the task doesn't give the resource up
-abbrev pub said : Bool → Bool → Bool × Bool
-said known leaving = (known, known && not leaving)
-
--- What holds of a task of the system after the history P: `knows` tells of which resources it was told control.
-pub record IsHere (deck : Deck) (os : Opens) (P : List HistEntry) (knows : Res → TaskId → Bool) (T : List ToldLine) (t : TaskId) (ls : List Meaning) (x : TaskState) : Type 0 where
-  pub task : IsTask ls (past deck.limit P t) T (λ r. said (knows r t) (is_leaving r x.outstanding)) t (unasked x)
+-- What holds of a task of the system after the history P: it stands as it should by a past that speaks of P.
+pub record IsHere (deck : Deck) (os : Opens) (P : List HistEntry) (T : List ToldLine) (t : TaskId) (ls : List Meaning) (x : TaskState) : Type 0 where
+  pub past : Past
+  pub speaks : Speaks deck.limit t past P
+  pub task : IsTask ls past T (λ r. is_leaving r x.outstanding) t (unasked x)
   pub opened : IsOpen deck.limit ls t x
   pub asked : IsAskedBy t x.outstanding os.all
   pub sent : are_sent t x.phase os.out ≡ true
 
 -- What holds of all tasks of the system.
-pub record Holds (deck : Deck) (s : ℕ) (os : Opens) (P : List HistEntry) (knows : Res → TaskId → Bool) (v : TasksView) : Type 0 where
-  pub each : (t : TaskId) (ls : List Meaning) → IsOurs deck s v t ls → IsHere deck os P knows v.told t ls (state_of v t)
+pub record Holds (deck : Deck) (s : ℕ) (os : Opens) (P : List HistEntry) (v : TasksView) : Type 0 where
+  pub each : (t : TaskId) (ls : List Meaning) → IsOurs deck s v t ls → IsHere deck os P v.told t ls (state_of v t)
 
 -- Tasks that differ in one task and in what was told.
 pub record IsChanged (v w : TasksView) (t : TaskId) : Type 0 where
@@ -99,21 +93,21 @@ ours-before : (deck : Deck) (s : ℕ) (v w : TasksView) (t u : TaskId) (ls : Lis
 ours-before deck s v w t u ls c o = record { lines = o.lines; home = o.home; here = sym (c.here u) ∙ o.here }
 
 -- what holds after one task changed
-pub holds-changed : (deck : Deck) (s : ℕ) (os os' : Opens) (P Q : List HistEntry) (knows knows' : Res → TaskId → Bool) (v w : TasksView) (t : TaskId) (ms : List Meaning) →
-    Holds deck s os P knows v → IsChanged v w t → IsOurs deck s v t ms →
-    ((u : TaskId) (ls : List Meaning) → IsOurs deck s v u ls → same_task u t ≡ false → IsHere deck os P knows v.told u ls (state_of v u) → IsHere deck os' Q knows' w.told u ls (state_of v u)) →
-    IsHere deck os' Q knows' w.told t ms (state_of w t) →
-    Holds deck s os' Q knows' w
-holds-changed deck s os os' P Q knows knows' v w t ms h c ours others own = record { each = λ u ls o. go u ls (ours-before deck s v w t u ls c o) (same_task u t) refl }
+pub holds-changed : (deck : Deck) (s : ℕ) (os os' : Opens) (P Q : List HistEntry) (v w : TasksView) (t : TaskId) (ms : List Meaning) →
+    Holds deck s os P v → IsChanged v w t → IsOurs deck s v t ms →
+    ((u : TaskId) (ls : List Meaning) → IsOurs deck s v u ls → same_task u t ≡ false → IsHere deck os P v.told u ls (state_of v u) → IsHere deck os' Q w.told u ls (state_of v u)) →
+    IsHere deck os' Q w.told t ms (state_of w t) →
+    Holds deck s os' Q w
+holds-changed deck s os os' P Q v w t ms h c ours others own = record { each = λ u ls o. go u ls (ours-before deck s v w t u ls c o) (same_task u t) refl }
   where
-    go : (u : TaskId) (ls : List Meaning) → IsOurs deck s v u ls → (b : Bool) → same_task u t ≡ b → IsHere deck os' Q knows' w.told u ls (state_of w u)
+    go : (u : TaskId) (ls : List Meaning) → IsOurs deck s v u ls → (b : Bool) → same_task u t ≡ b → IsHere deck os' Q w.told u ls (state_of w u)
     go u ls o true same =
         let e : t ≡ u = sym (same_task-exact u t same) in
         let m : Some ms ≡ Some ls = sym ours.lines ∙ ap (λ z. lines_of deck z) e ∙ o.lines in
         let l : ms ≡ ls = cc in
-        subst (λ z. IsHere deck os' Q knows' w.told z ls (state_of w z)) e (subst (λ z. IsHere deck os' Q knows' w.told t z (state_of w t)) l own)
+        subst (λ z. IsHere deck os' Q w.told z ls (state_of w z)) e (subst (λ z. IsHere deck os' Q w.told t z (state_of w t)) l own)
     go u ls o false apart =
-        subst (λ z. IsHere deck os' Q knows' w.told u ls z) (sym (c.others u (λ e. absurd (grind (arith, apart, same_place deck s v u t ls ms o ours e)))))
+        subst (λ z. IsHere deck os' Q w.told u ls z) (sym (c.others u (λ e. absurd (grind (arith, apart, same_place deck s v u t ls ms o ours e)))))
         (others u ls o apart (h.each u ls o))
 
 -- a line told to a task of ours is of a task of the system
@@ -137,90 +131,3 @@ clears-post deck opens P t ls k r e on none ms f q of_q =
     one_res (Some (entries.Release u z)) a b = absurd a
     one_res (Some (entries.Look u place filter rows)) a b = absurd a
     one_res (Some (entries.Remove by target)) a b = absurd a
-
--- knowledge with one task's control of one resource more
-unfoldable pub learns : (Res → TaskId → Bool) → Res → TaskId → Res → TaskId → Bool
-learns knows r t q u = knows q u || (same_res r q && same_task t u)
-
-pub learns-own : (knows : Res → TaskId → Bool) (r : Res) (t : TaskId) (q : Res) → learns knows r t q t ≡ (knows q t || same_res r q)
-unfolding learns
-learns-own knows r t q = grind (arith, same_task-itself t, cases_Bool (same_res r q))
-
-pub learns-other : (knows : Res → TaskId → Bool) (r : Res) (t u : TaskId) (q : Res) → same_task u t ≡ false → learns knows r t q u ≡ knows q u
-unfolding learns
-learns-other knows r t u q apart = grind (arith, apart, same_task-exact t u, same_task-itself t, cases_Bool (same_res r q), cases_Bool (same_task t u))
-
--- control told by a line, of a resource that the task doesn't give up; or only marked, where it does
-pub learns-also : (knows : Res → TaskId → Bool) (r : Res) (t : TaskId) (o : Option Asked) → is_leaving r o ≡ false → (q : Res) → said (learns knows r t q t) (is_leaving q o) ≡ also (λ z. said (knows z t) (is_leaving z o)) r q
-learns-also knows r t o stays q = ap (λ b. said b (is_leaving q o)) (learns-own knows r t q) ∙ go (same_res r q) refl
-  where
-    pieces : (a : Bool) → said (a || true) false ≡ (a || true, (a && true) || true)
-    pieces true = refl
-    pieces false = refl
-
-    others : (a b : Bool) → said (a || false) b ≡ (a || false, (a && not b) || false)
-    others true true = refl
-    others true false = refl
-    others false b = refl
-
-    go : (b : Bool) → same_res r q ≡ b → said (knows q t || b) (is_leaving q o) ≡ (knows q t || b, (knows q t && not (is_leaving q o)) || b)
-    go true e = subst (λ l. said (knows q t || true) l ≡ (knows q t || true, (knows q t && not l) || true)) (sym (ap (λ z. is_leaving z o) (sym (same_res-exact r q e)) ∙ stays)) (pieces (knows q t))
-    go false e = others (knows q t) (is_leaving q o)
-
-pub learns-marked : (knows : Res → TaskId → Bool) (r : Res) (t : TaskId) (o : Option Asked) → is_leaving r o ≡ true → (q : Res) → said (learns knows r t q t) (is_leaving q o) ≡ marked (λ z. said (knows z t) (is_leaving z o)) r q
-learns-marked knows r t o leaves q = ap (λ b. said b (is_leaving q o)) (learns-own knows r t q) ∙ go (same_res r q) refl
-  where
-    pieces : (a : Bool) → said (a || true) true ≡ (a || true, a && false)
-    pieces true = refl
-    pieces false = refl
-
-    others : (a b : Bool) → said (a || false) b ≡ (a || false, a && not b)
-    others true b = refl
-    others false b = refl
-
-    go : (b : Bool) → same_res r q ≡ b → said (knows q t || b) (is_leaving q o) ≡ (knows q t || b, knows q t && not (is_leaving q o))
-    go true e = subst (λ l. said (knows q t || true) l ≡ (knows q t || true, knows q t && not l)) (sym (ap (λ z. is_leaving z o) (sym (same_res-exact r q e)) ∙ leaves)) (pieces (knows q t))
-    go false e = others (knows q t) (is_leaving q o)
-
-pub task-knows : (ls : List Meaning) (p : Past) (T : List ToldLine) (knows knows' : Res → Bool × Bool) (t : TaskId) (x : TaskState) → ((q : Res) → knows' q ≡ knows q) → IsTask ls p T knows t x → IsTask ls p T knows' t x
-task-knows ls p T knows knows' t x same k = record {
-  keys = k.keys;
-  distinct = k.distinct;
-  within = k.within;
-  count = k.count;
-  records = recs-knows ls p.asked T t x.line x.phase knows knows' x.records (λ q e. same q) k.records;
-  codes = k.codes;
-  posts = k.posts;
-  phase = k.phase;
-  emptied = k.emptied;
-}
-
--- a task knows what it knew of the resources on its record
-pub here-knows : (deck : Deck) (os : Opens) (P : List HistEntry) (knows knows' : Res → TaskId → Bool) (T : List ToldLine) (t : TaskId) (ls : List Meaning) (x : TaskState) →
-    ((q : Res) → has_res q x.records ≡ true → knows' q t ≡ knows q t) → IsHere deck os P knows T t ls x → IsHere deck os P knows' T t ls x
-here-knows deck os P knows knows' T t ls x same h = record {
-  task = record {
-    keys = h.task.keys;
-    distinct = h.task.distinct;
-    within = h.task.within;
-    count = h.task.count;
-    records = recs-knows ls (line_entries t P) T t (unasked x).line (unasked x).phase (λ r. said (knows r t) (is_leaving r x.outstanding)) (λ r. said (knows' r t) (is_leaving r x.outstanding)) (unasked x).records
-        (λ q e. ap (λ b. said b (is_leaving q x.outstanding)) (same q (ap (has_res q) (sym (records-unasked x)) ∙ e))) h.task.records;
-    codes = h.task.codes;
-    posts = h.task.posts;
-    phase = h.task.phase;
-    emptied = h.task.emptied;
-  };
-  opened = h.opened;
-  asked = h.asked;
-  sent = h.sent;
-}
-
--- a line told to another task leaves a task
-pub here-told : (deck : Deck) (os : Opens) (P : List HistEntry) (knows : Res → TaskId → Bool) (T : List ToldLine) (t : TaskId) (ls : List Meaning) (x : TaskState) (l : ToldLine) → is_told_to t l ≡ false → IsHere deck os P knows T t ls x → IsHere deck os P knows (T ++ l ∷ []) t ls x
-here-told deck os P knows T t ls x l apart h = record {
-  task = task-told ls (past deck.limit P t) T (λ r. said (knows r t) (is_leaving r x.outstanding)) t (unasked x) l apart h.task;
-  opened = h.opened;
-  asked = h.asked;
-  sent = h.sent;
-}

@@ -1,14 +1,13 @@
 -- A system processes an entry of the message.
-use Rattle.std.proofs.Common.{◌≡◌, ◌-◌, ℕ, suc, Bool, true, false, List, [], ◌∷◌, ◌++◌, Option, Some, None, refl, ap, sym, ◌∙◌, subst, arith}
+use Rattle.std.proofs.Common.{◌≡◌, ◌-◌, ℕ, suc, Bool, true, false, List, [], ◌∷◌, ◌++◌, Option, Some, None, refl, sym, ◌∙◌, subst, arith}
 use Rattle.grs_base.specs.Same.{same_res}
-use Rattle.grs_base.specs.State.{State, list_of, is_full, is_systems}
+use Rattle.grs_base.specs.State.{State, is_full, is_systems}
 use Rattle.grs_base.specs.declared.resource.Ctl.{Ctl}
 use Rattle.grs_base.specs.declared.resource.Ctl.TheVariants as ctls
 use Rattle.grs_base.specs.declared.resource.Ret.{Ret}
 use Rattle.grs_base.specs.declared.resource.Ret.TheVariants as rets
 use Rattle.grs_base.specs.declared.resource.Res.{Res}
 use Rattle.grs_base.specs.declared.resource.TaskId.{TaskId}
-use Rattle.grs_base.proofs.ListLaws.{is_owner-standing}
 use Rattle.grs_base.proofs.SameLaws.{same_res-itself}
 use Rattle.grs_legal.specs.declared.meaning.Meaning.{Meaning}
 use Rattle.grs_legal.specs.declared.meaning.Meaning.TheVariants as lines
@@ -25,21 +24,20 @@ use Rattle.task_state.specs.View.{TasksView, state_of, code_in}
 use Rattle.task_state.specs.declared.state.Asked.{Asked}
 use Rattle.task_state.specs.declared.state.Phase.TheVariants as phases
 use Rattle.task_state.specs.declared.state.TaskState.{TaskState}
-use Rattle.grs_world.proofs.Invariant.{Past, IsTask}
-use Rattle.grs_world.proofs.Granted.{past}
-use Rattle.grs_world.proofs.Decided.{both, by_lists}
+use Rattle.grs_known.specs.Past.{Past, Speaks}
+use Rattle.grs_world.proofs.Invariant.{IsTask}
 use Rattle.grs_world.proofs.Asking.{line_asked, IsAskedFor, Opens}
-use Rattle.grs_world.proofs.Ours.{IsOurs, said, task-knows}
+use Rattle.grs_world.proofs.Ours.{IsOurs}
 use Rattle.grs_world.proofs.Did.{Did, did-none, did-phase, did-outstanding}
-use Rattle.grs_world.proofs.Good.{owned, IsGood}
-use Rattle.grs_world.proofs.Events.{Settles, Moves, is_full_by, enq_settles, deq_settles}
-use Rattle.grs_world.proofs.Turns.{release_settles, said-stays}
+use Rattle.grs_world.proofs.Good.{IsGood}
+use Rattle.grs_world.proofs.Events.{Settles, Moves, is_full-speaks, enq_settles, deq_settles}
+use Rattle.grs_world.proofs.Turns.{release_settles}
 use Rattle.grs_world.proofs.AtNode.{own-systems, may_own, first_same, entry-after}
 use Rattle.grs_world.proofs.Replied.{replay-push}
 
 -- the same task, whatever its outstanding request
-pub task-open : (ls : List Meaning) (p : Past) (T : List ToldLine) (knows : Res → Bool × Bool) (t : TaskId) (x : TaskState) (o : Option Asked) → IsTask ls p T knows t x → IsTask ls p T knows t (record x { outstanding = o })
-task-open ls p T knows t x o k = record {
+pub task-open : (ls : List Meaning) (p : Past) (T : List ToldLine) (leaving : Res → Bool) (t : TaskId) (x : TaskState) (o : Option Asked) → IsTask ls p T leaving t x → IsTask ls p T leaving t (record x { outstanding = o })
+task-open ls p T leaving t x o k = record {
   keys = k.keys;
   distinct = k.distinct;
   within = k.within;
@@ -90,17 +88,16 @@ module _ (deck : Deck) (s : ℕ) (os os' : Opens) (Q : List HistEntry) (v : Task
       let x : TaskState = state_of v t in
       did-outstanding v _ t _ v.told ours.here (did-phase v v t x v.told ours.here (did-none v t) (phase_asking w x.code)) None
 
-  pub own_read : (w : Want) (unit : Option ℕ) (h : HistEntry) →
-      IsTask ls (past deck.limit Q t) v.told (λ r. said (owned deck Q r t) (gives_up r w)) t (record (state_of v t) { line = line_asked w (state_of v t).line; phase = phase_asking w (state_of v t).code; outstanding = None }) →
+  pub own_read : (w : Want) (unit : Option ℕ) (h : HistEntry) (p : Past) → Speaks deck.limit t p Q →
+      IsTask ls p v.told (λ r. gives_up r w) t (record (state_of v t) { line = line_asked w (state_of v t).line; phase = phase_asking w (state_of v t).code; outstanding = None }) →
       IsAskedFor deck.limit ls (state_of v t).line (state_of v t).records w unit → entries_for (replay deck.limit Q) t w ≡ h ∷ [] → OwnRead deck s os' Q v t w unit h
-  own_read (Enq r c ret full) unit h k asked e =
+  own_read (Enq r c ret full) unit h p speaks k asked e =
       let x : TaskState = state_of v t in
       let S : State = replay deck.limit Q in
       let back : suc (x.line - 1) ≡ x.line = omega (arith, asked.0) in
       let did0 = subst (λ m. Did v (recalled v t (Enq r c ret full)) t (record { line = m; phase = phases.Ready; code = x.code; records = x.records; outstanding = None; rows = x.rows }) v.told) (sym back) (recalls (Enq r c ret full)) in
-      let plain = task-knows ls (past deck.limit Q t) v.told (λ q. said (owned deck Q q t) false) (by_lists S t) t _ (λ q. sym (said-stays (owned deck Q q t))) k in
-      let full_is : full ≡ is_full deck.limit S t = asked.3 ∙ is_full_by deck.limit S t x.records plain.keys in
-      let z = enq_settles deck s os os' Q v good t moves ls ours (x.line - 1) x.code x.records x.rows (recalled v t (Enq r c ret full)) did0 (lines.Enq r c ret unit) r (may_own deck s v r t ls ours (own-systems s r asked.2)) c unit ret full full_is (record { before = plain; at = asked.1; asks = refl }) in
+      let full_is : full ≡ is_full deck.limit S t = asked.3 ∙ is_full-speaks deck.limit t p Q x.records speaks k.keys in
+      let z = enq_settles deck s os os' Q v good t moves ls ours (x.line - 1) x.code x.records x.rows (recalled v t (Enq r c ret full)) did0 (lines.Enq r c ret unit) r (may_own deck s v r t ls ours (own-systems s r asked.2)) p speaks c unit ret full full_is (record { before = k; at = asked.1; asks = refl }) in
       record {
         res = r;
         of_res = refl;
@@ -108,15 +105,13 @@ module _ (deck : Deck) (s : ℕ) (os os' : Opens) (Q : List HistEntry) (v : Task
         after = replay-push deck.limit Q h ∙ (entry-after deck.limit S t (Enq r c ret full) r h refl full_is e).0;
         settles = subst (λ g. Settles deck s os' (Q ++ g ∷ []) v.told (tell_new (replied (recalled v t (Enq r c ret full)) t (Enq r c ret full) unit (answer_to S t (Enq r c ret full))) (Some r) (new_owners S t (Enq r c ret full)))) (first_same _ h e) z;
       }
-  own_read (Deq r have) unit h k asked e =
+  own_read (Deq r have) unit h p speaks k asked e =
       let x : TaskState = state_of v t in
       let S : State = replay deck.limit Q in
       let back : suc (x.line - 1) ≡ x.line = omega (arith, asked.0) in
       let did0 = subst (λ m. Did v (recalled v t (Deq r have)) t (record { line = m; phase = phases.Ready; code = x.code; records = x.records; outstanding = None; rows = x.rows }) v.told) (sym back) (recalls (Deq r have)) in
-      let z = deq_settles deck s os os' Q v good t moves ls ours (x.line - 1) x.code x.records x.rows (recalled v t (Deq r have)) did0 (lines.Deq r have) r (may_own deck s v r t ls ours (own-systems s r asked.2)) have
-      (λ q. said (owned deck Q q t) (same_res q r)) (λ q apart. ap (said (owned deck Q q t)) apart ∙ said-stays (owned deck Q q t))
-      (λ none_owned. unowned r (sym (is_owner-standing (list_of S r) t) ∙ none_owned))
-      (record { before = k; at = asked.1; asks = refl }) unit in
+      let z = deq_settles deck s os os' Q v good t moves ls ours (x.line - 1) x.code x.records x.rows (recalled v t (Deq r have)) did0 (lines.Deq r have) r (may_own deck s v r t ls ours (own-systems s r asked.2)) p speaks have
+      (λ q. same_res q r) (λ q apart. apart) (record { before = k; at = asked.1; asks = refl }) unit in
       record {
         res = r;
         of_res = refl;
@@ -124,14 +119,11 @@ module _ (deck : Deck) (s : ℕ) (os os' : Opens) (Q : List HistEntry) (v : Task
         after = replay-push deck.limit Q h ∙ (entry-after deck.limit S t (Deq r have) r h refl tt e).0;
         settles = subst (λ g. Settles deck s os' (Q ++ g ∷ []) v.told (tell_new (replied (recalled v t (Deq r have)) t (Deq r have) unit (answer_to S t (Deq r have))) (Some r) (new_owners S t (Deq r have)))) (first_same _ h e) z;
       }
-    where
-      unowned : (q : Res) → owned deck Q q t ≡ false → said (owned deck Q q t) (same_res q r) ≡ by_lists (replay deck.limit Q) t q
-      unowned q f = ap (λ b. said b (same_res q r)) f ∙ sym (ap both f)
-  own_read (Release r) unit h k asked e =
+  own_read (Release r) unit h p speaks k asked e =
       let x : TaskState = state_of v t in
       let S : State = replay deck.limit Q in
-      let z = release_settles deck s os os' Q v good t moves ls ours x.line x.code x.code x.records x.rows (recalled v t (Release r)) (recalls (Release r)) refl r (may_own deck s v r t ls ours (own-systems s r asked.1))
-      (λ q. said (owned deck Q q t) (same_res q r)) (λ q apart. ap (said (owned deck Q q t)) apart ∙ said-stays (owned deck Q q t)) k unit in
+      let z = release_settles deck s os os' Q v good t moves ls ours x.line x.code x.code x.records x.rows (recalled v t (Release r)) (recalls (Release r)) refl r (may_own deck s v r t ls ours (own-systems s r asked.1)) p speaks
+      (λ q. same_res q r) (λ q apart. apart) k unit in
       record {
         res = r;
         of_res = refl;
@@ -139,4 +131,4 @@ module _ (deck : Deck) (s : ℕ) (os os' : Opens) (Q : List HistEntry) (v : Task
         after = replay-push deck.limit Q h ∙ (entry-after deck.limit S t (Release r) r h refl tt e).0;
         settles = subst (λ g. Settles deck s os' (Q ++ g ∷ []) v.told (tell_new (replied (recalled v t (Release r)) t (Release r) unit (answer_to S t (Release r))) (Some r) (new_owners S t (Release r)))) (first_same _ h e) z;
       }
-  own_read (Look first count f) unit h k asked e = absurd asked
+  own_read (Look first count f) unit h p speaks k asked e = absurd asked

@@ -4,7 +4,6 @@ use Rattle.std.specs.Prelude.{is_some, ◌==◌}
 use Rattle.std.specs.List.{list_all}
 use Rattle.std.proofs.lemmas.Bool.{and_parts, eqb-true, eq-eqb}
 use Rattle.grs_base.specs.Same.{same_task}
-use Rattle.grs_base.specs.Lists.{owns, has_task}
 use Rattle.grs_base.specs.State.{State, list_of, is_full, is_systems}
 use Rattle.grs_base.specs.declared.resource.Res.{Res}
 use Rattle.grs_base.specs.declared.resource.TaskId.{TaskId}
@@ -21,25 +20,21 @@ use Rattle.grs_wire.specs.declared.request.Answer.{Answer}
 use Rattle.grs_wire.specs.declared.request.Req.{Req}
 use Rattle.grs_wire.specs.declared.request.Want.{Want}
 use Rattle.grs_wire.specs.declared.request.Want.TheVariants.{Enq, Deq, Release}
-use Rattle.grs_wire.proofs.WantLaws.{by_res, list_of-want_other}
 use Rattle.ring_mode.specs.Ring.{process, answer_own, is_asked, is_sent, same_want}
 use Rattle.task_state.specs.Replies.{replied, recalled, settled, settled_any, tell_new, tell_all, phase_asking, gives_up, is_leaving}
 use Rattle.task_state.specs.View.{TasksView, is_task, state_of}
 use Rattle.task_state.specs.declared.state.Asked.{Asked}
 use Rattle.task_state.specs.declared.state.TaskState.{TaskState}
 use Rattle.grs_world.proofs.Owners.{is_among}
-use Rattle.grs_world.proofs.Invariant.{has_res, IsTask}
-use Rattle.grs_world.proofs.Others.{KeepsTask, keeps-want, task-kept}
-use Rattle.grs_world.proofs.Granted.{past}
-use Rattle.grs_world.proofs.Keys.{has_res-task}
+use Rattle.grs_world.proofs.Invariant.{IsTask}
 use Rattle.grs_world.proofs.Seen.{part, is_res_of, is_home_at, askers, stand_apart, IsOthers, is_elsewhere, after_read, Reads, ToldBy, none}
-use Rattle.grs_world.proofs.Asking.{line_asked, unasked, unasked_by, IsAskedFor, IsOpenBy, IsReq, are_sent}
-use Rattle.grs_world.proofs.Ours.{IsOurs, IsHere, said}
-use Rattle.grs_world.proofs.Good.{owned, may_have, IsGood, has_task-home, past-other}
-use Rattle.grs_world.proofs.Events.{Settles, Moves, settles, elems-want, before-others_asker, unlike-ours}
+use Rattle.grs_world.proofs.Asking.{line_asked, unasked_by, IsAskedFor, IsOpenBy, IsReq, are_sent}
+use Rattle.grs_world.proofs.Ours.{IsOurs, IsHere}
+use Rattle.grs_world.proofs.Good.{may_have, IsGood}
+use Rattle.grs_world.proofs.Events.{Settles, Moves, settles, elems-want, before-others_asker}
 use Rattle.grs_world.proofs.Meant.{is_own}
 use Rattle.grs_world.proofs.Parts.{answer_to-part, new_owners-part, part-want_other}
-use Rattle.grs_world.proofs.AtNode.{opens_of, Seen, away-may, away-task, own-may, entry-after, speaks-by, held-shared, shared-shared}
+use Rattle.grs_world.proofs.AtNode.{opens_of, Seen, away-may, away-task, entry-after, held-shared, shared-shared}
 use Rattle.grs_world.proofs.OwnEntries.{task-open, same_want-itself, OwnRead, own_read}
 use Rattle.grs_world.proofs.Truths.{not_true}
 use Rattle.grs_world.proofs.Replied.{replay-push}
@@ -110,7 +105,7 @@ read_own deck s Q out n q h seen e = by_open (state_of v t).outstanding refl (he
     ours : IsOurs deck s n.tasks q.task ls
     ours = record { lines = (some_of (lines_of deck q.task) (and_parts (q.task.system.0 == s) (is_some (lines_of deck q.task)) home).1).1; home = eqb-true q.task.system.0 s (and_parts (q.task.system.0 == s) (is_some (lines_of deck q.task)) home).0; here = seen.good.here q.task home }
 
-    here : IsHere deck (opens_of (q ∷ out) n) Q (owned deck Q) n.tasks.told q.task ls (state_of n.tasks q.task)
+    here : IsHere deck (opens_of (q ∷ out) n) Q n.tasks.told q.task ls (state_of n.tasks q.task)
     here = seen.good.tasks.each q.task ls ours
 
     away : is_among q.task (askers (out ++ n.outbox)) ≡ false
@@ -132,9 +127,9 @@ read_own deck s Q out n q h seen e = by_open (state_of v t).outstanding refl (he
         let rq : a.req ≡ q = subst (IsReq q) f is in
         let opened : IsOpenBy deck.limit ls q.task x (Some a) = subst (λ o. IsOpenBy deck.limit ls q.task x o) f here.opened in
         let asked_for : IsAskedFor deck.limit ls x.line x.records q.want a.unit = subst (λ (z : Req). IsAskedFor deck.limit ls x.line x.records z.want a.unit) rq opened.2 in
-        let task1 = subst (λ o. IsTask ls (past deck.limit Q q.task) n.tasks.told (λ r. said (owned deck Q r q.task) (is_leaving r o)) q.task (unasked_by o x)) f here.task in
-        let task2 = subst (λ (z : Req). IsTask ls (past deck.limit Q q.task) n.tasks.told (λ r. said (owned deck Q r q.task) (gives_up r z.want)) q.task (record x { line = line_asked z.want x.line; phase = phase_asking z.want x.code })) rq task1 in
-        let own : OwnRead deck s (opens_of out n) Q n.tasks q.task q.want a.unit h = own_read deck s (opens_of (q ∷ out) n) (opens_of out n) Q n.tasks seen.good q.task moves ls ours q.want a.unit h (task-open ls (past deck.limit Q q.task) n.tasks.told _ q.task _ None task2) asked_for e in
+        let task1 = subst (λ o. IsTask ls here.past n.tasks.told (λ r. is_leaving r o) q.task (unasked_by o x)) f here.task in
+        let task2 = subst (λ (z : Req). IsTask ls here.past n.tasks.told (λ r. gives_up r z.want) q.task (record x { line = line_asked z.want x.line; phase = phase_asking z.want x.code })) rq task1 in
+        let own : OwnRead deck s (opens_of out n) Q n.tasks q.task q.want a.unit h = own_read deck s (opens_of (q ∷ out) n) (opens_of out n) Q n.tasks seen.good q.task moves ls ours q.want a.unit h here.past here.speaks (task-open ls here.past n.tasks.told _ q.task _ None task2) asked_for e in
         reads-by deck s Q (q ∷ out) out n seen q h own.res own.of_res own.systems own.after (and_parts _ _ seen.homes).1 (and_parts _ _ seen.apart).1 _
         (read-tasks n q
         ∙ ap (λ z. tell_new z (res_wanted q.want) (new_owners n.shared q.task q.want)) (answers-own n.tasks q (answer_to n.shared q.task q.want) a ours.here sent f rq (same_want-itself q.want own.res own.of_res))
@@ -150,10 +145,9 @@ read_other deck s Q out n q h seen others e =
     let r : Res = others.res in
     let both = entry-after deck.limit S q.task q.want r h others.of_res others.fits e in
     let after : replay deck.limit (Q ++ h ∷ []) ≡ after_want S q.task q.want = replay-push deck.limit Q h ∙ both.0 in
-    let speaks = speaks-by q.want r others.of_res in
     let settled : Settles deck s (opens_of out n) (Q ++ h ∷ []) n.tasks.told (tell_all n.tasks r (became_owners (list_of S r) (list_of (after_want S q.task q.want) r) q.task)) =
-    settles deck s (opens_of out n) (opens_of out n) Q n.tasks seen.good q.task q.want r speaks h both.1 after (λ z f. away-may deck s z q.task others.of_deck others.apart) n.tasks (λ u. refl) refl
-    (before-others_asker deck s (opens_of out n) Q n.tasks seen.good q.task others.apart q.want r speaks h both.1 after) n.tasks.told none in
+    settles deck s (opens_of out n) (opens_of out n) Q n.tasks seen.good q.task q.want r h after (λ z f. away-may deck s z q.task others.of_deck others.apart) n.tasks (λ u. refl) refl
+    (before-others_asker deck s (opens_of out n) Q n.tasks seen.good q.task others.apart q.want h both.1 after) n.tasks.told none in
     reads-by deck s Q out out n seen q h r others.of_res others.systems after seen.homes seen.apart _
     (read-tasks n q
     ∙ ap (λ z. tell_new z (res_wanted q.want) (new_owners n.shared q.task q.want)) (answers-none n.tasks q (answer_to n.shared q.task q.want) (away-task n.tasks q.task s seen.good.system others.apart))
@@ -164,31 +158,6 @@ read_other deck s Q out n q h seen others e =
 -- what another system decides by its own lists
 module _ (deck : Deck) (s : ℕ) (Q : List HistEntry) (out : List Req) (n : Node) (seen : Seen deck s Q out n) (t : TaskId) (w : Want) (r : Res) (is : res_wanted w ≡ Some r) (h : HistEntry) (mine : (u : TaskId) → is_by u h ≡ same_task u t)
     (after : replay deck.limit (Q ++ h ∷ []) ≡ after_want (replay deck.limit Q) t w) (some : is_some (lines_of deck t) ≡ true) (away : t.system.0 ≢ s) (alone : is_own s r ≡ false) where
-  -- no task of ours has an element there
-  none_there : (u : TaskId) (ms : List Meaning) (o : IsOurs deck s n.tasks u ms) (z : Res) → has_res z (unasked (state_of n.tasks u)).records ≡ true → owned deck (Q ++ h ∷ []) z u ≡ owned deck Q z u
-  none_there u ms o z has =
-      let k = seen.good.tasks.each u ms o in
-      let there : has_task (list_of (replay deck.limit Q) z) u ≡ true = sym (has_res-task (replay deck.limit Q) u z (unasked (state_of n.tasks u)).records k.task.keys) ∙ has in
-      let may : is_own s z ≡ true = own-may deck s n.tasks z u ms o (has_task-home (may_have deck s) (replay deck.limit Q) z u seen.good.elems there) in
-      by_res z r _
-      (λ same. absurd (let f : false ≡ true = sym alone ∙ ap (is_own s) (sym same) ∙ may in cc))
-      (λ apart. ap (λ x. owns (list_of x z) u) after ∙ ap (λ es. owns es u) (list_of-want_other (replay deck.limit Q) t w z (speaks-by w r is z ∙ apart)))
-
-  stays : (u : TaskId) (ms : List Meaning) (o : IsOurs deck s n.tasks u ms) → IsHere deck (opens_of out n) (Q ++ h ∷ []) (owned deck (Q ++ h ∷ [])) n.tasks.told u ms (state_of n.tasks u)
-  stays u ms o =
-      let k = seen.good.tasks.each u ms o in
-      let x : TaskState = state_of n.tasks u in
-      let apart : same_task u t ≡ false = unlike-ours deck s n.tasks t u ms away o in
-      let keeps : KeepsTask (replay deck.limit Q) (replay deck.limit (Q ++ h ∷ [])) u = subst (λ z. KeepsTask (replay deck.limit Q) z u) (sym after) (keeps-want (replay deck.limit Q) t w u apart) in
-      record {
-        task = subst (λ p. IsTask ms p n.tasks.told (λ z. said (owned deck (Q ++ h ∷ []) z u) (is_leaving z x.outstanding)) u (unasked x)) (sym (past-other deck.limit Q h u (mine u ∙ apart)))
-            (task-kept ms (past deck.limit Q u) n.tasks.told (λ z. said (owned deck Q z u) (is_leaving z x.outstanding)) (λ z. said (owned deck (Q ++ h ∷ []) z u) (is_leaving z x.outstanding)) (replay deck.limit (Q ++ h ∷ [])) u (unasked x) keeps
-            (λ z has. ap (λ b. said b (is_leaving z x.outstanding)) (none_there u ms o z has)) k.task);
-        opened = k.opened;
-        asked = k.asked;
-        sent = k.sent;
-      }
-
   no_systems : is_systems r ≡ false
   no_systems = go (is_systems r) alone
     where
@@ -206,7 +175,7 @@ module _ (deck : Deck) (s : ℕ) (Q : List HistEntry) (out : List Req) (n : Node
   pub stays-elsewhere : Seen deck s (Q ++ h ∷ []) out n
   stays-elsewhere = record {
     good = record {
-      tasks = record { each = stays };
+      tasks = before-others_asker deck s (opens_of out n) Q n.tasks seen.good t away w h mine after;
       elems = subst (λ z. list_all (λ x. may_have deck s x.0 x.1.task) z ≡ true) (sym after) (elems-want (may_have deck s) (replay deck.limit Q) t w (λ z f. away-may deck s z t some away) seen.good.elems);
       here = seen.good.here;
       system = seen.good.system;

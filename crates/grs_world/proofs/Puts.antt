@@ -3,14 +3,17 @@ use Rattle.std.proofs.Common.{◌≡◌, ◌-◌, ℕ, zero, suc, true, false, L
 use Rattle.std.specs.Prelude.{is_some, ◌==◌}
 use Rattle.std.specs.List.{list_all}
 use Rattle.std.proofs.lemmas.Bool.{and_parts, cases_Bool, eqb-true}
-use Rattle.grs_base.specs.Same.{same_task}
+use Rattle.grs_base.specs.Same.{same_res, same_task}
+use Rattle.grs_base.specs.State.{is_systems}
+use Rattle.grs_base.specs.declared.resource.Res.{Res}
 use Rattle.grs_base.specs.declared.resource.TaskId.{TaskId}
 use Rattle.grs_base.proofs.SameLaws.{same_task-itself}
-use Rattle.grs_legal.specs.Asks.{AsksEnq, AsksDeq, lines_of}
+use Rattle.grs_legal.specs.Asks.{Ask, AsksEnq, AsksDeq, AsksRelease, lines_of}
 use Rattle.grs_legal.specs.declared.meaning.Meaning.{Meaning}
 use Rattle.grs_legal.specs.declared.meaning.Meaning.TheVariants as lines
 use Rattle.grs_node.specs.Node.{Node, all_sent, put_in}
 use Rattle.grs_wire.specs.History.{replay}
+use Rattle.grs_wire.specs.Wants.{res_wanted}
 use Rattle.grs_wire.specs.declared.deck.Deck.{Deck}
 use Rattle.grs_wire.specs.declared.history.HistEntry.{HistEntry}
 use Rattle.grs_wire.specs.declared.request.Req.{Req}
@@ -22,17 +25,19 @@ use Rattle.task_state.specs.declared.state.Asked.{Asked}
 use Rattle.task_state.specs.declared.state.Phase.{Phase}
 use Rattle.task_state.specs.declared.state.Phase.TheVariants as phases
 use Rattle.task_state.specs.declared.state.TaskState.{TaskState}
-use Rattle.grs_world.proofs.Invariant.{IsTask}
-use Rattle.grs_world.proofs.Granted.{past}
-use Rattle.grs_world.proofs.Asked.{Asks}
-use Rattle.grs_world.proofs.Seen.{is_home_at, askers, stand_apart, MayPut, none}
+use Rattle.grs_known.specs.Past.{Past, Speaks}
+use Rattle.grs_world.proofs.Invariant.{IsNext, IsTask}
+use Rattle.grs_world.proofs.Asked.{next-asked}
+use Rattle.grs_world.proofs.Speaking.{next-speaks, lines-speaks, free-speaks}
+use Rattle.grs_world.proofs.Steps.{next-ending}
+use Rattle.grs_world.proofs.Seen.{is_home_at, askers, stand_apart, FullFits, ask_of, MayPut, none}
 use Rattle.grs_world.proofs.Asking.{line_asked, unasked_by, IsAskedFor, IsOpenBy, Opens, IsReq, IsAskedBy, are_sent}
-use Rattle.grs_world.proofs.Ours.{IsOurs, IsHere, said}
+use Rattle.grs_world.proofs.Ours.{IsOurs, IsHere}
 use Rattle.grs_world.proofs.Telling.{told-phase}
 use Rattle.grs_world.proofs.Did.{did-none, did-phase}
-use Rattle.grs_world.proofs.Good.{owned, IsGood}
-use Rattle.grs_world.proofs.Events.{next_line, passed_before, is_full_by}
-use Rattle.grs_world.proofs.Turns.{quiet_settles, next_release, passed_ending}
+use Rattle.grs_world.proofs.Good.{IsGood}
+use Rattle.grs_world.proofs.Events.{is_full-speaks}
+use Rattle.grs_world.proofs.Turns.{quiet_settles}
 use Rattle.grs_world.proofs.AtNode.{opens_of, Seen}
 use Rattle.grs_world.proofs.OwnEntries.{task-open}
 use Rattle.grs_world.proofs.Facts.{all-behind, all-middle, some_of, take-drop, take-none}
@@ -66,17 +71,19 @@ put_one deck s Q out q box v good home =
     let did = did-phase v v q.task x v.told mine.1.here (did-none v q.task) phases.Sent in
     (quiet_settles deck s (record { out = out; all = out ++ q ∷ box }) (record { out = out ++ q ∷ []; all = out ++ q ∷ box }) Q v good q.task mine.0 mine.1 (with_phase v q.task phases.Sent) _ v.told did
     (record {
-      task = by_task x mine.0 x.outstanding (asked-middle q.task x.outstanding out q box k.asked (same_task-itself q.task)) k.task;
+      past = k.past;
+      speaks = k.speaks;
+      task = by_task x mine.0 k.past x.outstanding (asked-middle q.task x.outstanding out q box k.asked (same_task-itself q.task)) k.task;
       opened = by_opened x mine.0 x.outstanding (asked-middle q.task x.outstanding out q box k.asked (same_task-itself q.task)) k.opened;
       asked = k.asked;
       sent = all_sent-all q.task (out ++ q ∷ []);
     })
-    (λ u o apart a. a) (λ u p apart a. sent-push u p out q apart a) (λ u ms p knows y apart j. j) none).good
+    (λ u o apart a. a) (λ u p apart a. sent-push u p out q apart a) (λ u ms p leaving y apart j. j) none).good
   where
-    by_task : (x : TaskState) (ls : List Meaning) (o : Option Asked) → IsReq q o → IsTask ls (past deck.limit Q q.task) v.told (λ r. said (owned deck Q r q.task) (is_leaving r o)) q.task (unasked_by o x) →
-        IsTask ls (past deck.limit Q q.task) v.told (λ r. said (owned deck Q r q.task) (is_leaving r o)) q.task (unasked_by o (record x { phase = phases.Sent; code = code_in phases.Sent x.code }))
-    by_task x ls None is j = absurd is
-    by_task x ls (Some a) is j = j
+    by_task : (x : TaskState) (ls : List Meaning) (p : Past) (o : Option Asked) → IsReq q o → IsTask ls p v.told (λ r. is_leaving r o) q.task (unasked_by o x) →
+        IsTask ls p v.told (λ r. is_leaving r o) q.task (unasked_by o (record x { phase = phases.Sent; code = code_in phases.Sent x.code }))
+    by_task x ls p None is j = absurd is
+    by_task x ls p (Some a) is j = j
 
     by_opened : (x : TaskState) (ls : List Meaning) (o : Option Asked) → IsReq q o → IsOpenBy deck.limit ls q.task x o → IsOpenBy deck.limit ls q.task (record x { phase = phases.Sent; code = code_in phases.Sent x.code }) o
     by_opened x ls None is j = absurd is
@@ -120,54 +127,35 @@ put deck s Q out n k seen =
     }
 
 -- what an outstanding request asks is what its task asks next, and it may
-module _ (deck : Deck) (s : ℕ) (Q : List HistEntry) (t : TaskId) (v : TasksView) (ls : List Meaning) (ours : IsOurs deck s v t ls) where
+module _ (deck : Deck) (s : ℕ) (Q : List HistEntry) (t : TaskId) (v : TasksView) (ls : List Meaning) (ours : IsOurs deck s v t ls) (p : Past) (speaks : Speaks deck.limit t p Q) where
+  may_put_next : (w : Want) (r : Res) (a : Ask) → res_wanted w ≡ Some r → is_systems r ≡ true → FullFits deck.limit (replay deck.limit Q) t w → ask_of w ≡ Some a → IsNext ls p a → MayPut deck s Q (record { task = t; want = w })
+  may_put_next w r a of_res systems fits asks i = record {
+    lines = ls;
+    of_deck = ours.lines;
+    home = ours.home;
+    res = r;
+    of_res = of_res;
+    systems = systems;
+    fits = fits;
+    next = next-speaks deck.limit t p Q speaks ls ∙ i.next ∙ sym asks;
+    waited = free-speaks deck.limit t p Q speaks i.free;
+    passed = lines-speaks deck.limit t p Q speaks ls i.passed;
+  }
+
   may_put_by : (w : Want) (unit : Option ℕ) →
-      IsTask ls (past deck.limit Q t) v.told (λ r. said (owned deck Q r t) (gives_up r w)) t (record (state_of v t) { line = line_asked w (state_of v t).line; phase = phase_asking w (state_of v t).code; outstanding = None }) →
+      IsTask ls p v.told (λ r. gives_up r w) t (record (state_of v t) { line = line_asked w (state_of v t).line; phase = phase_asking w (state_of v t).code; outstanding = None }) →
       IsAskedFor deck.limit ls (state_of v t).line (state_of v t).records w unit → MayPut deck s Q (record { task = t; want = w })
   may_put_by (Enq r c ret full) unit k asked =
       let x : TaskState = state_of v t in
-      let before : Asks ls (past deck.limit Q t) v.told (λ q. said (owned deck Q q t) false) t (x.line - 1) x.code x.records None x.rows (lines.Enq r c ret unit) (AsksEnq r c ret) = record { before = k; at = asked.1; asks = refl } in
-      record {
-        lines = ls;
-        of_deck = ours.lines;
-        home = ours.home;
-        res = r;
-        of_res = refl;
-        systems = asked.2;
-        fits = asked.3 ∙ is_full_by deck.limit (replay deck.limit Q) t x.records k.keys;
-        next = next_line deck.limit ls Q v.told t (x.line - 1) x.code x.records None x.rows (lines.Enq r c ret unit) (AsksEnq r c ret) (λ q. said (owned deck Q q t) false) before;
-        waited = k.phase.free;
-        passed = passed_before deck.limit ls Q v.told t (x.line - 1) x.code x.records None x.rows (lines.Enq r c ret unit) (AsksEnq r c ret) (λ q. said (owned deck Q q t) false) before;
-      }
+      may_put_next (Enq r c ret full) r (AsksEnq r c ret) refl asked.2 (asked.3 ∙ is_full-speaks deck.limit t p Q x.records speaks k.keys) refl
+      (next-asked ls p v.told (λ q. false) t (x.line - 1) x.code x.records None x.rows (lines.Enq r c ret unit) (AsksEnq r c ret) (record { before = k; at = asked.1; asks = refl }))
   may_put_by (Deq r have) unit k asked =
       let x : TaskState = state_of v t in
-      let before : Asks ls (past deck.limit Q t) v.told (λ q. said (owned deck Q q t) (gives_up q (Deq r have))) t (x.line - 1) x.code x.records None x.rows (lines.Deq r have) (AsksDeq r have) = record { before = k; at = asked.1; asks = refl } in
-      record {
-        lines = ls;
-        of_deck = ours.lines;
-        home = ours.home;
-        res = r;
-        of_res = refl;
-        systems = asked.2;
-        fits = tt;
-        next = next_line deck.limit ls Q v.told t (x.line - 1) x.code x.records None x.rows (lines.Deq r have) (AsksDeq r have) (λ q. said (owned deck Q q t) (gives_up q (Deq r have))) before;
-        waited = k.phase.free;
-        passed = passed_before deck.limit ls Q v.told t (x.line - 1) x.code x.records None x.rows (lines.Deq r have) (AsksDeq r have) (λ q. said (owned deck Q q t) (gives_up q (Deq r have))) before;
-      }
+      may_put_next (Deq r have) r (AsksDeq r have) refl asked.2 tt refl
+      (next-asked ls p v.told (λ q. same_res q r) t (x.line - 1) x.code x.records None x.rows (lines.Deq r have) (AsksDeq r have) (record { before = k; at = asked.1; asks = refl }))
   may_put_by (Release r) unit k asked =
       let x : TaskState = state_of v t in
-      record {
-        lines = ls;
-        of_deck = ours.lines;
-        home = ours.home;
-        res = r;
-        of_res = refl;
-        systems = asked.1;
-        fits = tt;
-        next = next_release deck.limit ls Q v.told t x.line x.code x.code x.records None x.rows (λ q. said (owned deck Q q t) (gives_up q (Release r))) k r asked.0;
-        waited = k.phase.free;
-        passed = passed_ending deck.limit ls Q v.told t x.line x.code x.code x.records None x.rows (λ q. said (owned deck Q q t) (gives_up q (Release r))) k;
-      }
+      may_put_next (Release r) r (AsksRelease r) refl asked.1 tt refl (next-ending ls p v.told (λ q. same_res q r) t x.line x.code x.code x.records None x.rows k r asked.0)
   may_put_by (Look first count f) unit k asked = absurd asked
 
 pub may_put : (deck : Deck) (s : ℕ) (Q : List HistEntry) (out : List Req) (n : Node) (before : List Req) (q : Req) (behind : List Req) → Seen deck s Q out n → n.outbox ≡ before ++ q ∷ behind → MayPut deck s Q q
@@ -179,13 +167,13 @@ may_put deck s Q out n before q behind seen e =
     let is : IsReq q (state_of n.tasks q.task).outstanding = asked-middle q.task _ (out ++ before) q behind (subst (λ qs. IsAskedBy q.task (state_of n.tasks q.task).outstanding qs) all_is k.asked) (same_task-itself q.task) in
     by_open mine.0 mine.1 k (state_of n.tasks q.task).outstanding refl is
   where
-    by_open : (ls : List Meaning) (ours : IsOurs deck s n.tasks q.task ls) → IsHere deck (opens_of out n) Q (owned deck Q) n.tasks.told q.task ls (state_of n.tasks q.task) → (o : Option Asked) → (state_of n.tasks q.task).outstanding ≡ o → IsReq q (state_of n.tasks q.task).outstanding → MayPut deck s Q q
+    by_open : (ls : List Meaning) (ours : IsOurs deck s n.tasks q.task ls) → IsHere deck (opens_of out n) Q n.tasks.told q.task ls (state_of n.tasks q.task) → (o : Option Asked) → (state_of n.tasks q.task).outstanding ≡ o → IsReq q (state_of n.tasks q.task).outstanding → MayPut deck s Q q
     by_open ls ours k None f is = absurd (subst (IsReq q) f is)
     by_open ls ours k (Some a) f is =
         let x : TaskState = state_of n.tasks q.task in
         let rq : a.req ≡ q = subst (IsReq q) f is in
         let opened : IsOpenBy deck.limit ls q.task x (Some a) = subst (λ o. IsOpenBy deck.limit ls q.task x o) f k.opened in
         let asked_for : IsAskedFor deck.limit ls x.line x.records q.want a.unit = subst (λ (z : Req). IsAskedFor deck.limit ls x.line x.records z.want a.unit) rq opened.2 in
-        let task1 = subst (λ o. IsTask ls (past deck.limit Q q.task) n.tasks.told (λ r. said (owned deck Q r q.task) (is_leaving r o)) q.task (unasked_by o x)) f k.task in
-        let task2 = subst (λ (z : Req). IsTask ls (past deck.limit Q q.task) n.tasks.told (λ r. said (owned deck Q r q.task) (gives_up r z.want)) q.task (record x { line = line_asked z.want x.line; phase = phase_asking z.want x.code })) rq task1 in
-        may_put_by deck s Q q.task n.tasks ls ours q.want a.unit (task-open ls (past deck.limit Q q.task) n.tasks.told _ q.task _ None task2) asked_for
+        let task1 = subst (λ o. IsTask ls k.past n.tasks.told (λ r. is_leaving r o) q.task (unasked_by o x)) f k.task in
+        let task2 = subst (λ (z : Req). IsTask ls k.past n.tasks.told (λ r. gives_up r z.want) q.task (record x { line = line_asked z.want x.line; phase = phase_asking z.want x.code })) rq task1 in
+        may_put_by deck s Q q.task n.tasks ls ours k.past k.speaks q.want a.unit (task-open ls k.past n.tasks.told _ q.task _ None task2) asked_for

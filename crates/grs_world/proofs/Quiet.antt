@@ -4,7 +4,7 @@ use Rattle.std.specs.Prelude.{slice_get, is_some, nat_le}
 use Rattle.std.specs.List.{list_all, list_any}
 use Rattle.std.proofs.lemmas.Bool.{and_parts, cases_Bool}
 use Rattle.grs_base.specs.Same.{same_res, same_task}
-use Rattle.grs_base.specs.Lists.{owns, has_task, standing_of, decide_enq, deq_code}
+use Rattle.grs_base.specs.Lists.{owns, standing_of, decide_enq, deq_code}
 use Rattle.grs_base.specs.declared.resource.Row.{Row}
 use Rattle.grs_base.specs.State.{State, list_of, is_full, is_systems}
 use Rattle.grs_base.specs.declared.resource.Ctl.{Ctl}
@@ -15,7 +15,7 @@ use Rattle.grs_base.specs.declared.decision.Code.{Code}
 use Rattle.grs_base.specs.declared.decision.Code.TheVariants.{C00, C08}
 use Rattle.grs_base.proofs.SameLaws.{same_res-exact, same_res-itself}
 use Rattle.grs_legal.specs.Asks.{AsksEnq, AsksDeq, asks_in, lines_of}
-use Rattle.grs_legal.specs.Legal.{IsLegal, IsLegalOf, MayStand, lets_pass, line_entries}
+use Rattle.grs_legal.specs.Legal.{IsLegal, IsLegalOf, MayStand, line_entries}
 use Rattle.grs_legal.specs.declared.meaning.Meaning.{Meaning}
 use Rattle.grs_legal.specs.declared.meaning.Meaning.TheVariants as lines
 use Rattle.grs_node.specs.Node.{Node, only, with_tasks, decide, post, ask, wait, has_most, take_line, end_step, ready_step, phase_step, task_step, goes_on, may_go, finish_quiet}
@@ -41,26 +41,26 @@ use Rattle.task_state.specs.declared.state.Rec.{Rec}
 use Rattle.task_state.specs.declared.state.TaskState.{TaskState}
 use Rattle.grs_world.specs.Agree.{LineAgrees, TellsWait, tells_control}
 use Rattle.grs_world.proofs.Owners.{is_among}
-use Rattle.grs_world.proofs.Invariant.{IsRec, Past, IsTask, has_res, is_unsent}
-use Rattle.grs_world.proofs.Others.{task-told}
+use Rattle.grs_known.specs.Past.{Past}
+use Rattle.grs_world.proofs.Invariant.{IsRec, has_own, may_pass, IsTask, has_res, is_unsent}
+use Rattle.grs_world.proofs.Others.{task-leaving, task-told}
 use Rattle.grs_world.proofs.Control.{found, not_found}
-use Rattle.grs_world.proofs.Granted.{past}
-use Rattle.grs_world.proofs.Keys.{has_res-task}
+use Rattle.grs_world.proofs.Keys.{has_res-own}
+use Rattle.grs_world.proofs.Speaking.{has-speaks}
 use Rattle.grs_world.proofs.Asked.{Asks}
-use Rattle.grs_world.proofs.Decided.{by_lists}
 use Rattle.grs_world.proofs.Seen.{is_res_of, is_home_at, askers, stand_apart, FullFits, QuietStep, keeps, fixes, ToldBy, none, more}
 use Rattle.grs_world.proofs.Asking.{line_asked, unasked, IsAtLines, IsAskedFor, IsOpenBy, Opens, IsReq, IsAskedBy, asked-none, sent-absent, held-none}
-use Rattle.grs_world.proofs.Ours.{IsOurs, IsHere, said, ours-line, agrees-ours}
+use Rattle.grs_world.proofs.Ours.{IsOurs, IsHere, ours-line, agrees-ours}
 use Rattle.grs_world.proofs.Did.{Did, did-none, did-line, did-phase, did-outstanding, did-telling}
 use Rattle.grs_world.proofs.Steps.{task-skipped, task-waited, task-held, task-ending, task-ended}
-use Rattle.grs_world.proofs.Good.{owned, may_have, IsGood, has_task-home, home-ours, ours-home}
-use Rattle.grs_world.proofs.Events.{Settles, Moves, is_full_by, enq_legal, enq_settles, deq_legal, deq_settles}
+use Rattle.grs_world.proofs.Good.{may_have, IsGood, has_task-home, home-ours, ours-home}
+use Rattle.grs_world.proofs.Events.{Settles, Moves, task-closed, is_full-speaks, enq_legal, enq_settles, deq_legal, deq_settles}
 use Rattle.grs_world.proofs.Meant.{is_own, lines_own}
 use Rattle.grs_world.proofs.Parts.{answer_to-part, new_owners-part}
-use Rattle.grs_world.proofs.Turns.{quiet_settles, release_legal, release_settles, task-less, said-less, state-is, plain-task, plain-here}
+use Rattle.grs_world.proofs.Turns.{quiet_settles, release_legal, release_settles, state-is, plain-task}
 use Rattle.grs_world.proofs.AtNode.{opens_of, Seen, own-alone, own-may, may_own, held-alone, shared-alone}
 use Rattle.grs_world.proofs.OwnEntries.{task-open}
-use Rattle.grs_world.proofs.Truths.{or_second}
+use Rattle.grs_world.proofs.Truths.{or_first, or_second}
 use Rattle.grs_world.proofs.Replied.{replay-push}
 use Rattle.grs_world.proofs.Facts.{all-more}
 use Rattle.grs_world.proofs.Askers.{among-front, apart-push}
@@ -80,8 +80,12 @@ module _ (deck : Deck) (s : ℕ) (Q : List HistEntry) (out : List Req) (n : Node
   by_tasks v z = keeps refl (record { good = z.good; held = seen.held; shared = seen.shared; homes = seen.homes; apart = seen.apart }) z.told
 
   module _ (t : TaskId) (ls : List Meaning) (ours : IsOurs deck s n.tasks t ls) (closed : (state_of n.tasks t).outstanding ≡ None) where
-    here : IsHere deck (opens_of out n) Q (owned deck Q) n.tasks.told t ls (state_of n.tasks t)
+    here : IsHere deck (opens_of out n) Q n.tasks.told t ls (state_of n.tasks t)
     here = seen.good.tasks.each t ls ours
+
+    -- its past
+    abbrev p : Past
+    p = here.past
 
     unasked_here : IsAskedBy t None (out ++ n.outbox)
     unasked_here = subst (λ o. IsAskedBy t o (out ++ n.outbox)) closed here.asked
@@ -119,7 +123,7 @@ module _ (deck : Deck) (s : ℕ) (Q : List HistEntry) (out : List Req) (n : Node
 
     -- a request that waits to be put into the message
     posted : (v1 : TasksView) (w : Want) (unit : Option ℕ) (x : TaskState) → Did n.tasks v1 t x n.tasks.told →
-        IsTask ls (past deck.limit Q t) n.tasks.told (by_lists (replay deck.limit Q) t) t (record x { line = line_asked w x.line; phase = phase_asking w x.code }) →
+        IsTask ls p n.tasks.told (λ q. false) t (record x { line = line_asked w x.line; phase = phase_asking w x.code }) →
         IsAskedFor deck.limit ls x.line x.records w unit → QuietStep deck (Seen deck) s Q out n (post (with_tasks n v1) t w unit)
     unfolding post
     posted v1 w unit x did k asked =
@@ -130,17 +134,18 @@ module _ (deck : Deck) (s : ℕ) (Q : List HistEntry) (out : List Req) (n : Node
         let z : TaskState = record { line = x.line; phase = phases.ToSend; code = x.code; records = x.records; outstanding = Some a; rows = x.rows } in
         let pushed : (out ++ n.outbox) ++ q ∷ [] ≡ out ++ (n.outbox ++ q ∷ []) = append_assoc out n.outbox (q ∷ []) in
         let os' : Opens = record { out = out; all = out ++ (n.outbox ++ q ∷ []) } in
-        let task : IsTask ls (past deck.limit Q t) n.tasks.told (λ r. said (owned deck Q r t) (is_leaving r (Some a))) t (unasked z) =
-        task-less ls (past deck.limit Q t) n.tasks.told (by_lists (replay deck.limit Q) t) (λ r. said (owned deck Q r t) (is_leaving r (Some a))) t (unasked z) (λ r. said-less (owned deck Q r t) (is_leaving r (Some a)))
-        (task-open ls (past deck.limit Q t) n.tasks.told (by_lists (replay deck.limit Q) t) t (record x { line = line_asked w x.line; phase = phase_asking w x.code }) (Some a) k) in
+        let task : IsTask ls p n.tasks.told (λ r. is_leaving r (Some a)) t (unasked z) =
+        task-leaving ls p n.tasks.told (λ r. is_leaving r (Some a)) t (unasked z) (task-open ls p n.tasks.told (λ q. false) t (record x { line = line_asked w x.line; phase = phase_asking w x.code }) (Some a) k) in
         let settled = quiet_settles deck s (opens_of out n) os' Q n.tasks seen.good t ls ours (with_outstanding (with_phase v1 t phases.ToSend) t (Some a)) z n.tasks.told did2
         (record {
+          past = p;
+          speaks = here.speaks;
           task = task;
           opened = (refl, refl, asked);
           asked = subst (λ qs. IsAskedBy t (Some a) qs) pushed (asked-push_own t (Some a) (out ++ n.outbox) q free refl);
           sent = sent-absent t phases.ToSend out free_out;
         })
-        (λ u o apart j. subst (λ qs. IsAskedBy u o qs) pushed (asked-push_other u o (out ++ n.outbox) q apart j)) (λ u p apart j. j) (λ u ms p knows y apart j. j) none in
+        (λ u o apart j. subst (λ qs. IsAskedBy u o qs) pushed (asked-push_other u o (out ++ n.outbox) q apart j)) (λ u p apart j. j) (λ u ms p leaving y apart j. j) none in
         keeps refl
         (record {
           good = settled.good;
@@ -152,17 +157,19 @@ module _ (deck : Deck) (s : ℕ) (Q : List HistEntry) (out : List Req) (n : Node
         settled.told
 
     -- what makes the task one of ours after a step that leaves its open requests
-    still_here : (T : List ToldLine) (x : TaskState) → x.outstanding ≡ None → IsAtLines x.phase x.code → IsTask ls (past deck.limit Q t) T (by_lists (replay deck.limit Q) t) t x → IsHere deck (opens_of out n) Q (owned deck Q) T t ls x
+    still_here : (T : List ToldLine) (x : TaskState) → x.outstanding ≡ None → IsAtLines x.phase x.code → IsTask ls p T (λ q. false) t x → IsHere deck (opens_of out n) Q T t ls x
     still_here T x o at k = record {
-      task = plain-here deck (opens_of out n) Q T t ls x o k;
+      past = p;
+      speaks = here.speaks;
+      task = task-closed ls p T t x o k;
       opened = subst (λ z. IsOpenBy deck.limit ls t x z) (sym o) at;
       asked = subst (λ z. IsAskedBy t z (out ++ n.outbox)) (sym o) unasked_here;
       sent = sent-absent t x.phase out free_out;
     }
 
     -- a step that changes the task alone, and tells no more than lines to it
-    by_task : (v : TasksView) (x : TaskState) (T : List ToldLine) → Did n.tasks v t x T → x.outstanding ≡ None → IsAtLines x.phase x.code → IsTask ls (past deck.limit Q t) T (by_lists (replay deck.limit Q) t) t x →
-        ((u : TaskId) (ms : List Meaning) (q : Past) (knows : Res → Bool × Bool) (y : TaskState) → same_task u t ≡ false → IsTask ms q n.tasks.told knows u y → IsTask ms q T knows u y) →
+    by_task : (v : TasksView) (x : TaskState) (T : List ToldLine) → Did n.tasks v t x T → x.outstanding ≡ None → IsAtLines x.phase x.code → IsTask ls p T (λ q. false) t x →
+        ((u : TaskId) (ms : List Meaning) (q : Past) (leaving : Res → Bool) (y : TaskState) → same_task u t ≡ false → IsTask ms q n.tasks.told leaving u y → IsTask ms q T leaving u y) →
         ToldBy deck s (out ++ n.outbox) Q n.tasks.told T → QuietStep deck (Seen deck) s Q out n (only (with_tasks n v))
     by_task v x T did o at k told agreed = by_tasks v (quiet_settles deck s (opens_of out n) (opens_of out n) Q n.tasks seen.good t ls ours v x T did (still_here T x o at k) (λ u z apart j. j) (λ u p apart j. j) told agreed)
 
@@ -174,17 +181,17 @@ module _ (deck : Deck) (s : ℕ) (Q : List HistEntry) (out : List Req) (n : Node
 
     -- an ending task, by its parts
     module _ (v : TasksView) (m c code : ℕ) (xs : List Rec) (ws : List Row) (did : Did n.tasks v t (record { line = m; phase = phases.Ending c; code = code; records = xs; outstanding = None; rows = ws }) n.tasks.told) (coded : code ≡ c)
-        (k : IsTask ls (past deck.limit Q t) n.tasks.told (by_lists (replay deck.limit Q) t) t (record { line = m; phase = phases.Ending c; code = code; records = xs; outstanding = None; rows = ws })) where
+        (k : IsTask ls p n.tasks.told (λ q. false) t (record { line = m; phase = phases.Ending c; code = code; records = xs; outstanding = None; rows = ws })) where
       -- it releases the first resource on record
       released : (y : Rec) (ys : List Rec) → xs ≡ y ∷ ys → QuietStep deck (Seen deck) s Q out n (ask (with_tasks n v) t (Release y.res) None)
       unfolding ask
       released y ys e = by_test (QuietStep deck (Seen deck) s Q out n) (is_systems y.res) _ _
           (λ all. posted v (Release y.res) None (record { line = m; phase = phases.Ending c; code = code; records = xs; outstanding = None; rows = ws }) did
-          (subst (λ z. IsTask ls (past deck.limit Q t) n.tasks.told (by_lists (replay deck.limit Q) t) t (record { line = m; phase = phases.Ending z; code = code; records = xs; outstanding = None; rows = ws })) (sym coded) k)
+          (subst (λ z. IsTask ls p n.tasks.told (λ q. false) t (record { line = m; phase = phases.Ending z; code = code; records = xs; outstanding = None; rows = ws })) (sym coded) k)
           (first, all))
           (λ alone. decided v (Release y.res) None y.res (entries.Release t y.res) refl (own-alone s y.res (own-may deck s n.tasks y.res t ls ours proper) alone) tt refl (replay-push deck.limit Q (entries.Release t y.res))
-          (legal-of (entries.Release t y.res) (release_legal deck s (opens_of out n) (opens_of out n) Q n.tasks seen.good t moves ls ours m c code xs ws v did coded y.res proper (by_lists (replay deck.limit Q) t) (λ q apart. refl) k first))
-          (release_settles deck s (opens_of out n) (opens_of out n) Q n.tasks seen.good t moves ls ours m c code xs ws v did coded y.res proper (by_lists (replay deck.limit Q) t) (λ q apart. refl) k None))
+          (legal-of (entries.Release t y.res) (release_legal deck s (opens_of out n) (opens_of out n) Q n.tasks seen.good t moves ls ours m c code xs ws v did coded y.res proper p here.speaks (λ q. false) (λ q apart. refl) k first))
+          (release_settles deck s (opens_of out n) (opens_of out n) Q n.tasks seen.good t moves ls ours m c code xs ws v did coded y.res proper p here.speaks (λ q. false) (λ q apart. refl) k None))
         where
           first : slice_get (map (λ (z : Rec). z.res) xs) 0 ≡ Some y.res
           first = ap (λ zs. slice_get (map (λ (z : Rec). z.res) zs) 0) e
@@ -193,19 +200,19 @@ module _ (deck : Deck) (s : ℕ) (Q : List HistEntry) (out : List Req) (n : Node
           there = ap (has_res y.res) e ∙ ap (λ b. b || has_res y.res ys) (same_res-itself y.res)
 
           proper : may_have deck s y.res t ≡ true
-          proper = has_task-home (may_have deck s) (replay deck.limit Q) y.res t seen.good.elems (sym (has_res-task (replay deck.limit Q) t y.res xs k.keys) ∙ there)
+          proper = has_task-home (may_have deck s) (replay deck.limit Q) y.res t seen.good.elems (has-speaks deck.limit t p Q here.speaks y.res ∙ sym (has_res-own y.res xs p.own k.keys) ∙ there)
 
       -- it has ended
       ended : xs ≡ [] → QuietStep deck (Seen deck) s Q out n (only (with_tasks n (telling (with_phase v t phases.Ended) (Ended t c))))
       ended e =
-          let none_left = subst (λ zs. IsTask ls (past deck.limit Q t) n.tasks.told (by_lists (replay deck.limit Q) t) t (record { line = m; phase = phases.Ending c; code = code; records = zs; outstanding = None; rows = ws })) e k in
-          let done = task-ended deck.limit ls Q n.tasks.told (by_lists (replay deck.limit Q) t) t m c code None ws none_left in
+          let none_left = subst (λ zs. IsTask ls p n.tasks.told (λ q. false) t (record { line = m; phase = phases.Ending c; code = code; records = zs; outstanding = None; rows = ws })) e k in
+          let done = task-ended ls p n.tasks.told (λ q. false) t m c code None ws none_left in
           let did1 = did-telling n.tasks (with_phase v t phases.Ended) t (record { line = m; phase = phases.Ended; code = code; records = xs; outstanding = None; rows = ws }) n.tasks.told (Ended t c)
           (did-phase n.tasks v t (record { line = m; phase = phases.Ending c; code = code; records = xs; outstanding = None; rows = ws }) n.tasks.told ours.here did phases.Ended) in
           by_task (telling (with_phase v t phases.Ended) (Ended t c)) _ _ did1 refl tt
-          (subst (λ zs. IsTask ls (past deck.limit Q t) (n.tasks.told ++ Ended t c ∷ []) (by_lists (replay deck.limit Q) t) t (record { line = m; phase = phases.Ended; code = code; records = zs; outstanding = None; rows = ws })) (sym e) done.0)
-          (λ u ms q knows y apart j. task-told ms q n.tasks.told knows u y (Ended t c) apart j)
-          (more n.tasks.told (Ended t c) none (ours-line deck s n.tasks t ls ours) (agrees-ours deck t ls Q n.tasks.told (Ended t c) ours.lines done.1) free)
+          (subst (λ zs. IsTask ls p (n.tasks.told ++ Ended t c ∷ []) (λ q. false) t (record { line = m; phase = phases.Ended; code = code; records = zs; outstanding = None; rows = ws })) (sym e) done.0)
+          (λ u ms q leaving y apart j. task-told ms q n.tasks.told leaving u y (Ended t c) apart j)
+          (more n.tasks.told (Ended t c) none (ours-line deck s n.tasks t ls ours) (agrees-ours deck t ls Q n.tasks.told (Ended t c) ours.lines (done.1 deck.limit Q here.speaks)) free)
 
       -- a step of its end
       end_outcome : (zs : List Rec) → xs ≡ zs → QuietStep deck (Seen deck) s Q out n (end_step (with_tasks n v) t c zs)
@@ -215,8 +222,8 @@ module _ (deck : Deck) (s : ℕ) (Q : List HistEntry) (out : List Req) (n : Node
 
     -- a task that is ready, by its parts
     module _ (ready : (state_of n.tasks t).phase ≡ phases.Ready) where
-      is_ready : IsTask ls (past deck.limit Q t) n.tasks.told (by_lists (replay deck.limit Q) t) t (record (state_of n.tasks t) { phase = phases.Ready; outstanding = None })
-      is_ready = plain-task deck (opens_of out n) Q n.tasks.told t ls (state_of n.tasks t) phases.Ready ready closed here
+      is_ready : IsTask ls p n.tasks.told (λ q. false) t (record (state_of n.tasks t) { phase = phases.Ready; outstanding = None })
+      is_ready = plain-task ls p n.tasks.told t (state_of n.tasks t) phases.Ready ready closed here.task
 
       begun : Did n.tasks n.tasks t (record (state_of n.tasks t) { phase = phases.Ready; outstanding = None }) n.tasks.told
       begun = subst (λ y. Did n.tasks n.tasks t y n.tasks.told) (state-is (state_of n.tasks t) phases.Ready ready closed) (did-none n.tasks t)
@@ -234,20 +241,20 @@ module _ (deck : Deck) (s : ℕ) (Q : List HistEntry) (out : List Req) (n : Node
       kept w unit line phase asked =
           let x : TaskState = state_of n.tasks t in
           posted (with_line n.tasks t) w unit (record { line = suc x.line; phase = phases.Ready; code = x.code; records = x.records; outstanding = None; rows = x.rows }) taken
-          (subst (λ m. IsTask ls (past deck.limit Q t) n.tasks.told (by_lists (replay deck.limit Q) t) t (record { line = m; phase = phase_asking w x.code; code = x.code; records = x.records; outstanding = None; rows = x.rows })) (sym line)
-          (subst (λ ph. IsTask ls (past deck.limit Q t) n.tasks.told (by_lists (replay deck.limit Q) t) t (record { line = x.line; phase = ph; code = x.code; records = x.records; outstanding = None; rows = x.rows })) (sym phase) is_ready))
+          (subst (λ m. IsTask ls p n.tasks.told (λ q. false) t (record { line = m; phase = phase_asking w x.code; code = x.code; records = x.records; outstanding = None; rows = x.rows })) (sym line)
+          (subst (λ ph. IsTask ls p n.tasks.told (λ q. false) t (record { line = x.line; phase = ph; code = x.code; records = x.records; outstanding = None; rows = x.rows })) (sym phase) is_ready))
           asked
 
       -- a line that asks nothing and is passed
-      skipped : (l : Meaning) → slice_get ls (state_of n.tasks t).line ≡ Some l → asks_in l ≡ [] → lets_pass (replay deck.limit Q) t l ≡ true → QuietStep deck (Seen deck) s Q out n (only (with_tasks n (with_line n.tasks t)))
+      skipped : (l : Meaning) → slice_get ls (state_of n.tasks t).line ≡ Some l → asks_in l ≡ [] → may_pass p l ≡ true → QuietStep deck (Seen deck) s Q out n (only (with_tasks n (with_line n.tasks t)))
       skipped l at asks lets =
           let x : TaskState = state_of n.tasks t in
           by_task (with_line n.tasks t) _ _ taken refl tt
-          (task-skipped ls (past deck.limit Q t) n.tasks.told (by_lists (replay deck.limit Q) t) t x.line x.code x.records None x.rows l is_ready at asks lets)
-          (λ u ms q knows y apart j. j) none
+          (task-skipped ls p n.tasks.told (λ q. false) t x.line x.code x.records None x.rows l is_ready at asks lets)
+          (λ u ms q leaving y apart j. j) none
 
       -- a WAIT line told by its code
-      waited : (l : Meaning) → slice_get ls (state_of n.tasks t).line ≡ Some l → asks_in l ≡ [] → (c : Code) → lets_pass (replay deck.limit Q) t l ≡ true →
+      waited : (l : Meaning) → slice_get ls (state_of n.tasks t).line ≡ Some l → asks_in l ≡ [] → (c : Code) → may_pass p l ≡ true →
           TellsWait t ls (line_entries t Q) n.tasks.told (replay deck.limit Q) c (Some l) →
           (w : TasksView) → w ≡ telling (with_line n.tasks t) (Coded t (suc (state_of n.tasks t).line) 0 verbs.Wait c) →
           QuietStep deck (Seen deck) s Q out n (only (with_tasks n w))
@@ -259,8 +266,8 @@ module _ (deck : Deck) (s : ℕ) (Q : List HistEntry) (out : List Req) (n : Node
           let agrees : LineAgrees deck.limit ls Q T told_line = (omega arith, subst (TellsWait t ls (line_entries t Q) T (replay deck.limit Q) c) (sym (ap (slice_get ls) (omega (arith)) ∙ at)) tells, is_ready.codes, is_ready.phase.going.no_end) in
           subst (λ z. QuietStep deck (Seen deck) s Q out n (only (with_tasks n z))) (sym is)
           (by_task (telling (with_line n.tasks t) told_line) _ _ did1 refl tt
-          (task-waited ls (past deck.limit Q t) T (by_lists (replay deck.limit Q) t) t x.line x.code x.records None x.rows l is_ready at asks c lets)
-          (λ u ms q knows y apart j. task-told ms q T knows u y told_line apart j)
+          (task-waited ls p T (λ q. false) t x.line x.code x.records None x.rows l is_ready at asks c lets)
+          (λ u ms q leaving y apart j. task-told ms q T leaving u y told_line apart j)
           (more T told_line none (ours-line deck s n.tasks t ls ours) (refl, agrees-ours deck t ls Q T told_line ours.lines agrees) free))
 
       -- a WAIT line
@@ -277,26 +284,27 @@ module _ (deck : Deck) (s : ℕ) (Q : List HistEntry) (out : List Req) (n : Node
 
           by_record : (o : Option Rec) → record_of (state_of n.tasks t).records q ≡ o → QuietStep deck (Seen deck) s Q out n (only (with_tasks n (wait (with_line n.tasks t) t q o)))
           by_record None e =
-              let absent : has_task (list_of (replay deck.limit Q) q) t ≡ false = sym (has_res-task (replay deck.limit Q) t q (state_of n.tasks t).records is_ready.keys) ∙ not_found (state_of n.tasks t).records q e in
-              waited (lines.Wait q) at refl C08 (or_second (owns (list_of (replay deck.limit Q) q) t) _ (ap not absent)) absent _ (tells_line C08)
+              let absent : has_own q p.own ≡ false = sym (has_res-own q (state_of n.tasks t).records p.own is_ready.keys) ∙ not_found (state_of n.tasks t).records q e in
+              waited (lines.Wait q) at refl C08 (or_second (p.owns q) _ (ap not absent)) (has-speaks deck.limit t p Q here.speaks q ∙ absent) _ (tells_line C08)
           by_record (Some y) e = by_told y.told refl
             where
-              f : IsRec ls (line_entries t Q) n.tasks.told (by_lists (replay deck.limit Q) t) t (state_of n.tasks t).line phases.Ready y × (same_res q y.res ≡ true)
-              f = found (IsRec ls (line_entries t Q) n.tasks.told (by_lists (replay deck.limit Q) t) t (state_of n.tasks t).line phases.Ready) (state_of n.tasks t).records q y is_ready.records e
+              f : IsRec ls p.asked n.tasks.told p.owns (λ z. false) t (state_of n.tasks t).line phases.Ready y × (same_res q y.res ≡ true)
+              f = found (IsRec ls p.asked n.tasks.told p.owns (λ z. false) t (state_of n.tasks t).line phases.Ready) (state_of n.tasks t).records q y is_ready.records e
 
               same : y.res ≡ q
               same = sym (same_res-exact q y.res f.1)
 
               by_told : (b : Bool) → y.told ≡ b → QuietStep deck (Seen deck) s Q out n (only (with_tasks n (cond b (tell_code (with_line n.tasks t) t verbs.Wait C00) (with_phase (with_line n.tasks t) t (phases.HeldLine q)))))
               by_told true g =
-                  let own : owns (list_of (replay deck.limit Q) q) t ≡ true = subst (λ z. owns (list_of (replay deck.limit Q) z) t ≡ true) same (sym f.0.known ∙ g) in
-                  waited (lines.Wait q) at refl C00 (ap (λ b. b || not (has_task (list_of (replay deck.limit Q) q) t)) own) (own, subst (λ z. list_any (tells_control t ls (line_entries t Q) z) n.tasks.told ≡ true) same (f.0.control (sym f.0.known ∙ g))) _ (tells_line C00)
+                  let own : p.owns q ≡ true = subst (λ z. p.owns z ≡ true) same (sym f.0.known ∙ g) in
+                  let told : list_any (tells_control t ls p.asked q) n.tasks.told ≡ true = subst (λ z. list_any (tells_control t ls p.asked z) n.tasks.told ≡ true) same (f.0.control (sym f.0.known ∙ g) refl) in
+                  waited (lines.Wait q) at refl C00 (or_first (p.owns q) _ own) (here.speaks.owns q own, subst (λ E. list_any (tells_control t ls E q) n.tasks.told ≡ true) (sym here.speaks.asked) told) _ (tells_line C00)
               by_told false g =
                   let x : TaskState = state_of n.tasks t in
                   let did1 = did-phase n.tasks (with_line n.tasks t) t (record { line = suc x.line; phase = phases.Ready; code = x.code; records = x.records; outstanding = None; rows = x.rows }) n.tasks.told ours.here taken (phases.HeldLine q) in
                   by_task (with_phase (with_line n.tasks t) t (phases.HeldLine q)) _ _ did1 refl tt
-                  (task-held ls (past deck.limit Q t) n.tasks.told (by_lists (replay deck.limit Q) t) t x.line x.code x.records None x.rows (lines.Wait q) is_ready at refl q refl)
-                  (λ u ms z knows w apart j. j) none
+                  (task-held ls p n.tasks.told (λ q. false) t x.line x.code x.records None x.rows (lines.Wait q) is_ready at refl q refl)
+                  (λ u ms z leaving w apart j. j) none
 
       -- any line
       line_outcome : (l : Meaning) → slice_get ls (state_of n.tasks t).line ≡ Some l → QuietStep deck (Seen deck) s Q out n (take_line deck.limit (with_tasks n (with_line n.tasks t)) t l)
@@ -305,18 +313,18 @@ module _ (deck : Deck) (s : ℕ) (Q : List HistEntry) (out : List Req) (n : Node
           let x : TaskState = state_of n.tasks t in
           let S : State = replay deck.limit Q in
           let full : Bool = has_most deck.limit (with_line n.tasks t) t in
-          let full_is : full ≡ is_full deck.limit S t = most-is ∙ is_full_by deck.limit S t x.records is_ready.keys in
+          let full_is : full ≡ is_full deck.limit S t = most-is ∙ is_full-speaks deck.limit t p Q x.records here.speaks is_ready.keys in
           let own : is_own s r ≡ true = own-of r (lines_own deck t ls x.line (lines.Enq r c ret unit) ours.lines at) in
           by_test (QuietStep deck (Seen deck) s Q out n) (is_systems r) _ _
           (λ all. kept (Enq r c ret full) unit (omega arith) refl (omega arith, ap (slice_get ls) (omega arith) ∙ at, all, most-is))
           (λ alone.
           let proper : may_have deck s r t ≡ true = may_own deck s n.tasks r t ls ours own in
-          let k : Asks ls (past deck.limit Q t) n.tasks.told (by_lists S t) t x.line x.code x.records None x.rows (lines.Enq r c ret unit) (AsksEnq r c ret) = record { before = is_ready; at = at; asks = refl } in
+          let k : Asks ls p n.tasks.told (λ q. false) t x.line x.code x.records None x.rows (lines.Enq r c ret unit) (AsksEnq r c ret) = record { before = is_ready; at = at; asks = refl } in
           let h : HistEntry = enq_entry_of r c ret full in
           decided (with_line n.tasks t) (Enq r c ret full) unit r h refl (own-alone s r own alone) full_is refl
           (replay-push deck.limit Q h ∙ ap (λ b. after_want S t (Enq r c ret b)) (sym full_is))
-          (legal-of h (enq_legal deck s (opens_of out n) (opens_of out n) Q n.tasks seen.good t moves ls ours x.line x.code x.records x.rows (with_line n.tasks t) taken (lines.Enq r c ret unit) r proper c unit ret full full_is k))
-          (enq_settles deck s (opens_of out n) (opens_of out n) Q n.tasks seen.good t moves ls ours x.line x.code x.records x.rows (with_line n.tasks t) taken (lines.Enq r c ret unit) r proper c unit ret full full_is k))
+          (legal-of h (enq_legal deck s (opens_of out n) (opens_of out n) Q n.tasks seen.good t moves ls ours x.line x.code x.records x.rows (with_line n.tasks t) taken (lines.Enq r c ret unit) r proper p here.speaks c unit ret full full_is k))
+          (enq_settles deck s (opens_of out n) (opens_of out n) Q n.tasks seen.good t moves ls ours x.line x.code x.records x.rows (with_line n.tasks t) taken (lines.Enq r c ret unit) r proper p here.speaks c unit ret full full_is k))
         where
           enq_entry_of : Res → Ctl → Ret → Bool → HistEntry
           enq_entry_of q d e b = entries.Enq t q d e (decide_enq (list_of (replay deck.limit Q) q) t d e b).code
@@ -328,11 +336,11 @@ module _ (deck : Deck) (s : ℕ) (Q : List HistEntry) (out : List Req) (n : Node
           (λ all. kept (Deq r have) None (omega arith) refl (omega arith, ap (slice_get ls) (omega arith) ∙ at, all))
           (λ alone.
           let proper : may_have deck s r t ≡ true = may_own deck s n.tasks r t ls ours own in
-          let k : Asks ls (past deck.limit Q t) n.tasks.told (by_lists S t) t x.line x.code x.records None x.rows (lines.Deq r have) (AsksDeq r have) = record { before = is_ready; at = at; asks = refl } in
+          let k : Asks ls p n.tasks.told (λ q. false) t x.line x.code x.records None x.rows (lines.Deq r have) (AsksDeq r have) = record { before = is_ready; at = at; asks = refl } in
           let h : HistEntry = entries.Deq t r have (deq_code (standing_of (list_of S r) t) have) in
           decided (with_line n.tasks t) (Deq r have) None r h refl (own-alone s r own alone) tt refl (replay-push deck.limit Q h)
-          (legal-of h (deq_legal deck s (opens_of out n) (opens_of out n) Q n.tasks seen.good t moves ls ours x.line x.code x.records x.rows (with_line n.tasks t) taken (lines.Deq r have) r proper have (by_lists S t) (λ q apart. refl) (λ e. refl) k))
-          (deq_settles deck s (opens_of out n) (opens_of out n) Q n.tasks seen.good t moves ls ours x.line x.code x.records x.rows (with_line n.tasks t) taken (lines.Deq r have) r proper have (by_lists S t) (λ q apart. refl) (λ e. refl) k None))
+          (legal-of h (deq_legal deck s (opens_of out n) (opens_of out n) Q n.tasks seen.good t moves ls ours x.line x.code x.records x.rows (with_line n.tasks t) taken (lines.Deq r have) r proper p here.speaks have (λ q. false) (λ q apart. refl) k))
+          (deq_settles deck s (opens_of out n) (opens_of out n) Q n.tasks seen.good t moves ls ours x.line x.code x.records x.rows (with_line n.tasks t) taken (lines.Deq r have) r proper p here.speaks have (λ q. false) (λ q apart. refl) k None))
       line_outcome (lines.Wait r) at = wait_outcome r at
       line_outcome lines.Nothing at = skipped lines.Nothing at refl refl
 
@@ -346,7 +354,7 @@ module _ (deck : Deck) (s : ℕ) (Q : List HistEntry) (out : List Req) (n : Node
           by_line None e =
               let x : TaskState = state_of n.tasks t in
               let did1 = did-phase n.tasks n.tasks t (record x { phase = phases.Ready; outstanding = None }) n.tasks.told ours.here begun (phases.Ending 0) in
-              let k = task-ending ls (past deck.limit Q t) n.tasks.told (by_lists (replay deck.limit Q) t) t x.line x.code x.records None x.rows is_ready e in
+              let k = task-ending ls p n.tasks.told (λ q. false) t x.line x.code x.records None x.rows is_ready e in
               subst (λ zs. QuietStep deck (Seen deck) s Q out n (end_step (with_tasks n (with_phase n.tasks t (phases.Ending 0))) t 0 zs)) (sym (ap (λ (y : TaskState). y.records) did1.state))
               (end_outcome (with_phase n.tasks t (phases.Ending 0)) x.line 0 0 x.records x.rows did1 refl k x.records refl)
 
@@ -354,7 +362,7 @@ module _ (deck : Deck) (s : ℕ) (Q : List HistEntry) (out : List Req) (n : Node
     ending_outcome : (c : ℕ) → (state_of n.tasks t).phase ≡ phases.Ending c → QuietStep deck (Seen deck) s Q out n (end_step n t c (state_of n.tasks t).records)
     ending_outcome c e =
         let x : TaskState = state_of n.tasks t in
-        let k = plain-task deck (opens_of out n) Q n.tasks.told t ls x (phases.Ending c) e closed here in
+        let k = plain-task ls p n.tasks.told t x (phases.Ending c) e closed here.task in
         let did = subst (λ y. Did n.tasks n.tasks t y n.tasks.told) (state-is x (phases.Ending c) e closed) (did-none n.tasks t) in
         let coded : x.code ≡ c = subst (λ ph. IsAtLines ph x.code) e (subst (λ o. IsOpenBy deck.limit ls t x o) closed here.opened) in
         end_outcome n.tasks x.line c x.code x.records x.rows did coded k x.records refl

@@ -36,7 +36,8 @@ use Rattle.task_state.specs.Replies.{tell_code, record_enq, answered as answered
 use Rattle.task_state.specs.View.{state_of, with_state, with_line, with_phase, with_outstanding, with_record, without_record, with_told, with_exclusive, telling}
 use Rattle.grs_world.specs.Kept.{places, kept}
 use Rattle.grs_world.specs.Laps.{LeftHome, given, told_next}
-use Rattle.grs_world.specs.Tables.{before_number, first_unseen, systems_part}
+use Rattle.grs_world.specs.Tables.{before_number, first_unseen}
+use Rattle.grs_known.specs.Change.{systems_part}
 use Rattle.grs_world.specs.World.{first_world, carry_out, chosen, placed, happens_at, happens, run}
 
 abbrev sys : ℕ → SysId

@@ -1,8 +1,8 @@
 -- Each system's table of the Systems resources is that of a front of the history. The front is counted by what was
 -- fixed, since one entry of the message is one request or one removal, whatever lines of the history it makes.
-use Rattle.std.specs.Prelude.{◌≡◌, ℕ, Bool, true, false, ◌-◌, ◌==◌, cond, filter, List, [], ◌∷◌, Some, slice_get, unwrap_or}
-use Rattle.grs_base.specs.State.{State, is_systems}
+use Rattle.std.specs.Prelude.{◌≡◌, ℕ, Bool, true, false, ◌-◌, ◌==◌, cond, List, [], ◌∷◌, Some, slice_get, unwrap_or}
 use Rattle.grs_base.specs.declared.resource.SysId.{SysId}
+use Rattle.grs_known.specs.Change.{systems_part}
 use Rattle.grs_node.specs.Node.{Node}
 use Rattle.grs_wire.specs.History.{replay, answered}
 use Rattle.grs_wire.specs.Wants.{res_wanted}
@@ -40,10 +40,6 @@ processed w s = before_number (first_unseen s w.medium.message) w.fixed
 -- system comes in here.
 abbrev pub keeps_table : World → SysId → Bool
 keeps_table w s = is_live w s
-
--- Of all elements these are on resources of the whole complex.
-abbrev pub systems_part : State → State
-systems_part s = filter (λ h. is_systems h.0) s
 
 -- After these events the table of each system that keeps one holds what the plain lists hold of the Systems resources
 -- behind the front that the system has processed.
