@@ -1,16 +1,32 @@
 //! The first entry of a list that matches.
 ghost use Rattle.std.specs.Prelude.{◌≡◌, ◌<◌, length, IfSome};
+ghost use Rattle.std.specs.Str.{bytes_eq};
 ghost use Rattle.rnl_match.specs.Matches.{matches_qname, matches_rname, matches_every, matches_some_rname, matches, find};
 
 use super::pattern::matches_pattern;
 use grs_base::{Form, Qname, Rname, RnlEntry, RnlList};
+
+/// Whether two names are the same bytes.
+fn is_same(wanted: &[u8], name: &[u8]) -> bool
+    ensures { result ≡ bytes_eq wanted.now name.now }
+{
+    if wanted.len() != name.len() {
+        return false;
+    }
+    for i in 0..wanted.len() {
+        if wanted[i] != name[i] {
+            return false;
+        }
+    }
+    true
+}
 
 /// Whether a qname is matched.
 fn matches_qname(form: Form, wanted: &Qname, q: &Qname) -> bool
     ensures { result ≡ matches_qname form wanted.now q.now }
 {
     match form {
-        Form::Specific | Form::Generic => wanted.bytes() == q.bytes(),
+        Form::Specific | Form::Generic => is_same(wanted.bytes(), q.bytes()),
         Form::Pattern => matches_pattern(wanted.bytes(), q.bytes()),
     }
 }
@@ -20,7 +36,7 @@ fn matches_rname(form: Form, wanted: &Rname, r: &Rname) -> bool
     ensures { result ≡ matches_rname form wanted.now r.now }
 {
     match form {
-        Form::Specific => wanted.bytes() == r.bytes(),
+        Form::Specific => is_same(wanted.bytes(), r.bytes()),
         Form::Generic => r.bytes().starts_with(wanted.bytes()),
         Form::Pattern => matches_pattern(wanted.bytes(), r.bytes()),
     }
