@@ -6,14 +6,14 @@ ghost use Rattle.grs_wire.specs.History.{step, replay};
 use grs_base::{List, NoMemory, Row};
 use grs_wire::HistEntry;
 use queue_table::Table;
-use serial_queue::PlainQueues;
+use serial_queue::CountedQueues;
 use std::alloc::Global;
 
 /// Does what one entry of a history asks for.
 fn settle(
     alloc: Global,
     limit: u32,
-    table: &mut Table<PlainQueues>,
+    table: &mut Table<CountedQueues>,
     entry: &HistEntry,
 ) -> Result<(), NoMemory>
     ensures { OnOk result (table.new.held ≡ step limit table.old.held entry.now) }
@@ -53,7 +53,7 @@ fn settle(
 pub fn queues_after(alloc: Global, hist: &[HistEntry], limit: u32) -> Result<List<Row>, NoMemory>
     ensures { IfOk result (λ rows. rows ≡ rows_of (replay limit hist.now)) }
 {
-    let mut table = Table::new(alloc, PlainQueues::new(alloc));
+    let mut table = Table::new(alloc, CountedQueues::new(alloc));
     for entry in hist {
         settle(alloc, limit, &mut table, entry)?;
     }

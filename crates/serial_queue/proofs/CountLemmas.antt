@@ -1,6 +1,6 @@
 -- What a push, a take and a change of control leave of the counts.
-use Rattle.std.proofs.Common.{◌≡◌, ◌≤◌, ◌+◌, ℕ, zero, suc, Bool, true, false, not, cond, List, [], ◌∷◌, ◌++◌, length, Option, Some, refl, ap, sym, ◌∙◌, arith, nat_eq}
-use Rattle.std.specs.Prelude.{slice_get, unwrap_or}
+use Rattle.std.proofs.Common.{◌≡◌, ◌≤◌, ◌<◌, ◌+◌, ℕ, zero, suc, Bool, true, false, not, cond, List, [], ◌∷◌, ◌++◌, length, Option, Some, None, refl, ap, sym, ◌∙◌, arith, nat_eq}
+use Rattle.std.specs.Prelude.{slice_get, unwrap_or, IfSome}
 use Rattle.std.proofs.lemmas.Bool.Decides.{nat_tests}
 use Rattle.grs_base.specs.Same.{same_task}
 use Rattle.grs_base.specs.Lists.{has_task, is_apart}
@@ -78,3 +78,16 @@ counted-exclusive hs new old q u is held t =
 
 pub counted-same : (hs new : Held ℕ) (old : TaskId → ℕ) → ((t : TaskId) → old t ≡ length (queued_by hs t)) → new ≡ hs → (t : TaskId) → old t ≡ length (queued_by new t)
 counted-same hs new old is held t = is t ∙ ap (λ (l : Held ℕ). length (queued_by l t)) (sym held)
+
+-- the element at a place is made exclusive
+not_got : (es : List Elem) (p : ℕ) → slice_get es p ≡ None → length es ≤ p
+not_got [] p h = omega arith
+not_got (x ∷ es) zero h = cc
+not_got (x ∷ es) (suc p) h = omega (arith, not_got es p h)
+
+pub counted-exclusive_at : (hs new : Held ℕ) (old : TaskId → ℕ) (q p : ℕ) → ((t : TaskId) → old t ≡ length (queued_by hs t)) → p < length (list_at nat_eq hs q) → IfSome (slice_get (list_at nat_eq hs q) p) (λ e. new ≡ with_exclusive nat_eq hs q e.task) → (t : TaskId) → old t ≡ length (queued_by new t)
+counted-exclusive_at hs new old q p is h = got (slice_get (list_at nat_eq hs q) p) refl
+  where
+    got : (o : Option Elem) → slice_get (list_at nat_eq hs q) p ≡ o → IfSome o (λ e. new ≡ with_exclusive nat_eq hs q e.task) → (t : TaskId) → old t ≡ length (queued_by new t)
+    got None e held = absurd (omega (arith, not_got (list_at nat_eq hs q) p e))
+    got (Some x) e held = counted-exclusive hs new old q x.task is held

@@ -10,6 +10,3 @@ invariant_of-self-clause-spare c = rw c.set_live-self.ensures.spares c.args.self
 pub invariant_of-self-clause-empty : goal.invariant_of-self-clause-empty
 invariant_of-self-clause-empty c =
     rw (c.set_live-self.ensures.flags, c.set_live-self.ensures.rows) (dropped c.args.self.now.pushes c.args.queue c.args.self.now.queues.items c.args.self.now.good c.args.self.now.empty c.requires.empty)
-
-pub invariant_of-self-clause-counted : goal.invariant_of-self-clause-counted
-invariant_of-self-clause-counted c = rw c.set_live-self.ensures.rows c.args.self.now.counted

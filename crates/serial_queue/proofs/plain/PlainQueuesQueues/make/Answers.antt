@@ -14,6 +14,3 @@ invariant_of-self-clause-empty c =
 
 pub returns-clause-empty : goal.returns-clause-empty
 returns-clause-empty c = rw c.set_live-self.ensures.rows (unused c.args.self.now.pushes c.args.self.now.free c.args.self.now.queues.items c.args.self.now.good c.args.self.now.empty c.requires)
-
-pub invariant_of-self-clause-counted : goal.invariant_of-self-clause-counted
-invariant_of-self-clause-counted c = rw c.set_live-self.ensures.rows c.args.self.now.counted

@@ -1,10 +1,5 @@
 use Rattle.serial_queue.specs.Plain.{rows, flags}
 use Rattle.serial_queue.proofs.PlainLemmas.{pushed_at, dead_empty-flagged}
-use Rattle.serial_queue.proofs.CountLemmas.{queued_by-few, counted-pushed}
-use Rattle.serial_queue.specs.Counts.{counted}
-use Rattle.serial_queue.specs.Plain.{held_by}
-use Rattle.std.proofs.Common.{arith}
-use Rattle.serial_queue.proofs.PlainLemmas.{length-rows}
 use Rattle.serial_queue.proofs.plain.PlainQueuesQueues.push.Goals as goal
 
 pub invariant_of-self-clause-good : goal.invariant_of-self-clause-good
@@ -16,11 +11,3 @@ invariant_of-self-clause-empty c =
 
 pub returns-clause-held : goal.returns-clause-held
 returns-clause-held c = rw c.push_in_room.ensures.rows (pushed_at c.args.self.now.pushes c.args.queue c.args.self.now.queues.items c.args.elem c.requires.live c.args.self.now.good c.requires.absent).1
-
-pub count_more-requires-clause-few : goal.count_more-requires-clause-few
-count_more-requires-clause-few c = omega (arith, c.args.self.now.counted c.args.elem.task, c.args.self.now.few, queued_by-few c.args.self.now.pushes (rows c.args.self.now.queues.items) c.args.elem.task c.args.self.now.good, length-rows c.args.self.now.queues.items)
-
-pub invariant_of-self-clause-counted : goal.invariant_of-self-clause-counted
-invariant_of-self-clause-counted c =
-    counted-pushed (held_by c.args.self.now.pushes (rows c.args.self.now.queues.items)) _ (counted c.args.self.now.counts.entries) (counted c.count_more.new.counts.entries) c.args.queue c.args.elem c.args.self.now.counted c.count_more.ensures
-    (rw c.push_in_room.ensures.rows (pushed_at c.args.self.now.pushes c.args.queue c.args.self.now.queues.items c.args.elem c.requires.live c.args.self.now.good c.requires.absent).1)

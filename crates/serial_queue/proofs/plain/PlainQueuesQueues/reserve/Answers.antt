@@ -1,11 +1,6 @@
 use Rattle.std.proofs.Common.{arith}
 use Rattle.std.proofs.lemmas.Bool.Decides.{nat_tests}
 use Rattle.serial_queue.proofs.PlainLemmas.{more}
-use Rattle.serial_queue.proofs.CountLemmas.{counted-same}
-use Rattle.serial_queue.specs.Counts.{counted}
-use Rattle.serial_queue.specs.Plain.{rows, held_by}
-use Rattle.grs_base.specs.declared.resource.TaskId.{TaskId}
-use Rattle.std.proofs.Common.{◌∙◌, ap, List, ℕ}
 use Rattle.serial_queue.proofs.plain.PlainQueuesQueues.reserve.Goals as goal
 
 pub invariant_of-self-then-not-is_free-clause-good : goal.invariant_of-self-then-not-is_free-clause-good
@@ -22,9 +17,3 @@ returns-in_ok-self-clause-held c = (more c.args.self.now.pushes c.args.self.now.
 
 pub returns-in_ok-self-clause-elems : goal.returns-in_ok-self-clause-elems
 returns-in_ok-self-clause-elems c = grind (arith, nat_tests, (more c.args.self.now.pushes c.args.self.now.last c.args.self.now.queues.items c.make_spare.new.queues.items c.add_queue.new.queues.items c.make_spare.ensures.rows c.make_spare.ensures.flags c.in_ok-make_spare.ensures.ok c.in_ok-self.ensures.rows c.in_ok-self.ensures.flags c.in_ok-self.ensures.spares c.args.self.now.good c.args.self.now.empty).room)
-
-pub invariant_of-self-then-not-is_free-clause-counted : goal.invariant_of-self-then-not-is_free-clause-counted
-invariant_of-self-then-not-is_free-clause-counted c = λ t.
-    ap (λ (es : List (TaskId × ℕ)). counted es t) c.reserve_count.ensures.same
-    ∙ counted-same (held_by c.args.self.now.pushes (rows c.args.self.now.queues.items)) (held_by c.args.self.now.pushes (rows c.add_queue.new.queues.items)) (counted c.args.self.now.counts.entries) c.args.self.now.counted
-    (more c.args.self.now.pushes c.args.self.now.last c.args.self.now.queues.items c.make_spare.new.queues.items c.add_queue.new.queues.items c.make_spare.ensures.rows c.make_spare.ensures.flags c.in_ok-make_spare.ensures.ok c.in_ok-self.ensures.rows c.in_ok-self.ensures.flags c.in_ok-self.ensures.spares c.args.self.now.good c.args.self.now.empty).held t

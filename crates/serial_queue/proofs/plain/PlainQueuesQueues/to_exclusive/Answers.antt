@@ -1,15 +1,6 @@
-use Rattle.serial_queue.proofs.CountLemmas.{counted-exclusive}
-use Rattle.serial_queue.specs.Counts.{counted}
-use Rattle.serial_queue.specs.Plain.{rows, held_by}
-use Rattle.std.proofs.Common.{◌∙◌, ap, List}
-use Rattle.serial_queue.specs.Plain.{Row, flags}
-use Rattle.serial_queue.proofs.PlainLemmas.{held_by-exclusive, all_good-exclusive, dead_empty-exclusive}
+use Rattle.serial_queue.specs.Plain.{rows, flags}
+use Rattle.serial_queue.proofs.PlainLemmas.{all_good-exclusive, dead_empty-exclusive}
 use Rattle.serial_queue.proofs.plain.PlainQueuesQueues.to_exclusive.Goals as goal
-
-pub invariant_of-self-clause-counted : goal.invariant_of-self-clause-counted
-invariant_of-self-clause-counted c =
-    counted-exclusive (held_by c.args.self.now.pushes (rows c.args.self.now.queues.items)) (held_by c.args.self.now.pushes (rows c.exclusive_at.new.queues.items)) (counted c.args.self.now.counts.entries) c.args.queue c.exclusive_at.result.task c.args.self.now.counted
-    (ap (λ (rs : List Row). held_by c.args.self.now.pushes rs) c.exclusive_at.ensures.rows ∙ held_by-exclusive c.args.self.now.pushes (rows c.args.self.now.queues.items) c.args.queue c.exclusive_at.result.task)
 
 pub invariant_of-self-clause-good : goal.invariant_of-self-clause-good
 invariant_of-self-clause-good c = rw c.exclusive_at.ensures.rows (all_good-exclusive c.args.self.now.pushes (rows c.args.self.now.queues.items) c.args.queue c.exclusive_at.result.task c.args.self.now.good)
