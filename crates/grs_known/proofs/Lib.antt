@@ -1,11 +1,5 @@
-pub mod ItemLaws
-pub mod Control
-pub mod Knowing
-pub mod Coming
-pub mod Fronts
-pub mod Elements
-pub mod Pasts
-pub mod Parts
-pub mod Changing
-pub mod Managers
+pub mod lists
+pub mod tasks
+pub mod known
+pub mod view
 pub mod Samples

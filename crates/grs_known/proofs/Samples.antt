@@ -24,8 +24,8 @@ use Rattle.grs_known.specs.Items.{RunItem, rounds, is_of, removes_system_of, too
 use Rattle.grs_known.specs.Known.{Known, learned, outstanding, Still, IsRight, learns_item, learns_control, Answers, Grants, Coming, after_news}
 use Rattle.grs_known.specs.Past.{own_told, after_entry, after_entries, past_of, Speaks}
 use Rattle.grs_known.specs.Change.{Changing, Act, AreStores, NoneChanged, switched, kept_in_change, manager_of, store_shown, view, star_event_of_all, Ring}
-use Rattle.grs_known.proofs.Changing.{kept_is_shown, switch_shows_history}
-use Rattle.grs_known.proofs.Managers.{manager_follows}
+use Rattle.grs_known.proofs.view.Changing.{kept_is_shown, switch_shows_history}
+use Rattle.grs_known.proofs.view.Managers.{manager_follows}
 
 abbrev system : ℕ → SysId
 system s = record { 0 = s }

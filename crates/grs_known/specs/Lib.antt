@@ -3,3 +3,4 @@ pub mod Known
 pub mod Past
 pub mod Laws
 pub mod Change
+pub mod Told

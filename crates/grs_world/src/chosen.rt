@@ -40,7 +40,7 @@ fn done_at(alloc: Global, steps: &[StepDone], place: usize) -> Result<Done, NoMe
 }
 
 /// A prepared choice is finished, with the reply if a call was made.
-#[tactic(auto, using(crate::proofs::Logged::logged_steps))]
+#[tactic(auto, using(crate::proofs::code::Logged::logged_steps))]
 fn finished(
     alloc: Global,
     node: &mut Node<'_>,
@@ -62,7 +62,7 @@ fn finished(
 }
 
 /// A call that was prepared, and its reply.
-#[tactic(auto, using(crate::proofs::Calls::calls, crate::proofs::Listed::listed))]
+#[tactic(auto, using(crate::proofs::code::Calls::calls, crate::proofs::code::Listed::listed))]
 fn called(
     alloc: Global,
     medium: &mut Medium,
@@ -85,7 +85,7 @@ fn called(
 }
 
 /// A choice of a system: it is prepared, makes at most one call of the medium, and is finished.
-#[tactic(auto, using(crate::proofs::Logged::logged_steps), unfolding(crate::specs::World::chosen, crate::specs::World::carry_out))]
+#[tactic(auto, using(crate::proofs::code::Logged::logged_steps), unfolding(crate::specs::World::chosen, crate::specs::World::carry_out))]
 fn choose(
     alloc: Global,
     medium: &mut Medium,
@@ -111,7 +111,7 @@ fn choose(
 }
 
 /// A choice of the system at its place.
-#[tactic(auto, using(crate::proofs::Nodes::nodes))]
+#[tactic(auto, using(crate::proofs::code::Nodes::nodes))]
 pub(crate) fn choose_at(
     alloc: Global,
     deck: &Deck,

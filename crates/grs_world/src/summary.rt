@@ -71,7 +71,7 @@ fn end_at(node: &Node<'_>, task: TaskId) -> TaskEnd
 }
 
 /// The end of a task. One that isn't there is open.
-#[tactic(auto, using(crate::proofs::Nodes::nodes))]
+#[tactic(auto, using(crate::proofs::code::Nodes::nodes))]
 pub(crate) fn task_end(nodes: &[Node<'_>], task: TaskId) -> TaskEnd
     ensures { result ≡ task_end (nodes_of nodes.now) task }
 {

@@ -45,7 +45,7 @@ impl<'d> Model for World<'d> {
 }
 
 /// Adds a system of a deck before its first event.
-#[tactic(auto, using(crate::proofs::Nodes::nodes, crate::proofs::First::first))]
+#[tactic(auto, using(crate::proofs::code::Nodes::nodes, crate::proofs::system::First::first))]
 fn add_node<'d>(
     alloc: Global,
     deck: &'d Deck,
@@ -63,7 +63,7 @@ fn add_node<'d>(
 }
 
 /// The systems of a deck before their first events.
-#[tactic(auto, using(crate::proofs::First::first))]
+#[tactic(auto, using(crate::proofs::system::First::first))]
 fn first_nodes<'d>(alloc: Global, deck: &'d Deck) -> Result<Vec<Node<'d>>, NoMemory>
     requires { length deck.now.systems ≤ most_systems }
     ensures nodes { IfOk result (λ nodes. nodes_of nodes.items ≡ runs.first_nodes deck.now 0 deck.now.systems) }
@@ -112,7 +112,7 @@ fn add_told(
 
 impl<'d> World<'d> {
     /// A deck before its first event: nothing is queued and no task has begun.
-    #[tactic(auto, using(crate::proofs::First::first), unfolding(crate::specs::World::first_world))]
+    #[tactic(auto, using(crate::proofs::system::First::first), unfolding(crate::specs::World::first_world))]
     pub fn new(alloc: Global, deck: &'d Deck) -> Result<World<'d>, NoMemory>
         requires some { 0 < length deck.now.systems }
         requires few { length deck.now.systems ≤ most_systems }
@@ -140,7 +140,7 @@ impl<'d> World<'d> {
     }
 
     /// An event of a system that is there and wasn't removed.
-    #[tactic(auto, using(crate::proofs::Happens::happening), unfolding(crate::specs::World::placed))]
+    #[tactic(auto, using(crate::proofs::code::Happens::happening), unfolding(crate::specs::World::placed))]
     fn place(&mut self, event: &Event) -> Result<(), NoMemory>
         requires live { is_live self.old.world event.now.system ≡ true }
         requires more { self.old.world.events < 2 ^ 57 }
@@ -162,7 +162,7 @@ impl<'d> World<'d> {
 
     /// One event happens. NoMemory comes where memory is wanting, or there were 2^57 events; the run is then to be
     /// given up.
-    #[tactic(auto, using(crate::proofs::Happens::happening))]
+    #[tactic(auto, using(crate::proofs::code::Happens::happening))]
     pub fn step(&mut self, event: &Event) -> Result<(), NoMemory>
         ensures { OnOk result (self.new ≡ after self.old event.now) }
     {
@@ -179,7 +179,7 @@ impl<'d> World<'d> {
 
     /// Whether nothing is left to do: nothing is pending at a system that wasn't removed, and nothing is left to
     /// do with the medium.
-    #[tactic(auto, using(crate::proofs::Nodes::nodes), unfolding(crate::specs::Running::at_rest))]
+    #[tactic(auto, using(crate::proofs::code::Nodes::nodes), unfolding(crate::specs::Running::at_rest))]
     pub fn at_rest(&self) -> bool
         ensures { result ≡ at_rest self.now.deck self.now.world }
     {
@@ -230,7 +230,7 @@ impl<'d> World<'d> {
 }
 
 /// The run of a list of events.
-#[tactic(auto, using(crate::proofs::Happens::runs))]
+#[tactic(auto, using(crate::proofs::code::Happens::runs))]
 pub fn replay<'d>(alloc: Global, deck: &'d Deck, events: &[Event]) -> Result<World<'d>, NoMemory>
     requires some { 0 < length deck.now.systems }
     requires few { length deck.now.systems ≤ most_systems }

@@ -1,4 +1,4 @@
-use Rattle.grs_known.proofs.Coming.{answer_is_learned}
+use Rattle.grs_known.proofs.known.Coming.{answer_is_learned}
 use Rattle.grs_known.proofs.laws.answer_is_learned.Goals as goal
 
 pub returns : goal.returns

@@ -1,4 +1,4 @@
-use Rattle.grs_known.proofs.Coming.{answer_is_sent}
+use Rattle.grs_known.proofs.known.Coming.{answer_is_sent}
 use Rattle.grs_known.proofs.laws.answer_is_sent.Goals as goal
 
 pub returns : goal.returns

@@ -1,4 +1,4 @@
-use Rattle.grs_known.proofs.Coming.{control_is_learned}
+use Rattle.grs_known.proofs.known.Coming.{control_is_learned}
 use Rattle.grs_known.proofs.laws.control_is_learned.Goals as goal
 
 pub returns : goal.returns

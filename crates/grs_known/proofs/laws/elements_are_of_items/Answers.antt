@@ -1,4 +1,4 @@
-use Rattle.grs_known.proofs.Pasts.{elements_are_of_items}
+use Rattle.grs_known.proofs.known.Pasts.{elements_are_of_items}
 use Rattle.grs_known.proofs.laws.elements_are_of_items.Goals as goal
 
 pub returns : goal.returns

@@ -1,4 +1,4 @@
-use Rattle.grs_known.proofs.Fronts.{front_owners_stay}
+use Rattle.grs_known.proofs.known.Fronts.{front_owners_stay}
 use Rattle.grs_known.proofs.laws.front_owners_stay.Goals as goal
 
 pub returns : goal.returns

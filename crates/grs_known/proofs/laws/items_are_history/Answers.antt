@@ -1,4 +1,4 @@
-use Rattle.grs_known.proofs.ItemLaws.{items_are_history}
+use Rattle.grs_known.proofs.known.ItemLaws.{items_are_history}
 use Rattle.grs_known.proofs.laws.items_are_history.Goals as goal
 
 pub returns : goal.returns

@@ -1,4 +1,4 @@
-use Rattle.grs_known.proofs.ItemLaws.{lists_are_replayed}
+use Rattle.grs_known.proofs.known.ItemLaws.{lists_are_replayed}
 use Rattle.grs_known.proofs.laws.lists_are_replayed.Goals as goal
 
 pub returns : goal.returns

@@ -1,4 +1,4 @@
-use Rattle.grs_known.proofs.Managers.{manager_follows}
+use Rattle.grs_known.proofs.view.Managers.{manager_follows}
 use Rattle.grs_known.proofs.laws.manager_follows.Goals as goal
 
 pub returns : goal.returns

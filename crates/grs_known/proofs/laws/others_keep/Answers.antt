@@ -1,4 +1,4 @@
-use Rattle.grs_known.proofs.Coming.{others_keep}
+use Rattle.grs_known.proofs.known.Coming.{others_keep}
 use Rattle.grs_known.proofs.laws.others_keep.Goals as goal
 
 pub returns : goal.returns

@@ -1,4 +1,4 @@
-use Rattle.grs_known.proofs.Coming.{read_in_order}
+use Rattle.grs_known.proofs.known.Coming.{read_in_order}
 use Rattle.grs_known.proofs.laws.read_in_order.Goals as goal
 
 pub returns : goal.returns

@@ -1,4 +1,4 @@
-use Rattle.grs_known.proofs.Changing.{star_shows_itself}
+use Rattle.grs_known.proofs.view.Changing.{star_shows_itself}
 use Rattle.grs_known.proofs.laws.star_shows_itself.Goals as goal
 
 pub returns : goal.returns

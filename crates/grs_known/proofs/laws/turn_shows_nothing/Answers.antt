@@ -1,4 +1,4 @@
-use Rattle.grs_known.proofs.Changing.{turn_shows_nothing}
+use Rattle.grs_known.proofs.view.Changing.{turn_shows_nothing}
 use Rattle.grs_known.proofs.laws.turn_shows_nothing.Goals as goal
 
 pub returns : goal.returns

@@ -1,4 +1,4 @@
-use Rattle.grs_world.proofs.Calls.{call-fits}
+use Rattle.grs_world.proofs.code.Calls.{call-fits}
 use Rattle.grs_world.proofs.chosen.called.Goals as goal
 
 pub reserve-requires-clause-call : goal.reserve-requires-clause-call

@@ -1,7 +1,7 @@
-use Rattle.grs_world.proofs.AtNode.{Seen}
-use Rattle.grs_world.proofs.Laps.{processed_last}
-use Rattle.grs_world.proofs.LapsTold.{answered_last}
-use Rattle.grs_world.proofs.NodeLaws.{node_laws}
+use Rattle.grs_world.proofs.system.AtNode.{Seen}
+use Rattle.grs_world.proofs.run.Laps.{processed_last}
+use Rattle.grs_world.proofs.run.LapsTold.{answered_last}
+use Rattle.grs_world.proofs.system.NodeLaws.{node_laws}
 use Rattle.grs_world.proofs.laws.answers_come_last.Goals as goal
 
 pub returns-clause-given : goal.returns-clause-given

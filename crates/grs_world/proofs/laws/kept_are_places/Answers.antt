@@ -1,6 +1,6 @@
-use Rattle.grs_world.proofs.AtNode.{Seen}
-use Rattle.grs_world.proofs.KeptPlaces.{kept_places}
-use Rattle.grs_world.proofs.NodeLaws.{node_laws}
+use Rattle.grs_world.proofs.system.AtNode.{Seen}
+use Rattle.grs_world.proofs.run.KeptPlaces.{kept_places}
+use Rattle.grs_world.proofs.system.NodeLaws.{node_laws}
 use Rattle.grs_world.proofs.laws.kept_are_places.Goals as goal
 
 pub returns : goal.returns

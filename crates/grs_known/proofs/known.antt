@@ -1,0 +1,8 @@
+-- What a system knows of a task, and what comes.
+pub mod Control
+pub mod Parts
+pub mod Fronts
+pub mod ItemLaws
+pub mod Knowing
+pub mod Coming
+pub mod Pasts

@@ -1,0 +1,9 @@
+-- Lists of any items, truth values, the lists of elements, and lines and their entries.
+pub mod Owners
+pub mod Entries
+pub mod Lines
+pub mod Own
+pub mod Truths
+pub mod Facts
+pub mod Elements
+pub mod Requests

@@ -1,0 +1,62 @@
+-- The entries of a task, and of its lines, in a history that grows.
+use Rattle.std.proofs.Common.{◌≡◌, ℕ, Bool, true, false, cond, ◌&&◌, List, [], ◌∷◌, ◌++◌, Option, Some, None, refl, arith}
+use Rattle.std.specs.Prelude.{slice_get}
+use Rattle.grs_base.specs.declared.resource.TaskId.{TaskId}
+use Rattle.grs_base.specs.declared.decision.Code.{Code}
+use Rattle.grs_base.specs.declared.decision.Code.TheVariants as codes
+use Rattle.grs_legal.specs.declared.meaning.Meaning.{Meaning}
+use Rattle.grs_wire.specs.declared.history.HistEntry.{HistEntry}
+use Rattle.grs_wire.specs.History.{is_by, code_of}
+use Rattle.grs_legal.specs.Asks.{is_silent}
+use Rattle.grs_legal.specs.Legal.{entries_of, is_of_line, line_entries, end_or, end_among, last_entry}
+use Rattle.grs_known.specs.Told.{asked_at}
+use Rattle.grs_known.proofs.lists.Facts.{filter-push_kept, filter-push_left, slice_get-append}
+
+-- another task's entry adds nothing
+pub line_entries-other : (t : TaskId) (hist : List HistEntry) (h : HistEntry) → is_by t h ≡ false → line_entries t (hist ++ h ∷ []) ≡ line_entries t hist
+line_entries-other t hist h apart = filter-push_left (λ g. is_by t g && is_of_line g) hist h (grind (arith, apart))
+
+pub entries_of-other : (t : TaskId) (hist : List HistEntry) (h : HistEntry) → is_by t h ≡ false → entries_of t (hist ++ h ∷ []) ≡ entries_of t hist
+entries_of-other t hist h apart = filter-push_left (is_by t) hist h apart
+
+-- an own entry goes last
+pub line_entries-own : (t : TaskId) (hist : List HistEntry) (h : HistEntry) → is_by t h ≡ true → is_of_line h ≡ true → line_entries t (hist ++ h ∷ []) ≡ line_entries t hist ++ h ∷ []
+line_entries-own t hist h mine asked = filter-push_kept (λ g. is_by t g && is_of_line g) hist h (grind (arith, mine, asked))
+
+pub line_entries-release : (t : TaskId) (hist : List HistEntry) (h : HistEntry) → is_of_line h ≡ false → line_entries t (hist ++ h ∷ []) ≡ line_entries t hist
+line_entries-release t hist h asked = filter-push_left (λ g. is_by t g && is_of_line g) hist h (cases (is_by t h))
+  where
+    cases : (b : Bool) → (b && is_of_line h) ≡ false
+    cases true = asked
+    cases false = refl
+
+pub entries_of-own : (t : TaskId) (hist : List HistEntry) (h : HistEntry) → is_by t h ≡ true → entries_of t (hist ++ h ∷ []) ≡ entries_of t hist ++ h ∷ []
+entries_of-own t hist h mine = filter-push_kept (is_by t) hist h mine
+
+pub last_entry-push : (xs : List HistEntry) (h : HistEntry) → last_entry (xs ++ h ∷ []) ≡ Some h
+last_entry-push [] h = refl
+last_entry-push (x ∷ []) h = refl
+last_entry-push (x ∷ y ∷ ys) h = last_entry-push (y ∷ ys) h
+
+-- an entry that is no end changes nothing, one that is an end counts where there was none
+pub end_among-push : (xs : List HistEntry) (h : HistEntry) → end_among xs ≡ None → end_among (xs ++ h ∷ []) ≡ end_or (code_of h) None
+end_among-push [] h none = refl
+end_among-push (x ∷ xs) h none = by_code (code_of x) (end_among-push xs h) none
+  where
+    by_code : (c : Code) → (end_among xs ≡ None → end_among (xs ++ h ∷ []) ≡ end_or (code_of h) None) → end_or c (end_among xs) ≡ None → end_or c (end_among (xs ++ h ∷ [])) ≡ end_or (code_of h) None
+    by_code (codes.End n) more e = cc
+    by_code codes.C00 more e = more e
+    by_code codes.C04 more e = more e
+    by_code codes.C08 more e = more e
+    by_code codes.C14 more e = more e
+    by_code codes.C18 more e = more e
+    by_code codes.Wait more e = more e
+
+-- an entry of a line keeps its place when the history grows
+pub asked_at-grows : (l : Option Meaning) (xs ys : List HistEntry) (i : ℕ) (e : HistEntry) → asked_at l (slice_get xs i) ≡ Some e → asked_at l (slice_get (xs ++ ys) i) ≡ Some e
+asked_at-grows None xs ys i e h = cc
+asked_at-grows (Some l) xs ys i e h = cases (is_silent l) h
+  where
+    cases : (b : Bool) → cond b None (slice_get xs i) ≡ Some e → cond b None (slice_get (xs ++ ys) i) ≡ Some e
+    cases true k = cc
+    cases false k = slice_get-append xs ys i e k

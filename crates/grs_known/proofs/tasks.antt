@@ -1,0 +1,10 @@
+-- What holds of a task by its past.
+pub mod Invariant
+pub mod Speaking
+pub mod Others
+pub mod Records
+pub mod Granted
+pub mod Keys
+pub mod Asked
+pub mod Decided
+pub mod Steps

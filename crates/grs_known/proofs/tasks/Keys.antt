@@ -1,0 +1,104 @@
+-- The records of a task as its own elements.
+use Rattle.std.proofs.Common.{◌≡◌, Bool, true, false, cond, not, ◌||◌, List, [], ◌∷◌, ◌++◌, map, refl, ap, sym, ◌∙◌, subst, arith}
+use Rattle.std.specs.Prelude.{filter}
+use Rattle.std.proofs.lemmas.Bool.{cases_Bool}
+use Rattle.grs_base.specs.Same.{same_res}
+use Rattle.grs_base.specs.declared.resource.Res.{Res}
+use Rattle.grs_base.specs.declared.resource.Ctl.{Ctl}
+use Rattle.grs_base.specs.declared.resource.Ctl.TheVariants.{E}
+use Rattle.grs_base.proofs.SameLaws.{same_res-exact, same_res-itself}
+use Rattle.task_state.specs.declared.state.Rec.{Rec}
+use Rattle.task_state.specs.View.{without_first, on_record}
+use Rattle.grs_known.specs.Past.{made_exclusive}
+use Rattle.grs_known.proofs.tasks.Invariant.{Each, key, has_res, has_own, is_distinct}
+use Rattle.grs_known.proofs.lists.Facts.{map-append}
+use Rattle.grs_known.proofs.lists.Truths.{no_truth, false_by}
+
+pub same_res-sym : (a b : Res) → same_res a b ≡ same_res b a
+same_res-sym a b = go (same_res a b) refl
+  where
+    go : (x : Bool) → same_res a b ≡ x → x ≡ same_res b a
+    go true e = subst (λ z. true ≡ same_res z a) (same_res-exact a b e) (sym (same_res-itself a))
+    go false e = back (same_res b a) refl
+      where
+        back : (y : Bool) → same_res b a ≡ y → false ≡ y
+        back true f = sym e ∙ subst (λ z. same_res z b ≡ true) (same_res-exact b a f) (same_res-itself b)
+        back false f = refl
+
+-- a task has a record of a resource just where it has an element there
+pub has_res-own : (r : Res) (xs : List Rec) (ks : List (Res × Ctl)) → map key xs ≡ ks → has_res r xs ≡ has_own r ks
+has_res-own r xs ks e = has_keys xs ∙ ap (has_own r) e
+  where
+    has_keys : (ys : List Rec) → has_res r ys ≡ has_own r (map key ys)
+    has_keys [] = refl
+    has_keys (y ∷ ys) = ap (λ b. same_res r y.res || b) (has_keys ys)
+
+pub keys-push : (xs : List Rec) (y : Rec) → map key (xs ++ y ∷ []) ≡ map key xs ++ key y ∷ []
+keys-push xs y = map-append key xs (y ∷ [])
+
+has_res-push : (r : Res) (xs : List Rec) (y : Rec) → has_res r (xs ++ y ∷ []) ≡ (has_res r xs || same_res r y.res)
+has_res-push r [] y = grind arith
+has_res-push r (x ∷ xs) y = grind (arith, has_res-push r xs y)
+
+pub distinct-push : (xs : List Rec) (y : Rec) → is_distinct xs ≡ true → has_res y.res xs ≡ false → is_distinct (xs ++ y ∷ []) ≡ true
+distinct-push [] y d a = refl
+distinct-push (x ∷ xs) y d a = grind (arith, d, a, distinct-push xs y, has_res-push x.res xs y, same_res-sym x.res y.res)
+
+-- making control exclusive
+pub keys-exclusive : (r : Res) (xs : List Rec) → map key (on_record r (λ z. record z { ctl = E }) xs) ≡ map (made_exclusive r) (map key xs)
+keys-exclusive r [] = refl
+keys-exclusive r (x ∷ xs) = grind (arith, keys-exclusive r xs)
+
+has_res-exclusive : (q r : Res) (xs : List Rec) → has_res q (on_record r (λ z. record z { ctl = E }) xs) ≡ has_res q xs
+has_res-exclusive q r [] = refl
+has_res-exclusive q r (x ∷ xs) = grind (arith, has_res-exclusive q r xs)
+
+pub distinct-exclusive : (r : Res) (xs : List Rec) → is_distinct (on_record r (λ z. record z { ctl = E }) xs) ≡ is_distinct xs
+distinct-exclusive r [] = refl
+distinct-exclusive r (x ∷ xs) = grind (arith, distinct-exclusive r xs, has_res-exclusive x.res r xs)
+
+-- taking a record out
+without_absent : (r : Res) (xs : List Rec) → has_res r xs ≡ false → filter (λ k. not (same_res r k.0)) (map key xs) ≡ map key xs
+without_absent r [] h = refl
+without_absent r (x ∷ xs) h = grind (arith, h, without_absent r xs)
+
+pub keys-without : (r : Res) (xs : List Rec) → is_distinct xs ≡ true → map key (without_first xs r) ≡ filter (λ k. not (same_res r k.0)) (map key xs)
+keys-without r [] d = refl
+keys-without r (x ∷ xs) d = grind (arith, d, keys-without r xs, without_absent r xs, same_res-exact r x.res, cases_Bool (same_res r x.res))
+
+absent-without : (q r : Res) (xs : List Rec) → has_res q xs ≡ false → has_res q (without_first xs r) ≡ false
+absent-without q r [] h = h
+absent-without q r (x ∷ xs) h = grind (arith, h, absent-without q r xs, cases_Bool (same_res r x.res))
+
+pub distinct-without : (r : Res) (xs : List Rec) → is_distinct xs ≡ true → is_distinct (without_first xs r) ≡ true
+distinct-without r [] d = refl
+distinct-without r (x ∷ xs) d = grind (arith, d, distinct-without r xs, absent-without x.res r xs, cases_Bool (same_res r x.res))
+
+-- what is taken out is gone
+pub gone-without : (r : Res) (xs : List Rec) → is_distinct xs ≡ true → has_res r (without_first xs r) ≡ false
+gone-without r [] d = refl
+gone-without r (x ∷ xs) d = grind (arith, d, gone-without r xs, same_res-exact r x.res, cases_Bool (same_res r x.res))
+
+-- so what is left is on other resources
+pub other-without : (q r : Res) (xs : List Rec) → is_distinct xs ≡ true → has_res q (without_first xs r) ≡ true → same_res q r ≡ false
+other-without q r xs d has = false_by (same_res q r) (λ e. no_truth (has_res q (without_first xs r)) has (subst (λ z. has_res z (without_first xs r) ≡ false) (sym (same_res-exact q r e)) (gone-without r xs d)))
+
+pub each-without : (P : Rec → Type 0) (r : Res) (xs : List Rec) → Each P xs → Each P (without_first xs r)
+each-without P r [] h = h
+each-without P r (x ∷ xs) h = go (same_res r x.res) (each-without P r xs h.1)
+  where
+    go : (b : Bool) → Each P (without_first xs r) → Each P (cond b xs (x ∷ without_first xs r))
+    go true k = h.1
+    go false k = (h.0, k)
+
+pub each-push : (P : Rec → Type 0) (xs : List Rec) (y : Rec) → Each P xs → P y → Each P (xs ++ y ∷ [])
+each-push P [] y h k = (k, tt)
+each-push P (x ∷ xs) y h k = (h.0, each-push P xs y h.1 k)
+
+pub each-exclusive : (P : Rec → Type 0) → ((z : Rec) → P z → P (record z { ctl = E })) → (r : Res) (xs : List Rec) → Each P xs → Each P (on_record r (λ z. record z { ctl = E }) xs)
+each-exclusive P k r [] h = h
+each-exclusive P k r (x ∷ xs) h = (go (same_res r x.res), each-exclusive P k r xs h.1)
+  where
+    go : (b : Bool) → P (cond b (record x { ctl = E }) x)
+    go true = k x h.0
+    go false = h.0

@@ -1,0 +1,4 @@
+-- The message.
+pub mod LapsRound
+pub mod LapsMessage
+pub mod Stands

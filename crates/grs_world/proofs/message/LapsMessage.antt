@@ -1,0 +1,256 @@
+-- The message as it goes round: it passes over no system that has still to process an entry.
+use Rattle.std.proofs.Common.{ℕ, zero, suc, ◌≡◌, ◌≢◌, ◌+◌, ◌-◌, ◌%◌, ◌<◌, ◌≤◌, Bool, true, false, cond, not, List, [], ◌∷◌, ◌++◌, length, map, Option, Some, None, refl, sym, ap, ◌∙◌, subst, arith, add-zero}
+use Rattle.std.specs.Prelude.{filter, ◌==◌}
+use Rattle.std.specs.List.{list_any}
+use Rattle.std.proofs.lemmas.List.Folds.{list_any-append}
+use Rattle.std.proofs.Math.Nat.{mod-eq_of_lt, mod-add-mod}
+use native.Mathlib.Decide.{ℕ_discrete}
+use Rattle.grs_base.specs.declared.resource.SysId.{SysId}
+use Rattle.grs_wire.specs.declared.medium.RingEntry.{RingEntry}
+use Rattle.grs_wire.specs.declared.medium.RingBody.TheVariants.{Request}
+use Rattle.grs_wire.specs.declared.request.Req.{Req}
+use Rattle.grs_wire.specs.Masks.{has, without, with_also, only, others}
+use Rattle.grs_wire.proofs.WantLaws.{by_test}
+use Rattle.grs_wire.proofs.MaskLaws.{has-zero, has-with_other, has-without_same, has-without_other}
+use Rattle.rsa_message.specs.Message.{Message, is_at, first_after, or_else, is_unseen, unseen, any_unseen, left_by, cleared, stamped, is_due, moves, turned_open, turned_closed, turned}
+use Rattle.rsa_message.proofs.OrderLaws.{is_at-exact}
+use Rattle.grs_world.specs.Laps.{OnlyLeft, LastAtHome}
+use Rattle.grs_world.proofs.message.LapsRound.{Ahead, home, inside_round, after_some, first_found, first_inside}
+use Rattle.grs_known.proofs.lists.Truths.{or_first, or_second}
+use Rattle.grs_world.proofs.message.Stands.{has-others}
+
+-- Whoever has still to process an entry: the message comes to it before it has gone once round from the system that
+-- put the entry in.
+abbrev pub Awaited : ℕ → SysId → RingEntry → Type 0
+Awaited systems here e = (u : ℕ) → has e.mask u ≡ true → Ahead systems e.from.0 here.0 u
+
+abbrev pub AllAwaited : ℕ → SysId → List RingEntry → Type 0
+AllAwaited systems here [] = Unit {0}
+AllAwaited systems here (e ∷ es) = Awaited systems here e × AllAwaited systems here es
+
+-- Once its own system has processed an entry, nobody has still to process it.
+abbrev pub EndsAtHome : RingEntry → Type 0
+EndsAtHome e = has e.mask e.from.0 ≡ false → (u : ℕ) → has e.mask u ≡ false
+
+abbrev pub AllEndAtHome : List RingEntry → Type 0
+AllEndAtHome [] = Unit {0}
+AllEndAtHome (e ∷ es) = EndsAtHome e × AllEndAtHome es
+
+-- What holds of the message in a run.
+pub record Round (m : Message) : Type 0 where
+  -- Closed, as it is in star mode, it stands nowhere.
+  pub shut : m.closed ≡ true → m.holder ≡ None
+  -- It stands at one of the systems, if there is any.
+  pub inside : (h : SysId) → m.holder ≡ Some h → 0 < m.systems → h.0 < m.systems
+  -- Whoever has still to process an entry is not passed over.
+  pub awaited : (h : SysId) → m.holder ≡ Some h → AllAwaited m.systems h m.entries
+  -- An entry's own system is the last.
+  pub ends : AllEndAtHome m.entries
+
+-- ---- the set of all systems
+all-below : (n u : ℕ) → has (others n 0) u ≡ true → u < n
+all-below zero u e = let no : false ≡ true = sym (has-zero u) ∙ e in absurd cc
+all-below (suc n) u e = go (ℕ_discrete u n) (all-below n u) (rw (has-zero n) at e)
+  where
+    go : Dec (u ≡ n) → (has (others n 0) u ≡ true → u < n) → has (with_also (others n 0) n) u ≡ true → u < suc n
+    go (yes same) below in_it = omega arith
+    go (no other) below in_it = let l : u < n = below (sym (has-with_other (others n 0) n u other) ∙ in_it) in omega arith
+
+-- ---- one entry
+-- A place further on is the same, counted from two systems.
+further : (n c f gone j : ℕ) → (f + gone) % n ≡ c → (f + (gone + j)) % n ≡ (c + j) % n
+further n c f gone j stands =
+    let more : f + (gone + j) ≡ (f + gone) + j = omega arith in
+    ap (λ (x : ℕ). x % n) more ∙ sym (mod-add-mod (f + gone) n j) ∙ ap (λ (x : ℕ). (x + j) % n) stands
+
+the_way : (n c f gone whole : ℕ) → gone ≤ whole → (f + gone) % n ≡ c → (c + (whole - gone)) % n ≡ (f + whole) % n
+the_way n c f gone whole yet stands =
+    let way : gone + (whole - gone) ≡ whole = omega arith in
+    sym (further n c f gone (whole - gone) stands) ∙ ap (λ (x : ℕ). (f + x) % n) way
+
+-- A system that is due is still ahead of the message when that has moved on.
+onward : (n : ℕ) (c h : SysId) (test : SysId → Bool) → or_else (first_after n c test) c ≡ h →
+    (f gone whole u : ℕ) → gone < whole → whole ≤ n → (f + gone) % n ≡ c.0 → (f + whole) % n ≡ u → test (record { 0 = u }) ≡ true → Ahead n f h.0 u
+onward n c h test moved f gone whole u far once stands comes due =
+    let there = the_way n c.0 f gone whole (omega arith) stands ∙ comes in
+    let r = first_found test n c (whole - gone) (omega arith) (omega arith) (subst (λ (x : ℕ). test (record { 0 = x }) ≡ true) (sym there) due) in
+    record {
+      gone = gone + r.0;
+      whole = whole;
+      left = omega (arith, r.1);
+      yet = omega (arith, r.2);
+      once = once;
+      stands = further n c.0 f gone r.0 stands ∙ ap (λ (o : Option SysId). (or_else o c).0) (sym r.3) ∙ ap (λ (x : SysId). x.0) moved;
+      comes = comes;
+    }
+
+-- So it is of an entry that was there, now that the caller has processed it.
+entry_onward : (n : ℕ) (c h : SysId) (test : SysId → Bool) → or_else (first_after n c test) c ≡ h → (e : RingEntry) → ((u : ℕ) → u < n → has (without e.mask c.0) u ≡ true → test (record { 0 = u }) ≡ true)
+    → Awaited n c e → Awaited n h (left_by c e)
+entry_onward n c h test moved e due ahead u here = go (ℕ_discrete u c.0)
+  where
+    go : Dec (u ≡ c.0) → Ahead n e.from.0 h.0 u
+    go (yes same) = let no : false ≡ true = sym (has-without_same e.mask c.0) ∙ subst (λ (x : ℕ). has (without e.mask c.0) x ≡ true) same here in absurd cc
+    go (no other) =
+        let a : Ahead n e.from.0 c.0 u = ahead u (sym (has-without_other e.mask c.0 u other) ∙ here) in
+        let short : a.gone ≢ a.whole = λ same. other (sym a.comes ∙ ap (λ (x : ℕ). (e.from.0 + x) % n) (sym same) ∙ a.stands) in
+        onward n c h test moved e.from.0 a.gone a.whole u (omega (arith, a.yet, short)) a.once a.stands a.comes (due u (inside_round n e.from.0 c.0 u a) here)
+
+-- So it is of a new entry of the caller, which all have still to process.
+new_onward : (n : ℕ) (c h : SysId) (test : SysId → Bool) → or_else (first_after n c test) c ≡ h → (0 < n → c.0 < n) → (e : RingEntry) → e.from ≡ c → e.mask ≡ others n 0
+    → ((u : ℕ) → u < n → has e.mask u ≡ true → test (record { 0 = u }) ≡ true) → Awaited n h e
+new_onward n c h test moved inside e from all due u here =
+    let low : u < n = all-below n u (subst (λ (x : ℕ). has x u ≡ true) all here) in
+    let c_low : c.0 < n = inside (omega arith) in
+    let k = after_some n c.0 u c_low low in
+    let start : (c.0 + 0) % n ≡ c.0 = ap (λ (x : ℕ). x % n) (add-zero c.0) ∙ mod-eq_of_lt c_low in
+    subst (λ (x : SysId). Ahead n x.0 h.0 u) (sym from) (onward n c h test moved c.0 0 k.0 u k.1 k.2 start k.3 (due u low here))
+
+-- ---- the last system of an entry
+-- Where the message stands at an entry's own system, only that one has still to process it.
+pub only_left : (n : ℕ) (c : SysId) (e : RingEntry) → e.from ≡ c → Awaited n c e → OnlyLeft c e
+only_left n c e from ahead u other = go (has e.mask u) refl
+  where
+    go : (b : Bool) → has e.mask u ≡ b → has e.mask u ≡ false
+    go false is = is
+    go true is = absurd (other (home n c.0 u (subst (λ (x : SysId). Ahead n x.0 c.0 u) from (ahead u is))))
+
+left_ends : (n : ℕ) (c : SysId) (e : RingEntry) → Awaited n c e → EndsAtHome e → EndsAtHome (left_by c e)
+left_ends n c e ahead ends done u = go (ℕ_discrete u c.0)
+  where
+    by_home : u ≢ c.0 → Dec (e.from.0 ≡ c.0) → has e.mask u ≡ false
+    by_home other (yes here) = only_left n c e (ap (λ (x : ℕ). let y : SysId = record { 0 = x } in y) here) ahead u other
+    by_home other (no away) = ends (sym (has-without_other e.mask c.0 e.from.0 away) ∙ done) u
+
+    go : Dec (u ≡ c.0) → has (without e.mask c.0) u ≡ false
+    go (yes same) = subst (λ (x : ℕ). has (without e.mask c.0) x ≡ false) (sym same) (has-without_same e.mask c.0)
+    go (no other) = has-without_other e.mask c.0 u other ∙ by_home other (ℕ_discrete e.from.0 c.0)
+
+-- A new entry has its own system in its mask, if any.
+new_ends : (n : ℕ) (c : SysId) → (0 < n → c.0 < n) → has (others n 0) c.0 ≡ false → (u : ℕ) → has (others n 0) u ≡ false
+new_ends n c inside out u = go (has (others n 0) u) refl
+  where
+    go : (b : Bool) → has (others n 0) u ≡ b → has (others n 0) u ≡ false
+    go false is = is
+    go true is = let low : u < n = all-below n u is in let there : has (others n 0) c.0 ≡ true = has-others n c.0 (inside (omega arith)) in absurd cc
+
+cleared_ends : (n : ℕ) (c : SysId) (es : List RingEntry) → AllAwaited n c es → AllEndAtHome es → AllEndAtHome (cleared c es)
+unfolding cleared
+cleared_ends n c [] all ends = tt
+cleared_ends n c (e ∷ es) all ends = go (not (e.mask == only c.0)) (cleared_ends n c es all.1 ends.1)
+  where
+    go : (b : Bool) → AllEndAtHome (cleared c es) → AllEndAtHome (map (left_by c) (cond b (e ∷ filter (λ x. not (x.mask == only c.0)) es) (filter (λ x. not (x.mask == only c.0)) es)))
+    go true on = (left_ends n c e all.0 ends.0, on)
+    go false on = on
+
+stamped_ends : (n : ℕ) (c : SysId) → (0 < n → c.0 < n) → (number mask : ℕ) → mask ≡ others n 0 → (rs : List Req) → AllEndAtHome (stamped number c mask rs)
+unfolding stamped
+stamped_ends n c inside number mask all [] = tt
+stamped_ends n c inside number mask all (r ∷ rs) =
+    (subst (λ (m : ℕ). has m c.0 ≡ false → (u : ℕ) → has m u ≡ false) (sym all) (new_ends n c inside), stamped_ends n c inside (suc number) mask all rs)
+
+ends_joined : (xs ys : List RingEntry) → AllEndAtHome xs → AllEndAtHome ys → AllEndAtHome (xs ++ ys)
+ends_joined [] ys a b = b
+ends_joined (x ∷ xs) ys a b = (a.0, ends_joined xs ys a.1 b)
+
+-- ---- all entries
+-- A system that has still to process one of these passes the test.
+abbrev Passes : ℕ → (SysId → Bool) → List RingEntry → Type 0
+Passes n test es = (u : ℕ) → u < n → any_unseen (record { 0 = u }) es ≡ true → test (record { 0 = u }) ≡ true
+
+passes_head : (n : ℕ) (test : SysId → Bool) (e : RingEntry) (es : List RingEntry) → Passes n test (e ∷ es) → (u : ℕ) → u < n → has e.mask u ≡ true → test (record { 0 = u }) ≡ true
+unfolding any_unseen
+passes_head n test e es due u low here = due u low (or_first _ (list_any (is_unseen (record { 0 = u })) es) here)
+
+passes_tail : (n : ℕ) (test : SysId → Bool) (e : RingEntry) (es : List RingEntry) → Passes n test (e ∷ es) → Passes n test es
+unfolding any_unseen
+passes_tail n test e es due u low here = due u low (or_second (has e.mask u) _ here)
+
+cleared_onward : (n : ℕ) (c h : SysId) (test : SysId → Bool) → or_else (first_after n c test) c ≡ h → (es : List RingEntry) → Passes n test (cleared c es)
+    → AllAwaited n c es → AllAwaited n h (cleared c es)
+unfolding cleared
+cleared_onward n c h test moved [] due all = tt
+cleared_onward n c h test moved (e ∷ es) due all = go (not (e.mask == only c.0)) (λ d. cleared_onward n c h test moved es d all.1) due
+  where
+    Kept : Bool → List RingEntry
+    Kept b = map (left_by c) (cond b (e ∷ filter (λ x. not (x.mask == only c.0)) es) (filter (λ x. not (x.mask == only c.0)) es))
+
+    go : (b : Bool) → (Passes n test (cleared c es) → AllAwaited n h (cleared c es)) → Passes n test (Kept b) → AllAwaited n h (Kept b)
+    go true on d = (entry_onward n c h test moved e (passes_head n test (left_by c e) (cleared c es) d) all.0, on (passes_tail n test (left_by c e) (cleared c es) d))
+    go false on d = on d
+
+stamped_onward : (n : ℕ) (c h : SysId) (test : SysId → Bool) → or_else (first_after n c test) c ≡ h → (0 < n → c.0 < n) → (number mask : ℕ) → mask ≡ others n 0 → (rs : List Req)
+    → Passes n test (stamped number c mask rs) → AllAwaited n h (stamped number c mask rs)
+unfolding stamped
+stamped_onward n c h test moved inside number mask all [] due = tt
+stamped_onward n c h test moved inside number mask all (r ∷ rs) due =
+    let e : RingEntry = record { number = number; from = c; body = Request r; mask = mask } in (
+      new_onward n c h test moved inside e refl all (passes_head n test e (stamped (suc number) c mask rs) due),
+      stamped_onward n c h test moved inside (suc number) mask all rs (passes_tail n test e (stamped (suc number) c mask rs) due),
+    )
+
+joined : (n : ℕ) (h : SysId) (xs ys : List RingEntry) → AllAwaited n h xs → AllAwaited n h ys → AllAwaited n h (xs ++ ys)
+joined n h [] ys a b = b
+joined n h (x ∷ xs) ys a b = (a.0, joined n h xs ys a.1 b)
+
+passes_front : (n : ℕ) (test : SysId → Bool) (xs ys : List RingEntry) → Passes n test (xs ++ ys) → Passes n test xs
+unfolding any_unseen
+passes_front n test xs ys due u low here = due u low (list_any-append (is_unseen (record { 0 = u })) xs ys ∙ or_first _ _ here)
+
+passes_back : (n : ℕ) (test : SysId → Bool) (xs ys : List RingEntry) → Passes n test (xs ++ ys) → Passes n test ys
+unfolding any_unseen
+passes_back n test xs ys due u low here = due u low (list_any-append (is_unseen (record { 0 = u })) xs ys ∙ or_second (list_any (is_unseen (record { 0 = u })) xs) _ here)
+
+-- ---- a Turn
+due_all : (n live rest : ℕ) (es : List RingEntry) → live ≡ others n 0 → Passes n (is_due es live rest) es
+due_all n live rest es all u low here = let in_it : has live u ≡ true = subst (λ (x : ℕ). has x u ≡ true) (sym all) (has-others n u low) in rw (in_it, here) refl
+
+moved_inside : (n : ℕ) (c : SysId) (first : Option SysId) (h : SysId) → c.0 < n → ((x : SysId) → first ≡ Some x → x.0 < n) → or_else first c ≡ h → h.0 < n
+moved_inside n c None h low each e = subst (λ (x : SysId). x.0 < n) e low
+moved_inside n c (Some x) h low each e = subst (λ (y : SysId). y.0 < n) e (each x refl)
+
+open_round : (m : Message) (c : SysId) (out : List Req) (live rest : ℕ) → Round m → live ≡ others m.systems 0 → m.holder ≡ Some c → m.closed ≡ false → Round (turned_open m c out live rest)
+open_round m c out live rest laws all here opened =
+    let n : ℕ = m.systems in
+    let flags : ℕ = cond (moves m c (length out)) (without rest c.0) rest in
+    let old : List RingEntry = cleared c m.entries in
+    let new : List RingEntry = stamped m.next c live out in
+    let test : SysId → Bool = is_due (old ++ new) live flags in
+    let due : Passes n test (old ++ new) = due_all n live flags (old ++ new) all in
+    record {
+      shut = λ shut. absurd cc;
+      inside = λ h at some. moved_inside n c (first_after n c test) h (laws.inside c here some) (λ x e. first_inside test n c x some e) (cc);
+      awaited = λ h at.
+          let moved : or_else (first_after n c test) c ≡ h = cc in
+          joined n h old new
+          (cleared_onward n c h test moved m.entries (passes_front n test old new due) (laws.awaited c here))
+          (stamped_onward n c h test moved (laws.inside c here) m.next live all out (passes_back n test old new due));
+      ends = ends_joined old new (cleared_ends n c m.entries (laws.awaited c here) laws.ends) (stamped_ends n c (laws.inside c here) m.next live all out);
+    }
+
+pub turned_round : (m : Message) (c : SysId) (out : List Req) (live rest : ℕ) → Round m → live ≡ others m.systems 0 → Round (turned m c out live rest)
+unfolding turned
+turned_round m c out live rest laws all = go (is_at m.holder c) m.closed refl refl
+  where
+    go : (here closed : Bool) → is_at m.holder c ≡ here → m.closed ≡ closed → Round (cond here (cond closed (turned_closed m c) (turned_open m c out live rest)) m)
+    go false closed at shut = laws
+    go true false at shut = open_round m c out live rest laws all (is_at-exact m.holder c at) shut
+    go true true at shut = let none : m.holder ≡ None = laws.shut shut in let some : m.holder ≡ Some c = is_at-exact m.holder c at in absurd cc
+
+-- ---- where it has come home
+awaited_of : (n : ℕ) (h : SysId) (before behind : List RingEntry) (e : RingEntry) → AllAwaited n h (before ++ e ∷ behind) → Awaited n h e
+awaited_of n h [] behind e a = a.0
+awaited_of n h (x ∷ before) behind e a = awaited_of n h before behind e a.1
+
+-- Of these entries a system's own are left to it alone.
+pub left_at_home : (n : ℕ) (s : SysId) (es before behind : List RingEntry) (e : RingEntry) → AllAwaited n s es → es ≡ before ++ e ∷ behind → e.from ≡ s → OnlyLeft s e
+left_at_home n s es before behind e all is from = only_left n s e from (awaited_of n s before behind e (subst (AllAwaited n s) is all))
+
+pub last_at_home : (m : Message) → Round m → LastAtHome m
+last_at_home m laws s before behind e q held body from here = left_at_home m.systems s m.entries before behind e (laws.awaited s (is_at-exact m.holder s here)) held from
+
+-- The entries that a system has still to process are awaited as all are.
+pub unseen_awaited : (n : ℕ) (s : SysId) (es : List RingEntry) → AllAwaited n s es → AllAwaited n s (unseen s es)
+unfolding unseen
+unseen_awaited n s [] a = tt
+unseen_awaited n s (e ∷ es) a = by_test (AllAwaited n s) (has e.mask s.0) (e ∷ unseen s es) (unseen s es) (λ t. (a.0, unseen_awaited n s es a.1)) (λ t. unseen_awaited n s es a.1)

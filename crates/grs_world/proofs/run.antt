@@ -1,0 +1,21 @@
+-- The run: what the systems and the message come to together.
+pub mod Laps
+pub mod LapsTold
+pub mod Came
+pub mod KeptPlaces
+pub mod Projections
+pub mod Transfer
+pub mod Answered
+pub mod OfEvents
+pub mod Tape
+pub mod Views
+pub mod Carried
+pub mod Reading
+pub mod Putting
+pub mod Outcomes
+pub mod Runs
+pub mod Removals
+pub mod Sound
+pub mod Fronts
+pub mod Complex
+pub mod Messages

@@ -1,0 +1,179 @@
+-- A request comes back last: the message goes round in each world that a run reaches, so what an event gives a system
+-- of its own is left to it alone.
+use Rattle.std.proofs.Common.{ℕ, ◌≡◌, Bool, true, false, cond, ◌&&◌, List, [], ◌∷◌, ◌++◌, length, Option, Some, None, refl, sym, ap, subst, arith}
+use Rattle.std.specs.Prelude.{slice_get, take, ◌==◌}
+use Rattle.grs_base.specs.declared.resource.SysId.{SysId}
+use Rattle.grs_wire.specs.Masks.{has, others}
+use Rattle.grs_wire.specs.declared.deck.Choice.{Choice}
+use Rattle.grs_wire.specs.declared.deck.Choice.TheVariants as choices
+use Rattle.grs_wire.specs.declared.deck.Deck.{Deck}
+use Rattle.grs_wire.specs.declared.deck.Event.{Event}
+use Rattle.grs_wire.specs.declared.medium.Act.{Act}
+use Rattle.grs_wire.specs.declared.medium.Act.TheVariants.{Turn, Rest}
+use Rattle.grs_wire.specs.declared.medium.Reply.{Reply}
+use Rattle.grs_wire.specs.declared.medium.Reply.TheVariants.{Turned, NotYours, Resting, Over, Removed, Stale}
+use Rattle.grs_wire.specs.declared.medium.RingBody.TheVariants.{Request}
+use Rattle.grs_wire.specs.declared.medium.RingEntry.{RingEntry}
+use Rattle.grs_wire.specs.declared.request.Req.{Req}
+use Rattle.grs_wire.proofs.WantLaws.{by_test}
+use Rattle.rsa_message.specs.Message.{Message, is_at, opened, never_opened, unseen, turn_reply, turned, turned_open, turned_closed}
+use Rattle.rsa_message.proofs.OrderLaws.{is_at-exact}
+use Rattle.grs_medium.specs.Medium.{MediumState, first_medium, systems_of, live, all_rest, medium_at_end}
+use Rattle.grs_medium.specs.Apply.{turn_row, resting, rest_row, row, apply, reply_to, medium_after}
+use Rattle.grs_node.specs.Node.{Node, most_additions, may_go, is_pending, prepare}
+use Rattle.grs_node.specs.declared.prepared.Prepared.{Prepared}
+use Rattle.grs_node.specs.declared.prepared.Prepared.TheVariants.{Quiet, Call, Nothing}
+use Rattle.grs_world.specs.Laps.{OnlyLeft, ComesBackLast, given_by, given_when, given_at, ProcessedLast}
+use Rattle.grs_world.specs.World.{World, first_world, carry_out, chosen, counted, placed, happens_at, happens, run_from, run}
+use Rattle.grs_world.proofs.message.LapsMessage.{Round, turned_round, left_at_home, last_at_home, unseen_awaited}
+
+-- This holds of the medium in a run.
+pub record Goes (m : MediumState) : Type 0 where
+  -- Nobody is removed, and the message goes round.
+  pub whole : m.removed ≡ 0
+  pub round : Round m.message
+  -- In star mode there is no message, and never was.
+  pub unused : m.star ≡ true → (m.message.closed ≡ true) × (m.message.next ≡ 1)
+
+-- ---- at the start
+closed_at_start : (n : ℕ) → Round (never_opened n)
+closed_at_start n = record {
+  shut = λ e. refl;
+  inside = λ h e. absurd cc;
+  awaited = λ h e. absurd cc;
+  ends = tt;
+}
+
+open_at_start : (n : ℕ) → Round (opened n)
+open_at_start n = record {
+  shut = λ e. absurd cc;
+  inside = λ h e some. let zero_at : h.0 ≡ 0 = cc in omega arith;
+  awaited = λ h e. tt;
+  ends = tt;
+}
+
+goes_at_start : (n entries : ℕ) (star : Bool) → Goes (first_medium n entries star)
+goes_at_start n entries false = record { whole = refl; round = open_at_start n; unused = λ e. absurd cc }
+goes_at_start n entries true = record { whole = refl; round = closed_at_start n; unused = λ e. (refl, refl) }
+
+-- ---- a call
+-- Nobody has a Turn where the message stands nowhere.
+turned_nowhere : (m : Message) (c : SysId) (out : List Req) (live rest : ℕ) → m.holder ≡ None → turned m c out live rest ≡ m
+unfolding turned
+turned_nowhere m c out live rest none = ap (λ h. cond (is_at h c) (cond m.closed (turned_closed m c) (turned_open m c out live rest)) m) none
+
+turn_goes : (m : MediumState) (c : SysId) (out : List Req) → Goes m → Goes (row m c (Turn out)).1
+unfolding row turn_row
+turn_goes m c out g = record {
+  whole = g.whole;
+  round = turned_round m.message c out (live m) m.rest g.round (ap (λ (x : ℕ). others (systems_of m) x) g.whole);
+  unused = λ star.
+      let same : m.message ≡ turned m.message c out (live m) m.rest = sym (turned_nowhere m.message c out (live m) m.rest (g.round.shut (g.unused star).0)) in
+      subst (λ (x : Message). (x.closed ≡ true) × (x.next ≡ 1)) same (g.unused star);
+}
+
+rest_goes : (m : MediumState) (c : SysId) → Goes m → Goes (row m c Rest).1
+unfolding row rest_row
+rest_goes m c g = record { whole = g.whole; round = g.round; unused = g.unused }
+
+call_goes : (m : MediumState) (c : SysId) (known : ℕ) (act : Act) → Goes m → Goes (row m c act).1 → Goes (medium_after m c (record { known = known; act = act }))
+unfolding apply
+call_goes m c known act g after = go (has m.removed c.0) (known == m.removed)
+  where
+    go : (gone same : Bool) → Goes (cond gone (Removed, m) (cond same (row m c act) (Stale m.removed, m))).1
+    go true same = g
+    go false true = after
+    go false false = g
+
+-- ---- an event
+either_goes : (deck : Deck) (m : MediumState) (s : SysId) (n : Node) (choice : Choice) (b : Bool) (p q : Prepared) → Goes (carry_out deck m s n choice p).medium → Goes (carry_out deck m s n choice q).medium
+    → Goes (carry_out deck m s n choice (cond b p q)).medium
+either_goes deck m s n choice true p q g h = g
+either_goes deck m s n choice false p q g h = h
+
+chosen_goes : (deck : Deck) (m : MediumState) (s : SysId) (n : Node) (choice : Choice) → Goes m → Goes (chosen deck m s n choice).medium
+unfolding chosen carry_out prepare
+chosen_goes deck m s n (choices.Task t) g = either_goes deck m s n (choices.Task t) (may_go deck n t) Quiet Nothing g g
+chosen_goes deck m s n choices.Turn g = call_goes m s n.known (Turn (take most_additions n.outbox)) g (turn_goes m s (take most_additions n.outbox) g)
+chosen_goes deck m s n choices.Rest g =
+    either_goes deck m s n choices.Rest (is_pending deck n) Nothing (Call (record { known = n.known; act = Rest })) g (call_goes m s n.known Rest g (rest_goes m s g))
+chosen_goes deck m s n (choices.Send t) g = g
+chosen_goes deck m s n choices.Take g = g
+chosen_goes deck m s n choices.Settle g = g
+chosen_goes deck m s n (choices.Tell e) g = g
+chosen_goes deck m s n (choices.Leave e) g = g
+chosen_goes deck m s n choices.Switch g = g
+chosen_goes deck m s n (choices.Purge t) g = g
+
+happens_goes : (deck : Deck) (w : World) (e : Event) → Goes w.medium → Goes (happens deck w e).medium
+unfolding happens happens_at placed
+happens_goes deck w e g = go (slice_get w.nodes e.system.0)
+  where
+    by_node : (n : Node) (removed : Bool) → Goes (cond removed (counted w) (placed w e.system n (chosen deck w.medium e.system n e.choice))).medium
+    by_node n true = g
+    by_node n false = chosen_goes deck w.medium e.system n e.choice g
+
+    go : (n : Option Node) → Goes (happens_at deck w e n).medium
+    go None = g
+    go (Some n) = by_node n (has w.medium.removed e.system.0)
+
+run_goes : (deck : Deck) (w : World) (es : List Event) → Goes w.medium → Goes (run_from deck w es).medium
+run_goes deck w [] g = g
+run_goes deck w (e ∷ es) g = run_goes deck (happens deck w e) es (happens_goes deck w e g)
+
+begun : (deck : Deck) → Goes (first_world deck).medium
+unfolding first_world
+begun deck = goes_at_start (length deck.systems) deck.entries deck.star
+
+pub goes : (deck : Deck) (es : List Event) → Goes (run deck es).medium
+goes deck es = run_goes deck (first_world deck) es (begun deck)
+
+pub comes_back_last : ComesBackLast
+comes_back_last deck es = last_at_home _ (goes deck es).round
+
+-- ---- what the next event gives
+-- Of these entries a system's own are left to it alone.
+abbrev Gives : SysId → List RingEntry → Type 0
+Gives s es = (before behind : List RingEntry) (entry : RingEntry) (q : Req) → es ≡ before ++ entry ∷ behind → entry.body ≡ Request q → entry.from ≡ s → OnlyLeft s entry
+
+no_gift : (s : SysId) → Gives s []
+no_gift s [] behind entry q is body from = absurd cc
+no_gift s (x ∷ before) behind entry q is body from = absurd cc
+
+turn_gift : (m : MediumState) (s : SysId) (out : List Req) → Goes m → Gives s (given_by (row m s (Turn out)).0)
+unfolding row turn_row turn_reply
+turn_gift m s out g =
+    by_test (λ r. Gives s (given_by r)) (is_at m.message.holder s) (Turned (unseen s m.message.entries) (cond m.message.closed 0 (length out)) m.message.closed) (NotYours m.message.holder)
+    (λ here before behind entry q is body from. left_at_home m.message.systems s (unseen s m.message.entries) before behind entry (unseen_awaited m.message.systems s m.message.entries (g.round.awaited s (is_at-exact m.message.holder s here))) is from)
+    (λ away. no_gift s)
+
+rest_gift : (m : MediumState) (s : SysId) → Gives s (given_by (row m s Rest).0)
+unfolding row rest_row
+rest_gift m s = by_test (λ r. Gives s (given_by r)) (all_rest (resting m s) && medium_at_end (resting m s)) Over Resting (λ t. no_gift s) (λ t. no_gift s)
+
+call_gift : (m : MediumState) (s : SysId) (known : ℕ) (act : Act) → Gives s (given_by (row m s act).0) → Gives s (given_by (reply_to m s (record { known = known; act = act })))
+unfolding apply
+call_gift m s known act here =
+    by_test (λ (a : Reply × MediumState). Gives s (given_by a.0)) (has m.removed s.0) (Removed, m) (cond (known == m.removed) (row m s act) (Stale m.removed, m)) (λ t. no_gift s)
+    (λ t. by_test (λ (a : Reply × MediumState). Gives s (given_by a.0)) (known == m.removed) (row m s act) (Stale m.removed, m) (λ u. here) (λ u. no_gift s))
+
+prepared_gift : (deck : Deck) (m : MediumState) (s : SysId) (n : Node) (choice : Choice) → Goes m → Gives s (given_when m s (prepare deck n choice))
+unfolding prepare
+prepared_gift deck m s n (choices.Task t) g = by_test (λ p. Gives s (given_when m s p)) (may_go deck n t) Quiet Nothing (λ u. no_gift s) (λ u. no_gift s)
+prepared_gift deck m s n choices.Turn g = call_gift m s n.known (Turn (take most_additions n.outbox)) (turn_gift m s (take most_additions n.outbox) g)
+prepared_gift deck m s n choices.Rest g =
+    by_test (λ p. Gives s (given_when m s p)) (is_pending deck n) Nothing (Call (record { known = n.known; act = Rest })) (λ u. no_gift s) (λ u. call_gift m s n.known Rest (rest_gift m s))
+prepared_gift deck m s n (choices.Send t) g = no_gift s
+prepared_gift deck m s n choices.Take g = no_gift s
+prepared_gift deck m s n choices.Settle g = no_gift s
+prepared_gift deck m s n (choices.Tell e) g = no_gift s
+prepared_gift deck m s n (choices.Leave e) g = no_gift s
+prepared_gift deck m s n choices.Switch g = no_gift s
+prepared_gift deck m s n (choices.Purge t) g = no_gift s
+
+pub processed_last : (deck : Deck) (es : List Event) (e : Event) → ProcessedLast deck es e
+processed_last deck es e = go (slice_get (run deck es).nodes e.system.0)
+  where
+    go : (n : Option Node) → Gives e.system (given_at deck (run deck es) e n)
+    go None = no_gift e.system
+    go (Some n) = prepared_gift deck (run deck es).medium e.system n e.choice (goes deck es)

@@ -1,0 +1,82 @@
+-- Each told line is of an event, and of that event's system.
+use Rattle.std.proofs.Common.{◌≡◌, ◌+◌, ◌-◌, cond, Bool, true, false, ℕ, List, [], ◌∷◌, ◌++◌, length, Option, Some, None, refl, ap, sym, ◌∙◌, subst, arith, append-nil, append_assoc, length-append}
+use Rattle.std.specs.Prelude.{slice_get, nat_lt}
+use Rattle.std.specs.List.{list_all}
+use Rattle.std.proofs.lemmas.Bool.{and_parts, eq-eqb, lt-ltb}
+use Rattle.std.proofs.lemmas.List.Folds.{list_all-append}
+use Rattle.grs_node.specs.Node.{Node}
+use Rattle.grs_wire.specs.Masks.{has}
+use Rattle.grs_wire.specs.declared.deck.Deck.{Deck}
+use Rattle.grs_wire.specs.declared.deck.Event.{Event}
+use Rattle.grs_wire.specs.declared.told.Told.{Told}
+use Rattle.grs_wire.specs.declared.told.ToldLine.{ToldLine}
+use Rattle.grs_world.specs.Agree.{is_event_of, is_of_event}
+use Rattle.grs_world.specs.World.{World, Turnout, told_by, told_in, chosen, counted, placed, happens_at, happens, run, first_world}
+use Rattle.grs_known.proofs.lists.Facts.{all-kept, slice_get-append, slice_get-end}
+use Rattle.grs_world.proofs.run.Runs.{run-push}
+use Rattle.grs_known.proofs.lists.Truths.{and_on}
+
+-- A line of an event is one of it behind further events too.
+of-longer : (es : List Event) (e : Event) (x : Told) → is_of_event es x ≡ true → is_of_event (es ++ e ∷ []) x ≡ true
+of-longer es e x h =
+    let parts = and_parts (nat_lt 0 x.event) (is_event_of x.system (slice_get es (x.event - 1))) h in
+    and_on (nat_lt 0 x.event) (is_event_of x.system (slice_get (es ++ e ∷ []) (x.event - 1))) parts.0 (go (slice_get es (x.event - 1)) refl parts.1)
+  where
+    go : (o : Option Event) → slice_get es (x.event - 1) ≡ o → is_event_of x.system o ≡ true → is_event_of x.system (slice_get (es ++ e ∷ []) (x.event - 1)) ≡ true
+    go None at f = absurd cc
+    go (Some y) at f = subst (λ o. is_event_of x.system o ≡ true) (sym (slice_get-append es (e ∷ []) (x.event - 1) y at)) f
+
+-- The lines of the last event are of it.
+of-last : (es : List Event) (e : Event) (k : ℕ) (ls : List ToldLine) → k ≡ length es → list_all (is_of_event (es ++ e ∷ [])) (told_by (k + 1) e.system ls) ≡ true
+of-last es e k [] count = refl
+of-last es e k (l ∷ ls) count =
+    let place : k + 1 - 1 ≡ length es = omega (arith, count) in
+    let at : slice_get (es ++ e ∷ []) (k + 1 - 1) ≡ Some e = ap (slice_get (es ++ e ∷ [])) place ∙ slice_get-end es e [] in
+    and_on _ _ (and_on (nat_lt 0 (k + 1)) _ (lt-ltb 0 (k + 1) (omega arith)) (subst (λ o. is_event_of e.system o ≡ true) (sym at) (eq-eqb e.system.0 e.system.0 refl))) (of-last es e k ls count)
+
+-- What holds of a run.
+record OfEvents (es : List Event) (w : World) : Type 0 where
+  count : w.events ≡ length es
+  told : list_all (is_of_event es) w.told ≡ true
+
+module _ (deck : Deck) where
+  next : (es : List Event) (e : Event) (w : World) → OfEvents es w → OfEvents (es ++ e ∷ []) (happens deck w e)
+  unfolding happens happens_at placed
+  next es e w g = go (slice_get w.nodes e.system.0)
+    where
+      one_more : w.events + 1 ≡ length (es ++ e ∷ [])
+      one_more = ap (λ k. k + 1) g.count ∙ sym (length-append es (e ∷ []))
+
+      older : list_all (is_of_event (es ++ e ∷ [])) w.told ≡ true
+      older = all-kept (is_of_event es) (is_of_event (es ++ e ∷ [])) (of-longer es e) w.told g.told
+
+      idle : OfEvents (es ++ e ∷ []) (counted w)
+      idle = record { count = one_more; told = older }
+
+      went_on : (n : Node) (o : Turnout) → OfEvents (es ++ e ∷ []) (placed w e.system n o)
+      went_on n o = record {
+        count = one_more;
+        told = list_all-append (is_of_event (es ++ e ∷ [])) w.told (told_by (w.events + 1) e.system (told_in n o.step))
+            ∙ and_on _ _ older (of-last es e w.events (told_in n o.step) g.count);
+      }
+
+      by_removed : (n : Node) (removed : Bool) → OfEvents (es ++ e ∷ []) (cond removed (counted w) (placed w e.system n (chosen deck w.medium e.system n e.choice)))
+      by_removed n true = idle
+      by_removed n false = went_on n (chosen deck w.medium e.system n e.choice)
+
+      go : (o : Option Node) → OfEvents (es ++ e ∷ []) (happens_at deck w e o)
+      go None = idle
+      go (Some n) = by_removed n (has w.medium.removed e.system.0)
+
+  begun : OfEvents [] (first_world deck)
+  unfolding first_world
+  begun = record { count = refl; told = refl }
+
+  of_from : (done es : List Event) → OfEvents done (run deck done) → OfEvents (done ++ es) (run deck (done ++ es))
+  of_from done [] g = subst (λ xs. OfEvents xs (run deck xs)) (sym (append-nil done)) g
+  of_from done (e ∷ es) g =
+      subst (λ xs. OfEvents xs (run deck xs)) (append_assoc done (e ∷ []) es)
+      (of_from (done ++ e ∷ []) es (subst (OfEvents (done ++ e ∷ [])) (sym (run-push deck done (first_world deck) e)) (next done e (run deck done) g)))
+
+  pub told_of_events : (es : List Event) → list_all (is_of_event es) (run deck es).told ≡ true
+  told_of_events es = (of_from [] es begun).told

@@ -1,0 +1,5 @@
+-- Worked examples.
+pub mod LapsSamples
+pub mod TablesSamples
+pub mod Samples
+pub mod AgreeSamples

@@ -1,0 +1,20 @@
+-- One system: what holds of it, and what each word of its events does.
+pub mod Seen
+pub mod Asking
+pub mod Ours
+pub mod Telling
+pub mod Did
+pub mod Good
+pub mod Events
+pub mod Meant
+pub mod Parts
+pub mod Turns
+pub mod AtNode
+pub mod OwnEntries
+pub mod Processed
+pub mod Puts
+pub mod Quiet
+pub mod NodeLaws
+pub mod Askers
+pub mod First
+pub mod Replied

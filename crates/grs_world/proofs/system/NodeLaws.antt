@@ -1,0 +1,121 @@
+-- The laws of the systems of a complex.
+use Rattle.std.proofs.Common.{◌≡◌, ℕ, zero, suc, true, false, List, [], length, Some, None, refl, ap, sym, ◌∙◌, subst, arith, get_or}
+use Rattle.std.specs.Prelude.{slice_get, ◌==◌, nat_lt}
+use Rattle.std.specs.List.{list_all}
+use Rattle.std.proofs.lemmas.Bool.{and_parts, eqb-true, eq-eqb, lt-ltb}
+use Rattle.grs_base.specs.declared.resource.TaskId.{TaskId}
+use Rattle.grs_legal.specs.Asks.{lines_of, scripts_of}
+use Rattle.grs_legal.specs.declared.meaning.Meaning.{Meaning}
+use Rattle.grs_wire.specs.declared.deck.Deck.{Deck}
+use Rattle.grs_wire.specs.declared.request.Req.{Req}
+use Rattle.task_state.specs.View.{is_task, state_of, new_task, new_tasks}
+use Rattle.grs_node.specs.Node.{first_node}
+use Rattle.grs_world.proofs.system.Seen.{is_home_at, askers, stand_apart, NodeLaws}
+use Rattle.grs_world.proofs.system.Ours.{IsHere, script_at}
+use Rattle.grs_world.proofs.system.Good.{IsGood}
+use Rattle.grs_world.proofs.system.AtNode.{Seen}
+use Rattle.grs_world.proofs.system.Processed.{read_own, read_other, elsewhere}
+use Rattle.grs_world.proofs.system.Puts.{put, put_told, may_put}
+use Rattle.grs_world.proofs.system.Quiet.{quiet}
+use Rattle.grs_known.proofs.lists.Facts.{slice_get-within, some_of}
+use Rattle.grs_world.proofs.system.First.{first_told}
+
+new_tasks-blank : (n i : ℕ) → get_or (new_tasks n) i new_task ≡ new_task
+new_tasks-blank zero i = grind (arith)
+new_tasks-blank (suc n) zero = refl
+new_tasks-blank (suc n) (suc i) = new_tasks-blank n i
+
+length-new_tasks : (n : ℕ) → length (new_tasks n) ≡ n
+length-new_tasks zero = refl
+length-new_tasks (suc n) = ap suc (length-new_tasks n)
+
+first_state : (deck : Deck) (s : ℕ) (t : TaskId) → state_of (first_node deck s).tasks t ≡ new_task
+unfolding state_of first_node
+first_state deck s t = new_tasks-blank (length (scripts_of deck s)) t.task
+
+first_system : (deck : Deck) (s : ℕ) → (first_node deck s).tasks.system ≡ s
+unfolding first_node
+first_system deck s = refl
+
+first_held : (deck : Deck) (s : ℕ) → (first_node deck s).held ≡ []
+unfolding first_node
+first_held deck s = refl
+
+first_shared : (deck : Deck) (s : ℕ) → (first_node deck s).shared ≡ []
+unfolding first_node
+first_shared deck s = refl
+
+first_outbox : (deck : Deck) (s : ℕ) → (first_node deck s).outbox ≡ []
+unfolding first_node
+first_outbox deck s = refl
+
+first_here : (deck : Deck) (s : ℕ) (t : TaskId) → is_home_at deck s t ≡ true → is_task (first_node deck s).tasks t ≡ true
+unfolding first_node
+first_here deck s t h =
+    let is_system : t.system.0 ≡ s = eqb-true _ _ (and_parts _ _ h).0 in
+    let ls = some_of (lines_of deck t) (and_parts _ _ h).1 in
+    let script = script_at deck.lists t (slice_get (scripts_of deck t.system.0) t.task) ls.0 ls.1 in
+    let at : slice_get (scripts_of deck s) t.task ≡ Some script.0 = ap (λ n. slice_get (scripts_of deck n) t.task) (sym is_system) ∙ script.1 in
+    let within : nat_lt t.task (length (new_tasks (length (scripts_of deck s)))) ≡ true = ap (nat_lt t.task) (length-new_tasks (length (scripts_of deck s))) ∙ lt-ltb _ _ (slice_get-within (scripts_of deck s) t.task script.0 at) in
+    let system : (s == t.system.0) ≡ true = eq-eqb _ _ (sym is_system) in
+    rw (system, within) refl
+
+new_here : (deck : Deck) (t : TaskId) (ls : List Meaning) → IsHere deck (record { out = []; all = [] }) [] [] t ls new_task
+new_here deck t ls = record {
+  past = record { own = []; owns = λ r. false; asked = []; last = None };
+  speaks = record { own = refl; owns = λ r e. cc; asked = refl; last = refl };
+  task = record {
+    keys = refl;
+    distinct = refl;
+    within = omega arith;
+    count = λ e. refl;
+    records = tt;
+    codes = refl;
+    posts = refl;
+    phase = record { going = record { no_code = refl; no_end = refl }; free = tt; passed = refl };
+    emptied = λ e. refl;
+  };
+  opened = tt;
+  asked = tt;
+  sent = refl;
+}
+
+first_good : (deck : Deck) (s : ℕ) → IsGood deck s (record { out = []; all = [] }) [] (first_node deck s).tasks
+first_good deck s = record {
+  tasks = record {
+    each = λ t ls o. subst (λ T. IsHere deck (record { out = []; all = [] }) [] T t ls (state_of (first_node deck s).tasks t)) (sym (first_told deck s))
+        (subst (λ x. IsHere deck (record { out = []; all = [] }) [] [] t ls x) (sym (first_state deck s t)) (new_here deck t ls));
+  };
+  elems = refl;
+  here = first_here deck s;
+  system = first_system deck s;
+}
+
+-- a system at the start
+pub first : (deck : Deck) (s : ℕ) → Seen deck s [] [] (first_node deck s)
+first deck s = record {
+  good = subst (λ qs. IsGood deck s (record { out = []; all = qs }) [] (first_node deck s).tasks) (sym (first_outbox deck s)) (first_good deck s);
+  held = first_held deck s;
+  shared = first_shared deck s;
+  homes = ap (list_all (λ (q : Req). is_home_at deck s q.task)) (first_outbox deck s);
+  apart = ap (λ qs. stand_apart (askers qs)) (first_outbox deck s);
+}
+
+-- What the run of a complex has to know of its systems.
+pub node_laws : (deck : Deck) → NodeLaws deck (Seen deck)
+node_laws deck = record {
+  first = first deck;
+  held = λ s Q out n seen. seen.held;
+  shared = λ s Q out n seen. seen.shared;
+  system = λ s Q out n seen. seen.good.system;
+  home = λ s Q out n seen. seen.homes;
+  apart = λ s Q out n seen. seen.apart;
+  quiet = λ s Q out n t seen goes. quiet deck s Q out n t seen goes;
+  read_own = λ s Q out n q h seen e. read_own deck s Q out n q h seen e;
+  read_other = λ s Q out n q h seen others e. read_other deck s Q out n q h seen others e;
+  elsewhere = λ s Q out n h seen e. elsewhere deck s Q out n h seen e;
+  may_put = λ s Q out n before q behind seen e. may_put deck s Q out n before q behind seen e;
+  put = λ s Q out n k seen. put deck s Q out n k seen;
+  put_told = put_told;
+  known = λ s Q out n set seen. record { good = seen.good; held = seen.held; shared = seen.shared; homes = seen.homes; apart = seen.apart };
+}
