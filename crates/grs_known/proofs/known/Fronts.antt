@@ -1,5 +1,5 @@
 -- An owner by a front of the items is still one by all of them.
-use Rattle.std.proofs.Common.{◌≡◌, Bool, true, false, cond, ◌||◌, List, [], ◌∷◌, ◌++◌, Option, Some, refl, sym, subst, append_assoc, append-nil, inl, inr}
+use Rattle.std.proofs.Common.{◌≡◌, Bool, true, false, cond, List, [], ◌∷◌, ◌++◌, Option, Some, refl, sym, subst, append_assoc, append-nil, inl, inr}
 use Rattle.std.specs.Prelude.{◌⊎◌}
 use Rattle.std.specs.List.{list_any}
 use Rattle.grs_base.specs.Lists.{owns}
@@ -10,10 +10,7 @@ use Rattle.grs_known.specs.Items.{RunItem, is_of, removes_system_of, mine, lists
 use Rattle.grs_known.specs.Known.{Still}
 use Rattle.grs_known.specs.Laws.{first_mine, FrontOwnersStay}
 use Rattle.grs_known.proofs.known.Control.{owns-other, still-other, still-own}
-
-none_removes : (a b : Bool) → (a || b) ≡ false → (a ≡ false) × (b ≡ false)
-none_removes true b e = absurd (cc)
-none_removes false b e = (refl, e)
+use Rattle.grs_known.proofs.lists.Truths.{or_false}
 
 pushed : (front : List RunItem) (x : RunItem) (xs : List RunItem) → front ++ (x ∷ xs) ≡ (front ++ x ∷ []) ++ xs
 pushed front x xs = sym (append_assoc front (x ∷ []) xs)
@@ -26,7 +23,7 @@ still-rest t r front (x ∷ xs) o live none h = go (is_of t x.fixed) refl none (
     go : (b : Bool) → is_of t x.fixed ≡ b → cond b (x ∷ mine t xs) (mine t xs) ≡ [] → (list_any (λ y. removes_system_of t y.fixed) xs ≡ false → mine t xs ≡ [] → Still r t (front ++ x ∷ []) o → Still r t ((front ++ x ∷ []) ++ xs) o) → Still r t (front ++ x ∷ xs) o
     go true e f more = absurd (cc)
     go false e f more =
-        let l = none_removes (removes_system_of t x.fixed) (list_any (λ y. removes_system_of t y.fixed) xs) live in
+        let l = or_false (removes_system_of t x.fixed) (list_any (λ y. removes_system_of t y.fixed) xs) live in
         subst (λ T. Still r t T o) (sym (pushed front x xs)) (more l.1 f (still-other t front x e l.0 r o h))
 
 pub front_owners_stay : FrontOwnersStay
@@ -34,7 +31,7 @@ front_owners_stay t r front [] made live few h = subst (λ T. owns (list_of (lis
 front_owners_stay t r front (x ∷ xs) made live few h = go (is_of t x.fixed) refl few (λ l f o. front_owners_stay t r (front ++ x ∷ []) xs made.1 l f o)
   where
     l : (removes_system_of t x.fixed ≡ false) × (list_any (λ y. removes_system_of t y.fixed) xs ≡ false)
-    l = none_removes (removes_system_of t x.fixed) (list_any (λ y. removes_system_of t y.fixed) xs) live
+    l = or_false (removes_system_of t x.fixed) (list_any (λ y. removes_system_of t y.fixed) xs) live
 
     tail_none : (ys : List RunItem) → (x ∷ ys ≡ []) ⊎ ((y : RunItem) × (x ∷ ys ≡ y ∷ [])) → ys ≡ []
     tail_none ys (inl e) = absurd (cc)

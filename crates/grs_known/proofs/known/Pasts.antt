@@ -1,5 +1,5 @@
 -- The past of a task by what is known of it.
-use Rattle.std.proofs.Common.{◌≡◌, Bool, true, false, cond, ◌||◌, List, [], ◌∷◌, ◌++◌, Some, refl, ap, sym, ◌∙◌, subst, arith, append-nil, append_assoc, Option, None}
+use Rattle.std.proofs.Common.{◌≡◌, Bool, true, false, cond, List, [], ◌∷◌, ◌++◌, Some, refl, ap, sym, ◌∙◌, subst, append-nil, append_assoc, Option, None}
 use Rattle.std.specs.Prelude.{filter}
 use Rattle.std.specs.List.{list_any}
 use Rattle.std.proofs.lemmas.List.Elements.{filter-append}
@@ -8,7 +8,7 @@ use Rattle.grs_base.specs.State.{list_of}
 use Rattle.grs_base.specs.declared.resource.Ctl.{Ctl}
 use Rattle.grs_base.specs.declared.resource.Res.{Res}
 use Rattle.grs_base.specs.declared.resource.TaskId.{TaskId}
-use Rattle.grs_legal.specs.Legal.{entries_of, line_entries, last_entry, is_of_line}
+use Rattle.grs_legal.specs.Legal.{entries_of, last_entry, is_of_line}
 use Rattle.grs_wire.specs.History.{replay, after_fixed}
 use Rattle.grs_wire.specs.declared.history.HistEntry.{HistEntry}
 use Rattle.grs_known.specs.Items.{RunItem, is_of, removes_system_of, owns_told, owns_after, mine, lists_from, lists, AllMade, history}
@@ -17,21 +17,19 @@ use Rattle.grs_known.specs.Past.{own_elements, own_told, own_after, after_entry,
 use Rattle.grs_known.proofs.lists.Elements.{apart-fixed, own-fixed, own-fixed_other}
 use Rattle.grs_known.proofs.known.ItemLaws.{lists-push, lists_are_replayed, entries_are_of_items}
 use Rattle.grs_known.proofs.known.Knowing.{learned-longer, all_is_known}
+use Rattle.grs_known.proofs.lists.Entries.{line_entries-from, last_entry-push}
+use Rattle.grs_known.proofs.lists.Truths.{or_false}
 
 -- ---- elements
 own_after-append : (ks : List (Res × Ctl)) (hs gs : List HistEntry) → own_after ks (hs ++ gs) ≡ own_after (own_after ks hs) gs
 own_after-append ks [] gs = refl
 own_after-append ks (h ∷ hs) gs = own_after-append (own_told h ks) hs gs
 
-none_removes : (a b : Bool) → (a || b) ≡ false → (a ≡ false) × (b ≡ false)
-none_removes true b e = absurd (cc)
-none_removes false b e = (refl, e)
-
 own-behind : (t : TaskId) (T xs : List RunItem) → ((r : Res) → is_apart (list_of (lists T) r) ≡ true) → AllMade T xs → list_any (λ x. removes_system_of t x.fixed) xs ≡ false →
     own_elements (lists_from (lists T) xs) t ≡ own_after (own_elements (lists T) t) (history (mine t xs))
 own-behind t T [] apart made live = refl
 own-behind t T (x ∷ xs) apart made live =
-    let l = none_removes (removes_system_of t x.fixed) (list_any (λ y. removes_system_of t y.fixed) xs) live in
+    let l = or_false (removes_system_of t x.fixed) (list_any (λ y. removes_system_of t y.fixed) xs) live in
     let pushed : after_fixed (lists T) x.fixed ≡ lists (T ++ x ∷ []) = sym (lists-push T x) in
     ap (λ s. own_elements (lists_from s xs) t) pushed
     ∙ own-behind t (T ++ x ∷ []) xs (λ r. subst (λ s. is_apart (list_of s r) ≡ true) pushed (apart-fixed (lists T) x.fixed apart r)) made.1 l.1
@@ -51,11 +49,6 @@ elements_are_of_items t T made live = own-behind t [] T (λ r. refl) made live
 history-append : (xs ys : List RunItem) → history (xs ++ ys) ≡ history xs ++ history ys
 history-append [] ys = refl
 history-append (x ∷ xs) ys = ap (λ hs. x.entries ++ hs) (history-append xs ys) ∙ sym (append_assoc x.entries (history xs) (history ys))
-
-last_entry-push : (hs : List HistEntry) (h : HistEntry) → last_entry (hs ++ h ∷ []) ≡ Some h
-last_entry-push [] h = refl
-last_entry-push (x ∷ []) h = refl
-last_entry-push (x ∷ y ∷ ys) h = last_entry-push (y ∷ ys) h
 
 asked-push : (hs : List HistEntry) (h : HistEntry) → filter is_of_line (hs ++ h ∷ []) ≡ cond (is_of_line h) (filter is_of_line hs ++ h ∷ []) (filter is_of_line hs)
 asked-push hs h = filter-append is_of_line hs (h ∷ []) ∙ go (is_of_line h)
@@ -80,10 +73,6 @@ past_grows t k T x is =
     ∙ past-append k.owns (history (learned t k T)) x.entries
 
 -- ---- the history
-lines-mine : (t : TaskId) (hs : List HistEntry) → line_entries t hs ≡ filter is_of_line (entries_of t hs)
-lines-mine t [] = refl
-lines-mine t (h ∷ hs) = grind (arith, lines-mine t hs)
-
 pub past_speaks : PastSpeaks
 past_speaks limit t k T made count live now right =
     let known = all_is_known t k T now right in
@@ -92,7 +81,7 @@ past_speaks limit t k T made count live now right =
     record {
       own = ap (λ s. own_elements s t) (sym replayed) ∙ elements_are_of_items t T made live ∙ ap (λ xs. own_after [] (history xs)) (sym known.0);
       owns = λ r e. subst (λ s. owns (list_of s r) t ≡ true) replayed (known.1 r e);
-      asked = lines-mine t (history T) ∙ ap (filter is_of_line) entries;
+      asked = line_entries-from t (history T) ∙ ap (filter is_of_line) entries;
       last = ap last_entry entries;
     }
 
@@ -115,7 +104,7 @@ past_speaks_of limit t r k T made count stays right =
       owns = λ e. subst (λ s. owns (list_of s r) t ≡ true) (lists_are_replayed limit T made count) (stays_owner (outstanding t k T) stays (right.owned r e));
       asked = (
         filter is_of_line (history rest.0),
-        lines-mine t (history T)
+        line_entries-from t (history T)
             ∙ ap (filter is_of_line) (entries_are_of_items t T made ∙ ap history rest.1 ∙ history-append (learned t k T) rest.0)
             ∙ filter-append is_of_line (history (learned t k T)) (history rest.0),
       );

@@ -1,6 +1,6 @@
 -- The entries of a task, and of its lines, in a history that grows.
 use Rattle.std.proofs.Common.{◌≡◌, ℕ, Bool, true, false, cond, ◌&&◌, List, [], ◌∷◌, ◌++◌, Option, Some, None, refl, arith}
-use Rattle.std.specs.Prelude.{slice_get}
+use Rattle.std.specs.Prelude.{filter, slice_get}
 use Rattle.grs_base.specs.declared.resource.TaskId.{TaskId}
 use Rattle.grs_base.specs.declared.decision.Code.{Code}
 use Rattle.grs_base.specs.declared.decision.Code.TheVariants as codes
@@ -18,6 +18,11 @@ line_entries-other t hist h apart = filter-push_left (λ g. is_by t g && is_of_l
 
 pub entries_of-other : (t : TaskId) (hist : List HistEntry) (h : HistEntry) → is_by t h ≡ false → entries_of t (hist ++ h ∷ []) ≡ entries_of t hist
 entries_of-other t hist h apart = filter-push_left (is_by t) hist h apart
+
+-- the entries of a task's lines are among its entries
+pub line_entries-from : (t : TaskId) (P : List HistEntry) → line_entries t P ≡ filter is_of_line (entries_of t P)
+line_entries-from t [] = refl
+line_entries-from t (h ∷ P) = grind (arith, line_entries-from t P)
 
 -- an own entry goes last
 pub line_entries-own : (t : TaskId) (hist : List HistEntry) (h : HistEntry) → is_by t h ≡ true → is_of_line h ≡ true → line_entries t (hist ++ h ∷ []) ≡ line_entries t hist ++ h ∷ []

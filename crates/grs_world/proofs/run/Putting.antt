@@ -20,12 +20,13 @@ use Rattle.grs_wire.specs.declared.request.Want.TheVariants as wants
 use Rattle.grs_world.proofs.run.Carried.{carries-whole}
 use Rattle.grs_known.proofs.lists.Owners.{is_among}
 use Rattle.grs_world.proofs.system.Replied.{Replied, replied_for, answer-for}
-use Rattle.grs_world.proofs.system.Seen.{NodeLaws, MayPut, askers, stand_apart, FullFits}
+use Rattle.grs_world.proofs.system.Seen.{NodeLaws, MayPut, askers, stand_apart}
 use Rattle.grs_world.proofs.run.Tape.{Item, entries, requests, for_all, from, IsItem, At, Tape, entries-append, requests-append}
 use Rattle.grs_world.proofs.run.Transfer.{Carries, stands-put, fits-carried}
 use Rattle.grs_world.proofs.run.Views.{waits, waiting, View, view-put}
 use Rattle.grs_known.proofs.lists.Truths.{and_on, or_first}
 use Rattle.grs_known.proofs.lists.Facts.{filter-append, filter-cons_kept}
+use Rattle.grs_known.specs.Items.{CountsIn}
 use Rattle.grs_world.proofs.system.Askers.{apart-before, askers-append}
 
 -- each of these requests may be put in
@@ -71,7 +72,7 @@ put-all deck s front Q (q ∷ qs) rest v here may apart =
     let alone : is_among q.task (askers (requests (waiting s rest))) ≡ false =
     apart-before (askers (requests (waiting s rest))) q.task (askers qs) (subst (λ ts. stand_apart ts ≡ true) (askers-append (requests (waiting s rest)) (q ∷ qs)) apart) in
     let carries : Carries deck.limit q.task P (entries Q) = carries-whole deck s front rest Q v here q.task m.home alone in
-    let full : FullFits deck.limit (replay deck.limit P) q.task q.want = fits-carried deck.limit q.task P (entries Q) q.want here v.replied carries.mine m.fits in
+    let full : CountsIn deck.limit (replay deck.limit P) q.task q.want = fits-carried deck.limit q.task P (entries Q) q.want here v.replied carries.mine m.fits in
     let at : At deck P x = record { made = made; full = full; is = item } in
     let stands : MayStand deck P one.0 = stands-put deck s P (entries Q) q (replay deck.limit P) one.0 carries m made (answer-for deck.limit (replay deck.limit P) q.task q.want one.0 full made) in
     let mine : from s x ≡ true = eq-eqb q.task.system.0 s m.home in

@@ -15,9 +15,10 @@ use Rattle.grs_wire.specs.declared.history.HistEntry.{HistEntry}
 use Rattle.grs_wire.specs.declared.request.Req.{Req}
 use Rattle.grs_wire.specs.declared.request.Want.{Want}
 use Rattle.grs_wire.specs.declared.request.Want.TheVariants as wants
+use Rattle.grs_known.specs.Items.{CountsIn}
 use Rattle.grs_world.proofs.run.Projections.{on_res, may_change-for}
 use Rattle.grs_world.proofs.system.Replied.{Replied, replied_for, only_entry}
-use Rattle.grs_world.proofs.system.Seen.{FullFits, is_res_of}
+use Rattle.grs_world.proofs.system.Seen.{is_res_of}
 
 -- a request that was fixed, the resource that it is for, and its entry
 pub record Item : Type 0 where
@@ -64,7 +65,7 @@ Items deck (x ∷ xs) = IsItem deck x × Items deck xs
 -- an item behind a history: its entry is by the lists there, and so is its flag
 pub record At (deck : Deck) (P : List HistEntry) (x : Item) : Type 0 where
   pub made : entries_for (replay deck.limit P) x.req.task x.req.want ≡ x.entry ∷ []
-  pub full : FullFits deck.limit (replay deck.limit P) x.req.task x.req.want
+  pub full : CountsIn deck.limit (replay deck.limit P) x.req.task x.req.want
   pub is : IsItem deck x
 
 abbrev pub Tape : Deck → List HistEntry → List Item → Type 0

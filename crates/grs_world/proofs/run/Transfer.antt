@@ -30,11 +30,12 @@ use Rattle.grs_legal.specs.Legal.{ask_in, entries_of, is_of_line, line_entries, 
 use Rattle.grs_legal.specs.declared.meaning.Meaning.{Meaning}
 use Rattle.grs_legal.specs.declared.meaning.Meaning.TheVariants as meanings
 use Rattle.grs_known.specs.Told.{AgreesOf, CodeAgrees, TellsEnq, TellsDeq, TellsWait, TellsWaitOf, Posts, entry_of_line, tells_control, is_code_before, is_code_of, is_post_of, is_end_of}
-use Rattle.grs_known.proofs.lists.Entries.{asked_at-grows}
-use Rattle.grs_world.proofs.system.Seen.{AgreesBehind, FullFits, ask_of, MayPut, is_line_of, IsEnqOf}
+use Rattle.grs_known.proofs.lists.Entries.{line_entries-from, asked_at-grows}
+use Rattle.grs_world.proofs.system.Seen.{AgreesBehind, ask_of, MayPut, is_line_of, IsEnqOf}
 use Rattle.grs_world.proofs.system.Replied.{Replied, only_entry, by-for}
 use Rattle.grs_world.proofs.run.Projections.{queued_by-same, is_full-same, has_task-same}
 use Rattle.grs_known.proofs.lists.Facts.{filter-append}
+use Rattle.grs_known.specs.Items.{CountsIn}
 
 -- what a task did and has by the history Q, it also did and has by P
 pub record Carries (limit : ℕ) (t : TaskId) (P Q : List HistEntry) : Type 0 where
@@ -42,11 +43,6 @@ pub record Carries (limit : ℕ) (t : TaskId) (P Q : List HistEntry) : Type 0 wh
   pub here : Replied limit P
   pub there : Replied limit Q
   pub owning : (r : Res) → owns (list_of (replay limit Q) r) t ≡ true → owns (list_of (replay limit P) r) t ≡ true
-
--- the entries of a task's lines are among its entries
-pub line_entries-from : (t : TaskId) (P : List HistEntry) → line_entries t P ≡ filter is_of_line (entries_of t P)
-line_entries-from t [] = refl
-line_entries-from t (h ∷ P) = grind (arith, line_entries-from t P)
 
 pub line_entries-same : (t : TaskId) (P Q : List HistEntry) → entries_of t P ≡ entries_of t Q → line_entries t P ≡ line_entries t Q
 line_entries-same t P Q same = line_entries-from t P ∙ ap (filter is_of_line) same ∙ sym (line_entries-from t Q)
@@ -148,7 +144,7 @@ stands-put deck n P Q q s h k may e right =
     }))
 
 -- and its flag is right there
-pub fits-carried : (limit : ℕ) (t : TaskId) (P Q : List HistEntry) (w : Want) → Replied limit P → Replied limit Q → entries_of t P ≡ entries_of t Q → FullFits limit (replay limit Q) t w → FullFits limit (replay limit P) t w
+pub fits-carried : (limit : ℕ) (t : TaskId) (P Q : List HistEntry) (w : Want) → Replied limit P → Replied limit Q → entries_of t P ≡ entries_of t Q → CountsIn limit (replay limit Q) t w → CountsIn limit (replay limit P) t w
 fits-carried limit t P Q (wants.Enq r c ret full) here there same fits = fits ∙ sym (is_full-same limit P Q t here there same)
 fits-carried limit t P Q (wants.Deq r have) here there same fits = tt
 fits-carried limit t P Q (wants.Release r) here there same fits = tt

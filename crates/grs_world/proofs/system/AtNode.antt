@@ -21,7 +21,8 @@ use Rattle.grs_wire.specs.declared.request.Want.{Want}
 use Rattle.grs_wire.specs.declared.request.Want.TheVariants.{Enq, Deq, Release, Look}
 use Rattle.task_state.specs.View.{TasksView, is_task}
 use Rattle.task_state.proofs.ViewLaws.{is_task-system}
-use Rattle.grs_world.proofs.system.Seen.{part, is_res_of, is_home_at, askers, stand_apart, FullFits, own-one_system}
+use Rattle.grs_known.specs.Items.{CountsIn}
+use Rattle.grs_world.proofs.system.Seen.{part, is_res_of, is_home_at, askers, stand_apart, own-one_system}
 use Rattle.grs_world.proofs.system.Asking.{Opens}
 use Rattle.grs_world.proofs.system.Ours.{IsOurs}
 use Rattle.grs_world.proofs.system.Good.{IsGood, may_have}
@@ -94,7 +95,7 @@ pub first_same : (a b : HistEntry) → a ∷ [] ≡ b ∷ [] → a ≡ b
 first_same a b f = cc
 
 -- a request's entry leads to the lists behind the request
-pub entry-after : (limit : ℕ) (s : State) (t : TaskId) (w : Want) (r : Res) (h : HistEntry) → res_wanted w ≡ Some r → FullFits limit s t w → entries_for s t w ≡ h ∷ [] → (step limit s h ≡ after_want s t w) × ((u : TaskId) → is_by u h ≡ same_task u t)
+pub entry-after : (limit : ℕ) (s : State) (t : TaskId) (w : Want) (r : Res) (h : HistEntry) → res_wanted w ≡ Some r → CountsIn limit s t w → entries_for s t w ≡ h ∷ [] → (step limit s h ≡ after_want s t w) × ((u : TaskId) → is_by u h ≡ same_task u t)
 entry-after limit s t (Enq q c ret full) r h is fits e =
     let same : h ≡ entries.Enq t q c ret _ = sym (first_same _ _ e) in (ap (step limit s) same ∙ ap (λ b. after_want s t (Enq q c ret b)) (sym fits), λ u. ap (is_by u) same)
 entry-after limit s t (Deq q have) r h is fits e = let same : h ≡ entries.Deq t q have _ = sym (first_same _ _ e) in (ap (step limit s) same, λ u. ap (is_by u) same)

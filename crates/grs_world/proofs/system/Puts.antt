@@ -30,7 +30,8 @@ use Rattle.grs_known.proofs.tasks.Invariant.{IsNext, IsTask}
 use Rattle.grs_known.proofs.tasks.Asked.{next-asked}
 use Rattle.grs_known.proofs.tasks.Speaking.{next-speaks, lines-speaks, free-speaks}
 use Rattle.grs_known.proofs.tasks.Steps.{next-ending}
-use Rattle.grs_world.proofs.system.Seen.{is_home_at, askers, stand_apart, FullFits, ask_of, MayPut, none}
+use Rattle.grs_known.specs.Items.{CountsIn}
+use Rattle.grs_world.proofs.system.Seen.{is_home_at, askers, stand_apart, ask_of, MayPut, none}
 use Rattle.grs_world.proofs.system.Asking.{line_asked, unasked_by, IsAskedFor, IsOpenBy, Opens, IsReq, IsAskedBy, are_sent}
 use Rattle.grs_world.proofs.system.Ours.{IsOurs, IsHere}
 use Rattle.grs_world.proofs.system.Telling.{told-phase}
@@ -128,7 +129,7 @@ put deck s Q out n k seen =
 
 -- what an outstanding request asks is what its task asks next, and it may
 module _ (deck : Deck) (s : ℕ) (Q : List HistEntry) (t : TaskId) (v : TasksView) (ls : List Meaning) (ours : IsOurs deck s v t ls) (p : Past) (speaks : Speaks deck.limit t p Q) where
-  may_put_next : (w : Want) (r : Res) (a : Ask) → res_wanted w ≡ Some r → is_systems r ≡ true → FullFits deck.limit (replay deck.limit Q) t w → ask_of w ≡ Some a → IsNext ls p a → MayPut deck s Q (record { task = t; want = w })
+  may_put_next : (w : Want) (r : Res) (a : Ask) → res_wanted w ≡ Some r → is_systems r ≡ true → CountsIn deck.limit (replay deck.limit Q) t w → ask_of w ≡ Some a → IsNext ls p a → MayPut deck s Q (record { task = t; want = w })
   may_put_next w r a of_res systems fits asks i = record {
     lines = ls;
     of_deck = ours.lines;

@@ -4,7 +4,7 @@ use Rattle.std.specs.Prelude.{slice_get, is_some, nat_le}
 use Rattle.std.specs.List.{list_all, list_any}
 use Rattle.std.proofs.lemmas.Bool.{and_parts, cases_Bool}
 use Rattle.grs_base.specs.Same.{same_res, same_task}
-use Rattle.grs_base.specs.Lists.{owns, standing_of, decide_enq, deq_code}
+use Rattle.grs_base.specs.Lists.{standing_of, decide_enq, deq_code}
 use Rattle.grs_base.specs.declared.resource.Row.{Row}
 use Rattle.grs_base.specs.State.{State, list_of, is_full, is_systems}
 use Rattle.grs_base.specs.declared.resource.Ctl.{Ctl}
@@ -48,7 +48,7 @@ use Rattle.grs_known.proofs.tasks.Records.{found, not_found}
 use Rattle.grs_known.proofs.tasks.Keys.{has_res-own}
 use Rattle.grs_known.proofs.tasks.Speaking.{has-speaks}
 use Rattle.grs_known.proofs.tasks.Asked.{Asks}
-use Rattle.grs_world.proofs.system.Seen.{is_res_of, is_home_at, askers, stand_apart, FullFits, QuietStep, keeps, fixes, ToldBy, none, more}
+use Rattle.grs_world.proofs.system.Seen.{is_res_of, is_home_at, askers, stand_apart, QuietStep, keeps, fixes, ToldBy, none, more}
 use Rattle.grs_world.proofs.system.Asking.{line_asked, unasked, IsAtLines, IsAskedFor, IsOpenBy, Opens, IsReq, IsAskedBy, asked-none, sent-absent, held-none}
 use Rattle.grs_world.proofs.system.Ours.{IsOurs, IsHere, ours-line, agrees-ours}
 use Rattle.grs_world.proofs.system.Did.{Did, did-none, did-line, did-phase, did-outstanding, did-telling}
@@ -63,6 +63,7 @@ use Rattle.grs_world.proofs.system.OwnEntries.{task-open}
 use Rattle.grs_known.proofs.lists.Truths.{or_first, or_second}
 use Rattle.grs_world.proofs.system.Replied.{replay-push}
 use Rattle.grs_known.proofs.lists.Facts.{all-more}
+use Rattle.grs_known.specs.Items.{CountsIn}
 use Rattle.grs_world.proofs.system.Askers.{among-front, apart-push}
 
 -- one request more behind the open ones
@@ -100,7 +101,7 @@ module _ (deck : Deck) (s : ℕ) (Q : List HistEntry) (out : List Req) (n : Node
     moves = record { away = free; away_out = free_out; asked = λ u o apart k. k; sent = λ u p apart k. k }
 
     -- a request that the system decides by the lists of its own resources
-    decided : (v0 : TasksView) (w : Want) (unit : Option ℕ) (r : Res) (h : HistEntry) → res_wanted w ≡ Some r → is_res_of s r ≡ true → FullFits deck.limit (replay deck.limit Q) t w → entries_for (replay deck.limit Q) t w ≡ h ∷ [] →
+    decided : (v0 : TasksView) (w : Want) (unit : Option ℕ) (r : Res) (h : HistEntry) → res_wanted w ≡ Some r → is_res_of s r ≡ true → CountsIn deck.limit (replay deck.limit Q) t w → entries_for (replay deck.limit Q) t w ≡ h ∷ [] →
         replay deck.limit (Q ++ h ∷ []) ≡ after_want (replay deck.limit Q) t w → MayStand deck Q h →
         Settles deck s (opens_of out n) (Q ++ h ∷ []) n.tasks.told (tell_new (replied v0 t w unit (answer_to (replay deck.limit Q) t w)) (res_wanted w) (new_owners (replay deck.limit Q) t w)) →
         QuietStep deck (Seen deck) s Q out n (decide (with_tasks n v0) t w unit)

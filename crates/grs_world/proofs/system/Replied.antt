@@ -14,7 +14,7 @@ use Rattle.grs_wire.specs.declared.request.Answer.TheVariants.{Coded}
 use Rattle.grs_wire.specs.declared.request.Want.{Want}
 use Rattle.grs_wire.specs.declared.request.Want.TheVariants as wants
 use Rattle.grs_wire.proofs.HistoryLaws.{replay_from-append}
-use Rattle.grs_world.proofs.system.Seen.{FullFits}
+use Rattle.grs_known.specs.Items.{CountsIn}
 
 -- whether an entry is none that removes a system
 abbrev pub is_plain : HistEntry → Bool
@@ -80,17 +80,17 @@ by-for s t (wants.Deq r have) h e = only_entry (λ x. is_by t x ≡ true) _ h e 
 by-for s t (wants.Release r) h e = only_entry (λ x. is_by t x ≡ true) _ h e (same_task-itself t)
 by-for s t (wants.Look from count f) h e = one_look (λ x. is_by t x ≡ true) s t from count f h e (same_task-itself t)
 
-pub answer-for : (limit : ℕ) (s : State) (t : TaskId) (w : Want) (h : HistEntry) → FullFits limit s t w → entries_for s t w ≡ h ∷ [] → answer_of h ≡ reply_of limit s h
+pub answer-for : (limit : ℕ) (s : State) (t : TaskId) (w : Want) (h : HistEntry) → CountsIn limit s t w → entries_for s t w ≡ h ∷ [] → answer_of h ≡ reply_of limit s h
 answer-for limit s t (wants.Enq r c ret full) h fits e = only_entry (λ x. answer_of x ≡ reply_of limit s x) _ h e (ap (λ b. Coded (enq_code s r t c ret b)) fits)
 answer-for limit s t (wants.Deq r have) h fits e = only_entry (λ x. answer_of x ≡ reply_of limit s x) _ h e refl
 answer-for limit s t (wants.Release r) h fits e = only_entry (λ x. answer_of x ≡ reply_of limit s x) _ h e refl
 answer-for limit s t (wants.Look from count f) h fits e = one_look (λ x. answer_of x ≡ reply_of limit s x) s t from count f h e refl
 
-pub step-for : (limit : ℕ) (s : State) (t : TaskId) (w : Want) (h : HistEntry) → FullFits limit s t w → entries_for s t w ≡ h ∷ [] → step limit s h ≡ after_want s t w
+pub step-for : (limit : ℕ) (s : State) (t : TaskId) (w : Want) (h : HistEntry) → CountsIn limit s t w → entries_for s t w ≡ h ∷ [] → step limit s h ≡ after_want s t w
 step-for limit s t (wants.Enq r c ret full) h fits e = only_entry (λ x. step limit s x ≡ after_want s t (wants.Enq r c ret full)) _ h e (ap (λ b. after_want s t (wants.Enq r c ret b)) (sym fits))
 step-for limit s t (wants.Deq r have) h fits e = only_entry (λ x. step limit s x ≡ after_want s t (wants.Deq r have)) _ h e refl
 step-for limit s t (wants.Release r) h fits e = only_entry (λ x. step limit s x ≡ after_want s t (wants.Release r)) _ h e refl
 step-for limit s t (wants.Look from count f) h fits e = one_look (λ x. step limit s x ≡ s) s t from count f h e refl
 
-pub replied_for : (limit : ℕ) (P : List HistEntry) (t : TaskId) (w : Want) (h : HistEntry) → Replied limit P → FullFits limit (replay limit P) t w → entries_for (replay limit P) t w ≡ h ∷ [] → Replied limit (P ++ h ∷ [])
+pub replied_for : (limit : ℕ) (P : List HistEntry) (t : TaskId) (w : Want) (h : HistEntry) → Replied limit P → CountsIn limit (replay limit P) t w → entries_for (replay limit P) t w ≡ h ∷ [] → Replied limit (P ++ h ∷ [])
 replied_for limit P t w h all fits e = replied_push limit P h all (plain-for (replay limit P) t w h e) (answer-for limit (replay limit P) t w h fits e)

@@ -4,7 +4,7 @@ use Rattle.std.proofs.Common.{◌≡◌, ◌≢◌, ℕ, Bool, true, false, not,
 use Rattle.std.specs.Prelude.{filter, ◌==◌, is_some, IfSome}
 use Rattle.std.specs.List.{list_all}
 use Rattle.grs_base.specs.Same.{same_task}
-use Rattle.grs_base.specs.State.{State, is_systems, is_full}
+use Rattle.grs_base.specs.State.{State, is_systems}
 use Rattle.grs_base.specs.declared.resource.Res.{Res}
 use Rattle.grs_base.specs.declared.resource.Res.TheVariants as resources
 use Rattle.grs_base.specs.declared.resource.TaskId.{TaskId}
@@ -28,6 +28,7 @@ use Rattle.ring_mode.specs.Ring.{Side, process}
 use Rattle.task_state.specs.Replies.{gives_up}
 use Rattle.grs_known.specs.Told.{AgreesOf, entry_of_line}
 use Rattle.grs_known.proofs.lists.Owners.{is_among}
+use Rattle.grs_known.specs.Items.{CountsIn}
 
 -- the elements on resources that pass
 abbrev pub part : (Res → Bool) → State → State
@@ -60,13 +61,6 @@ stand_apart (t ∷ ts) = not (is_among t ts) && stand_apart ts
 -- whether none of these requests is one of the task that gives the resource up
 abbrev pub none_leaves : TaskId → Res → List Req → Bool
 none_leaves t r qs = list_all (λ q. not (same_task t q.task && gives_up r q.want)) qs
-
--- the flag of a request tells whether its task has as many elements as it may
-abbrev pub FullFits : ℕ → State → TaskId → Want → Type 0
-FullFits limit s t (wants.Enq r c ret full) = full ≡ is_full limit s t
-FullFits limit s t (wants.Deq r have) = Unit {0}
-FullFits limit s t (wants.Release r) = Unit {0}
-FullFits limit s t (wants.Look first count f) = Unit {0}
 
 -- what a request asks, apart from its flag
 abbrev pub ask_of : Want → Option Ask
@@ -124,7 +118,7 @@ pub record MayPut (deck : Deck) (s : ℕ) (Q : List HistEntry) (q : Req) : Type 
   pub res : Res
   pub of_res : res_wanted q.want ≡ Some res
   pub systems : is_systems res ≡ true
-  pub fits : FullFits deck.limit (replay deck.limit Q) q.task q.want
+  pub fits : CountsIn deck.limit (replay deck.limit Q) q.task q.want
   pub next : next_ask deck.limit q.task lines Q ≡ ask_of q.want
   pub waited : IfSome (last_entry (entries_of q.task Q)) (HasControl (replay deck.limit Q) q.task)
   pub passed : list_all (lets_pass (replay deck.limit Q) q.task) (passed_lines q.task lines Q) ≡ true
@@ -136,7 +130,7 @@ pub record IsOthers (deck : Deck) (s : ℕ) (Q : List HistEntry) (q : Req) : Typ
   pub res : Res
   pub of_res : res_wanted q.want ≡ Some res
   pub systems : is_systems res ≡ true
-  pub fits : FullFits deck.limit (replay deck.limit Q) q.task q.want
+  pub fits : CountsIn deck.limit (replay deck.limit Q) q.task q.want
 
 -- whether an entry is of another system's task, for a resource of that system alone
 abbrev pub is_elsewhere : Deck → ℕ → HistEntry → Bool
@@ -155,7 +149,7 @@ pub data QuietStep (deck : Deck) (Seen : ℕ → List HistEntry → List Req →
   keeps : step.fixed ≡ [] → Seen s Q out step.node → ToldBy deck s (out ++ step.node.outbox) Q n.tasks.told step.node.tasks.told → QuietStep deck Seen s Q out n step
   fixes : (t : TaskId) (w : Want) (r : Res) (h : HistEntry) → step.fixed ≡ Asked (record { task = t; want = w }) ∷ [] →
       is_home_at deck s t ≡ true → is_among t (askers (out ++ n.outbox)) ≡ false → step.node.outbox ≡ n.outbox →
-      res_wanted w ≡ Some r → is_res_of s r ≡ true → FullFits deck.limit (replay deck.limit Q) t w →
+      res_wanted w ≡ Some r → is_res_of s r ≡ true → CountsIn deck.limit (replay deck.limit Q) t w →
       entries_for (replay deck.limit Q) t w ≡ h ∷ [] → MayStand deck Q h →
       Seen s (Q ++ h ∷ []) out step.node → ToldBy deck s (out ++ step.node.outbox) (Q ++ h ∷ []) n.tasks.told step.node.tasks.told →
       QuietStep deck Seen s Q out n step
