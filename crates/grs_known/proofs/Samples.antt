@@ -1,5 +1,5 @@
 -- Worked items, what is known by them, and the words of a table: what the definitions accept and what they refuse.
-use Rattle.std.proofs.Common.{◌≡◌, ◌∙◌, ℕ, zero, suc, Bool, true, false, List, [], ◌∷◌, ◌++◌, take, Some, None, refl, sym, subst}
+use Rattle.std.proofs.Common.{◌≡◌, ◌∙◌, ℕ, zero, suc, Bool, true, false, List, [], ◌∷◌, ◌++◌, take, Some, None, refl, ap, sym, subst}
 use Rattle.grs_base.specs.Same.{same_res}
 use Rattle.grs_base.specs.Lists.{owns}
 use Rattle.grs_base.specs.State.{State, list_of, deq_state}
@@ -22,6 +22,7 @@ use Rattle.grs_wire.specs.declared.request.Fixed.TheVariants.{Asked, Purged}
 use Rattle.grs_wire.specs.declared.request.Want.TheVariants as wants
 use Rattle.grs_known.specs.Items.{RunItem, rounds, is_of, removes_system_of, took, gave, owns_after, tells, reply_in, lists, Made, history, items, Counts, mine}
 use Rattle.grs_known.specs.Known.{Known, learned, outstanding, Still, IsRight, learns_item, learns_control, Answers, Grants, Coming, after_news}
+use Rattle.grs_known.specs.Reading.{gives_among, Keeps, all_known, all_but, after_read}
 use Rattle.grs_known.specs.Past.{own_told, after_entry, after_entries, past_of, Speaks}
 use Rattle.grs_known.specs.Change.{Changing, Act, AreStores, NoneChanged, switched, kept_in_change, manager_of, store_shown, view, star_event_of_all, Ring}
 use Rattle.grs_known.proofs.view.Changing.{kept_is_shown, switch_shows_history}
@@ -162,6 +163,29 @@ leaver_behind = record {
 -- a task of which nothing was fixed can't be behind
 behind_nothing : IsRight (task_of 1) (has_none true) [] → ⊥
 behind_nothing h = let g : false ≡ true = h.waits refl in absurd (cc)
+
+-- ---- what is read by a table
+-- by the other's DEQ the task of system 1 gets the file, also while it waits for an answer; and the asker has it no more
+reads_control : (after_read (task_of 1) (has_none true) (lists (rounds (take 2 run))) (at 2 (deq 0))).owns file ≡ true
+reads_control = refl
+
+reads_behind : (after_read (task_of 1) (has_none true) (lists (rounds (take 2 run))) (at 2 (deq 0))).behind ≡ true
+reads_behind = refl
+
+reads_left : (after_read (task_of 0) (has_file true) (lists (rounds (take 2 run))) (at 2 (deq 0))).owns file ≡ false
+reads_left = refl
+
+-- one that comes to wait gets nothing
+reads_wait : (after_read (task_of 1) (has_none true) (lists (rounds (take 1 run))) (at 1 (enq 1 RetEcb))).owns file ≡ false
+reads_wait = refl
+
+-- an outstanding DEQ may give back what a task is known to own; one that was learned may not
+keeps_outstanding : Keeps (task_of 1) file (has_file true) (at 3 (deq 1) ∷ [])
+keeps_outstanding = all_but [] (at 3 (deq 1)) [] refl refl refl refl
+
+keeps_learned : (xs : List RunItem) → xs ≡ at 3 (deq 1) ∷ [] → Keeps (task_of 1) file (has_file false) xs → ⊥
+keeps_learned xs is (all_known ys e none) = let g : true ≡ false = sym (ap (gives_among (task_of 1) file) is) ∙ none in absurd (cc)
+keeps_learned xs is (all_but mid x rest e none own last) = absurd (cc)
 
 -- ---- its past
 -- a task that asked by ECB has its element, and doesn't own

@@ -6,3 +6,4 @@ pub mod ItemLaws
 pub mod Knowing
 pub mod Coming
 pub mod Pasts
+pub mod Reading

@@ -4,3 +4,4 @@ pub mod Past
 pub mod Laws
 pub mod Change
 pub mod Told
+pub mod Reading

@@ -1,6 +1,7 @@
 //! Each function's contract is one law, and there is nothing to run.
 ghost use Rattle.grs_known.specs.Change.{TableIsPart, TurnShowsNothing, TaskShowsNothing, StarShowsItself, SwitchShowsHistory, KeptIsShown, ManagerFollows};
 ghost use Rattle.grs_known.specs.Past.{ElementsAreOfItems, PastGrows, PastSpeaks, PastSpeaksOf};
+ghost use Rattle.grs_known.specs.Reading.{TableAnswers, OwnersStayOn, ReadingIsRight};
 ghost use Rattle.grs_known.specs.Laws.{ItemsAreHistory, RepliesAreAnswers, ListsAreReplayed, EntriesAreOfItems, OthersKeep, DecidedAtOnce, AnswerIsSent, AnswerIsLearned, ControlIsLearned, ControlIsSent, ReadInOrder, AllIsKnown, FrontOwnersStay};
 
 /// The history of what was fixed is the entries of its items, and each stands as the plain lists give it.
@@ -122,4 +123,19 @@ pub fn kept_is_shown()
 /// Where a manager carries out a request for a resource of its own, the stores follow the history.
 pub fn manager_follows()
     ensures { ManagerFollows }
+{}
+
+/// The table of a system in the ring answers a request as the history does.
+pub fn table_answers()
+    ensures { TableAnswers }
+{}
+
+/// An owner by a front is still one by all items, though its system decided some of its own items since.
+pub fn owners_stay_on()
+    ensures { OwnersStayOn }
+{}
+
+/// What a system in the ring knows of a task stays right when it processes a request of the message by its table.
+pub fn reading_is_right()
+    ensures { ReadingIsRight }
 {}

@@ -12,11 +12,11 @@ use Rattle.grs_known.specs.Laws.{first_mine, FrontOwnersStay}
 use Rattle.grs_known.proofs.known.Control.{owns-other, still-other, still-own}
 use Rattle.grs_known.proofs.lists.Truths.{or_false}
 
-pushed : (front : List RunItem) (x : RunItem) (xs : List RunItem) → front ++ (x ∷ xs) ≡ (front ++ x ∷ []) ++ xs
+pub pushed : (front : List RunItem) (x : RunItem) (xs : List RunItem) → front ++ (x ∷ xs) ≡ (front ++ x ∷ []) ++ xs
 pushed front x xs = sym (append_assoc front (x ∷ []) xs)
 
 -- items that are all of other tasks
-still-rest : (t : TaskId) (r : Res) (front rest : List RunItem) (o : Option RunItem) → list_any (λ x. removes_system_of t x.fixed) rest ≡ false → mine t rest ≡ [] → Still r t front o → Still r t (front ++ rest) o
+pub still-rest : (t : TaskId) (r : Res) (front rest : List RunItem) (o : Option RunItem) → list_any (λ x. removes_system_of t x.fixed) rest ≡ false → mine t rest ≡ [] → Still r t front o → Still r t (front ++ rest) o
 still-rest t r front [] o live none h = subst (λ T. Still r t T o) (sym (append-nil front)) h
 still-rest t r front (x ∷ xs) o live none h = go (is_of t x.fixed) refl none (λ l f s. still-rest t r (front ++ x ∷ []) xs o l f s)
   where

@@ -17,7 +17,7 @@ use Rattle.grs_known.proofs.lists.Requests.{gave-tells}
 use Rattle.grs_known.proofs.known.Control.{still-other, given-other, still-own, given-own}
 
 -- ---- the last item
-last_of-push : (xs : List RunItem) (x : RunItem) → last_of (xs ++ x ∷ []) ≡ Some x
+pub last_of-push : (xs : List RunItem) (x : RunItem) → last_of (xs ++ x ∷ []) ≡ Some x
 last_of-push [] x = refl
 last_of-push (y ∷ []) x = refl
 last_of-push (y ∷ z ∷ xs) x = last_of-push (z ∷ xs) x

@@ -47,7 +47,7 @@ part-effect s r t c Nothing wide = refl
 part-effect s r t c Append wide = part-push s r t c wide
 part-effect s r t c MakeExclusive wide = part-exclusive s r t
 
-part-want : (s : State) (t : TaskId) (w : Want) → wants_round w ≡ true → systems_part (after_want s t w) ≡ after_want (systems_part s) t w
+pub part-want : (s : State) (t : TaskId) (w : Want) → wants_round w ≡ true → systems_part (after_want s t w) ≡ after_want (systems_part s) t w
 part-want s t (wants.Enq r c ret full) wide =
     part-effect s r t c _ wide ∙ ap (λ es. after_effect (systems_part s) r t c (decide_enq es t c ret full).effect) (sym (list_of-systems s r wide))
 part-want s t (wants.Deq r have) wide = go (is_owner (standing_of (list_of s r) t)) ∙ ap (λ es. cond (is_owner (standing_of es t)) (without same_res (systems_part s) r t) (systems_part s)) (sym (list_of-systems s r wide))
@@ -93,7 +93,7 @@ part-fixed_other s (Asked q) e = part-want_other s q.task q.want e
 part-fixed_other s (LocalLook t f) e = refl
 part-fixed_other s (Purged target) e = cc
 
-part-items : (s : State) (xs : List RunItem) → lists_from (systems_part s) (rounds xs) ≡ systems_part (lists_from s xs)
+pub part-items : (s : State) (xs : List RunItem) → lists_from (systems_part s) (rounds xs) ≡ systems_part (lists_from s xs)
 part-items s [] = refl
 part-items s (x ∷ xs) = go (goes_round x.fixed) refl ∙ part-items (after_fixed s x.fixed) xs
   where

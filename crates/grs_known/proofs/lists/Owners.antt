@@ -1,6 +1,7 @@
 -- Who became owner of a resource.
-use Rattle.std.proofs.Common.{◌≡◌, Bool, false, not, ◌&&◌, ◌||◌, List, [], ◌∷◌, take, refl, ap, sym, ◌∙◌, arith}
+use Rattle.std.proofs.Common.{◌≡◌, Bool, true, false, not, ◌&&◌, ◌||◌, List, [], ◌∷◌, take, refl, ap, sym, ◌∙◌, arith}
 use Rattle.std.specs.List.{list_any}
+use Rattle.std.proofs.lemmas.Bool.{and_parts}
 use Rattle.grs_base.specs.Same.{same_task}
 use Rattle.grs_base.specs.Lists.{shared_front, owners, owns, owns_shared}
 use Rattle.grs_base.specs.State.{pick}
@@ -28,5 +29,8 @@ is_among-pick p [] t = grind arith
 is_among-pick p (e ∷ es) t = grind (arith, is_among-pick p es t, same_task-exact t e.task)
 
 -- who became owner: who owns afterwards and didn't before
-pub is_among-became : (before after : List Elem) (asker t : TaskId) → is_among t (became_owners before after asker) ≡ ((not (owns before t) && not (same_task asker t)) && owns after t)
+is_among-became : (before after : List Elem) (asker t : TaskId) → is_among t (became_owners before after asker) ≡ ((not (owns before t) && not (same_task asker t)) && owns after t)
 is_among-became before after asker t = is_among-pick (λ u. not (owns before u) && not (same_task asker u)) (take (owners after) after) t ∙ ap (λ b. (not (owns before t) && not (same_task asker t)) && b) (sym (owns-any after t))
+
+pub became-owns : (before after : List Elem) (asker t : TaskId) → is_among t (became_owners before after asker) ≡ true → owns after t ≡ true
+became-owns before after asker t e = (and_parts (not (owns before t) && not (same_task asker t)) (owns after t) (sym (is_among-became before after asker t) ∙ e)).1

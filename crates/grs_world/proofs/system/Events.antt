@@ -44,7 +44,7 @@ use Rattle.grs_known.specs.Items.{has_control}
 use Rattle.grs_known.specs.Past.{Past, after_entry, Speaks}
 use Rattle.grs_known.proofs.lists.Requests.{owns-granted}
 use Rattle.grs_known.specs.Told.{LineAgrees, told_as, gets_control, TellsEnq, entry_of_line}
-use Rattle.grs_known.proofs.lists.Owners.{is_among}
+use Rattle.grs_known.proofs.lists.Owners.{is_among, became-owns}
 use Rattle.grs_known.proofs.tasks.Invariant.{key, IsTask}
 use Rattle.grs_world.proofs.system.Ours.{IsOurs, Holds, IsHere, holds-changed, ours-line, agrees-ours}
 use Rattle.grs_world.proofs.system.Asking.{unasked, unasked-none, Opens, IsAtLines, IsOpenBy, IsAskedBy, asked-absent, are_sent, sent-absent}
@@ -53,7 +53,7 @@ use Rattle.grs_known.proofs.tasks.Speaking.{queued-speaks, legal-speaks, speaks-
 use Rattle.grs_world.proofs.system.Telling.{learned_all, LearnedAll, IsHome}
 use Rattle.grs_known.proofs.tasks.Asked.{told_after, Asks, next-asked, of_new_line}
 use Rattle.grs_known.proofs.tasks.Decided.{enq_records, task-enq, task-deq}
-use Rattle.grs_world.proofs.system.Good.{may_have, IsGood, has_task-home, owns-has, home-ours, became-owns, task-told_after, other-decided}
+use Rattle.grs_world.proofs.system.Good.{may_have, IsGood, has_task-home, owns-has, home-ours, task-told_after, other-decided}
 use Rattle.grs_world.proofs.system.Did.{Did, did-answered_enq, did-answered_deq}
 use Rattle.grs_world.proofs.system.Replied.{replay-push}
 use Rattle.grs_known.proofs.lists.Facts.{all-filter, all-more}

@@ -2,7 +2,7 @@
 use Rattle.std.proofs.Common.{◌≡◌, ℕ, zero, suc, Bool, true, false, not, ◌&&◌, ◌||◌, List, [], ◌∷◌, ◌++◌, take, refl, sym, ◌∙◌, arith}
 use Rattle.std.specs.Prelude.{is_some, ◌==◌}
 use Rattle.std.specs.List.{list_any, list_all}
-use Rattle.std.proofs.lemmas.Bool.{and_parts, cases_Bool, eq-eqb}
+use Rattle.std.proofs.lemmas.Bool.{cases_Bool, eq-eqb}
 use Rattle.grs_base.specs.Same.{same_res, same_task}
 use Rattle.grs_base.specs.Lists.{owns, owners, has_task}
 use Rattle.grs_base.specs.State.{State, list_of, is_systems}
@@ -19,14 +19,14 @@ use Rattle.grs_wire.specs.declared.request.Want.{Want}
 use Rattle.grs_wire.specs.declared.told.Verb.{Verb}
 use Rattle.grs_wire.specs.declared.told.ToldLine.{ToldLine}
 use Rattle.grs_wire.specs.History.{is_by, replay}
-use Rattle.grs_wire.specs.Wants.{after_want, became_owners}
+use Rattle.grs_wire.specs.Wants.{after_want}
 use Rattle.grs_legal.specs.Asks.{lines_of}
 use Rattle.task_state.specs.declared.state.TaskState.{TaskState}
 use Rattle.task_state.specs.View.{TasksView, is_task}
 use Rattle.task_state.specs.Replies.{is_leaving}
 use Rattle.task_state.proofs.ViewLaws.{is_task-system}
 use Rattle.grs_known.specs.Past.{Past}
-use Rattle.grs_known.proofs.lists.Owners.{is_among, owns-any, is_among-became}
+use Rattle.grs_known.proofs.lists.Owners.{owns-any}
 use Rattle.grs_known.proofs.tasks.Invariant.{IsTask}
 use Rattle.grs_known.proofs.tasks.Others.{task-told}
 use Rattle.grs_world.proofs.system.Ours.{IsOurs, Holds, IsHere}
@@ -72,10 +72,6 @@ home-ours deck s v t system h here = let x = some_of (lines_of deck t) h in reco
 
 pub ours-home : (deck : Deck) (s : ℕ) (v : TasksView) (t : TaskId) (ls : List Meaning) → IsOurs deck s v t ls → is_home_at deck s t ≡ true
 ours-home deck s v t ls o = let a : (t.system.0 == s) ≡ true = eq-eqb _ _ o.home in rw (a, o.lines) refl
-
--- who became owner owns
-pub became-owns : (before after : List Elem) (t u : TaskId) → is_among u (became_owners before after t) ≡ true → owns after u ≡ true
-became-owns before after t u e = (and_parts (not (owns before u) && not (same_task t u)) (owns after u) (sym (is_among-became before after t u) ∙ e)).1
 
 -- a code told to one task leaves the others
 pub task-told_after : (ls : List Meaning) (p : Past) (T : List ToldLine) (leaving : Res → Bool) (u : TaskId) (x : TaskState) (t : TaskId) (k : ℕ) (verb : Verb) (c : Code) → same_task u t ≡ false → IsTask ls p T leaving u x → IsTask ls p (told_after T t k verb c) leaving u x
