@@ -1,7 +1,8 @@
 -- Telling a task control that it got by another's request.
-use Rattle.std.proofs.Common.{◌≡◌, ℕ, suc, Bool, true, false, cond, ◌&&◌, List, [], ◌∷◌, ◌++◌, map, Option, Some, None, refl, ap, sym, ◌∙◌, subst, arith, inl, inr}
+use Rattle.std.proofs.Common.{◌≡◌, ℕ, suc, Bool, true, false, cond, List, [], ◌∷◌, ◌++◌, map, Option, Some, None, refl, ap, sym, ◌∙◌, subst, arith, inl, inr}
 use Rattle.std.specs.Prelude.{slice_get, ◌⊎◌, ◌==◌}
-use Rattle.std.proofs.lemmas.Bool.{and_from, cases_Bool, eqb-true}
+use Rattle.std.specs.List.{list_any}
+use Rattle.std.proofs.lemmas.Bool.{and_from, eqb-true}
 use Rattle.grs_base.specs.Same.{same_res, same_task}
 use Rattle.grs_base.specs.declared.resource.Res.{Res}
 use Rattle.grs_base.specs.declared.resource.TaskId.{TaskId}
@@ -19,7 +20,7 @@ use Rattle.task_state.specs.Replies.{is_held}
 use Rattle.grs_known.specs.Told.{entry_of_line, queued_last, tells_control, is_code_of, is_post_of}
 use Rattle.grs_known.proofs.tasks.Invariant.{Each, key, has_res, is_distinct, IsEntryOn, IsRec, IsDue, also}
 use Rattle.grs_known.proofs.tasks.Keys.{same_res-sym}
-use Rattle.grs_known.proofs.lists.Truths.{no_truth, or_off, or_second}
+use Rattle.grs_known.proofs.lists.Truths.{no_truth, false_by, and_off, or_off, or_second}
 use Rattle.grs_known.proofs.lists.Facts.{any-last, any-more, none-more}
 
 -- what is known of the record that is found
@@ -65,6 +66,42 @@ distinct-told r (x ∷ xs) = grind (arith, distinct-told r xs, has_res-told x.re
 turned : (r q : Res) (b : Bool) → same_res r q ≡ b → same_res q r ≡ b
 turned r q b e = same_res-sym q r ∙ e
 
+-- the line of an untold record holds its task by its answer, or its ECB is posted later
+abbrev WaitsFor : List Meaning → List HistEntry → List ToldLine → TaskId → ℕ → Phase → Rec → Type 0
+WaitsFor ls E T t line ph y = ((is_held ph ≡ true) × (y.line ≡ line)) ⊎ IsDue ls E T t y.line
+
+-- Records after control of resource r is marked as told, where U is what was told then.
+module _ (ls : List Meaning) (E : List HistEntry) (T U : List ToldLine) (owns leaving : Res → Bool) (t : TaskId) (r : Res) (line : ℕ) (ph qh : Phase)
+    (told : leaving r ≡ false → list_any (tells_control t ls E r) U ≡ true) (still : (q : Res) → list_any (tells_control t ls E q) T ≡ true → list_any (tells_control t ls E q) U ≡ true)
+    (due : (y : Rec) → IsRec ls E T owns leaving t line ph y → same_res r y.res ≡ false → WaitsFor ls E T t line ph y → WaitsFor ls E U t line qh y) where
+  recs-also : (xs : List Rec) → Each (IsRec ls E T owns leaving t line ph) xs → Each (IsRec ls E U (also r owns) leaving t line qh) (on_record r (λ y. record y { told = true }) xs)
+  recs-also [] h = tt
+  recs-also (y ∷ ys) h = (go (same_res r y.res) refl, recs-also ys h.1)
+    where
+      go : (b : Bool) → same_res r y.res ≡ b → IsRec ls E U (also r owns) leaving t line qh (cond b (record y { told = true }) y)
+      go true s =
+          let same : r ≡ y.res = same_res-exact r y.res s in
+          record {
+            entry = h.0.entry;
+            latest = h.0.latest;
+            low = h.0.low;
+            high = h.0.high;
+            known = sym (or_second (owns y.res) (same_res y.res r) (turned r y.res true s));
+            control = λ c stays. subst (λ q. list_any (tells_control t ls E q) U ≡ true) same (told (subst (λ q. leaving q ≡ false) (sym same) stays));
+            due = λ u. absurd (cc);
+          }
+      go false s =
+          let off : also r owns y.res ≡ owns y.res = or_off (owns y.res) (same_res y.res r) (turned r y.res false s) in
+          record {
+            entry = h.0.entry;
+            latest = h.0.latest;
+            low = h.0.low;
+            high = h.0.high;
+            known = h.0.known ∙ sym off;
+            control = λ c stays. still y.res (h.0.control (sym off ∙ c) stays);
+            due = λ u. due y h.0 s (h.0.due u);
+          }
+
 module _ (ls : List Meaning) (E : List HistEntry) (T : List ToldLine) (owns leaving : Res → Bool) (t : TaskId) (r : Res) (k : ℕ) (on : IsEntryOn r (entry_of_line ls E k)) where
   -- no other record is of that line
   other_line : (line : ℕ) (ph : Phase) (y : Rec) → IsRec ls E T owns leaving t line ph y → same_res r y.res ≡ false → y.line ≡ k → ⊥
@@ -72,98 +109,32 @@ module _ (ls : List Meaning) (E : List HistEntry) (T : List ToldLine) (owns leav
       let same : y.res ≡ r = one_entry (entry_of_line ls E k) y.res r (subst (λ n. IsEntryOn y.res (entry_of_line ls E n)) e h.entry) on in
       grind (arith, apart, same, same_res-itself r)
 
+  due_later : (l : ToldLine) (n : ℕ) → is_post_of t n l ≡ false → IsDue ls E T t n → IsDue ls E (T ++ l ∷ []) t n
+  due_later l n other d = record { ecb = d.ecb; coded = any-more (is_code_of t n) T l d.coded; unposted = none-more (is_post_of t n) T l d.unposted other }
+
   -- records after control is told by the code of line k, by which the task was held
   pub recs-coded : (xs : List Rec) → Each (IsRec ls E T owns leaving t k phases.HeldAnswer) xs → (l : ToldLine) → tells_control t ls E r l ≡ true → ((n : ℕ) → is_post_of t n l ≡ false) →
       Each (IsRec ls E (T ++ l ∷ []) (also r owns) leaving t k phases.Ready) (on_record r (λ y. record y { told = true }) xs)
-  recs-coded [] h l control post = tt
-  recs-coded (y ∷ ys) h l control post = (go (same_res r y.res) refl, recs-coded ys h.1 l control post)
+  recs-coded xs h l control post = recs-also ls E T (T ++ l ∷ []) owns leaving t r k phases.HeldAnswer phases.Ready (λ s. any-last (tells_control t ls E r) T l control) (λ q. any-more (tells_control t ls E q) T l) due xs h
     where
-      due : same_res r y.res ≡ false → y.told ≡ false → ((is_held phases.HeldAnswer ≡ true) × (y.line ≡ k)) ⊎ IsDue ls E T t y.line → ((is_held phases.Ready ≡ true) × (y.line ≡ k)) ⊎ IsDue ls E (T ++ l ∷ []) t y.line
-      due apart u (inl a) = absurd (other_line k phases.HeldAnswer y h.0 apart a.1)
-      due apart u (inr d) = inr (record { ecb = d.ecb; coded = any-more (is_code_of t y.line) T l d.coded; unposted = none-more (is_post_of t y.line) T l d.unposted (post y.line) })
-
-      go : (b : Bool) → same_res r y.res ≡ b → IsRec ls E (T ++ l ∷ []) (also r owns) leaving t k phases.Ready (cond b (record y { told = true }) y)
-      go true s = record {
-        entry = h.0.entry;
-        latest = h.0.latest;
-        low = h.0.low;
-        high = h.0.high;
-        known = sym (or_second (owns y.res) (same_res y.res r) (turned r y.res true s));
-        control = λ c stays. any-last (tells_control t ls E y.res) T l (subst (λ q. tells_control t ls E q l ≡ true) (same_res-exact r y.res s) control);
-        due = λ u. absurd (cc);
-      }
-      go false s = record {
-        entry = h.0.entry;
-        latest = h.0.latest;
-        low = h.0.low;
-        high = h.0.high;
-        known = h.0.known ∙ sym (or_off (owns y.res) (same_res y.res r) (turned r y.res false s));
-        control = λ c stays. any-more (tells_control t ls E y.res) T l (h.0.control (sym (or_off (owns y.res) (same_res y.res r) (turned r y.res false s)) ∙ c) stays);
-        due = λ u. due s u (h.0.due u);
-      }
+      due : (y : Rec) → IsRec ls E T owns leaving t k phases.HeldAnswer y → same_res r y.res ≡ false → WaitsFor ls E T t k phases.HeldAnswer y → WaitsFor ls E (T ++ l ∷ []) t k phases.Ready y
+      due y z apart (inl a) = absurd (other_line k phases.HeldAnswer y z apart a.1)
+      due y z apart (inr d) = inr (due_later l y.line (post y.line) d)
 
   -- records after the ECB of line k is posted
   pub recs-posted : queued_last ls E r k ≡ true → (line : ℕ) (ph : Phase) (xs : List Rec) → Each (IsRec ls E T owns leaving t line ph) xs →
       Each (IsRec ls E (T ++ Post t k ∷ []) (also r owns) leaving t line ph) (on_record r (λ y. record y { told = true }) xs)
-  recs-posted latest line ph [] h = tt
-  recs-posted latest line ph (y ∷ ys) h = (go (same_res r y.res) refl, recs-posted latest line ph ys h.1)
+  recs-posted latest line ph xs h = recs-also ls E T (T ++ Post t k ∷ []) owns leaving t r line ph ph
+      (λ s. any-last (tells_control t ls E r) T (Post t k) (and_from (same_task t t) _ (same_task-itself t) latest)) (λ q. any-more (tells_control t ls E q) T (Post t k)) due xs h
     where
-      posts : tells_control t ls E r (Post t k) ≡ true
-      posts = and_from (same_task t t) _ (same_task-itself t) latest
+      other : (y : Rec) → IsRec ls E T owns leaving t line ph y → same_res r y.res ≡ false → is_post_of t y.line (Post t k) ≡ false
+      other y z apart = and_off (same_task t t) (k == y.line) (false_by (k == y.line) (λ e. absurd (other_line line ph y z apart (sym (eqb-true k y.line e)))))
 
-      other : same_res r y.res ≡ false → is_post_of t y.line (Post t k) ≡ false
-      other apart = go (k == y.line) refl
-        where
-          go : (b : Bool) → (k == y.line) ≡ b → (same_task t t && b) ≡ false
-          go true e = absurd (other_line line ph y h.0 apart (sym (eqb-true k y.line e)))
-          go false e = grind (arith, cases_Bool (same_task t t))
-
-      due : same_res r y.res ≡ false → ((is_held ph ≡ true) × (y.line ≡ line)) ⊎ IsDue ls E T t y.line → ((is_held ph ≡ true) × (y.line ≡ line)) ⊎ IsDue ls E (T ++ Post t k ∷ []) t y.line
-      due apart (inl a) = inl a
-      due apart (inr d) = inr (record { ecb = d.ecb; coded = any-more (is_code_of t y.line) T (Post t k) d.coded; unposted = none-more (is_post_of t y.line) T (Post t k) d.unposted (other apart) })
-
-      go : (b : Bool) → same_res r y.res ≡ b → IsRec ls E (T ++ Post t k ∷ []) (also r owns) leaving t line ph (cond b (record y { told = true }) y)
-      go true s = record {
-        entry = h.0.entry;
-        latest = h.0.latest;
-        low = h.0.low;
-        high = h.0.high;
-        known = sym (or_second (owns y.res) (same_res y.res r) (turned r y.res true s));
-        control = λ c stays. any-last (tells_control t ls E y.res) T (Post t k) (subst (λ q. tells_control t ls E q (Post t k) ≡ true) (same_res-exact r y.res s) posts);
-        due = λ u. absurd (cc);
-      }
-      go false s = record {
-        entry = h.0.entry;
-        latest = h.0.latest;
-        low = h.0.low;
-        high = h.0.high;
-        known = h.0.known ∙ sym (or_off (owns y.res) (same_res y.res r) (turned r y.res false s));
-        control = λ c stays. any-more (tells_control t ls E y.res) T (Post t k) (h.0.control (sym (or_off (owns y.res) (same_res y.res r) (turned r y.res false s)) ∙ c) stays);
-        due = λ u. due s (h.0.due u);
-      }
+      due : (y : Rec) → IsRec ls E T owns leaving t line ph y → same_res r y.res ≡ false → WaitsFor ls E T t line ph y → WaitsFor ls E (T ++ Post t k ∷ []) t line ph y
+      due y z apart (inl a) = inl a
+      due y z apart (inr d) = inr (due_later (Post t k) y.line (other y z apart) d)
 
 -- records of which one is marked, where no line tells it, since the task gives it up
 pub recs-marked : (ls : List Meaning) (E : List HistEntry) (T : List ToldLine) (owns leaving : Res → Bool) (t : TaskId) (r : Res) → leaving r ≡ true → (line : ℕ) (ph : Phase) (xs : List Rec) → Each (IsRec ls E T owns leaving t line ph) xs →
     Each (IsRec ls E T (also r owns) leaving t line ph) (on_record r (λ y. record y { told = true }) xs)
-recs-marked ls E T owns leaving t r leaves line ph [] h = tt
-recs-marked ls E T owns leaving t r leaves line ph (y ∷ ys) h = (go (same_res r y.res) refl, recs-marked ls E T owns leaving t r leaves line ph ys h.1)
-  where
-    go : (b : Bool) → same_res r y.res ≡ b → IsRec ls E T (also r owns) leaving t line ph (cond b (record y { told = true }) y)
-    go true s = record {
-      entry = h.0.entry;
-      latest = h.0.latest;
-      low = h.0.low;
-      high = h.0.high;
-      known = sym (or_second (owns y.res) (same_res y.res r) (turned r y.res true s));
-      control = λ c stays. no_truth (leaving y.res) (subst (λ q. leaving q ≡ true) (same_res-exact r y.res s) leaves) stays;
-      due = λ u. absurd (cc);
-    }
-    go false s = record {
-      entry = h.0.entry;
-      latest = h.0.latest;
-      low = h.0.low;
-      high = h.0.high;
-      known = h.0.known ∙ sym (or_off (owns y.res) (same_res y.res r) (turned r y.res false s));
-      control = λ c stays. h.0.control (sym (or_off (owns y.res) (same_res y.res r) (turned r y.res false s)) ∙ c) stays;
-      due = h.0.due;
-    }
+recs-marked ls E T owns leaving t r leaves line ph xs h = recs-also ls E T T owns leaving t r line ph ph (λ s. no_truth (leaving r) leaves s) (λ q c. c) (λ y z apart d. d) xs h
