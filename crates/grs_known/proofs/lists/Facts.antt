@@ -146,6 +146,10 @@ pub all-kept : {X : Type 0} (p q : X → Bool) → ((x : X) → p x ≡ true →
 all-kept p q k [] h = refl
 all-kept p q k (x ∷ xs) h = grind (arith, h, k x, all-kept p q k xs)
 
+pub any-kept : {X : Type 0} (p q : X → Bool) → ((x : X) → p x ≡ true → q x ≡ true) → (xs : List X) → list_any p xs ≡ true → list_any q xs ≡ true
+any-kept p q k [] e = e
+any-kept p q k (x ∷ xs) e = grind (arith, e, k x, any-kept p q k xs, cases_Bool (p x), cases_Bool (q x))
+
 pub all-filter : {X : Type 0} (p q : X → Bool) (xs : List X) → list_all p xs ≡ true → list_all p (filter q xs) ≡ true
 all-filter p q [] h = refl
 all-filter p q (x ∷ xs) h = grind (arith, h, all-filter p q xs, cases_Bool (q x))

@@ -1,11 +1,11 @@
 -- A task after one of its lines was answered: what holds of it, and that the line told agrees.
 use Rattle.std.proofs.Common.{◌≡◌, ◌-◌, ◌+◌, ℕ, zero, suc, Bool, true, false, not, ◌&&◌, List, [], ◌∷◌, ◌++◌, map, length, take, drop, Option, Some, None, refl, ap, sym, ◌∙◌, subst, arith, inl, inr, add-one, length-append}
-use Rattle.std.specs.Prelude.{slice_get, ◌⊎◌, unwrap_or}
+use Rattle.std.specs.Prelude.{slice_get, unwrap_or}
 use Rattle.std.specs.List.{list_any, list_all}
 use Rattle.std.proofs.Math.Seq.{drop-length}
-use Rattle.std.proofs.lemmas.Bool.{and_parts, and_from, cases_Bool}
+use Rattle.std.proofs.lemmas.Bool.{and_parts, and_from}
 use Rattle.std.proofs.lemmas.Bool.Decides.{nat_tests}
-use Rattle.grs_base.specs.Same.{same_res, same_task}
+use Rattle.grs_base.specs.Same.{same_task}
 use Rattle.grs_base.specs.declared.resource.Ctl.{Ctl}
 use Rattle.grs_base.specs.declared.resource.Res.{Res}
 use Rattle.grs_base.specs.declared.resource.Row.{Row}
@@ -13,7 +13,6 @@ use Rattle.grs_base.specs.declared.resource.TaskId.{TaskId}
 use Rattle.grs_base.specs.declared.decision.Code.{Code}
 use Rattle.grs_base.specs.declared.decision.Code.TheVariants.{C00, C04, C08, C14, C18, Wait, End}
 use Rattle.grs_legal.specs.declared.meaning.Meaning.{Meaning}
-use Rattle.grs_base.proofs.SameLaws.{same_res-itself}
 use Rattle.grs_wire.specs.declared.history.HistEntry.{HistEntry}
 use Rattle.task_state.specs.declared.state.Asked.{Asked}
 use Rattle.grs_wire.specs.declared.told.Verb.{Verb}
@@ -27,14 +26,15 @@ use Rattle.task_state.specs.declared.state.Rec.{Rec}
 use Rattle.task_state.specs.declared.state.Phase.{Phase}
 use Rattle.task_state.specs.declared.state.Phase.TheVariants as phases
 use Rattle.task_state.specs.View.{code_in}
-use Rattle.task_state.specs.Replies.{is_held, phase_after}
+use Rattle.task_state.specs.Replies.{phase_after}
 use Rattle.grs_known.specs.Told.{entry_of_line, entries_behind, queues, queues_at, queued_last, is_control, tells_control, is_code_before, is_code_of, is_post_of, is_end_of}
 use Rattle.grs_known.proofs.lists.Entries.{asked_at-grows, end_among-push}
 use Rattle.grs_known.proofs.lists.Lines.{asks-more, asks_of-at, passed-none, passed-stop}
-use Rattle.grs_known.proofs.tasks.Invariant.{Each, key, has_res, is_distinct, IsEntryOn, IsEcb, IsRec, IsDue, may_pass, Passed, IsNext, IsInPhase, IsTask, is_post_before, has_ended, code_bound}
+use Rattle.grs_known.proofs.tasks.Invariant.{Each, key, has_res, is_distinct, IsEntryOn, IsEcb, IsRec, WaitsFor, may_pass, Passed, IsNext, IsInPhase, IsTask, is_post_before, has_ended, code_bound}
 use Rattle.grs_known.proofs.tasks.Granted.{codes_later, lt_suc}
-use Rattle.grs_known.proofs.lists.Truths.{or_second}
-use Rattle.grs_known.proofs.lists.Facts.{all-kept, all-more, any-more, none-more, slice_get-end, slice_get-within, take-more}
+use Rattle.grs_known.proofs.tasks.Keys.{each-kept}
+use Rattle.grs_known.proofs.lists.Truths.{not_true, or_second}
+use Rattle.grs_known.proofs.lists.Facts.{all-kept, any-kept, all-more, any-more, none-more, slice_get-end, slice_get-within, take-more}
 
 -- what was told after a code: WAIT isn't told
 abbrev pub told_after : List ToldLine → TaskId → ℕ → Verb → Code → List ToldLine
@@ -118,10 +118,6 @@ none_behind p x e zero [] h = grind (arith, e)
 none_behind p x e (suc zero) [] h = refl
 none_behind p x e (suc (suc m)) [] h = refl
 none_behind p x e zero (y ∷ ys) h = ap not (none-more p (y ∷ ys) x (not_true (list_any p (y ∷ ys)) h) e)
-  where
-    not_true : (b : Bool) → not b ≡ true → b ≡ false
-    not_true true f = cc
-    not_true false f = refl
 none_behind p x e (suc m) (y ∷ ys) h = none_behind p x e m ys h
 
 module _ (ls : List Meaning) (E : List HistEntry) (h : HistEntry) (t : TaskId) where
@@ -142,40 +138,25 @@ module _ (ls : List Meaning) (E : List HistEntry) (h : HistEntry) (t : TaskId) w
   grows-tells r none (Ended u code) e = e
   grows-tells r none (Desk k said) e = e
 
-  any-kept : {X : Type 0} (p q : X → Bool) → ((x : X) → p x ≡ true → q x ≡ true) → (xs : List X) → list_any p xs ≡ true → list_any q xs ≡ true
-  any-kept p q k [] e = e
-  any-kept p q k (x ∷ xs) e = grind (arith, e, k x, any-kept p q k xs, cases_Bool (p x), cases_Bool (q x))
-
   -- records that stood before, when the next line was answered
   pub recs-asked : (T : List ToldLine) (has has' leaving : Res → Bool) (n k : ℕ) (verb : Verb) (c : Code) (ph : Phase) (xs : List Rec) →
       ((r : Res) → has_res r xs ≡ true → has' r ≡ has r) → ((r : Res) → has_res r xs ≡ true → has r ≡ true → leaving r ≡ false) → ((r : Res) → has_res r xs ≡ true → queues r h ≡ false) →
       Each (IsRec ls E T has leaving t n phases.Ready) xs → Each (IsRec ls (E ++ h ∷ []) (told_after T t k verb c) has' (λ r. false) t (suc n) ph) xs
-  recs-asked T has has' leaving n k verb c ph [] same stays none e = tt
-  recs-asked T has has' leaving n k verb c ph (x ∷ xs) same stays none e = (
-    record {
-      entry = grows-on x.res (entry_of_line ls E x.line) _ (grows-line x.line) e.0.entry;
-      latest = grows-latest x.res x.line (none x.res among) e.0.latest;
-      low = e.0.low;
-      high = omega (arith, e.0.high);
-      known = e.0.known ∙ sym here;
-      control = λ f all. any-after (tells_control t ls (E ++ h ∷ []) x.res) T t k verb c (any-kept (tells_control t ls E x.res) (tells_control t ls (E ++ h ∷ []) x.res) (grows-tells x.res (none x.res among)) T (e.0.control (sym here ∙ f) (stays x.res among (sym here ∙ f))));
-      due = λ f. still (e.0.due f);
-    },
-    recs-asked T has has' leaving n k verb c ph xs (λ r f. same r (later r f)) (λ r f. stays r (later r f)) (λ r f. none r (later r f)) e.1,
-  )
+  recs-asked T has has' leaving n k verb c ph xs same stays none = each-kept (IsRec ls E T has leaving t n phases.Ready) (IsRec ls (E ++ h ∷ []) (told_after T t k verb c) has' (λ r. false) t (suc n) ph) xs (λ x among e.
+      let here : has' x.res ≡ has x.res = same x.res among in
+      record {
+        entry = grows-on x.res (entry_of_line ls E x.line) _ (grows-line x.line) e.entry;
+        latest = grows-latest x.res x.line (none x.res among) e.latest;
+        low = e.low;
+        high = omega (arith, e.high);
+        known = e.known ∙ sym here;
+        control = λ f all. any-after (tells_control t ls (E ++ h ∷ []) x.res) T t k verb c (any-kept (tells_control t ls E x.res) (tells_control t ls (E ++ h ∷ []) x.res) (grows-tells x.res (none x.res among)) T (e.control (sym here ∙ f) (stays x.res among (sym here ∙ f))));
+        due = λ f. still x (e.due f);
+      })
     where
-      among : has_res x.res (x ∷ xs) ≡ true
-      among = grind (arith, same_res-itself x.res)
-
-      later : (r : Res) → has_res r xs ≡ true → has_res r (x ∷ xs) ≡ true
-      later r f = or_second (same_res r x.res) (has_res r xs) f
-
-      here : has' x.res ≡ has x.res
-      here = same x.res among
-
-      still : ((is_held phases.Ready ≡ true) × (x.line ≡ n)) ⊎ IsDue ls E T t x.line → ((is_held ph ≡ true) × (x.line ≡ suc n)) ⊎ IsDue ls (E ++ h ∷ []) (told_after T t k verb c) t x.line
-      still (inl a) = absurd (cc (a.0))
-      still (inr d) = inr (record {
+      still : (x : Rec) → WaitsFor ls E T t n phases.Ready x → WaitsFor ls (E ++ h ∷ []) (told_after T t k verb c) t (suc n) ph x
+      still x (inl a) = absurd (cc (a.0))
+      still x (inr d) = inr (record {
         ecb = grows-ecb (entry_of_line ls E x.line) _ (grows-line x.line) d.ecb;
         coded = any-after (is_code_of t x.line) T t k verb c d.coded;
         unposted = unposted-after T t t k x.line verb c d.unposted;

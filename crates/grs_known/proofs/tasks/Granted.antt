@@ -1,6 +1,6 @@
 -- A task that is told control: what holds of it afterwards, and that the lines agree.
 use Rattle.std.proofs.Common.{◌≡◌, ◌-◌, ◌+◌, ℕ, suc, Bool, true, false, not, List, [], ◌∷◌, ◌++◌, length, take, Option, Some, None, refl, ap, sym, ◌∙◌, subst, arith, inl, inr}
-use Rattle.std.specs.Prelude.{slice_get, ◌⊎◌, IfSome, nat_lt}
+use Rattle.std.specs.Prelude.{slice_get, IfSome, nat_lt}
 use Rattle.std.specs.List.{list_any, list_all}
 use Rattle.std.proofs.lemmas.Bool.{and_from, lt-ltb}
 use Rattle.std.proofs.lemmas.Bool.Decides.{nat_tests}
@@ -33,10 +33,11 @@ use Rattle.task_state.specs.Replies.{is_held}
 use Rattle.grs_known.specs.Told.{entry_of_line, queued_last, tells_control, is_code_before, is_end_of, TellsEnq, TellsWait, Posts, LineAgrees}
 use Rattle.grs_known.proofs.lists.Entries.{asked_at-grows}
 use Rattle.grs_known.proofs.lists.Lines.{asks-same, passed-more}
-use Rattle.grs_known.proofs.tasks.Invariant.{Each, IsEntryOn, IsEcb, IsRec, IsDue, also, with_control, may_pass, owns_entry, Passed, IsWaitFor, IsInPhase, IsTask, is_post_before, has_ended, code_bound}
+use Rattle.grs_known.proofs.tasks.Invariant.{Each, IsEntryOn, IsEcb, IsRec, IsDue, WaitsFor, also, with_control, may_pass, owns_entry, Passed, IsWaitFor, IsInPhase, IsTask, is_post_before, has_ended, code_bound}
 use Rattle.grs_known.proofs.tasks.Others.{recs-told, phase-told, passed-control, phase-control}
 use Rattle.grs_known.proofs.tasks.Records.{recs-marked, keys-told, distinct-told, recs-coded, recs-posted}
-use Rattle.grs_known.proofs.lists.Truths.{or_first, or_second}
+use Rattle.grs_known.proofs.tasks.Keys.{each-kept}
+use Rattle.grs_known.proofs.lists.Truths.{no_truth, or_first, or_second}
 use Rattle.grs_known.proofs.lists.Facts.{all-kept, all-more, none-more, some_value, take-more}
 
 -- A line agrees with each history of which a past speaks, or speaks where one resource is concerned.
@@ -196,23 +197,12 @@ task-marked ls p T leaving t r x leaves h = record {
 }
 
 pub recs-phase : (ls : List Meaning) (E : List HistEntry) (T : List ToldLine) (has leaving : Res → Bool) (t : TaskId) (n : ℕ) (ph ph' : Phase) → is_held ph ≡ false → (xs : List Rec) → Each (IsRec ls E T has leaving t n ph) xs → Each (IsRec ls E T has leaving t n ph') xs
-recs-phase ls E T has leaving t n ph ph' e [] h = tt
-recs-phase ls E T has leaving t n ph ph' e (x ∷ xs) h = (
-  record {
-    entry = h.0.entry;
-    latest = h.0.latest;
-    low = h.0.low;
-    high = h.0.high;
-    known = h.0.known;
-    control = h.0.control;
-    due = λ u. still (h.0.due u);
-  },
-  recs-phase ls E T has leaving t n ph ph' e xs h.1,
-)
+recs-phase ls E T has leaving t n ph ph' e xs = each-kept (IsRec ls E T has leaving t n ph) (IsRec ls E T has leaving t n ph') xs
+    (λ x among h. record { entry = h.entry; latest = h.latest; low = h.low; high = h.high; known = h.known; control = h.control; due = λ u. still x (h.due u) })
   where
-    still : ((is_held ph ≡ true) × (x.line ≡ n)) ⊎ IsDue ls E T t x.line → ((is_held ph' ≡ true) × (x.line ≡ n)) ⊎ IsDue ls E T t x.line
-    still (inl a) = absurd (grind (arith, a.0, e))
-    still (inr d) = inr d
+    still : (x : Rec) → WaitsFor ls E T t n ph x → WaitsFor ls E T t n ph' x
+    still x (inl a) = no_truth (is_held ph) a.0 e
+    still x (inr d) = inr d
 
 -- one line more that asks nothing and lets the task pass
 pub passed-line : (ls : List Meaning) (p : Past) (m : ℕ) (l : Meaning) → slice_get ls m ≡ Some l → asks_in l ≡ [] → length p.asked ≡ length (asks_of (take m ls)) → may_pass p l ≡ true → Passed ls p m → Passed ls p (m + 1)

@@ -99,6 +99,10 @@ pub record IsDue (ls : List Meaning) (E : List HistEntry) (T : List ToldLine) (t
   pub coded : list_any (is_code_of t line) T ≡ true
   pub unposted : list_any (is_post_of t line) T ≡ false
 
+-- what an untold record waits for: the code of its task's last line, or that its ECB is posted
+abbrev pub WaitsFor : List Meaning → List HistEntry → List ToldLine → TaskId → ℕ → Phase → Rec → Type 0
+WaitsFor ls E T t line p x = ((is_held p ≡ true) × (x.line ≡ line)) ⊎ IsDue ls E T t x.line
+
 -- A record of task t, which owns this by its past; `leaving` is what its outstanding request gives up.
 pub record IsRec (ls : List Meaning) (E : List HistEntry) (T : List ToldLine) (owns leaving : Res → Bool) (t : TaskId) (line : ℕ) (p : Phase) (x : Rec) : Type 0 where
   pub entry : IsEntryOn x.res (entry_of_line ls E x.line)
@@ -109,8 +113,7 @@ pub record IsRec (ls : List Meaning) (E : List HistEntry) (T : List ToldLine) (o
   -- it is marked exactly where the task owns; and of control that the task doesn't give up a line told
   pub known : x.told ≡ owns x.res
   pub control : owns x.res ≡ true → leaving x.res ≡ false → list_any (tells_control t ls E x.res) T ≡ true
-  -- an untold record waits for the code of the task's last line, or for its ECB to be posted
-  pub due : x.told ≡ false → ((is_held p ≡ true) × (x.line ≡ line)) ⊎ IsDue ls E T t x.line
+  pub due : x.told ≡ false → WaitsFor ls E T t line p x
 
 -- A task that hasn't begun to end.
 pub record IsGoing (E : List HistEntry) (T : List ToldLine) (t : TaskId) : Type 0 where

@@ -12,7 +12,7 @@ use Rattle.task_state.specs.View.{without_first, on_record}
 use Rattle.grs_known.specs.Past.{made_exclusive}
 use Rattle.grs_known.proofs.tasks.Invariant.{Each, key, has_res, has_own, is_distinct}
 use Rattle.grs_known.proofs.lists.Facts.{map-append}
-use Rattle.grs_known.proofs.lists.Truths.{no_truth, false_by}
+use Rattle.grs_known.proofs.lists.Truths.{no_truth, false_by, or_first, or_second}
 
 pub same_res-sym : (a b : Res) → same_res a b ≡ same_res b a
 same_res-sym a b = go (same_res a b) refl
@@ -82,6 +82,11 @@ gone-without r (x ∷ xs) d = grind (arith, d, gone-without r xs, same_res-exact
 -- so what is left is on other resources
 pub other-without : (q r : Res) (xs : List Rec) → is_distinct xs ≡ true → has_res q (without_first xs r) ≡ true → same_res q r ≡ false
 other-without q r xs d has = false_by (same_res q r) (λ e. no_truth (has_res q (without_first xs r)) has (subst (λ z. has_res z (without_first xs r) ≡ false) (sym (same_res-exact q r e)) (gone-without r xs d)))
+
+-- what holds of each record, from what else does
+pub each-kept : (P Q : Rec → Type 0) (xs : List Rec) → ((x : Rec) → has_res x.res xs ≡ true → P x → Q x) → Each P xs → Each Q xs
+each-kept P Q [] f h = tt
+each-kept P Q (x ∷ xs) f h = (f x (or_first (same_res x.res x.res) (has_res x.res xs) (same_res-itself x.res)) h.0, each-kept P Q xs (λ y e. f y (or_second (same_res y.res x.res) (has_res y.res xs) e)) h.1)
 
 pub each-without : (P : Rec → Type 0) (r : Res) (xs : List Rec) → Each P xs → Each P (without_first xs r)
 each-without P r [] h = h

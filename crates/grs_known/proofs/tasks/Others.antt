@@ -1,10 +1,7 @@
 -- What control of one resource more, or a line told to another task, leaves of a task.
 use Rattle.std.proofs.Common.{◌≡◌, ◌-◌, ℕ, Bool, true, false, not, ◌||◌, List, [], ◌∷◌, ◌++◌, length, take, refl, sym, ◌∙◌, arith}
-use Rattle.std.specs.Prelude.{◌⊎◌}
 use Rattle.std.proofs.lemmas.Option.{IfSome_then}
 use Rattle.std.proofs.Common.{inl, inr}
-use Rattle.task_state.specs.Replies.{is_held}
-use Rattle.grs_base.proofs.SameLaws.{same_res-itself}
 use Rattle.grs_base.specs.Same.{same_res, same_task}
 use Rattle.grs_base.specs.declared.resource.Res.{Res}
 use Rattle.grs_base.specs.declared.resource.TaskId.{TaskId}
@@ -21,7 +18,8 @@ use Rattle.task_state.specs.declared.state.Phase.{Phase}
 use Rattle.task_state.specs.declared.state.Phase.TheVariants as phases
 use Rattle.task_state.specs.declared.state.TaskState.{TaskState}
 use Rattle.grs_known.specs.Told.{tells_control, is_code_before, is_code_of, is_post_of, is_end_of}
-use Rattle.grs_known.proofs.tasks.Invariant.{Each, has_res, IsRec, IsDue, has_own, may_pass, owns_entry, with_control, Passed, IsFree, IsInPhase, IsTask, is_post_before}
+use Rattle.grs_known.proofs.tasks.Invariant.{Each, has_res, IsRec, IsDue, WaitsFor, has_own, may_pass, owns_entry, with_control, Passed, IsFree, IsInPhase, IsTask, is_post_before}
+use Rattle.grs_known.proofs.tasks.Keys.{each-kept}
 use Rattle.grs_known.proofs.lists.Truths.{or_first, or_second}
 use Rattle.grs_known.proofs.lists.Facts.{all-kept, all-more, any-more, none-more}
 
@@ -62,22 +60,15 @@ module _ (r : Res) (p : Past) where
 -- records of a task that owns as much there, and gives up no more of that
 pub recs-owns : (ls : List Meaning) (E : List HistEntry) (T : List ToldLine) (has has' leaving leaving' : Res → Bool) (t : TaskId) (line : ℕ) (ph : Phase) (xs : List Rec) →
     ((q : Res) → has_res q xs ≡ true → has' q ≡ has q) → ((q : Res) → has_res q xs ≡ true → has q ≡ true → leaving' q ≡ false → leaving q ≡ false) → Each (IsRec ls E T has leaving t line ph) xs → Each (IsRec ls E T has' leaving' t line ph) xs
-recs-owns ls E T has has' leaving leaving' t line ph [] same stays h = tt
-recs-owns ls E T has has' leaving leaving' t line ph (x ∷ xs) same stays h = (
-  record {
-    entry = h.0.entry;
-    latest = h.0.latest;
-    low = h.0.low;
-    high = h.0.high;
-    known = h.0.known ∙ sym (same x.res among);
-    control = λ o s. h.0.control (sym (same x.res among) ∙ o) (stays x.res among (sym (same x.res among) ∙ o) s);
-    due = h.0.due;
-  },
-  recs-owns ls E T has has' leaving leaving' t line ph xs (λ q e. same q (or_second (same_res q x.res) (has_res q xs) e)) (λ q e. stays q (or_second (same_res q x.res) (has_res q xs) e)) h.1,
-)
-  where
-    among : has_res x.res (x ∷ xs) ≡ true
-    among = or_first (same_res x.res x.res) (has_res x.res xs) (same_res-itself x.res)
+recs-owns ls E T has has' leaving leaving' t line ph xs same stays = each-kept (IsRec ls E T has leaving t line ph) (IsRec ls E T has' leaving' t line ph) xs (λ x among h. record {
+  entry = h.entry;
+  latest = h.latest;
+  low = h.low;
+  high = h.high;
+  known = h.known ∙ sym (same x.res among);
+  control = λ o s. h.control (sym (same x.res among) ∙ o) (stays x.res among (sym (same x.res among) ∙ o) s);
+  due = h.due;
+})
 
 -- a task that asks for something stands as before, whatever that gives up
 pub task-leaving : (ls : List Meaning) (p : Past) (T : List ToldLine) (leaving : Res → Bool) (t : TaskId) (x : TaskState) → IsTask ls p T (λ r. false) t x → IsTask ls p T leaving t x
@@ -145,23 +136,19 @@ due-told ls E T t k l e h = record { ecb = h.ecb; coded = any-more (is_code_of t
 -- a line that posts no record of the task leaves what holds of its records
 pub recs-told : (ls : List Meaning) (E : List HistEntry) (T : List ToldLine) (owns leaving : Res → Bool) (t : TaskId) (line : ℕ) (ph : Phase) (l : ToldLine) (xs : List Rec) →
     ((k : ℕ) → is_post_of t k l ≡ false) → Each (IsRec ls E T owns leaving t line ph) xs → Each (IsRec ls E (T ++ l ∷ []) owns leaving t line ph) xs
-recs-told ls E T owns leaving t line ph l [] e h = tt
-recs-told ls E T owns leaving t line ph l (x ∷ xs) e h = (
-  record {
-    entry = h.0.entry;
-    latest = h.0.latest;
-    low = h.0.low;
-    high = h.0.high;
-    known = h.0.known;
-    control = λ c stays. any-more (tells_control t ls E x.res) T l (h.0.control c stays);
-    due = λ u. still (h.0.due u);
-  },
-  recs-told ls E T owns leaving t line ph l xs e h.1,
-)
+recs-told ls E T owns leaving t line ph l xs e = each-kept (IsRec ls E T owns leaving t line ph) (IsRec ls E (T ++ l ∷ []) owns leaving t line ph) xs (λ x among h. record {
+  entry = h.entry;
+  latest = h.latest;
+  low = h.low;
+  high = h.high;
+  known = h.known;
+  control = λ c stays. any-more (tells_control t ls E x.res) T l (h.control c stays);
+  due = λ u. still x (h.due u);
+})
   where
-    still : ((is_held ph ≡ true) × (x.line ≡ line)) ⊎ IsDue ls E T t x.line → ((is_held ph ≡ true) × (x.line ≡ line)) ⊎ IsDue ls E (T ++ l ∷ []) t x.line
-    still (inl a) = inl a
-    still (inr d) = inr (due-told ls E T t x.line l (e x.line) d)
+    still : (x : Rec) → WaitsFor ls E T t line ph x → WaitsFor ls E (T ++ l ∷ []) t line ph x
+    still x (inl a) = inl a
+    still x (inr d) = inr (due-told ls E T t x.line l (e x.line) d)
 
 -- a line told to another task leaves what holds of a task
 pub task-told : (ls : List Meaning) (p : Past) (T : List ToldLine) (leaving : Res → Bool) (t : TaskId) (x : TaskState) (l : ToldLine) → is_told_to t l ≡ false → IsTask ls p T leaving t x → IsTask ls p (T ++ l ∷ []) leaving t x

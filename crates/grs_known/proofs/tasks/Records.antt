@@ -1,6 +1,6 @@
 -- Telling a task control that it got by another's request.
 use Rattle.std.proofs.Common.{◌≡◌, ℕ, suc, Bool, true, false, cond, List, [], ◌∷◌, ◌++◌, map, Option, Some, None, refl, ap, sym, ◌∙◌, subst, arith, inl, inr}
-use Rattle.std.specs.Prelude.{slice_get, ◌⊎◌, ◌==◌}
+use Rattle.std.specs.Prelude.{slice_get, ◌==◌}
 use Rattle.std.specs.List.{list_any}
 use Rattle.std.proofs.lemmas.Bool.{and_from, eqb-true}
 use Rattle.grs_base.specs.Same.{same_res, same_task}
@@ -16,9 +16,8 @@ use Rattle.task_state.specs.declared.state.Rec.{Rec}
 use Rattle.task_state.specs.declared.state.Phase.{Phase}
 use Rattle.task_state.specs.declared.state.Phase.TheVariants as phases
 use Rattle.task_state.specs.View.{record_place, record_of, on_record}
-use Rattle.task_state.specs.Replies.{is_held}
 use Rattle.grs_known.specs.Told.{entry_of_line, queued_last, tells_control, is_code_of, is_post_of}
-use Rattle.grs_known.proofs.tasks.Invariant.{Each, key, has_res, is_distinct, IsEntryOn, IsRec, IsDue, also}
+use Rattle.grs_known.proofs.tasks.Invariant.{Each, key, has_res, is_distinct, IsEntryOn, IsRec, IsDue, WaitsFor, also}
 use Rattle.grs_known.proofs.tasks.Keys.{same_res-sym}
 use Rattle.grs_known.proofs.lists.Truths.{no_truth, false_by, and_off, or_off, or_second}
 use Rattle.grs_known.proofs.lists.Facts.{any-last, any-more, none-more}
@@ -65,10 +64,6 @@ distinct-told r (x ∷ xs) = grind (arith, distinct-told r xs, has_res-told x.re
 -- whether it is the same resource, the other way round
 turned : (r q : Res) (b : Bool) → same_res r q ≡ b → same_res q r ≡ b
 turned r q b e = same_res-sym q r ∙ e
-
--- the line of an untold record holds its task by its answer, or its ECB is posted later
-abbrev WaitsFor : List Meaning → List HistEntry → List ToldLine → TaskId → ℕ → Phase → Rec → Type 0
-WaitsFor ls E T t line ph y = ((is_held ph ≡ true) × (y.line ≡ line)) ⊎ IsDue ls E T t y.line
 
 -- Records after control of resource r is marked as told, where U is what was told then.
 module _ (ls : List Meaning) (E : List HistEntry) (T U : List ToldLine) (owns leaving : Res → Bool) (t : TaskId) (r : Res) (line : ℕ) (ph qh : Phase)

@@ -1,6 +1,6 @@
 -- A task that releases, waits at a line, begins to end, or has ended.
 use Rattle.std.proofs.Common.{◌≡◌, ℕ, suc, Bool, true, false, cond, not, ◌||◌, List, [], ◌∷◌, ◌++◌, map, length, take, Option, Some, None, refl, ap, sym, ◌∙◌, subst, arith, inl, inr, add-one}
-use Rattle.std.specs.Prelude.{filter, slice_get, is_some, ◌⊎◌, unwrap_or, nat_lt}
+use Rattle.std.specs.Prelude.{filter, slice_get, is_some, unwrap_or, nat_lt}
 use Rattle.std.specs.List.{list_any, list_all}
 use Rattle.std.proofs.lemmas.Bool.{cases_Bool, lt-ltb, ltb-true}
 use Rattle.grs_base.specs.Same.{same_res, same_task}
@@ -27,13 +27,12 @@ use Rattle.task_state.specs.declared.state.Rec.{Rec}
 use Rattle.task_state.specs.declared.state.Phase.{Phase}
 use Rattle.task_state.specs.declared.state.Phase.TheVariants as phases
 use Rattle.task_state.specs.View.{without_first}
-use Rattle.task_state.specs.Replies.{is_held}
 use Rattle.grs_known.specs.Told.{is_code_before, is_end_of}
 use Rattle.grs_known.proofs.lists.Lines.{asks-same}
-use Rattle.grs_known.proofs.tasks.Invariant.{Each, key, IsRec, IsDue, has_own, may_pass, Passed, asks_next, IsNext, IsWaitFor, IsTask, is_post_before}
+use Rattle.grs_known.proofs.tasks.Invariant.{Each, key, IsRec, WaitsFor, has_own, may_pass, Passed, asks_next, IsNext, IsWaitFor, IsTask, is_post_before}
 use Rattle.grs_known.proofs.tasks.Others.{recs-owns, recs-told}
 use Rattle.grs_known.proofs.tasks.Granted.{AgreesPast, codes_later, lt_suc, passed-line, recs-phase}
-use Rattle.grs_known.proofs.tasks.Keys.{keys-without, distinct-without, other-without, each-without}
+use Rattle.grs_known.proofs.tasks.Keys.{keys-without, distinct-without, other-without, each-kept, each-without}
 use Rattle.grs_known.proofs.tasks.Decided.{owned_still}
 use Rattle.grs_known.proofs.tasks.Speaking.{queued-speaks, next-speaks}
 use Rattle.grs_known.proofs.lists.Truths.{or_second}
@@ -81,23 +80,12 @@ task-released ls p T leaving t n c code xs o ws r others k = record {
 
 -- records of a task that has taken one more line, which asked nothing
 recs-line : (ls : List Meaning) (E : List HistEntry) (T : List ToldLine) (has leaving : Res → Bool) (t : TaskId) (n : ℕ) (ph : Phase) (xs : List Rec) → Each (IsRec ls E T has leaving t n phases.Ready) xs → Each (IsRec ls E T has leaving t (suc n) ph) xs
-recs-line ls E T has leaving t n ph [] h = tt
-recs-line ls E T has leaving t n ph (x ∷ xs) h = (
-  record {
-    entry = h.0.entry;
-    latest = h.0.latest;
-    low = h.0.low;
-    high = omega (arith, h.0.high);
-    known = h.0.known;
-    control = h.0.control;
-    due = λ u. still (h.0.due u);
-  },
-  recs-line ls E T has leaving t n ph xs h.1,
-)
+recs-line ls E T has leaving t n ph xs = each-kept (IsRec ls E T has leaving t n phases.Ready) (IsRec ls E T has leaving t (suc n) ph) xs
+    (λ x among h. record { entry = h.entry; latest = h.latest; low = h.low; high = omega (arith, h.high); known = h.known; control = h.control; due = λ u. still x (h.due u) })
   where
-    still : ((is_held phases.Ready ≡ true) × (x.line ≡ n)) ⊎ IsDue ls E T t x.line → ((is_held ph ≡ true) × (x.line ≡ suc n)) ⊎ IsDue ls E T t x.line
-    still (inl a) = absurd (cc (a.0))
-    still (inr d) = inr d
+    still : (x : Rec) → WaitsFor ls E T t n phases.Ready x → WaitsFor ls E T t (suc n) ph x
+    still x (inl a) = absurd (cc (a.0))
+    still x (inr d) = inr d
 
 posts_later : (t : TaskId) (n : ℕ) (l : ToldLine) → is_post_before t n l ≡ true → is_post_before t (suc n) l ≡ true
 posts_later t n (Coded u j part v code) e = refl
