@@ -6,7 +6,7 @@ The program is crates/grs/out/grs, which `cd crates/grs && rt run` makes, or the
 Where an unproved program of the same tables is named, it runs each deck by turns with the first and has to write the
 same, and the table has ratios: how many times as long the first takes, and how many times as much memory.
 
-A time is that of the processor, the best of five runs; a peak of memory is watched in five runs of their own. `x` says how
+A time is that of the processor, the best of five runs; a peak of memory is that of a run of its own. `x` says how
 many times as long a deck takes as the one before it in its family, by each program.
 """
 import contextlib
@@ -52,15 +52,30 @@ def seconds(program, deck):
     return used.ru_utime + used.ru_stime
 
 
+def full_pipe():
+    """The two ends of a pipe that takes nothing more: who writes into it waits until it is read."""
+    out, full = os.pipe()
+    os.set_blocking(full, False)
+    with contextlib.suppress(BlockingIOError):
+        while True:
+            os.write(full, bytes(4096))
+    os.set_blocking(full, True)
+    return out, full
+
+
 def peak(program, deck):
-    """The peak of memory of a program on a deck, in MB, as some runs of it were seen."""
-    most = 0
-    for _ in range(ROUNDS):
-        with started(program, deck) as child:
-            while child.poll() is None:
-                with open("/proc/%d/status" % child.pid) as status:
-                    most = max([most] + [int(line.split()[1]) for line in status if line.startswith("VmHWM:")])
-    return max(most, 1) / 1024
+    """The peak of memory of a run on a deck, in MB: it is read where the program waits to write its text."""
+    out, full = full_pipe()
+    said = {"State": ""}
+    with started(program, deck, full) as child:
+        os.close(full)
+        while not said["State"].startswith("S"):
+            with open("/proc/%d/status" % child.pid) as status:
+                said = {name: value.strip() for name, _, value in (line.partition(":") for line in status)}
+        with open(out, "rb") as rest:
+            rest.read()
+        child.wait()
+    return int(said["VmHWM"].split()[0]) / 1024
 
 
 def times(deck):
