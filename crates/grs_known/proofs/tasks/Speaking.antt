@@ -1,5 +1,5 @@
 -- A task's past, and a history of which it speaks: what the one tells of the other, and how both go on.
-use Rattle.std.proofs.Common.{◌≡◌, ℕ, Bool, true, false, cond, not, ◌&&◌, ◌||◌, List, [], ◌∷◌, ◌++◌, map, length, Option, Some, None, refl, ap, sym, ◌∙◌, subst, arith, append-nil}
+use Rattle.std.proofs.Common.{◌≡◌, ℕ, Bool, true, false, cond, not, ◌&&◌, ◌||◌, List, [], ◌∷◌, ◌++◌, map, length, Option, Some, None, refl, ap, sym, ◌∙◌, subst, arith}
 use Rattle.std.specs.Prelude.{slice_get, is_some, IfSome}
 use Rattle.std.specs.List.{list_any, list_all}
 use Rattle.std.proofs.lemmas.Option.{IfSome_then}
@@ -28,7 +28,7 @@ use Rattle.grs_wire.proofs.HistoryLaws.{none_twice}
 use Rattle.grs_wire.proofs.WantLaws.{owns-want, absent-has}
 use Rattle.task_state.specs.Replies.{is_queued, gives_up}
 use Rattle.grs_known.specs.Items.{took, gave, tells}
-use Rattle.grs_known.specs.Past.{own_elements, own_told, own_after, Past, after_entry, Speaks, SpeaksOf}
+use Rattle.grs_known.specs.Past.{own_elements, own_told, own_after, Past, after_entry, Speaks}
 use Rattle.grs_known.proofs.lists.Requests.{want-keeps, want-takes, want-tells, granted-deq}
 use Rattle.grs_known.proofs.lists.Elements.{own-want, own-want_other}
 use Rattle.grs_known.proofs.lists.Requests.{gave-tells}
@@ -64,7 +64,7 @@ module _ (limit : ℕ) (t : TaskId) (p : Past) (P : List HistEntry) (s : Speaks 
   pass-speaks lines.Nothing h = refl
 
   -- a task that is free by its past is so
-  pub free-speaks : IsFree p → IfSome (last_entry (entries_of t P)) (HasControl (replay limit P) t)
+  free-speaks : IsFree p → IfSome (last_entry (entries_of t P)) (HasControl (replay limit P) t)
   free-speaks f = subst (λ o. IfSome o (HasControl (replay limit P) t)) (sym s.last) (IfSome_then p.last f control)
     where
       control : (h : HistEntry) → (code_of h ≡ Wait → owns_entry p.owns h ≡ true) → HasControl (replay limit P) t h
@@ -79,16 +79,12 @@ module _ (limit : ℕ) (t : TaskId) (p : Past) (P : List HistEntry) (s : Speaks 
   unfolding next_of
   next-speaks ls = ap (λ es. next_of ls es (queued_by (replay limit P) t)) s.asked ∙ ap (next_of ls p.asked) queued-speaks
 
-  pub lines-speaks : (ls : List Meaning) → list_all (may_pass p) (passes_next ls p) ≡ true → list_all (lets_pass (replay limit P) t) (passed_lines t ls P) ≡ true
+  lines-speaks : (ls : List Meaning) → list_all (may_pass p) (passes_next ls p) ≡ true → list_all (lets_pass (replay limit P) t) (passed_lines t ls P) ≡ true
   unfolding passed_of
   lines-speaks ls h = ap (λ es. list_all (lets_pass (replay limit P) t) (passed_of ls es)) s.asked ∙ all-kept (may_pass p) (lets_pass (replay limit P) t) pass-speaks (passes_next ls p) h
 
   pub legal-speaks : (ls : List Meaning) (a : Ask) (h : HistEntry) → IsNext ls p a → answer_of h ≡ reply_of limit (replay limit P) h → ask_in h ≡ Some a → IsLegal limit t ls P h
   legal-speaks ls a h i right asks = record { reply = right; next = next-speaks ls ∙ i.next ∙ sym asks; waited = free-speaks i.free; passed = lines-speaks ls i.passed }
-
-  -- of one resource it says less
-  pub speaks-of : (r : Res) → SpeaksOf limit t r p P
-  speaks-of r = record { owns = s.owns r; asked = ([], s.asked ∙ sym (append-nil p.asked)) }
 
   -- ---- how both go on
   -- the task was told control that it has

@@ -23,7 +23,7 @@ use Rattle.grs_world.proofs.system.Askers.{among-front, among-back}
 use Rattle.grs_world.proofs.run.Carried.{all-append}
 use Rattle.grs_known.proofs.lists.Facts.{all-more, list_any-push, take-drop}
 use Rattle.grs_known.proofs.lists.Owners.{is_among}
-use Rattle.grs_world.proofs.system.Seen.{ToldBy, Clears, askers, is_line_of}
+use Rattle.grs_world.proofs.system.Seen.{ToldBy, Says, askers, is_line_of}
 use Rattle.grs_world.proofs.system.Seen as seen
 use Rattle.grs_known.proofs.lists.Truths.{no_truth, or_other, or_false}
 
@@ -57,16 +57,16 @@ pub answered-front : (s : ℕ) (xs ys : List Req) (T0 T : List ToldLine) → Ans
 answered-front s xs ys T0 T m = record { lines = m.lines; is = m.is; ours = m.ours; clear = λ t a. among-front t xs ys (m.clear t a) }
 
 module _ (deck : Deck) (s : ℕ) (opens : List Req) (Q : List HistEntry) where
-  line_clear : (t : TaskId) (l : ToldLine) → Clears deck opens Q l → answers t l ≡ true → is_among t (askers opens) ≡ false
-  line_clear t (lines.Coded u k part verb code) clear a = subst (λ (x : TaskId). is_among x (askers opens) ≡ false) (sym (same_task-exact t u a)) clear
-  line_clear t (lines.Shown u k verb code rows) clear a = absurd clear
-  line_clear t (lines.Post u k) clear a = cc
-  line_clear t (lines.Ended u code) clear a = cc
-  line_clear t (lines.Desk k said) clear a = cc
+  line_clear : (t : TaskId) (T : List ToldLine) (l : ToldLine) → Says deck opens Q T l → answers t l ≡ true → is_among t (askers opens) ≡ false
+  line_clear t T (lines.Coded u k part verb code) says a = subst (λ (x : TaskId). is_among x (askers opens) ≡ false) (sym (same_task-exact t u a)) says.1.clears
+  line_clear t T (lines.Shown u k verb code rows) says a = absurd says
+  line_clear t T (lines.Post u k) says a = cc
+  line_clear t T (lines.Ended u code) says a = cc
+  line_clear t T (lines.Desk k said) says a = cc
 
   pub answered-by : {T0 T : List ToldLine} → ToldBy deck s opens Q T0 T → Answered s opens T0 T
   answered-by {T0 = T0} seen.none = none_answered s opens T0
-  answered-by {T0 = T0} (seen.more T l told mine agrees clear) =
+  answered-by {T0 = T0} (seen.more T l told mine says) =
       let m = answered-by told in
       record {
         lines = m.lines ++ l ∷ [];
@@ -77,7 +77,7 @@ module _ (deck : Deck) (s : ℕ) (opens : List Req) (Q : List HistEntry) where
     where
       go : (t : TaskId) (ls : List ToldLine) (b : Bool) → list_any (answers t) ls ≡ b → (list_any (answers t) ls ≡ true → is_among t (askers opens) ≡ false) → (list_any (answers t) ls || answers t l) ≡ true → is_among t (askers opens) ≡ false
       go t ls true is ih a = ih is
-      go t ls false is ih a = line_clear t l clear (or_other (list_any (answers t) ls) (answers t l) a is)
+      go t ls false is ih a = line_clear t T l says (or_other (list_any (answers t) ls) (answers t l) a is)
 
 -- ---- where the requests of a task stand in the message
 -- An entry is left to the task's own system, if it is a request of that task.

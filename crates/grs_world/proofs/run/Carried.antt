@@ -26,9 +26,11 @@ use Rattle.task_state.specs.Replies.{gives_up}
 use Rattle.grs_known.proofs.lists.Owners.{is_among}
 use Rattle.grs_world.proofs.run.Projections.{on_res, is_leave_of, list_of-same, owns-stays, leave-by, leave-for}
 use Rattle.grs_world.proofs.system.Replied.{Replied}
-use Rattle.grs_world.proofs.system.Seen.{AgreesBehind, is_res_of, askers, none_leaves, Clears, ToldBy, none, more, is_line_of}
+use Rattle.grs_world.proofs.system.Seen.{AgreesBehind, is_res_of, askers, none_leaves, ToldBy, none, more, is_line_of, Whole, Says}
+use Rattle.grs_known.specs.Told.{AgreesOf}
+use Rattle.grs_legal.specs.Asks.{lines_of}
 use Rattle.grs_world.proofs.run.Tape.{Item, entries, requests, by, on, for_all, from, home, IsItem, Items, items-append, At, filter-within, entries-append, entries_of-items, on_res-items, by-item, on-item}
-use Rattle.grs_world.proofs.run.Transfer.{Carries, CarriesLine, line-carried, fits-carried}
+use Rattle.grs_world.proofs.run.Transfer.{Carries, speaks-carried, speaks_of-carried, line-behind, fits-carried}
 use Rattle.grs_world.proofs.run.Views.{waits, local, waiting, Blocked, View, two_homes, local-home, from-home, by-from}
 use Rattle.grs_known.proofs.lists.Truths.{and_on, no_truth}
 use Rattle.grs_known.proofs.lists.Facts.{filter-append, filter-cons_kept, filter-cons_left, filter-none, some_value}
@@ -198,16 +200,20 @@ module _ (deck : Deck) (s : ℕ) (front rest Q : List Item) (v : View deck s fro
   leaves_front t r [] ys a = refl
   leaves_front t r (x ∷ xs) ys a = and_on (not (same_task t x.task && gives_up r x.want)) (none_leaves t r xs) (and_parts _ _ a).0 (leaves_front t r xs ys (and_parts _ _ a).1)
 
-  carries_line : (opens later : List Req) → opens ≡ requests (waiting s rest) ++ later → (l : ToldLine) → is_line_of s l ≡ true → Clears deck opens (entries Q) l → CarriesLine deck (entries (front ++ rest)) (entries Q) l
-  carries_line opens later is (told.Coded t k part verb code) ours c = carries-whole t (eqb-true _ _ ours) (among-front t (requests (waiting s rest)) later (subst (λ qs. is_among t (askers qs) ≡ false) is c))
-  carries_line opens later is (told.Shown t k verb code rows) ours c = c
-  carries_line opens later is (told.Post t k) ours c = (
-    entries (filter (by t) (waiting s rest)),
-    mine-whole deck s front rest Q v t (eqb-true _ _ ours),
-    (λ ls lines r of. owning-whole t (eqb-true _ _ ours) r (leaves_front t r (requests (waiting s rest)) later (subst (λ qs. none_leaves t r qs ≡ true) is (c ls lines r of)))),
-  )
-  carries_line opens later is (told.Ended t code) ours c = carries-whole t (eqb-true _ _ ours) (among-front t (requests (waiting s rest)) later (subst (λ qs. is_among t (askers qs) ≡ false) is c))
-  carries_line opens later is (told.Desk k said) ours c = c
+  clear_front : (opens later : List Req) → opens ≡ requests (waiting s rest) ++ later → (t : TaskId) → is_among t (askers opens) ≡ false → is_among t (askers (requests (waiting s rest))) ≡ false
+  clear_front opens later is t c = among-front t (requests (waiting s rest)) later (subst (λ qs. is_among t (askers qs) ≡ false) is c)
+
+  -- a line that was told agrees with the whole history
+  whole-says : (opens later : List Req) → opens ≡ requests (waiting s rest) ++ later → (t : TaskId) (T : List ToldLine) (l : ToldLine) → t.system.0 ≡ s → Whole deck opens (entries Q) T t l → AgreesOf deck.limit (lines_of deck t) (entries (front ++ rest)) T l
+  whole-says opens later is t T l home c = c.agrees (entries (front ++ rest)) (speaks-carried deck.limit t (entries (front ++ rest)) (entries Q) c.past (carries-whole t home (clear_front opens later is t c.clears)) c.speaks)
+
+  line-says : (opens later : List Req) → opens ≡ requests (waiting s rest) ++ later → (T : List ToldLine) (l : ToldLine) → is_line_of s l ≡ true → Says deck opens (entries Q) T l → AgreesBehind deck (entries (front ++ rest)) T l
+  line-says opens later is T (told.Coded t k part verb code) ours c = (c.0, whole-says opens later is t T (told.Coded t k part verb code) (eqb-true _ _ ours) c.1)
+  line-says opens later is T (told.Shown t k verb code rows) ours c = c
+  line-says opens later is T (told.Post t k) ours c = c.agrees (entries (front ++ rest)) (speaks_of-carried deck.limit t c.res (entries (front ++ rest)) (entries Q) (entries (filter (by t) (waiting s rest))) c.past (mine-whole deck s front rest Q v t (eqb-true _ _ ours))
+      (owning-whole t (eqb-true _ _ ours) c.res (leaves_front t c.res (requests (waiting s rest)) later (subst (λ qs. none_leaves t c.res qs ≡ true) is c.clears))) c.speaks)
+  line-says opens later is T (told.Ended t code) ours c = whole-says opens later is t T (told.Ended t code) (eqb-true _ _ ours) c
+  line-says opens later is T (told.Desk k said) ours c = c
 
 -- ---- lines that are told
 abbrev pub LinesAgree : Deck → List HistEntry → List ToldLine → List ToldLine → Type 0
@@ -252,15 +258,16 @@ more_news deck s P T0 T1 T2 m n = record {
 -- what a system was told by its view agrees with the whole history
 pub told-whole : (deck : Deck) (s : ℕ) (front rest Q : List Item) → View deck s front rest Q → Replied deck.limit (entries (front ++ rest)) → (opens later : List Req) → opens ≡ requests (waiting s rest) ++ later → (T0 T : List ToldLine) → ToldBy deck s opens (entries Q) T0 T → ToldNews deck s (entries (front ++ rest)) T0 T
 told-whole deck s front rest Q v here opens later is T0 T none = no_news deck s (entries (front ++ rest)) T0
-told-whole deck s front rest Q v here opens later is T0 T (more U l by_now ours agrees clears) =
+told-whole deck s front rest Q v here opens later is T0 T (more U l by_now ours says) =
     let m = told-whole deck s front rest Q v here opens later is T0 U by_now in
     record {
       lines = m.lines ++ l ∷ [];
       is = ap (λ z. z ++ l ∷ []) m.is ∙ append_assoc T0 m.lines (l ∷ []);
       ours = all-append s m.lines (l ∷ []) m.ours (and_on (is_line_of s l) true ours refl);
       agree = λ before e. lines-push deck (entries (front ++ rest)) before m.lines l (m.agree before e)
-          (line-carried deck s (entries (front ++ rest)) (entries Q) U (before ++ m.lines) l (carries_line deck s front rest Q v here opens later is l ours clears) ours
-          (m.is ∙ (ap (λ z. z ++ m.lines) e ∙ (ap (λ z. filter (is_line_of s) before ++ z) (sym (filter-ours s m.lines m.ours)) ∙ sym (filter-append (is_line_of s) before m.lines)))) agrees);
+          (line-behind deck s (entries (front ++ rest)) U (before ++ m.lines) l ours
+          (m.is ∙ (ap (λ z. z ++ m.lines) e ∙ (ap (λ z. filter (is_line_of s) before ++ z) (sym (filter-ours s m.lines m.ours)) ∙ sym (filter-append (is_line_of s) before m.lines))))
+          (line-says deck s front rest Q v here opens later is U l ours says));
     }
 
 -- ---- the first of the rest

@@ -21,7 +21,7 @@ use Rattle.grs_world.proofs.system.Replied.{Replied, replied_front, replied_for,
 use Rattle.grs_world.proofs.system.Seen.{NodeLaws, QuietStep, keeps, fixes, ToldBy, askers, stand_apart, is_res_of, own-one_system}
 use Rattle.grs_world.proofs.message.Stands.{Bodies}
 use Rattle.grs_world.proofs.run.Tape.{Item, entries, requests, for_all, from, by, IsItem, Items, items-append, At, Tape, entries-append, tape-behind, replied-tape}
-use Rattle.grs_world.proofs.run.Transfer.{Carries, stands-carried}
+use Rattle.grs_world.proofs.run.Transfer.{Carries, speaks-carried, asked-stands}
 use Rattle.grs_world.proofs.run.Views.{waits, waiting, View, view-decided}
 use Rattle.grs_known.proofs.lists.Truths.{and_on, or_second}
 use Rattle.grs_known.proofs.lists.Facts.{filter-push_left}
@@ -76,7 +76,7 @@ module _ (deck : Deck) (Seen : ℕ → List HistEntry → List Req → Node → 
       let at : At deck P x = at-same deck Q (front ++ rest) x v.items all_items v.replied here (on-own deck s front rest Q v r own) by_same (record { made = made; full = fits; is = item }) in
       let carries : Carries deck.limit t P (entries Q) = carries-whole deck s front rest Q v here t system alone in
       let stands : MayStand deck P h =
-      stands-carried deck t P (entries Q) h carries (by-for (replay deck.limit P) t w h at.made) (answer-for deck.limit (replay deck.limit P) t w h at.full at.made) legal in
+      asked-stands deck t P h (by-for (replay deck.limit P) t w h at.made) (legal.stands P (speaks-carried deck.limit t P (entries Q) legal.past carries legal.speaks) (answer-for deck.limit (replay deck.limit P) t w h at.full at.made)) in
       let view_next : entries (Q ++ x ∷ []) ≡ entries Q ++ h ∷ [] = entries-append Q (x ∷ []) in
       let view : View deck s front (rest ++ x ∷ []) (Q ++ x ∷ []) = view-decided deck s front rest Q x item v own (record { made = made; full = fits; is = item }) alone in
       let grown : front ++ (rest ++ x ∷ []) ≡ (front ++ rest) ++ x ∷ [] = sym (append_assoc front rest (x ∷ [])) in

@@ -1,10 +1,10 @@
 -- What a history's entries of one task, or of one resource, tell by themselves.
 use Rattle.std.proofs.Common.{◌≡◌, ◌<◌, ℕ, Bool, true, false, cond, not, ◌&&◌, Some, List, [], ◌∷◌, ◌++◌, map, length, refl, ap, sym, ◌∙◌, subst, arith}
 use Rattle.std.specs.Prelude.{filter, nat_le}
-use Rattle.std.specs.List.{list_any, list_all}
+use Rattle.std.specs.List.{list_all}
 use Rattle.std.proofs.lemmas.Bool.{and_parts, ltb-true}
 use Rattle.grs_base.specs.Same.{same_res, same_task}
-use Rattle.grs_base.specs.Lists.{has_task, is_apart, is_owner, standing_of, can_have, enq_decision, decide_enq, owns, owners, place_of, list_after, list_exclusive, list_without}
+use Rattle.grs_base.specs.Lists.{is_apart, is_owner, standing_of, can_have, enq_decision, decide_enq, owns, owners, place_of, list_after, list_exclusive, list_without}
 use Rattle.grs_base.specs.State.{State, list_of, queued_by, is_full}
 use Rattle.grs_base.specs.declared.resource.Res.{Res}
 use Rattle.grs_base.specs.declared.resource.TaskId.{TaskId}
@@ -36,7 +36,7 @@ use Rattle.task_state.specs.Replies.{gives_up}
 use Rattle.grs_known.specs.Past.{own_elements, own_told, own_after}
 use Rattle.grs_known.proofs.lists.Requests.{owns-exclusive}
 use Rattle.grs_known.proofs.lists.Elements.{own-want, own-want_other}
-use Rattle.grs_known.proofs.lists.Own.{queued_by-own, has_task-own}
+use Rattle.grs_known.proofs.lists.Own.{queued_by-own}
 use Rattle.grs_world.proofs.system.Replied.{is_plain, RepliedFrom, Replied, only_entry, one_look}
 use Rattle.grs_known.proofs.lists.Truths.{not_true}
 use Rattle.grs_known.proofs.lists.Facts.{some_value}
@@ -85,16 +85,12 @@ pub own-same : (limit : ℕ) (P Q : List HistEntry) (t : TaskId) → Replied lim
 own-same limit P Q t here there same =
     own-replay_from limit [] P t (λ r. refl) here.right ∙ ap (own_after []) same ∙ sym (own-replay_from limit [] Q t (λ r. refl) there.right)
 
-pub queued_by-same : (limit : ℕ) (P Q : List HistEntry) (t : TaskId) → Replied limit P → Replied limit Q → entries_of t P ≡ entries_of t Q → queued_by (replay limit P) t ≡ queued_by (replay limit Q) t
+queued_by-same : (limit : ℕ) (P Q : List HistEntry) (t : TaskId) → Replied limit P → Replied limit Q → entries_of t P ≡ entries_of t Q → queued_by (replay limit P) t ≡ queued_by (replay limit Q) t
 queued_by-same limit P Q t here there same =
     queued_by-own (replay limit P) t ∙ ap (map (λ k. k.0)) (own-same limit P Q t here there same) ∙ sym (queued_by-own (replay limit Q) t)
 
 pub is_full-same : (limit : ℕ) (P Q : List HistEntry) (t : TaskId) → Replied limit P → Replied limit Q → entries_of t P ≡ entries_of t Q → is_full limit (replay limit P) t ≡ is_full limit (replay limit Q) t
 is_full-same limit P Q t here there same = ap (λ xs. nat_le limit (length xs)) (queued_by-same limit P Q t here there same)
-
-pub has_task-same : (limit : ℕ) (P Q : List HistEntry) (t : TaskId) → Replied limit P → Replied limit Q → entries_of t P ≡ entries_of t Q → (r : Res) → has_task (list_of (replay limit P) r) t ≡ has_task (list_of (replay limit Q) r) t
-has_task-same limit P Q t here there same r =
-    has_task-own (replay limit P) t r ∙ ap (list_any (λ k. same_res r k.0)) (own-same limit P Q t here there same) ∙ sym (has_task-own (replay limit Q) t r)
 
 -- the entries that may change a resource's list
 abbrev pub on_res : Res → List HistEntry → List HistEntry

@@ -16,13 +16,12 @@ use Rattle.grs_base.specs.declared.decision.Code.TheVariants.{C00, C04, C08, C14
 use Rattle.grs_base.specs.declared.decision.Effect.{Effect}
 use Rattle.grs_base.specs.declared.decision.Effect.TheVariants.{Nothing, Append, MakeExclusive}
 use Rattle.grs_legal.specs.declared.meaning.Meaning.{Meaning}
-use Rattle.grs_base.proofs.SameLaws.{same_task-exact, same_task-itself}
+use Rattle.grs_base.proofs.SameLaws.{same_res-itself, same_task-exact, same_task-itself}
 use Rattle.grs_wire.specs.declared.deck.Deck.{Deck}
 use Rattle.grs_wire.specs.declared.history.HistEntry.{HistEntry}
 use Rattle.grs_wire.specs.declared.history.HistEntry.TheVariants as entries
 use Rattle.grs_wire.specs.declared.request.Want.{Want}
 use Rattle.grs_wire.specs.declared.request.Want.TheVariants.{Enq, Deq, Release, Look}
-use Rattle.grs_wire.specs.declared.request.Answer.TheVariants as answers
 use Rattle.task_state.specs.declared.state.Asked.{Asked}
 use Rattle.grs_wire.specs.declared.request.Req.{Req}
 use Rattle.grs_wire.specs.declared.told.Verb.{Verb}
@@ -32,8 +31,8 @@ use Rattle.grs_wire.specs.declared.told.ToldLine.TheVariants.{Coded}
 use Rattle.grs_wire.specs.History.{is_by, replay}
 use Rattle.grs_wire.specs.Wants.{answer_to, after_want, res_wanted, became_owners, new_owners}
 use Rattle.grs_wire.proofs.WantLaws.{cond_both}
-use Rattle.grs_legal.specs.Asks.{AsksEnq, AsksDeq, lines_of}
-use Rattle.grs_legal.specs.Legal.{line_entries, IsLegal}
+use Rattle.grs_legal.specs.Asks.{Ask, AsksEnq, AsksDeq, lines_of}
+use Rattle.grs_legal.specs.Legal.{ask_in, IsLegalOf}
 use Rattle.task_state.specs.declared.state.Rec.{Rec}
 use Rattle.task_state.specs.declared.state.Phase.TheVariants as phases
 use Rattle.task_state.specs.declared.state.Phase.{Phase}
@@ -43,13 +42,14 @@ use Rattle.task_state.specs.Replies.{tell_all, tell_new, replied, phase_after, i
 use Rattle.grs_known.specs.Items.{has_control}
 use Rattle.grs_known.specs.Past.{Past, after_entry, Speaks}
 use Rattle.grs_known.proofs.lists.Requests.{owns-granted}
-use Rattle.grs_known.specs.Told.{LineAgrees, told_as, gets_control, TellsEnq, entry_of_line}
+use Rattle.grs_known.specs.Told.{told_as, gets_control, TellsEnq, entry_of_line, TellsDeq}
 use Rattle.grs_known.proofs.lists.Owners.{is_among, became-owns}
-use Rattle.grs_known.proofs.tasks.Invariant.{key, IsTask}
+use Rattle.grs_known.proofs.tasks.Invariant.{key, IsTask, with_control, IsNext}
 use Rattle.grs_world.proofs.system.Ours.{IsOurs, Holds, IsHere, holds-changed, ours-line, agrees-ours}
 use Rattle.grs_world.proofs.system.Asking.{unasked, unasked-none, Opens, IsAtLines, IsOpenBy, IsAskedBy, asked-absent, are_sent, sent-absent}
-use Rattle.grs_world.proofs.system.Seen.{askers, ToldBy, none, more}
-use Rattle.grs_known.proofs.tasks.Speaking.{queued-speaks, legal-speaks, speaks-own, fits-enq, fits-deq}
+use Rattle.grs_world.proofs.system.Seen.{askers, ToldBy, none, more, Whole, StandsBy}
+use Rattle.grs_known.proofs.tasks.Speaking.{queued-speaks, legal-speaks, speaks-own, fits-enq, fits-deq, speaks-control}
+use Rattle.grs_known.proofs.lists.Truths.{no_truth, or_second}
 use Rattle.grs_world.proofs.system.Telling.{learned_all, LearnedAll, IsHome}
 use Rattle.grs_known.proofs.tasks.Asked.{told_after, Asks, next-asked, of_new_line}
 use Rattle.grs_known.proofs.tasks.Decided.{enq_records, task-enq, task-deq}
@@ -146,15 +146,23 @@ module _ (deck : Deck) (s : ℕ) (os os' : Opens) (P : List HistEntry) (v : Task
       })))
 
 -- lines told after a code agree where the code does
-agreed-code : (deck : Deck) (s : ℕ) (opens : List Req) (Q : List HistEntry) (T : List ToldLine) (t : TaskId) (ls : List Meaning) (k : ℕ) (verb : Verb) → (t.system.0 == s) ≡ true → is_among t (askers opens) ≡ false → lines_of deck t ≡ Some ls → (c : Code) →
-    (told_as c ≡ c → LineAgrees deck.limit ls Q T (Coded t k 0 verb c)) → ToldBy deck s opens Q T (told_after T t k verb c)
-agreed-code deck s opens Q T t ls k verb line away e Wait h = none
-agreed-code deck s opens Q T t ls k verb line away e C00 h = more T (Coded t k 0 verb C00) none line (refl, agrees-ours deck t ls Q T (Coded t k 0 verb C00) e (h refl)) away
-agreed-code deck s opens Q T t ls k verb line away e C04 h = more T (Coded t k 0 verb C04) none line (refl, agrees-ours deck t ls Q T (Coded t k 0 verb C04) e (h refl)) away
-agreed-code deck s opens Q T t ls k verb line away e C08 h = more T (Coded t k 0 verb C08) none line (refl, agrees-ours deck t ls Q T (Coded t k 0 verb C08) e (h refl)) away
-agreed-code deck s opens Q T t ls k verb line away e C14 h = more T (Coded t k 0 verb C14) none line (refl, agrees-ours deck t ls Q T (Coded t k 0 verb C14) e (h refl)) away
-agreed-code deck s opens Q T t ls k verb line away e C18 h = more T (Coded t k 0 verb C18) none line (refl, agrees-ours deck t ls Q T (Coded t k 0 verb C18) e (h refl)) away
-agreed-code deck s opens Q T t ls k verb line away e (End m) h = more T (Coded t k 0 verb (End m)) none line (refl, agrees-ours deck t ls Q T (Coded t k 0 verb (End m)) e (h refl)) away
+agreed-code : (deck : Deck) (s : ℕ) (opens : List Req) (Q : List HistEntry) (T : List ToldLine) (t : TaskId) (k : ℕ) (verb : Verb) → (t.system.0 == s) ≡ true → (c : Code) →
+    (told_as c ≡ c → Whole deck opens Q T t (Coded t k 0 verb c)) → ToldBy deck s opens Q T (told_after T t k verb c)
+agreed-code deck s opens Q T t k verb line Wait h = none
+agreed-code deck s opens Q T t k verb line C00 h = more T (Coded t k 0 verb C00) none line (refl, h refl)
+agreed-code deck s opens Q T t k verb line C04 h = more T (Coded t k 0 verb C04) none line (refl, h refl)
+agreed-code deck s opens Q T t k verb line C08 h = more T (Coded t k 0 verb C08) none line (refl, h refl)
+agreed-code deck s opens Q T t k verb line C14 h = more T (Coded t k 0 verb C14) none line (refl, h refl)
+agreed-code deck s opens Q T t k verb line C18 h = more T (Coded t k 0 verb C18) none line (refl, h refl)
+agreed-code deck s opens Q T t k verb line (End m) h = more T (Coded t k 0 verb (End m)) none line (refl, h refl)
+
+-- what a task asks next, and may, stands behind each history of which its past speaks
+pub stands-next : (deck : Deck) (t : TaskId) (ls : List Meaning) → lines_of deck t ≡ Some ls → (p : Past) (P : List HistEntry) → Speaks deck.limit t p P → (a : Ask) (h : HistEntry) → IsNext ls p a → ask_in h ≡ Some a → StandsBy deck t P h
+stands-next deck t ls lines p P speaks a h next asks = record {
+  past = p;
+  speaks = speaks;
+  stands = λ H z right. subst (λ o. IsLegalOf deck.limit t o H h) (sym lines) (legal-speaks deck.limit t p H z ls a h next right asks);
+}
 
 -- a task has as many elements as records
 pub is_full-speaks : (limit : ℕ) (t : TaskId) (p : Past) (P : List HistEntry) (xs : List Rec) → Speaks limit t p P → map key xs ≡ p.own → nat_le limit (length xs) ≡ is_full limit (replay limit P) t
@@ -195,9 +203,26 @@ module _ (deck : Deck) (s : ℕ) (os os' : Opens) (P : List HistEntry) (v : Task
     abbrev pub enq_entry : HistEntry
     enq_entry = entries.Enq t r c ret (decide_enq (list_of (replay deck.limit P) r) t c ret full).code
 
-    pub enq_legal : IsLegal deck.limit t ls P enq_entry
-    enq_legal = legal-speaks deck.limit t p P speaks ls (AsksEnq r c ret) enq_entry (next-asked ls p v.told (λ q. false) t n code0 xs None ws l (AsksEnq r c ret) k)
-        (ap (λ b. answers.Coded (decide_enq (list_of (replay deck.limit P) r) t c ret b).code) full_is) refl
+    pub enq_stands : StandsBy deck t P enq_entry
+    enq_stands = stands-next deck t ls ours.lines p P speaks (AsksEnq r c ret) enq_entry (next-asked ls p v.told (λ q. false) t n code0 xs None ws l (AsksEnq r c ret) k) refl
+
+    abbrev enq_line : ToldLine
+    enq_line = Coded t (suc n) 0 verbs.Enq (decide_enq (list_of (replay deck.limit P) r) t c ret full).code
+
+    -- its code agrees with each history of which a past speaks that has the control which it tells
+    enq_whole : (q : Past) → Speaks deck.limit t q (P ++ enq_entry ∷ []) → q.asked ≡ p.asked ++ enq_entry ∷ [] → told_as (decide_enq (list_of (replay deck.limit P) r) t c ret full).code ≡ (decide_enq (list_of (replay deck.limit P) r) t c ret full).code →
+        (gets_control ret (decide_enq (list_of (replay deck.limit P) r) t c ret full).code ≡ true → q.owns r ≡ true) → Whole deck os'.all (P ++ enq_entry ∷ []) v.told t enq_line
+    enq_whole q s asked e control = record {
+      past = q;
+      speaks = s;
+      agrees = λ H z. agrees-ours deck t ls H v.told enq_line ours.lines (
+        omega arith,
+        subst (TellsEnq (replay deck.limit H) t (decide_enq (list_of (replay deck.limit P) r) t c ret full).code) (sym (ap (λ E. entry_of_line ls E (suc n)) (z.asked ∙ asked) ∙ of_new_line ls p v.told (λ q. false) t n code0 xs None ws l (AsksEnq r c ret) k enq_entry)) (e, λ g. z.owns r (control g)),
+        k.before.codes,
+        k.before.phase.going.no_end,
+      );
+      clears = moves.away;
+    }
 
     pub enq_settles : Settles deck s os' (P ++ enq_entry ∷ []) v.told (tell_new (replied v0 t (Enq r c ret full) unit (answer_to (replay deck.limit P) t (Enq r c ret full))) (Some r) (new_owners (replay deck.limit P) t (Enq r c ret full)))
     unfolding tell_new replied
@@ -210,24 +235,26 @@ module _ (deck : Deck) (s : ℕ) (os os' : Opens) (P : List HistEntry) (v : Task
         let x : TaskState = record { line = suc n; phase = phase_after code; code = code_in (phase_after code) code0; records = enq_records r c unit ret code (suc n) xs; outstanding = None; rows = ws } in
         let did = did-answered_enq v v0 t (record { line = suc n; phase = phases.Ready; code = code0; records = xs; outstanding = None; rows = ws }) v.told ours.here did0 r c unit ret full code in
         let task = task-enq ls p v.told t n code0 xs None ws l r c unit ret code k (fits-enq deck.limit t p P speaks r c ret full) in
-        let entry : entry_of_line ls (line_entries t (P ++ h ∷ [])) (suc n) ≡ Some h = ap (λ E. entry_of_line ls E (suc n)) speaks'.asked ∙ of_new_line ls p v.told (λ q. false) t n code0 xs None ws l (AsksEnq r c ret) k h in
         let control : gets_control ret code ≡ true → owns (list_of (replay deck.limit (P ++ h ∷ [])) r) t ≡ true = λ g. ap (λ z. owns (list_of z r) t) after ∙ owns-granted S r t c ret full (gets-has ret code g) (gets-granted ret code g) in
-        let tells : told_as code ≡ code → TellsEnq (replay deck.limit (P ++ h ∷ [])) t code (entry_of_line ls (line_entries t (P ++ h ∷ [])) (suc n)) =
-        λ e. subst (λ z. TellsEnq (replay deck.limit (P ++ h ∷ [])) t code z) (sym entry) (e, control) in
-        let agreed : ToldBy deck s os'.all (P ++ h ∷ []) v.told (told_after v.told t (suc n) verbs.Enq code) =
-        agreed-code deck s os'.all (P ++ h ∷ []) v.told t ls (suc n) verbs.Enq (ours-line deck s v t ls ours) moves.away ours.lines code (λ e. (omega arith, tells e, k.before.codes, k.before.phase.going.no_end)) in
+        let agreed : ToldBy deck s os'.all (P ++ h ∷ []) v.told (told_after v.told t (suc n) verbs.Enq code) = agreed-code deck s os'.all (P ++ h ∷ []) v.told t (suc n) verbs.Enq (ours-line deck s v t ls ours) code (λ e. by_control e speaks' control (gets_control ret code) refl) in
         settles deck s os os' P v good t (Enq r c ret full) r h after only_res _ did.changed.here did.changed.system
         (before-own_asker deck s os os' P v good t moves (Enq r c ret full) h ls ours (λ u. refl) after _ x _ did refl (after-at_lines code code0) (after_entry h p) speaks' task
         (λ u ms q leaving y apart j. task-told_after ms q v.told leaving u y t (suc n) verbs.Enq code apart j))
         v.told (subst (λ T. ToldBy deck s os'.all (P ++ h ∷ []) v.told T) (sym did.told) agreed)
+      where
+        by_control : told_as (decide_enq (list_of (replay deck.limit P) r) t c ret full).code ≡ (decide_enq (list_of (replay deck.limit P) r) t c ret full).code → (z : Speaks deck.limit t (after_entry enq_entry p) (P ++ enq_entry ∷ [])) →
+            (gets_control ret (decide_enq (list_of (replay deck.limit P) r) t c ret full).code ≡ true → owns (list_of (replay deck.limit (P ++ enq_entry ∷ [])) r) t ≡ true) →
+            (b : Bool) → gets_control ret (decide_enq (list_of (replay deck.limit P) r) t c ret full).code ≡ b → Whole deck os'.all (P ++ enq_entry ∷ []) v.told t enq_line
+        by_control e z control true g = enq_whole (with_control r (after_entry enq_entry p)) (speaks-control deck.limit t (after_entry enq_entry p) (P ++ enq_entry ∷ []) z r (control g)) refl e (λ f. or_second ((after_entry enq_entry p).owns r) (same_res r r) (same_res-itself r))
+        by_control e z control false g = enq_whole (after_entry enq_entry p) z refl e (λ f. no_truth (gets_control ret (decide_enq (list_of (replay deck.limit P) r) t c ret full).code) f g)
 
   -- a DEQ
   module _ (p : Past) (speaks : Speaks deck.limit t p P) (have : Bool) (leaving : Res → Bool) (others : (q : Res) → same_res q r ≡ false → leaving q ≡ false) (k : Asks ls p v.told leaving t n code0 xs None ws l (AsksDeq r have)) where
     abbrev pub deq_entry : HistEntry
     deq_entry = entries.Deq t r have (deq_code (standing_of (list_of (replay deck.limit P) r) t) have)
 
-    pub deq_legal : IsLegal deck.limit t ls P deq_entry
-    deq_legal = legal-speaks deck.limit t p P speaks ls (AsksDeq r have) deq_entry (next-asked ls p v.told leaving t n code0 xs None ws l (AsksDeq r have) k) refl refl
+    pub deq_stands : StandsBy deck t P deq_entry
+    deq_stands = stands-next deck t ls ours.lines p P speaks (AsksDeq r have) deq_entry (next-asked ls p v.told leaving t n code0 xs None ws l (AsksDeq r have) k) refl
 
     pub deq_settles : (unit : Option ℕ) → Settles deck s os' (P ++ deq_entry ∷ []) v.told (tell_new (replied v0 t (Deq r have) unit (answer_to (replay deck.limit P) t (Deq r have))) (Some r) (new_owners (replay deck.limit P) t (Deq r have)))
     unfolding tell_new replied
@@ -240,9 +267,17 @@ module _ (deck : Deck) (s : ℕ) (os os' : Opens) (P : List HistEntry) (v : Task
         let x : TaskState = record { line = suc n; phase = phase_after code; code = code_in (phase_after code) code0; records = cond (is_granted code) (without_first xs r) xs; outstanding = None; rows = ws } in
         let did = did-answered_deq v v0 t (record { line = suc n; phase = phases.Ready; code = code0; records = xs; outstanding = None; rows = ws }) v.told ours.here did0 r have unit code in
         let task = task-deq ls p v.told leaving t n code0 xs None ws l r have code k others (fits-deq deck.limit t p P speaks r have) in
-        let entry : entry_of_line ls (line_entries t (P ++ h ∷ [])) (suc n) ≡ Some h = ap (λ E. entry_of_line ls E (suc n)) speaks'.asked ∙ of_new_line ls p v.told leaving t n code0 xs None ws l (AsksDeq r have) k h in
-        let agreed : ToldBy deck s os'.all (P ++ h ∷ []) v.told (told_after v.told t (suc n) verbs.Deq code) =
-        agreed-code deck s os'.all (P ++ h ∷ []) v.told t ls (suc n) verbs.Deq (ours-line deck s v t ls ours) moves.away ours.lines code (λ e. (omega arith, rw entry refl, k.before.codes, k.before.phase.going.no_end)) in
+        let agreed : ToldBy deck s os'.all (P ++ h ∷ []) v.told (told_after v.told t (suc n) verbs.Deq code) = agreed-code deck s os'.all (P ++ h ∷ []) v.told t (suc n) verbs.Deq (ours-line deck s v t ls ours) code (λ e. record {
+          past = after_entry h p;
+          speaks = speaks';
+          agrees = λ H z. agrees-ours deck t ls H v.told (Coded t (suc n) 0 verbs.Deq code) ours.lines (
+            omega arith,
+            subst (TellsDeq code) (sym (ap (λ E. entry_of_line ls E (suc n)) z.asked ∙ of_new_line ls p v.told leaving t n code0 xs None ws l (AsksDeq r have) k h)) refl,
+            k.before.codes,
+            k.before.phase.going.no_end,
+          );
+          clears = moves.away;
+        }) in
         settles deck s os os' P v good t (Deq r have) r h after only_res _ did.changed.here did.changed.system
         (before-own_asker deck s os os' P v good t moves (Deq r have) h ls ours (λ u. refl) after _ x _ did refl (after-at_lines code code0) (after_entry h p) speaks' task
         (λ u ms q leaving y apart j. task-told_after ms q v.told leaving u y t (suc n) verbs.Deq code apart j))

@@ -3,7 +3,6 @@ use Rattle.std.proofs.Common.{◌≡◌, ◌≢◌, ℕ, Bool, true, false, cond
 use Rattle.std.specs.Prelude.{slice_get, ◌==◌}
 use Rattle.std.proofs.lemmas.Bool.{eqb-true, eq-eqb}
 use Rattle.grs_base.specs.Same.{same_task}
-use Rattle.grs_base.specs.declared.resource.Res.{Res}
 use Rattle.grs_base.specs.declared.resource.TaskId.{TaskId}
 use Rattle.grs_base.specs.declared.rnl.Lists.{Lists}
 use Rattle.grs_legal.specs.declared.meaning.Meaning.{Meaning}
@@ -16,14 +15,9 @@ use Rattle.task_state.specs.declared.state.TaskState.{TaskState}
 use Rattle.task_state.specs.View.{TasksView, is_task, state_of, with_state, telling}
 use Rattle.task_state.proofs.ViewLaws.{state_of-other, is_task-state, state_of-telling, is_task-telling}
 use Rattle.task_state.proofs.Stays.{system-state, system-telling}
-use Rattle.grs_known.specs.Told.{AgreesOf, LineAgrees, entry_of_line}
-use Rattle.grs_known.proofs.tasks.Invariant.{IsEntryOn, IsTask}
+use Rattle.grs_known.specs.Told.{AgreesOf, LineAgrees}
+use Rattle.grs_known.proofs.tasks.Invariant.{IsTask}
 use Rattle.grs_world.proofs.system.Asking.{unasked, IsOpen, Opens, IsAskedBy, are_sent}
-use Rattle.grs_world.proofs.system.Seen.{IsEnqOf, none_leaves, Clears}
-use Rattle.grs_wire.specs.declared.request.Req.{Req}
-use Rattle.grs_wire.specs.declared.told.ToldLine.TheVariants.{Post}
-use Rattle.grs_wire.specs.declared.history.HistEntry.TheVariants as entries
-use Rattle.grs_legal.specs.Legal.{line_entries}
 use Rattle.task_state.specs.Replies.{is_leaving}
 use Rattle.grs_known.specs.Past.{Past, Speaks}
 
@@ -116,18 +110,3 @@ ours-line deck s v t ls o = eq-eqb _ _ o.home
 
 pub agrees-ours : (deck : Deck) (t : TaskId) (ls : List Meaning) (P : List HistEntry) (T : List ToldLine) (l : ToldLine) → lines_of deck t ≡ Some ls → LineAgrees deck.limit ls P T l → AgreesOf deck.limit (lines_of deck t) P T l
 agrees-ours deck t ls P T l e h = subst (λ o. AgreesOf deck.limit o P T l) (sym e) h
-
--- a post of a record that its task doesn't give up stays right
-pub clears-post : (deck : Deck) (opens : List Req) (P : List HistEntry) (t : TaskId) (ls : List Meaning) (k : ℕ) (r : Res) → lines_of deck t ≡ Some ls → IsEntryOn r (entry_of_line ls (line_entries t P) k) → none_leaves t r opens ≡ true → Clears deck opens P (Post t k)
-clears-post deck opens P t ls k r e on none ms f q of_q =
-    let m : Some ls ≡ Some ms = sym e ∙ f in
-    let l : ls ≡ ms = cc in
-    subst (λ z. none_leaves t z opens ≡ true) (one_res (entry_of_line ls (line_entries t P) k) on (subst (λ z. IsEnqOf q (entry_of_line z (line_entries t P) k)) (sym l) of_q)) none
-  where
-    one_res : (o : Option HistEntry) → IsEntryOn r o → IsEnqOf q o → r ≡ q
-    one_res None a b = absurd a
-    one_res (Some (entries.Enq u z c ret code)) a b = sym a.0 ∙ b
-    one_res (Some (entries.Deq u z have code)) a b = absurd a
-    one_res (Some (entries.Release u z)) a b = absurd a
-    one_res (Some (entries.Look u place filter rows)) a b = absurd a
-    one_res (Some (entries.Remove by target)) a b = absurd a

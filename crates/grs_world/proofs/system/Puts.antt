@@ -28,7 +28,6 @@ use Rattle.task_state.specs.declared.state.TaskState.{TaskState}
 use Rattle.grs_known.specs.Past.{Past, Speaks}
 use Rattle.grs_known.proofs.tasks.Invariant.{IsNext, IsTask}
 use Rattle.grs_known.proofs.tasks.Asked.{next-asked}
-use Rattle.grs_known.proofs.tasks.Speaking.{next-speaks, lines-speaks, free-speaks}
 use Rattle.grs_known.proofs.tasks.Steps.{next-ending}
 use Rattle.grs_known.specs.Items.{CountsIn}
 use Rattle.grs_world.proofs.system.Seen.{is_home_at, askers, stand_apart, ask_of, MayPut, none}
@@ -138,9 +137,11 @@ module _ (deck : Deck) (s : ℕ) (Q : List HistEntry) (t : TaskId) (v : TasksVie
     of_res = of_res;
     systems = systems;
     fits = fits;
-    next = next-speaks deck.limit t p Q speaks ls ∙ i.next ∙ sym asks;
-    waited = free-speaks deck.limit t p Q speaks i.free;
-    passed = lines-speaks deck.limit t p Q speaks ls i.passed;
+    past = p;
+    speaks = speaks;
+    ask = a;
+    asks = asks;
+    next = i;
   }
 
   may_put_by : (w : Want) (unit : Option ℕ) →

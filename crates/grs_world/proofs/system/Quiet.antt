@@ -15,7 +15,7 @@ use Rattle.grs_base.specs.declared.decision.Code.{Code}
 use Rattle.grs_base.specs.declared.decision.Code.TheVariants.{C00, C08}
 use Rattle.grs_base.proofs.SameLaws.{same_res-exact, same_res-itself}
 use Rattle.grs_legal.specs.Asks.{AsksEnq, AsksDeq, asks_in, lines_of}
-use Rattle.grs_legal.specs.Legal.{IsLegal, IsLegalOf, MayStand, line_entries}
+use Rattle.grs_legal.specs.Legal.{line_entries}
 use Rattle.grs_legal.specs.declared.meaning.Meaning.{Meaning}
 use Rattle.grs_legal.specs.declared.meaning.Meaning.TheVariants as lines
 use Rattle.grs_node.specs.Node.{Node, only, with_tasks, decide, post, ask, wait, has_most, take_line, end_step, ready_step, phase_step, task_step, goes_on, may_go, finish_quiet}
@@ -41,23 +41,23 @@ use Rattle.task_state.specs.declared.state.Rec.{Rec}
 use Rattle.task_state.specs.declared.state.TaskState.{TaskState}
 use Rattle.grs_known.specs.Told.{LineAgrees, TellsWait, tells_control}
 use Rattle.grs_known.proofs.lists.Owners.{is_among}
-use Rattle.grs_known.specs.Past.{Past}
+use Rattle.grs_known.specs.Past.{Past, Speaks}
 use Rattle.grs_known.proofs.tasks.Invariant.{IsRec, has_own, may_pass, IsTask, has_res, is_unsent}
 use Rattle.grs_known.proofs.tasks.Others.{task-leaving, task-told}
 use Rattle.grs_known.proofs.tasks.Records.{found, not_found}
 use Rattle.grs_known.proofs.tasks.Keys.{has_res-own}
 use Rattle.grs_known.proofs.tasks.Speaking.{has-speaks}
 use Rattle.grs_known.proofs.tasks.Asked.{Asks}
-use Rattle.grs_world.proofs.system.Seen.{is_res_of, is_home_at, askers, stand_apart, QuietStep, keeps, fixes, ToldBy, none, more}
+use Rattle.grs_world.proofs.system.Seen.{is_res_of, is_home_at, askers, stand_apart, QuietStep, keeps, fixes, ToldBy, none, more, StandsBy}
 use Rattle.grs_world.proofs.system.Asking.{line_asked, unasked, IsAtLines, IsAskedFor, IsOpenBy, Opens, IsReq, IsAskedBy, asked-none, sent-absent, held-none}
 use Rattle.grs_world.proofs.system.Ours.{IsOurs, IsHere, ours-line, agrees-ours}
 use Rattle.grs_world.proofs.system.Did.{Did, did-none, did-line, did-phase, did-outstanding, did-telling}
 use Rattle.grs_known.proofs.tasks.Steps.{task-skipped, task-waited, task-held, task-ending, task-ended}
 use Rattle.grs_world.proofs.system.Good.{may_have, IsGood, has_task-home, home-ours, ours-home}
-use Rattle.grs_world.proofs.system.Events.{Settles, Moves, task-closed, is_full-speaks, enq_legal, enq_settles, deq_legal, deq_settles}
+use Rattle.grs_world.proofs.system.Events.{Settles, Moves, task-closed, is_full-speaks, enq_stands, enq_settles, deq_stands, deq_settles}
 use Rattle.grs_world.proofs.system.Meant.{is_own, lines_own}
 use Rattle.grs_world.proofs.system.Parts.{answer_to-part, new_owners-part}
-use Rattle.grs_world.proofs.system.Turns.{quiet_settles, release_legal, release_settles, state-is, plain-task}
+use Rattle.grs_world.proofs.system.Turns.{quiet_settles, release_stands, release_settles, state-is, plain-task}
 use Rattle.grs_world.proofs.system.AtNode.{opens_of, Seen, own-alone, own-may, may_own, held-alone, shared-alone}
 use Rattle.grs_world.proofs.system.OwnEntries.{task-open}
 use Rattle.grs_known.proofs.lists.Truths.{or_first, or_second}
@@ -102,7 +102,7 @@ module _ (deck : Deck) (s : ℕ) (Q : List HistEntry) (out : List Req) (n : Node
 
     -- a request that the system decides by the lists of its own resources
     decided : (v0 : TasksView) (w : Want) (unit : Option ℕ) (r : Res) (h : HistEntry) → res_wanted w ≡ Some r → is_res_of s r ≡ true → CountsIn deck.limit (replay deck.limit Q) t w → entries_for (replay deck.limit Q) t w ≡ h ∷ [] →
-        replay deck.limit (Q ++ h ∷ []) ≡ after_want (replay deck.limit Q) t w → MayStand deck Q h →
+        replay deck.limit (Q ++ h ∷ []) ≡ after_want (replay deck.limit Q) t w → StandsBy deck t Q h →
         Settles deck s (opens_of out n) (Q ++ h ∷ []) n.tasks.told (tell_new (replied v0 t w unit (answer_to (replay deck.limit Q) t w)) (res_wanted w) (new_owners (replay deck.limit Q) t w)) →
         QuietStep deck (Seen deck) s Q out n (decide (with_tasks n v0) t w unit)
     unfolding decide
@@ -174,9 +174,6 @@ module _ (deck : Deck) (s : ℕ) (Q : List HistEntry) (out : List Req) (n : Node
         ToldBy deck s (out ++ n.outbox) Q n.tasks.told T → QuietStep deck (Seen deck) s Q out n (only (with_tasks n v))
     by_task v x T did o at k told agreed = by_tasks v (quiet_settles deck s (opens_of out n) (opens_of out n) Q n.tasks seen.good t ls ours v x T did (still_here T x o at k) (λ u z apart j. j) (λ u p apart j. j) told agreed)
 
-    legal-of : (h : HistEntry) → IsLegal deck.limit t ls Q h → IsLegalOf deck.limit t (lines_of deck t) Q h
-    legal-of h legal = subst (λ z. IsLegalOf deck.limit t z Q h) (sym ours.lines) legal
-
     own-of : (r : Res) → is_own t.system.0 r ≡ true → is_own s r ≡ true
     own-of r h = subst (λ z. is_own z r ≡ true) ours.home h
 
@@ -191,7 +188,7 @@ module _ (deck : Deck) (s : ℕ) (Q : List HistEntry) (out : List Req) (n : Node
           (subst (λ z. IsTask ls p n.tasks.told (λ q. false) t (record { line = m; phase = phases.Ending z; code = code; records = xs; outstanding = None; rows = ws })) (sym coded) k)
           (first, all))
           (λ alone. decided v (Release y.res) None y.res (entries.Release t y.res) refl (own-alone s y.res (own-may deck s n.tasks y.res t ls ours proper) alone) tt refl (replay-push deck.limit Q (entries.Release t y.res))
-          (legal-of (entries.Release t y.res) (release_legal deck s (opens_of out n) (opens_of out n) Q n.tasks seen.good t moves ls ours m c code xs ws v did coded y.res proper p here.speaks (λ q. false) (λ q apart. refl) k first))
+          ((release_stands deck s (opens_of out n) (opens_of out n) Q n.tasks seen.good t moves ls ours m c code xs ws v did coded y.res proper p here.speaks (λ q. false) (λ q apart. refl) k first))
           (release_settles deck s (opens_of out n) (opens_of out n) Q n.tasks seen.good t moves ls ours m c code xs ws v did coded y.res proper p here.speaks (λ q. false) (λ q apart. refl) k None))
         where
           first : slice_get (map (λ (z : Rec). z.res) xs) 0 ≡ Some y.res
@@ -213,7 +210,7 @@ module _ (deck : Deck) (s : ℕ) (Q : List HistEntry) (out : List Req) (n : Node
           by_task (telling (with_phase v t phases.Ended) (Ended t c)) _ _ did1 refl tt
           (subst (λ zs. IsTask ls p (n.tasks.told ++ Ended t c ∷ []) (λ q. false) t (record { line = m; phase = phases.Ended; code = code; records = zs; outstanding = None; rows = ws })) (sym e) done.0)
           (λ u ms q leaving y apart j. task-told ms q n.tasks.told leaving u y (Ended t c) apart j)
-          (more n.tasks.told (Ended t c) none (ours-line deck s n.tasks t ls ours) (agrees-ours deck t ls Q n.tasks.told (Ended t c) ours.lines (done.1 deck.limit Q here.speaks)) free)
+          (more n.tasks.told (Ended t c) none (ours-line deck s n.tasks t ls ours) (record { past = p; speaks = here.speaks; agrees = λ H z. agrees-ours deck t ls H n.tasks.told (Ended t c) ours.lines (done.1 deck.limit H z); clears = free }))
 
       -- a step of its end
       end_outcome : (zs : List Rec) → xs ≡ zs → QuietStep deck (Seen deck) s Q out n (end_step (with_tasks n v) t c zs)
@@ -256,7 +253,7 @@ module _ (deck : Deck) (s : ℕ) (Q : List HistEntry) (out : List Req) (n : Node
 
       -- a WAIT line told by its code
       waited : (l : Meaning) → slice_get ls (state_of n.tasks t).line ≡ Some l → asks_in l ≡ [] → (c : Code) → may_pass p l ≡ true →
-          TellsWait t ls (line_entries t Q) n.tasks.told (replay deck.limit Q) c (Some l) →
+          ((H : List HistEntry) → Speaks deck.limit t p H → TellsWait t ls (line_entries t H) n.tasks.told (replay deck.limit H) c (Some l)) →
           (w : TasksView) → w ≡ telling (with_line n.tasks t) (Coded t (suc (state_of n.tasks t).line) 0 verbs.Wait c) →
           QuietStep deck (Seen deck) s Q out n (only (with_tasks n w))
       waited l at asks c lets tells w is =
@@ -264,12 +261,12 @@ module _ (deck : Deck) (s : ℕ) (Q : List HistEntry) (out : List Req) (n : Node
           let T : List ToldLine = n.tasks.told in
           let told_line : ToldLine = Coded t (suc x.line) 0 verbs.Wait c in
           let did1 = did-telling n.tasks (with_line n.tasks t) t (record { line = suc x.line; phase = phases.Ready; code = x.code; records = x.records; outstanding = None; rows = x.rows }) T told_line taken in
-          let agrees : LineAgrees deck.limit ls Q T told_line = (omega arith, subst (TellsWait t ls (line_entries t Q) T (replay deck.limit Q) c) (sym (ap (slice_get ls) (omega (arith)) ∙ at)) tells, is_ready.codes, is_ready.phase.going.no_end) in
+          let agrees : (H : List HistEntry) → Speaks deck.limit t p H → LineAgrees deck.limit ls H T told_line = λ H z. (omega arith, subst (TellsWait t ls (line_entries t H) T (replay deck.limit H) c) (sym (ap (slice_get ls) (omega (arith)) ∙ at)) (tells H z), is_ready.codes, is_ready.phase.going.no_end) in
           subst (λ z. QuietStep deck (Seen deck) s Q out n (only (with_tasks n z))) (sym is)
           (by_task (telling (with_line n.tasks t) told_line) _ _ did1 refl tt
           (task-waited ls p T (λ q. false) t x.line x.code x.records None x.rows l is_ready at asks c lets)
           (λ u ms q leaving y apart j. task-told ms q T leaving u y told_line apart j)
-          (more T told_line none (ours-line deck s n.tasks t ls ours) (refl, agrees-ours deck t ls Q T told_line ours.lines agrees) free))
+          (more T told_line none (ours-line deck s n.tasks t ls ours) (refl, record { past = p; speaks = here.speaks; agrees = λ H z. agrees-ours deck t ls H T told_line ours.lines (agrees H z); clears = free })))
 
       -- a WAIT line
       wait_outcome : (q : Res) → slice_get ls (state_of n.tasks t).line ≡ Some (lines.Wait q) →
@@ -286,7 +283,7 @@ module _ (deck : Deck) (s : ℕ) (Q : List HistEntry) (out : List Req) (n : Node
           by_record : (o : Option Rec) → record_of (state_of n.tasks t).records q ≡ o → QuietStep deck (Seen deck) s Q out n (only (with_tasks n (wait (with_line n.tasks t) t q o)))
           by_record None e =
               let absent : has_own q p.own ≡ false = sym (has_res-own q (state_of n.tasks t).records p.own is_ready.keys) ∙ not_found (state_of n.tasks t).records q e in
-              waited (lines.Wait q) at refl C08 (or_second (p.owns q) _ (ap not absent)) (has-speaks deck.limit t p Q here.speaks q ∙ absent) _ (tells_line C08)
+              waited (lines.Wait q) at refl C08 (or_second (p.owns q) _ (ap not absent)) (λ H z. has-speaks deck.limit t p H z q ∙ absent) _ (tells_line C08)
           by_record (Some y) e = by_told y.told refl
             where
               f : IsRec ls p.asked n.tasks.told p.owns (λ z. false) t (state_of n.tasks t).line phases.Ready y × (same_res q y.res ≡ true)
@@ -299,7 +296,7 @@ module _ (deck : Deck) (s : ℕ) (Q : List HistEntry) (out : List Req) (n : Node
               by_told true g =
                   let own : p.owns q ≡ true = subst (λ z. p.owns z ≡ true) same (sym f.0.known ∙ g) in
                   let told : list_any (tells_control t ls p.asked q) n.tasks.told ≡ true = subst (λ z. list_any (tells_control t ls p.asked z) n.tasks.told ≡ true) same (f.0.control (sym f.0.known ∙ g) refl) in
-                  waited (lines.Wait q) at refl C00 (or_first (p.owns q) _ own) (here.speaks.owns q own, subst (λ E. list_any (tells_control t ls E q) n.tasks.told ≡ true) (sym here.speaks.asked) told) _ (tells_line C00)
+                  waited (lines.Wait q) at refl C00 (or_first (p.owns q) _ own) (λ H z. (z.owns q own, subst (λ E. list_any (tells_control t ls E q) n.tasks.told ≡ true) (sym z.asked) told)) _ (tells_line C00)
               by_told false g =
                   let x : TaskState = state_of n.tasks t in
                   let did1 = did-phase n.tasks (with_line n.tasks t) t (record { line = suc x.line; phase = phases.Ready; code = x.code; records = x.records; outstanding = None; rows = x.rows }) n.tasks.told ours.here taken (phases.HeldLine q) in
@@ -324,7 +321,7 @@ module _ (deck : Deck) (s : ℕ) (Q : List HistEntry) (out : List Req) (n : Node
           let h : HistEntry = enq_entry_of r c ret full in
           decided (with_line n.tasks t) (Enq r c ret full) unit r h refl (own-alone s r own alone) full_is refl
           (replay-push deck.limit Q h ∙ ap (λ b. after_want S t (Enq r c ret b)) (sym full_is))
-          (legal-of h (enq_legal deck s (opens_of out n) (opens_of out n) Q n.tasks seen.good t moves ls ours x.line x.code x.records x.rows (with_line n.tasks t) taken (lines.Enq r c ret unit) r proper p here.speaks c unit ret full full_is k))
+          ((enq_stands deck s (opens_of out n) (opens_of out n) Q n.tasks seen.good t moves ls ours x.line x.code x.records x.rows (with_line n.tasks t) taken (lines.Enq r c ret unit) r proper p here.speaks c unit ret full full_is k))
           (enq_settles deck s (opens_of out n) (opens_of out n) Q n.tasks seen.good t moves ls ours x.line x.code x.records x.rows (with_line n.tasks t) taken (lines.Enq r c ret unit) r proper p here.speaks c unit ret full full_is k))
         where
           enq_entry_of : Res → Ctl → Ret → Bool → HistEntry
@@ -340,7 +337,7 @@ module _ (deck : Deck) (s : ℕ) (Q : List HistEntry) (out : List Req) (n : Node
           let k : Asks ls p n.tasks.told (λ q. false) t x.line x.code x.records None x.rows (lines.Deq r have) (AsksDeq r have) = record { before = is_ready; at = at; asks = refl } in
           let h : HistEntry = entries.Deq t r have (deq_code (standing_of (list_of S r) t) have) in
           decided (with_line n.tasks t) (Deq r have) None r h refl (own-alone s r own alone) tt refl (replay-push deck.limit Q h)
-          (legal-of h (deq_legal deck s (opens_of out n) (opens_of out n) Q n.tasks seen.good t moves ls ours x.line x.code x.records x.rows (with_line n.tasks t) taken (lines.Deq r have) r proper p here.speaks have (λ q. false) (λ q apart. refl) k))
+          ((deq_stands deck s (opens_of out n) (opens_of out n) Q n.tasks seen.good t moves ls ours x.line x.code x.records x.rows (with_line n.tasks t) taken (lines.Deq r have) r proper p here.speaks have (λ q. false) (λ q apart. refl) k))
           (deq_settles deck s (opens_of out n) (opens_of out n) Q n.tasks seen.good t moves ls ours x.line x.code x.records x.rows (with_line n.tasks t) taken (lines.Deq r have) r proper p here.speaks have (λ q. false) (λ q apart. refl) k None))
       line_outcome (lines.Wait r) at = wait_outcome r at
       line_outcome lines.Nothing at = skipped lines.Nothing at refl refl

@@ -1,7 +1,7 @@
 -- What is known of one system of a complex after it has processed a history, and how each of its steps keeps it.
 -- The run of the whole complex is reasoned about over these laws alone.
 use Rattle.std.proofs.Common.{◌≡◌, ◌≢◌, ℕ, Bool, true, false, not, ◌&&◌, List, [], ◌∷◌, ◌++◌, map, take, Option, Some, None, refl}
-use Rattle.std.specs.Prelude.{filter, ◌==◌, is_some, IfSome}
+use Rattle.std.specs.Prelude.{filter, ◌==◌, is_some}
 use Rattle.std.specs.List.{list_all}
 use Rattle.grs_base.specs.Same.{same_task}
 use Rattle.grs_base.specs.State.{State, is_systems}
@@ -9,10 +9,10 @@ use Rattle.grs_base.specs.declared.resource.Res.{Res}
 use Rattle.grs_base.specs.declared.resource.Res.TheVariants as resources
 use Rattle.grs_base.specs.declared.resource.TaskId.{TaskId}
 use Rattle.grs_legal.specs.Asks.{Ask, AsksEnq, AsksDeq, AsksRelease, lines_of}
-use Rattle.grs_legal.specs.Legal.{MayStand, HasControl, line_entries, entries_of, last_entry, next_ask, passed_lines, lets_pass}
+use Rattle.grs_legal.specs.Legal.{MayAsk}
 use Rattle.grs_legal.specs.declared.meaning.Meaning.{Meaning}
 use Rattle.grs_node.specs.Node.{Node, Step, may_go, put_in, finish_quiet, first_node}
-use Rattle.grs_wire.specs.History.{replay, entries_for}
+use Rattle.grs_wire.specs.History.{answer_of, reply_of, replay, entries_for}
 use Rattle.grs_wire.specs.Wants.{res_wanted}
 use Rattle.grs_wire.specs.declared.deck.Deck.{Deck}
 use Rattle.grs_wire.specs.declared.deck.Choice.TheVariants as choices
@@ -26,9 +26,11 @@ use Rattle.grs_wire.specs.declared.told.ToldLine.{ToldLine}
 use Rattle.grs_wire.specs.declared.told.ToldLine.TheVariants as told
 use Rattle.ring_mode.specs.Ring.{Side, process}
 use Rattle.task_state.specs.Replies.{gives_up}
-use Rattle.grs_known.specs.Told.{AgreesOf, entry_of_line}
+use Rattle.grs_known.specs.Told.{AgreesOf}
 use Rattle.grs_known.proofs.lists.Owners.{is_among}
 use Rattle.grs_known.specs.Items.{CountsIn}
+use Rattle.grs_known.specs.Past.{Past, Speaks, SpeaksOf}
+use Rattle.grs_known.proofs.tasks.Invariant.{IsNext}
 
 -- the elements on resources that pass
 abbrev pub part : (Res → Bool) → State → State
@@ -69,15 +71,6 @@ ask_of (wants.Deq r have) = Some (AsksDeq r have)
 ask_of (wants.Release r) = Some (AsksRelease r)
 ask_of (wants.Look first count f) = None
 
--- the resource of an ENQ's entry
-abbrev pub IsEnqOf : Res → Option HistEntry → Type 0
-IsEnqOf r None = ⊥
-IsEnqOf r (Some (entries.Enq u q c ret code)) = q ≡ r
-IsEnqOf r (Some (entries.Deq u q have code)) = ⊥
-IsEnqOf r (Some (entries.Release u q)) = ⊥
-IsEnqOf r (Some (entries.Look u place filter rows)) = ⊥
-IsEnqOf r (Some (entries.Remove by target)) = ⊥
-
 -- a line that is told to a task agrees with a history, behind lines told before
 abbrev pub AgreesBehind : Deck → List HistEntry → List ToldLine → ToldLine → Type 0
 AgreesBehind deck Q T (told.Coded t k part verb code) = (part ≡ 0) × AgreesOf deck.limit (lines_of deck t) Q T (told.Coded t k part verb code)
@@ -86,15 +79,29 @@ AgreesBehind deck Q T (told.Post t k) = AgreesOf deck.limit (lines_of deck t) Q 
 AgreesBehind deck Q T (told.Ended t code) = AgreesOf deck.limit (lines_of deck t) Q T (told.Ended t code)
 AgreesBehind deck Q T (told.Desk k said) = ⊥
 
--- A line that was told stays right while the open requests of the system (those that wait and those that were
--- sent) are answered by others later: its task has none of them, or, behind a post, none that gives the posted
--- resource up.
-abbrev pub Clears : Deck → List Req → List HistEntry → ToldLine → Type 0
-Clears deck opens Q (told.Coded t k part verb code) = is_among t (askers opens) ≡ false
-Clears deck opens Q (told.Shown t k verb code rows) = ⊥
-Clears deck opens Q (told.Post t k) = (ls : List Meaning) → lines_of deck t ≡ Some ls → (r : Res) → IsEnqOf r (entry_of_line ls (line_entries t Q) k) → none_leaves t r opens ≡ true
-Clears deck opens Q (told.Ended t code) = is_among t (askers opens) ≡ false
-Clears deck opens Q (told.Desk k said) = ⊥
+-- A line that was told agrees with each history of which a past of its task speaks, one that speaks of Q; and it stays
+-- right while the open requests of the system (those that wait and those that were sent) are answered by others later,
+-- since its task has none of them.
+pub record Whole (deck : Deck) (opens : List Req) (Q : List HistEntry) (T : List ToldLine) (t : TaskId) (l : ToldLine) : Type 0 where
+  pub past : Past
+  pub speaks : Speaks deck.limit t past Q
+  pub agrees : (P : List HistEntry) → Speaks deck.limit t past P → AgreesOf deck.limit (lines_of deck t) P T l
+  pub clears : is_among t (askers opens) ≡ false
+
+-- A post does so where the past speaks of the posted resource, which none of its task's open requests gives up.
+pub record Posted (deck : Deck) (opens : List Req) (Q : List HistEntry) (T : List ToldLine) (t : TaskId) (l : ToldLine) : Type 0 where
+  pub past : Past
+  pub res : Res
+  pub speaks : Speaks deck.limit t past Q
+  pub agrees : (P : List HistEntry) → SpeaksOf deck.limit t res past P → AgreesOf deck.limit (lines_of deck t) P T l
+  pub clears : none_leaves t res opens ≡ true
+
+abbrev pub Says : Deck → List Req → List HistEntry → List ToldLine → ToldLine → Type 0
+Says deck opens Q T (told.Coded t k part verb code) = (part ≡ 0) × Whole deck opens Q T t (told.Coded t k part verb code)
+Says deck opens Q T (told.Shown t k verb code rows) = ⊥
+Says deck opens Q T (told.Post t k) = Posted deck opens Q T t (told.Post t k)
+Says deck opens Q T (told.Ended t code) = Whole deck opens Q T t (told.Ended t code)
+Says deck opens Q T (told.Desk k said) = ⊥
 
 -- whether a line is told to a task of this system
 abbrev pub is_line_of : ℕ → ToldLine → Bool
@@ -104,11 +111,10 @@ is_line_of s (told.Post t k) = t.system.0 == s
 is_line_of s (told.Ended t code) = t.system.0 == s
 is_line_of s (told.Desk k said) = false
 
--- the lines told in a step: each is of a task of this system, agrees with what the system has processed, and
--- stays right
+-- the lines told in a step: each is of a task of this system, and says what is right
 pub data ToldBy (deck : Deck) (s : ℕ) (opens : List Req) (Q : List HistEntry) (T0 : List ToldLine) : List ToldLine → Type 0 where
   none : ToldBy deck s opens Q T0 T0
-  more : (T : List ToldLine) (l : ToldLine) → ToldBy deck s opens Q T0 T → is_line_of s l ≡ true → AgreesBehind deck Q T l → Clears deck opens Q l → ToldBy deck s opens Q T0 (T ++ l ∷ [])
+  more : (T : List ToldLine) (l : ToldLine) → ToldBy deck s opens Q T0 T → is_line_of s l ≡ true → Says deck opens Q T l → ToldBy deck s opens Q T0 (T ++ l ∷ [])
 
 -- a request of the outbox may be put into the message now
 pub record MayPut (deck : Deck) (s : ℕ) (Q : List HistEntry) (q : Req) : Type 0 where
@@ -119,9 +125,18 @@ pub record MayPut (deck : Deck) (s : ℕ) (Q : List HistEntry) (q : Req) : Type 
   pub of_res : res_wanted q.want ≡ Some res
   pub systems : is_systems res ≡ true
   pub fits : CountsIn deck.limit (replay deck.limit Q) q.task q.want
-  pub next : next_ask deck.limit q.task lines Q ≡ ask_of q.want
-  pub waited : IfSome (last_entry (entries_of q.task Q)) (HasControl (replay deck.limit Q) q.task)
-  pub passed : list_all (lets_pass (replay deck.limit Q) q.task) (passed_lines q.task lines Q) ≡ true
+  -- it is what its task asks next, and may, by a past that speaks of Q
+  pub past : Past
+  pub speaks : Speaks deck.limit q.task past Q
+  pub ask : Ask
+  pub asks : ask_of q.want ≡ Some ask
+  pub next : IsNext lines past ask
+
+-- An entry may stand behind each history of which a past of its task speaks, one that speaks of Q.
+pub record StandsBy (deck : Deck) (t : TaskId) (Q : List HistEntry) (h : HistEntry) : Type 0 where
+  pub past : Past
+  pub speaks : Speaks deck.limit t past Q
+  pub stands : (P : List HistEntry) → Speaks deck.limit t past P → answer_of h ≡ reply_of deck.limit (replay deck.limit P) h → MayAsk deck t P h
 
 -- a request for a Systems resource of a task of another system
 pub record IsOthers (deck : Deck) (s : ℕ) (Q : List HistEntry) (q : Req) : Type 0 where
@@ -150,7 +165,7 @@ pub data QuietStep (deck : Deck) (Seen : ℕ → List HistEntry → List Req →
   fixes : (t : TaskId) (w : Want) (r : Res) (h : HistEntry) → step.fixed ≡ Asked (record { task = t; want = w }) ∷ [] →
       is_home_at deck s t ≡ true → is_among t (askers (out ++ n.outbox)) ≡ false → step.node.outbox ≡ n.outbox →
       res_wanted w ≡ Some r → is_res_of s r ≡ true → CountsIn deck.limit (replay deck.limit Q) t w →
-      entries_for (replay deck.limit Q) t w ≡ h ∷ [] → MayStand deck Q h →
+      entries_for (replay deck.limit Q) t w ≡ h ∷ [] → StandsBy deck t Q h →
       Seen s (Q ++ h ∷ []) out step.node → ToldBy deck s (out ++ step.node.outbox) (Q ++ h ∷ []) n.tasks.told step.node.tasks.told →
       QuietStep deck Seen s Q out n step
 

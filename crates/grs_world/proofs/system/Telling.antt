@@ -27,16 +27,16 @@ use Rattle.task_state.proofs.ViewLaws.{state_of-same, told-state, state_of-telli
 use Rattle.task_state.specs.Replies.{is_leaving, is_held, is_held_for, tell_control, tell_untold, tell_line, passes_wait, tell_all}
 use Rattle.ring_mode.specs.Ring.{is_sent}
 use Rattle.grs_known.specs.Past.{Past}
-use Rattle.grs_known.specs.Told.{tells_control, entry_of_line}
-use Rattle.grs_known.proofs.tasks.Invariant.{IsRec, IsDue, IsEntryOn, IsTask, with_control, has_ended, is_unsent}
+use Rattle.grs_known.specs.Told.{tells_control}
+use Rattle.grs_known.proofs.tasks.Invariant.{IsRec, IsDue, IsTask, with_control, has_ended, is_unsent}
 use Rattle.grs_known.proofs.tasks.Others.{is_told_to, task-told}
 use Rattle.grs_known.proofs.lists.Owners.{is_among}
 use Rattle.grs_known.proofs.tasks.Records.{found}
 use Rattle.grs_known.proofs.tasks.Granted.{latest-on, task-coded, task-posted, task-marked, task-passed}
-use Rattle.grs_world.proofs.system.Seen.{AgreesBehind, ToldBy, more, is_line_of, Clears}
+use Rattle.grs_world.proofs.system.Seen.{Says, ToldBy, more, is_line_of}
 use Rattle.grs_world.proofs.system.Asking.{unasked, unasked-told, unasked-none, records-unasked, held-none, unheld, Opens, IsOpenBy, open-told, IsAskedBy, asked-none, asked-leaves, sent-kept}
-use Rattle.grs_world.proofs.system.Ours.{IsOurs, Holds, IsHere, IsChanged, changed-state, changed-telling, changed-then, changed-none, holds-changed, ours-line, agrees-ours, clears-post}
-use Rattle.grs_known.proofs.tasks.Speaking.{speaks-of, speaks-control}
+use Rattle.grs_world.proofs.system.Ours.{IsOurs, Holds, IsHere, IsChanged, changed-state, changed-telling, changed-then, changed-none, holds-changed, ours-line, agrees-ours}
+use Rattle.grs_known.proofs.tasks.Speaking.{speaks-control}
 use Rattle.grs_known.proofs.lists.Truths.{or_second}
 use Rattle.grs_known.proofs.lists.Facts.{any-last}
 
@@ -89,13 +89,13 @@ module _ (deck : Deck) (s : ℕ) (os : Opens) (P : List HistEntry) (T0 : List To
 
   -- one line told, after which the task stands as x
   learned-by : (v w : TasksView) (l : ToldLine) (x : TaskState) → ToldBy deck s os.all P T0 v.told → ((u : TaskId) → is_told_to u l ≡ same_task u t) →
-      is_line_of s l ≡ true → AgreesBehind deck P v.told l → Clears deck os.all P l →
+      is_line_of s l ≡ true → Says deck os.all P v.told l →
       IsChanged v w t → w.told ≡ v.told ++ l ∷ [] → state_of w t ≡ x → IsHere deck os P (v.told ++ l ∷ []) t ls x → Learned deck s os P T0 t ls v w
-  learned-by v w l x agreed e line agrees clears changed told is here = record {
+  learned-by v w l x agreed e line says changed told is here = record {
     changed = changed;
     others = λ u ms p leaving y apart k. subst (λ T. IsTask ms p T leaving u y) (sym told) (task-told ms p v.told leaving u y l (e u ∙ apart) k);
     own = subst (λ T. IsHere deck os P T t ls (state_of w t)) (sym told) (subst (λ z. IsHere deck os P (v.told ++ l ∷ []) t ls z) (sym is) here);
-    agreed = subst (λ T. ToldBy deck s os.all P T0 T) (sym told) (more v.told l agreed line agrees clears);
+    agreed = subst (λ T. ToldBy deck s os.all P T0 T) (sym told) (more v.told l agreed line says);
   }
 
   held_is : (ph : Phase) → is_held ph ≡ true → ph ≡ phases.HeldAnswer
@@ -139,8 +139,7 @@ module _ (deck : Deck) (s : ℕ) (os : Opens) (P : List HistEntry) (T0 : List To
           let w : TasksView = telling (with_phase v t phases.Ready) (Coded t (state_of v t).line 0 verbs.Wait C00) in
           let same : Coded t (state_of v t).line 0 verbs.Wait C00 ≡ l = ap (λ (y : TaskState). Coded t y.line 0 verbs.Wait C00) is in
           learned-by v w l z agreed (λ u. refl) (ours-line deck s v t ls ours)
-          (subst (λ U. AgreesBehind deck P U l) (sym told) (refl, agrees-ours deck t ls P T l ours.lines (both.1 deck.limit P k.speaks)))
-          (asked-none t os.all (subst (λ o. IsAskedBy t o os.all) none_open k.asked))
+          (subst (λ U. Says deck os.all P U l) (sym told) (refl, record { past = k.past; speaks = k.speaks; agrees = λ H z. agrees-ours deck t ls H T l ours.lines (both.1 deck.limit H z); clears = asked-none t os.all (subst (λ o. IsAskedBy t o os.all) none_open k.asked) }))
           (changed-then v (with_phase v t phases.Ready) w t (changed-phase v t phases.Ready) (changed-telling _ t _))
           (told-telling _ _ ∙ ap (λ U. U ++ Coded t (state_of v t).line 0 verbs.Wait C00 ∷ []) (told-phase v t phases.Ready) ∙ ap (λ m. v.told ++ m ∷ []) same)
           (state_of-telling _ t _ ∙ state-phase v t phases.Ready ours.here ∙ ap (λ (y : TaskState). record y { phase = phases.Ready; code = code_in phases.Ready y.code }) is)
@@ -187,8 +186,7 @@ module _ (deck : Deck) (s : ℕ) (os : Opens) (P : List HistEntry) (T0 : List To
           let z : TaskState = record { line = x.line; phase = phases.Ready; code = x.code; records = on_record r told_rec x.records; outstanding = x.outstanding; rows = x.rows } in
           let l : ToldLine = Coded t y.line 0 verbs.Enq C00 in
           let speaks = speaks-control deck.limit t k.past P k.speaks r own in
-          learned-by v _ l z agreed (λ u. refl) (ours-line deck s v t ls ours) (refl, agrees-ours deck t ls P v.told l ours.lines (both.1 deck.limit P speaks))
-          (asked-none t os.all (subst (λ o. IsAskedBy t o os.all) none_open k.asked))
+          learned-by v _ l z agreed (λ u. refl) (ours-line deck s v t ls ours) (refl, record { past = with_control r k.past; speaks = speaks; agrees = λ H q. agrees-ours deck t ls H v.told l ours.lines (both.1 deck.limit H q); clears = asked-none t os.all (subst (λ o. IsAskedBy t o os.all) none_open k.asked) })
           (changed-then v (with_told v t r) _ t (changed-told v t r) (changed-then (with_told v t r) (with_phase (with_told v t r) t phases.Ready) _ t (changed-phase (with_told v t r) t phases.Ready) (changed-telling _ t _)))
           (told-telling _ _ ∙ ap (λ T. T ++ Coded t y.line 0 verbs.Enq C00 ∷ []) (told-phase (with_told v t r) t phases.Ready ∙ told-told v t r))
           (state_of-telling _ t _ ∙ state-phase (with_told v t r) t phases.Ready ((changed-told v t r).here t ∙ ours.here) ∙ ap (λ (z : TaskState). record z { phase = phases.Ready; code = code_in phases.Ready z.code }) (state-told v t r ours.here))
@@ -211,7 +209,6 @@ module _ (deck : Deck) (s : ℕ) (os : Opens) (P : List HistEntry) (T0 : List To
           let l : ToldLine = Post t y.line in
           let w : TasksView = telling (with_told v t r) l in
           let speaks = speaks-control deck.limit t k.past P k.speaks r own in
-          let on : IsEntryOn r (entry_of_line ls k.past.asked y.line) = subst (λ q. IsEntryOn q (entry_of_line ls k.past.asked y.line)) (sym (same_res-exact r y.res same)) rec.entry in
           let latest = latest-on ls k.past.asked v.told k.past.owns (λ q. is_leaving q x.outstanding) t r y (unasked x).line (unasked x).phase same rec in
           let here : IsHere deck os P (v.told ++ l ∷ []) t ls z = record {
             past = with_control r k.past;
@@ -224,8 +221,7 @@ module _ (deck : Deck) (s : ℕ) (os : Opens) (P : List HistEntry) (T0 : List To
           let told : w.told ≡ v.told ++ l ∷ [] = told-telling _ _ ∙ ap (λ T. T ++ l ∷ []) (told-told v t r) in
           let is : state_of w t ≡ z = state_of-telling _ t _ ∙ state-told v t r ours.here in
           let changed = changed-then v (with_told v t r) w t (changed-told v t r) (changed-telling _ t _) in
-          let m : Learned deck s os P T0 t ls v w = learned-by v w l z agreed (λ u. refl) (ours-line deck s v t ls ours) (agrees-ours deck t ls P v.told l ours.lines (both.1 deck.limit P (speaks-of deck.limit t (with_control r k.past) P speaks r)))
-          (clears-post deck os.all P t ls y.line r ours.lines (subst (λ E. IsEntryOn r (entry_of_line ls E y.line)) (sym k.speaks.asked) on) (asked-leaves t r x.outstanding os.all k.asked stays))
+          let m : Learned deck s os P T0 t ls v w = learned-by v w l z agreed (λ u. refl) (ours-line deck s v t ls ours) (record { past = with_control r k.past; res = r; speaks = speaks; agrees = λ H q. agrees-ours deck t ls H v.told l ours.lines (both.1 deck.limit H q); clears = asked-leaves t r x.outstanding os.all k.asked stays })
           changed told is here in
           learned-then v w _ m (passes w z (v.told ++ l ∷ []) (record { lines = ours.lines; home = ours.home; here = changed.here t ∙ ours.here }) is told here
           (or_second (k.past.owns r) (same_res r r) (same_res-itself r))

@@ -16,7 +16,6 @@ use Rattle.grs_wire.specs.declared.told.ToldLine.{ToldLine}
 use Rattle.grs_wire.specs.History.{replay}
 use Rattle.grs_wire.specs.Wants.{answer_to, after_want, new_owners}
 use Rattle.grs_legal.specs.Asks.{AsksRelease}
-use Rattle.grs_legal.specs.Legal.{IsLegal}
 use Rattle.task_state.specs.declared.state.Asked.{Asked}
 use Rattle.task_state.specs.declared.state.Rec.{Rec}
 use Rattle.task_state.specs.declared.state.Phase.{Phase}
@@ -26,14 +25,14 @@ use Rattle.task_state.specs.Replies.{is_leaving, replied, tell_new}
 use Rattle.task_state.specs.View.{TasksView, state_of, without_first}
 use Rattle.grs_known.specs.Past.{Past, after_entry, Speaks}
 use Rattle.grs_known.proofs.tasks.Invariant.{IsTask}
-use Rattle.grs_world.proofs.system.Seen.{ToldBy, none}
+use Rattle.grs_world.proofs.system.Seen.{StandsBy, ToldBy, none}
 use Rattle.grs_world.proofs.system.Asking.{unasked, unasked-none, Opens, IsAskedBy, are_sent}
 use Rattle.grs_world.proofs.system.Ours.{IsOurs, IsHere, holds-changed}
 use Rattle.grs_world.proofs.system.Did.{Did, did-answered_release}
-use Rattle.grs_known.proofs.tasks.Speaking.{legal-speaks, speaks-own}
+use Rattle.grs_known.proofs.tasks.Speaking.{speaks-own}
 use Rattle.grs_known.proofs.tasks.Steps.{task-released, next-ending}
 use Rattle.grs_world.proofs.system.Good.{may_have, IsGood}
-use Rattle.grs_world.proofs.system.Events.{Settles, Moves, settles, before-own_asker}
+use Rattle.grs_world.proofs.system.Events.{Settles, Moves, settles, stands-next, before-own_asker}
 use Rattle.grs_known.proofs.lists.Facts.{some_value}
 use Rattle.grs_world.proofs.system.Replied.{replay-push}
 
@@ -42,8 +41,8 @@ module _ (deck : Deck) (s : ℕ) (os os' : Opens) (P : List HistEntry) (v : Task
     (n c code0 : ℕ) (xs : List Rec) (ws : List Row) (v0 : TasksView) (did0 : Did v v0 t (record { line = n; phase = phases.Ending c; code = code0; records = xs; outstanding = None; rows = ws }) v.told) (coded : code0 ≡ c) (r : Res) (proper : may_have deck s r t ≡ true)
     (p : Past) (speaks : Speaks deck.limit t p P) (leaving : Res → Bool) (others : (q : Res) → same_res q r ≡ false → leaving q ≡ false)
     (k : IsTask ls p v.told leaving t (record { line = n; phase = phases.Ending c; code = code0; records = xs; outstanding = None; rows = ws })) where
-  pub release_legal : slice_get (map (λ (y : Rec). y.res) xs) 0 ≡ Some r → IsLegal deck.limit t ls P (entries.Release t r)
-  release_legal first = legal-speaks deck.limit t p P speaks ls (AsksRelease r) (entries.Release t r) (next-ending ls p v.told leaving t n c code0 xs None ws k r first) refl refl
+  pub release_stands : slice_get (map (λ (y : Rec). y.res) xs) 0 ≡ Some r → StandsBy deck t P (entries.Release t r)
+  release_stands first = stands-next deck t ls ours.lines p P speaks (AsksRelease r) (entries.Release t r) (next-ending ls p v.told leaving t n c code0 xs None ws k r first) refl
 
   pub release_settles : (unit : Option ℕ) → Settles deck s os' (P ++ entries.Release t r ∷ []) v.told (tell_new (replied v0 t (Release r) unit (answer_to (replay deck.limit P) t (Release r))) (Some r) (new_owners (replay deck.limit P) t (Release r)))
   unfolding tell_new replied
