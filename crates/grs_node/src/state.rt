@@ -49,7 +49,7 @@ impl Model for NodeState {
 fn asked(alloc: Global, req: Req) -> Result<List<Fixed>, NoMemory>
     ensures { IfOk result (λ fixed. fixed ≡ fixes.Asked req ∷ []) }
 {
-    let mut fixed = List::new(alloc);
+    let mut fixed = List::with_room(alloc, 1)?;
     fixed.push(Fixed::Asked(req))?;
     Ok(fixed)
 }

@@ -79,7 +79,7 @@ fn all_sent(tasks: &mut Tasks, reqs: &[Req])
 fn all_asked(alloc: Global, reqs: Vec<Req>) -> Result<List<Fixed>, NoMemory>
     ensures { IfOk result (λ fixed. fixed ≡ map fixes.Asked reqs.items) }
 {
-    let mut fixed = List::new(alloc);
+    let mut fixed = List::with_room(alloc, reqs.len())?;
     for req in reqs {
         fixed.push(Fixed::Asked(req))?;
     }
@@ -144,6 +144,9 @@ impl NodeState {
         ensures step { IfOk result (λ fixed. stepped self.new fixed ≡ steps.put_in self.old taken) }
         ensures system { self.new.tasks.system ≡ self.old.tasks.system }
     {
+        if taken == 0 {
+            return Ok(List::new(alloc));
+        }
         let waiting = std::mem::replace(&mut self.outbox, List::new(alloc));
         let (first, rest) = divided(waiting, taken)?;
         all_sent(&mut self.tasks, first.as_slice());

@@ -62,6 +62,16 @@ pub fn put(entries: &mut Vec<RingEntry>, number: u64, from: SysId, mask: u32, ou
     }
 }
 
+/// How many entries are unseen by the system.
+fn count_unseen(entries: &[RingEntry], system: SysId) -> usize
+    requires { system.0 < 32 }
+{
+    entries
+        .iter()
+        .filter(|entry| has_system(entry.mask, system))
+        .count()
+}
+
 /// Copies of the entries that are unseen by the system.
 #[tactic(auto, unfolding(crate::specs::Message::unseen))]
 pub fn copy_unseen(
@@ -72,7 +82,7 @@ pub fn copy_unseen(
     requires { system.0 < 32 }
     ensures { IfOk result (λ list. list ≡ unseen system entries.now) }
 {
-    let mut list = List::new(alloc);
+    let mut list = List::with_room(alloc, count_unseen(entries, system))?;
     for entry in entries {
         if has_system(entry.mask, system) {
             list.push(entry.copy(alloc)?)?;
