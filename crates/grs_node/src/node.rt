@@ -1,6 +1,6 @@
 //! A system with its deck and what it keeps of its own events. A choice is prepared; it makes at most one call
 //! of the medium, which somebody else carries out; and with the reply it is finished.
-ghost use Rattle.std.specs.Prelude.{◌≡◌, ◌<◌, ◌++◌, ◌∷◌, [], true, drop, length, IfOk, OnOk};
+ghost use Rattle.std.specs.Prelude.{◌≡◌, ◌<◌, ◌++◌, ◌∷◌, [], true, drop, length, IfOk, IfSome, IfNone, OnOk};
 ghost use Rattle.task_state.specs.View.{is_task, state_of};
 ghost use Rattle.grs_node.specs.Node as steps;
 ghost use Rattle.grs_node.specs.Units.{counted, reserved_of};
@@ -91,9 +91,10 @@ impl<'d> Node<'d> {
         })
     }
 
-    /// What a choice comes to.
-    pub fn prepare(&self, choice: &Choice) -> Result<Prepared, NoMemory>
-        ensures { IfOk result (λ prepared. prepared ≡ steps.prepare self.now.deck self.now.node choice.now) }
+    /// What a choice comes to. It changes nothing.
+    pub fn prepare(&mut self, choice: &Choice) -> Result<Prepared, NoMemory>
+        ensures prepared { IfOk result (λ prepared. prepared ≡ steps.prepare self.old.deck self.old.node choice.now) }
+        ensures same { self.new ≡ self.old }
     {
         self.state
             .prepare(self.alloc, self.deck, self.scripts.as_slice(), *choice)
@@ -168,6 +169,18 @@ impl<'d> Node<'d> {
                 }
             }
         }
+    }
+
+    /// Takes the last event out of the log, if there is one. Who keeps what a system fixes and tells elsewhere takes
+    /// each event as it comes, so that it is kept once.
+    pub fn take_step(&mut self) -> Option<StepDone>
+        ensures step { IfSome result (λ step. self.old.log ≡ self.new.log ++ step ∷ []) }
+        ensures none { IfNone result (self.old.log ≡ []) }
+        ensures left { IfNone result (self.new.log ≡ []) }
+        ensures node { self.new.node ≡ self.old.node }
+        ensures deck { self.new.deck ≡ self.old.deck }
+    {
+        self.log.steps.pop()
     }
 
     /// The number of the system.

@@ -1,15 +1,20 @@
 -- What an event of a system fixed and told, as the code hands it on.
-use Rattle.std.specs.Prelude.{Bool, true, [], Option, Some, None}
+use Rattle.std.specs.Prelude.{Bool, true, List, [], ◌∷◌, Option, Some, None}
 use Rattle.grs_wire.specs.declared.log.StepDone.{StepDone}
 use Rattle.grs_wire.specs.declared.medium.Reply.{Reply}
 use Rattle.grs_node.specs.Node.{Node, Step}
 use Rattle.grs_world.specs.declared.chosen.Done.{Done}
 use Rattle.grs_world.specs.World.{told_in}
 
--- what a kept event fixed and told, if there is one
-abbrev pub done_in : Option StepDone → Done
-done_in None = record { fixed = []; told = [] }
-done_in (Some s) = record { fixed = s.fixed; told = s.told }
+-- what an event that a system kept fixed and told
+abbrev pub done_of : StepDone → Done
+done_of s = record { fixed = s.fixed; told = s.told }
+
+-- what the last event of a log fixed and told
+abbrev pub last_done : List StepDone → Done
+last_done [] = record { fixed = []; told = [] }
+last_done (s ∷ []) = done_of s
+last_done (s ∷ t ∷ ts) = last_done (t ∷ ts)
 
 -- what a system's step fixed and told
 abbrev pub done_by : Node → Step → Done

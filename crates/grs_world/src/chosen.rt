@@ -1,18 +1,18 @@
 //! One choice of one system: it is prepared, makes at most one call of the medium, and is finished.
-ghost use Rattle.std.specs.Prelude.{◌≡◌, ◌<◌, length, set, slice_get, Some, IfOk, OnOk};
+ghost use Rattle.std.specs.Prelude.{◌≡◌, ◌≢◌, ◌<◌, [], length, set, Some, IfOk, OnOk};
 ghost use Rattle.grs_medium.specs.Apply.{reply_to, medium_after};
 ghost use Rattle.grs_medium.specs.Medium.{systems_of};
 ghost use Rattle.grs_node.specs.Finish.{MayFinish};
 ghost use Rattle.grs_node.specs.Node as steps;
 ghost use Rattle.grs_node.specs.declared.prepared.Prepared.TheVariants.{Call as Calls};
 ghost use Rattle.grs_world.specs.World.{chosen};
-ghost use Rattle.grs_world.specs.Done.{done_in, done_by, journalled};
+ghost use Rattle.grs_world.specs.Done.{last_done, done_by, journalled};
 ghost use Rattle.grs_world.specs.Running.{AreOf, nodes_of, node_at};
 
-use grs_base::{List, NoMemory, SysId, copy_all};
+use grs_base::{List, NoMemory, SysId};
 use grs_medium::Medium;
 use grs_node::{Node, Prepared};
-use grs_wire::{Call, Choice, Deck, Fixed, Reply, StepDone, ToldLine};
+use grs_wire::{Call, Choice, Deck, Fixed, Reply, ToldLine};
 use std::alloc::Global;
 
 /// What a choice fixed and told.
@@ -22,27 +22,26 @@ pub(crate) struct Done {
     pub(crate) told: List<ToldLine>,
 }
 
-/// What the event at a place fixed and told, if it is there.
-fn done_at(alloc: Global, steps: &[StepDone], place: usize) -> Result<Done, NoMemory>
-    ensures { IfOk result (λ done. done ≡ done_in (slice_get steps.now place)) }
+/// Takes the last event of a system out of its log: what it fixed and told.
+#[tactic(auto, using(crate::proofs::code::Logged::taken_steps))]
+fn take_done(node: &mut Node<'_>) -> Done
+    requires { node.old.log ≢ [] }
+    ensures done { result ≡ last_done node.old.log }
+    ensures node { node.new.node ≡ node.old.node }
+    ensures deck { node.new.deck ≡ node.old.deck }
 {
-    match steps.get(place) {
-        None => Ok(Done {
-            fixed: List::new(alloc),
-            told: List::new(alloc),
-        }),
-        Some(step) => {
-            let fixed = copy_all(alloc, step.fixed.as_slice())?;
-            let told = copy_all(alloc, step.told.as_slice())?;
-            Ok(Done { fixed, told })
-        }
+    match node.take_step() {
+        Some(step) => Done {
+            fixed: step.fixed,
+            told: step.told,
+        },
+        None => unreachable!(),
     }
 }
 
 /// A prepared choice is finished, with the reply if a call was made.
 #[tactic(auto, using(crate::proofs::code::Logged::logged_steps))]
 fn finished(
-    alloc: Global,
     node: &mut Node<'_>,
     choice: &Choice,
     reply: Option<Reply>,
@@ -52,19 +51,17 @@ fn finished(
     ensures done { IfOk result (λ done. done ≡ done_by node.old.node (steps.finish node.old.deck node.old.node choice.now reply)) }
     ensures deck { node.new.deck ≡ node.old.deck }
 {
-    let place = node.log().steps.len();
     let reply = match reply {
         None => None,
         Some(reply) => Some((reply, true)),
     };
     node.finish(choice, reply)?;
-    done_at(alloc, node.log().steps.as_slice(), place)
+    Ok(take_done(node))
 }
 
 /// A call that was prepared, and its reply.
 #[tactic(auto, using(crate::proofs::code::Calls::calls, crate::proofs::code::Listed::listed))]
 fn called(
-    alloc: Global,
     medium: &mut Medium,
     system: SysId,
     node: &mut Node<'_>,
@@ -81,7 +78,7 @@ fn called(
 {
     medium.reserve(system, &call)?;
     let reply = medium.apply(system, call);
-    finished(alloc, node, choice, Some(reply))
+    finished(node, choice, Some(reply))
 }
 
 /// A choice of a system: it is prepared, makes at most one call of the medium, and is finished.
@@ -105,8 +102,8 @@ fn choose(
             fixed: List::new(alloc),
             told: List::new(alloc),
         }),
-        Prepared::Quiet => finished(alloc, node, choice, None),
-        Prepared::Call(call) => called(alloc, medium, system, node, choice, call),
+        Prepared::Quiet => finished(node, choice, None),
+        Prepared::Call(call) => called(medium, system, node, choice, call),
     }
 }
 

@@ -1,16 +1,12 @@
--- What the last event of a log fixed and told.
-use Rattle.std.proofs.Common.{◌≡◌, true, false, List, [], ◌∷◌, ◌++◌, length, drop, Option, Some, None, refl, ap}
-use Rattle.std.specs.Prelude.{slice_get}
+-- What the event that is taken out of a log fixed and told.
+use Rattle.std.proofs.Common.{◌≡◌, true, false, List, [], ◌∷◌, ◌++◌, length, drop, Option, Some, None, refl}
+use Rattle.std.specs.Prelude.{◌≢◌}
 use Rattle.grs_wire.specs.declared.deck.Choice.{Choice}
+use Rattle.grs_wire.specs.declared.log.StepDone.{StepDone}
 use Rattle.grs_wire.specs.declared.medium.Reply.{Reply}
 use Rattle.grs_node.specs.Node.{finish}
 use Rattle.grs_node.specs.Log.{NodeView, step_done, finished}
-use Rattle.grs_world.specs.Done.{done_in, done_by, journalled}
-
--- the item behind the others
-pub slice_get-behind : {X : Type 0} (xs : List X) (x : X) → slice_get (xs ++ x ∷ []) (length xs) ≡ Some x
-slice_get-behind [] x = refl
-slice_get-behind (y ∷ xs) x = slice_get-behind xs x
+use Rattle.grs_world.specs.Done.{done_of, last_done, done_by, journalled}
 
 -- nothing is behind all lines
 pub drop-all : {X : Type 0} (xs : List X) → drop (length xs) xs ≡ []
@@ -22,9 +18,28 @@ unfolding finished
 finished-node v choice None = refl
 finished-node v choice (Some reply) = refl
 
-pub finished-done : (v : NodeView) (choice : Choice) (reply : Option Reply) → done_in (slice_get (finished v choice (journalled reply)).log (length v.log)) ≡ done_by v.node (finish v.deck v.node choice reply)
-unfolding finished
-finished-done v choice None = ap done_in (slice_get-behind v.log (step_done v.node choice false (finish v.deck v.node choice None)))
-finished-done v choice (Some reply) = ap done_in (slice_get-behind v.log (step_done v.node choice true (finish v.deck v.node choice (Some reply))))
+-- the last event of a log
+pub last_done-behind : (log : List StepDone) (step : StepDone) → last_done (log ++ step ∷ []) ≡ done_of step
+last_done-behind [] step = refl
+last_done-behind (s ∷ []) step = refl
+last_done-behind (s ∷ t ∷ ts) step = last_done-behind (t ∷ ts) step
 
-pub ruleset logged_steps = (finished-node, finished-done, drop-all)
+-- of the log of a system that finished a choice
+pub finished-done : (v : NodeView) (choice : Choice) (reply : Option Reply) → last_done (finished v choice (journalled reply)).log ≡ done_by v.node (finish v.deck v.node choice reply)
+unfolding finished
+finished-done v choice None = last_done-behind v.log (step_done v.node choice false (finish v.deck v.node choice None))
+finished-done v choice (Some reply) = last_done-behind v.log (step_done v.node choice true (finish v.deck v.node choice (Some reply)))
+
+-- which isn't empty
+some-behind : (log : List StepDone) (step : StepDone) → log ++ step ∷ [] ≢ []
+some-behind [] step h = absurd (cc)
+some-behind (s ∷ log) step h = absurd (cc)
+
+pub finished-some : (v : NodeView) (choice : Choice) (reply : Option Reply) → (finished v choice (journalled reply)).log ≢ []
+unfolding finished
+finished-some v choice None = some-behind v.log (step_done v.node choice false (finish v.deck v.node choice None))
+finished-some v choice (Some reply) = some-behind v.log (step_done v.node choice true (finish v.deck v.node choice (Some reply)))
+
+pub ruleset taken_steps = (last_done-behind)
+
+pub ruleset logged_steps = (finished-node, finished-done, finished-some, drop-all)
