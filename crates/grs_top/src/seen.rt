@@ -8,7 +8,7 @@ ghost use Rattle.grs_top.specs.Tasks.{tasks_of, ends_at};
 ghost use Rattle.grs_top.specs.Seen.{seen_of_run};
 
 use super::ends::ends_of;
-use grs_base::{List, NoMemory, SysId, TaskId, copy_all};
+use grs_base::{List, NoMemory, SysId, TaskId};
 use grs_history::{answers, queues_after};
 use grs_wire::{Deck, HistEntry, Seen, TaskEnd, Told};
 use grs_world::replay;
@@ -37,15 +37,15 @@ fn run_of(alloc: Global, deck: &Deck) -> Result<Run, NoMemory>
     ensures ended { IfOk result (λ seen. seen.ended ≡ ends_at (run deck.now deck.now.events).nodes (tasks_of deck.now)) }
 {
     let world = replay(alloc, deck, deck.events.as_slice())?;
-    let hist = answers(alloc, world.fixed().as_slice())?;
-    let told = copy_all(alloc, world.told().as_slice())?;
     let units = world.units()?;
     let words = world.medium().words().copy(alloc)?;
     let star = world.medium().star();
     let ended = ends_of(alloc, deck, &world)?;
+    let log = world.into_log();
+    let hist = answers(alloc, log.fixed.as_slice())?;
     Ok(Run {
         hist,
-        told,
+        told: log.told,
         units,
         words,
         star,

@@ -7,4 +7,4 @@ pub mod laws;
 mod summary;
 mod world;
 
-pub use world::{World, replay};
+pub use world::{RunLog, World, replay};

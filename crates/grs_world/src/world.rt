@@ -44,6 +44,13 @@ impl<'d> Model for World<'d> {
     ghost invariant = { λ a. AreOf a.deck.now a.nodes.items × (systems_of a.medium.state ≡ length a.nodes.items) × (length a.nodes.items ≤ most_systems) };
 }
 
+/// What is kept of a run: what its events fixed, each with its system, and what was told, both in order.
+#[derive(Drop)]
+pub struct RunLog {
+    pub fixed: List<(SysId, Fixed)>,
+    pub told: List<Told>,
+}
+
 /// Adds a system of a deck before its first event.
 #[tactic(auto, using(crate::proofs::code::Nodes::nodes, crate::proofs::system::First::first))]
 fn add_node<'d>(
@@ -198,6 +205,18 @@ impl<'d> World<'d> {
         ensures { result.now ≡ self.now.world.told }
     {
         &self.told
+    }
+
+    /// Hands out what the events fixed, each with its system, and what was told, both in order. The systems and the
+    /// medium are let go.
+    pub fn into_log(self) -> RunLog
+        ensures fixed { result.fixed ≡ self.entry.world.fixed }
+        ensures told { result.told ≡ self.entry.world.told }
+    {
+        RunLog {
+            fixed: self.fixed,
+            told: self.told,
+        }
     }
 
     /// The medium.

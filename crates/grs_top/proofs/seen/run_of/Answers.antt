@@ -3,11 +3,10 @@ use Rattle.grs_top.proofs.seen.run_of.Goals as goal
 
 pub returns-clause-hist : goal.returns-clause-hist
 returns-clause-hist c =
-    rw (c.in_ok-hist.ensures, c.as_slice-2.ensures, c.fixed.ensures, c.in_ok-world.ensures, c.as_slice.ensures) refl
+    rw (c.in_ok-hist.ensures, c.as_slice-2.ensures, c.into_log-log.ensures.fixed, c.in_ok-world.ensures, c.as_slice.ensures) refl
 
 pub returns-clause-told : goal.returns-clause-told
-returns-clause-told c =
-    rw (c.in_ok-told.ensures, c.as_slice-3.ensures, c.told.ensures, c.in_ok-world.ensures, c.as_slice.ensures) refl
+returns-clause-told c = rw (c.into_log-log.ensures.told, c.in_ok-world.ensures, c.as_slice.ensures) refl
 
 pub returns-clause-ended : goal.returns-clause-ended
 returns-clause-ended c = rw (c.in_ok-ended.ensures, c.in_ok-world.ensures, c.as_slice.ensures) refl
