@@ -4,3 +4,4 @@ pub mod Room
 pub mod Acts
 pub mod Kept
 pub mod Causes
+pub mod TurnReplies

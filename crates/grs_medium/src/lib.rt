@@ -7,4 +7,4 @@ pub mod laws;
 mod medium;
 mod sets;
 
-pub use medium::Medium;
+pub use medium::{Medium, TurnReply};

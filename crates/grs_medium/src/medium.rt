@@ -1,17 +1,18 @@
 //! The medium and its calls.
-ghost use Rattle.std.specs.Prelude.{◌≡◌, ◌<◌, ◌≤◌, true, [], length, replicate, IfOk, OnOk};
+ghost use Rattle.std.specs.Prelude.{◌≡◌, ◌<◌, ◌≤◌, true, [], length, replicate, IfOk, OnOk, OnErr};
 ghost use Rattle.grs_base.specs.Limits.{most_systems};
 ghost use Rattle.grs_medium.specs.Medium.{first_medium, systems_of, medium_at_end};
 ghost use Rattle.grs_medium.specs.Apply.{turn_row, purge_row, rest_row, reply_to, medium_after, changes, row, row_changes, ActFits, MayCall};
 ghost use Rattle.grs_medium.specs.Room.{is_built, HasRoomFor};
 ghost use Rattle.grs_medium.specs.Acts.{act_of};
+ghost use Rattle.grs_medium.specs.TurnReplies.{reply_of};
 ghost use Rattle.rsa_message.specs.Room.{HasRoom};
 
 use crate::sets::{all_at_rest, all_empty, live_of};
 use grs_base::{List, NoMemory, SysId};
 use grs_wire::masks::{has_system, with_system, without_system};
 use grs_wire::{Act, Call, Mail, Reply, Req};
-use rsa_message::Rsa;
+use rsa_message::{Given, Rsa};
 use std::alloc::Global;
 use std::marker::Model;
 
@@ -59,6 +60,37 @@ fn empty_words(alloc: Global, entries: u32) -> Result<List<u32>, NoMemory>
     match Vec::from_elem(alloc, 0, entries as usize) {
         Ok(words) => Ok(List::from_vec(words)),
         Err(_) => Err(NoMemory),
+    }
+}
+
+/// What a Turn is answered.
+#[derive(Drop)]
+pub enum TurnReply {
+    /// The message is at the caller, and gave this.
+    Turned(Given),
+    /// The message stands elsewhere, or nowhere any more.
+    NotYours { at: Option<SysId> },
+    /// The caller doesn't know of all systems that were removed: it is this set.
+    Stale { set: u32 },
+    /// The caller itself was removed.
+    Removed,
+}
+
+impl TurnReply {
+    /// The same among all replies.
+    pub fn into_reply(self) -> Reply
+        ensures { result ≡ reply_of self }
+    {
+        match self {
+            TurnReply::Turned(given) => Reply::Turned {
+                entries: given.entries,
+                taken: given.taken,
+                closed: given.closed,
+            },
+            TurnReply::NotYours { at } => Reply::NotYours { at },
+            TurnReply::Stale { set } => Reply::Stale { set },
+            TurnReply::Removed => Reply::Removed,
+        }
     }
 }
 
@@ -149,13 +181,13 @@ impl Medium {
         }
     }
 
-    /// A Turn.
+    /// A Turn of a caller that was not removed and knows which systems were.
     #[tactic(auto, unfolding(crate::specs::Apply::turn_row, rsa_message::specs::Message::rest_after_turn))]
-    fn turn(&mut self, caller: SysId, out: List<Req>) -> Reply
+    fn give(&mut self, caller: SysId, out: List<Req>) -> TurnReply
         requires caller { caller.0 < systems_of self.old.state }
         requires few { length out ≤ 32 }
         requires room { HasRoom self.old.room caller (length out) }
-        ensures reply { result ≡ (turn_row self.old.state caller out).0 }
+        ensures reply { reply_of result ≡ (turn_row self.old.state caller out).0 }
         ensures state { self.new.state ≡ (turn_row self.old.state caller out).1 }
         ensures systems { systems_of self.new.state ≡ systems_of self.old.state }
     {
@@ -164,7 +196,33 @@ impl Medium {
         if self.rsa.wakes(caller, out.len() as u32) {
             self.rest = without_system(rest, caller);
         }
-        self.rsa.turn(caller, out, live, rest)
+        match self.rsa.give(caller, out, live, rest) {
+            None => TurnReply::NotYours {
+                at: self.rsa.holder(),
+            },
+            Some(given) => TurnReply::Turned(given),
+        }
+    }
+
+    /// A Turn, its room included: what `reserve` and `apply` of that call do, without a call and a reply of any other
+    /// kind in between.
+    #[tactic(auto, unfolding(crate::specs::Apply::apply, crate::specs::Apply::row))]
+    pub fn turn(&mut self, caller: SysId, known: u32, out: List<Req>) -> Result<TurnReply, NoMemory>
+        requires caller { caller.0 < systems_of self.old.state }
+        requires few { length out ≤ 32 }
+        ensures reply { IfOk result (λ reply. reply_of reply ≡ reply_to self.old.state caller (record { known = known; act = Act.Turn out })) }
+        ensures state { OnOk result (self.new.state ≡ medium_after self.old.state caller (record { known = known; act = Act.Turn out })) }
+        ensures err { OnErr result (self.new.state ≡ self.old.state) }
+        ensures systems { systems_of self.new.state ≡ systems_of self.old.state }
+    {
+        if has_system(self.removed, caller) {
+            return Ok(TurnReply::Removed);
+        }
+        if known != self.removed {
+            return Ok(TurnReply::Stale { set: self.removed });
+        }
+        self.rsa.reserve(caller, out.len() as u32)?;
+        Ok(self.give(caller, out))
     }
 
     /// A Purge.
@@ -228,7 +286,7 @@ impl Medium {
         ensures systems { systems_of self.new.state ≡ systems_of self.old.state }
     {
         match built {
-            Built::Turn(out) => self.turn(caller, out),
+            Built::Turn(out) => self.give(caller, out).into_reply(),
             Built::Purge(target) => self.purge(caller, target),
             Built::Rest => self.rest(caller),
         }

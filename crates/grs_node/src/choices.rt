@@ -7,7 +7,7 @@ ghost use Rattle.grs_legal.specs.Asks.{lines_in, scripts_of};
 ghost use Rattle.task_state.specs.View.{is_task, state_of};
 
 use super::lines::goes_on;
-use super::prepared::Prepared;
+use super::prepared::{Prepared, TurnCall};
 use super::scripts::{Script, lines_among, system_at};
 use super::state::NodeState;
 use grs_base::{List, NoMemory, TaskId, copy_all};
@@ -71,6 +71,17 @@ impl NodeState {
             && goes_on(self.tasks.phase(task))
     }
 
+    /// What a Turn asks.
+    pub(crate) fn prepare_turn(&self, alloc: Global) -> Result<TurnCall, NoMemory>
+        ensures { IfOk result (λ turn. turn ≡ record { known = self.now.known; out = take steps.most_additions self.now.outbox }) }
+    {
+        let out = additions(alloc, self.outbox.as_slice())?;
+        Ok(TurnCall {
+            known: self.known,
+            out,
+        })
+    }
+
     /// What a choice comes to.
     #[tactic(auto, using(crate::proofs::Deck::of_system), unfolding(crate::specs::Node::prepare))]
     pub(crate) fn prepare(
@@ -86,9 +97,9 @@ impl NodeState {
         match choice {
             Choice::Task(task) if self.may_go(scripts, task) => Ok(Prepared::Quiet),
             Choice::Turn => {
-                let out = additions(alloc, self.outbox.as_slice())?;
+                let TurnCall { known, out } = self.prepare_turn(alloc)?;
                 Ok(Prepared::Call(Call {
-                    known: self.known,
+                    known,
                     act: Act::Turn { out },
                 }))
             }

@@ -12,4 +12,4 @@ mod state;
 mod turn;
 
 pub use node::Node;
-pub use prepared::Prepared;
+pub use prepared::{Prepared, TurnCall};

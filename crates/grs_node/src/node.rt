@@ -1,19 +1,22 @@
 //! A system with its deck and what it keeps of its own events. A choice is prepared; it makes at most one call
 //! of the medium, which somebody else carries out; and with the reply it is finished.
-ghost use Rattle.std.specs.Prelude.{◌≡◌, ◌<◌, ◌++◌, ◌∷◌, [], true, drop, length, IfOk, IfSome, IfNone, OnOk};
+ghost use Rattle.std.specs.Prelude.{◌≡◌, ◌<◌, ◌++◌, ◌∷◌, [], Some, true, drop, length, IfOk, IfSome, IfNone, OnOk};
 ghost use Rattle.task_state.specs.View.{is_task, state_of};
 ghost use Rattle.grs_node.specs.Node as steps;
 ghost use Rattle.grs_node.specs.Units.{counted, reserved_of};
 ghost use Rattle.grs_node.specs.Finish.{MayFinish};
+ghost use Rattle.grs_node.specs.TurnCalls.{call_of};
+ghost use Rattle.grs_wire.specs.declared.deck.Choice.TheVariants.{Turn};
+ghost use Rattle.grs_wire.specs.declared.medium.Reply.TheVariants.{Turned};
 ghost use Rattle.grs_node.specs.Log.{starting, stepped, finished, end_in};
 ghost use Rattle.grs_node.specs.declared.prepared.Prepared.TheVariants.{Quiet};
 
 use super::lines::end_by;
-use super::prepared::Prepared;
+use super::prepared::{Prepared, TurnCall};
 use super::scripts::{Script, scripts_of, sizes_of};
 use super::state::NodeState;
 use grs_base::{List, NoMemory, SysId, TaskId, copy_all};
-use grs_wire::{Choice, Deck, Fixed, NodeLog, Reply, StepDone, TaskEnd, ToldLine};
+use grs_wire::{Choice, Deck, Fixed, NodeLog, Reply, RingEntry, StepDone, TaskEnd, ToldLine};
 use std::alloc::Global;
 use std::marker::Model;
 
@@ -100,6 +103,15 @@ impl<'d> Node<'d> {
             .prepare(self.alloc, self.deck, self.scripts.as_slice(), *choice)
     }
 
+    /// What a Turn asks: what `prepare` gives of it, without a call of any other kind in between.
+    #[tactic(auto, unfolding(crate::specs::Node::prepare))]
+    pub fn prepare_turn(&mut self) -> Result<TurnCall, NoMemory>
+        ensures prepared { IfOk result (λ turn. call_of turn ≡ steps.prepare self.old.deck self.old.node Turn) }
+        ensures same { self.new ≡ self.old }
+    {
+        self.state.prepare_turn(self.alloc)
+    }
+
     /// Puts an event behind the others, with the lines from a place on, which it told.
     fn keep(
         &mut self,
@@ -143,6 +155,18 @@ impl<'d> Node<'d> {
         self.state.finish_call(alloc, deck, reply)
     }
 
+    /// What a Turn at the message comes to.
+    fn turned(&mut self, entries: List<RingEntry>, taken: u32) -> Result<List<Fixed>, NoMemory>
+        ensures step { IfOk result (λ fixed. stepped self.new.node fixed ≡ steps.put_in (steps.read_entries self.old.deck self.old.node entries) taken) }
+        ensures log { self.new.log ≡ self.old.log }
+        ensures deck { self.new.deck ≡ self.old.deck }
+        ensures system { self.new.node.tasks.system ≡ self.old.node.tasks.system }
+    {
+        let alloc = self.alloc;
+        let deck = self.deck;
+        self.state.turned(alloc, deck, entries, taken)
+    }
+
     /// Finishes a choice: without a reply what was prepared to be done without a call, else with the reply to
     /// the call that was prepared, and whether the call has an entry in the journal. An event goes into the
     /// log where it made no call, or where its call has such an entry. After NoMemory the system is to be given
@@ -169,6 +193,24 @@ impl<'d> Node<'d> {
                 }
             }
         }
+    }
+
+    /// Finishes a Turn by what the message gave, with an entry in the journal: what `finish` does with that reply.
+    #[tactic(auto, unfolding(crate::specs::Log::finished, crate::specs::Node::finish, crate::specs::Node::finish_call))]
+    pub fn finish_turn(
+        &mut self,
+        entries: List<RingEntry>,
+        taken: u32,
+        closed: bool,
+    ) -> Result<(), NoMemory>
+        requires { MayFinish self.old Turn (Some (Turned entries taken closed, true)) }
+        ensures step { OnOk result (self.new ≡ finished self.old Turn (Some (Turned entries taken closed, true))) }
+        ensures deck { self.new.deck ≡ self.old.deck }
+        ensures system { self.new.node.tasks.system ≡ self.old.node.tasks.system }
+    {
+        let place = self.state.tasks.told().len();
+        let fixed = self.turned(entries, taken)?;
+        self.keep(Choice::Turn, true, fixed, place)
     }
 
     /// Takes the last event out of the log, if there is one. Who keeps what a system fixes and tells elsewhere takes

@@ -1,5 +1,6 @@
 //! What a choice of a system comes to before its call.
-use grs_wire::Call;
+use grs_base::List;
+use grs_wire::{Call, Req};
 
 /// What a choice comes to.
 #[derive(Drop)]
@@ -10,4 +11,11 @@ pub enum Prepared {
     Call(Call),
     /// There is nothing to do.
     Nothing,
+}
+
+/// What a Turn asks: the set of the systems that the system knows to be removed, and the requests to put in.
+#[derive(Drop)]
+pub struct TurnCall {
+    pub known: u32,
+    pub out: List<Req>,
 }

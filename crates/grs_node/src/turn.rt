@@ -154,6 +154,22 @@ impl NodeState {
         all_asked(alloc, first)
     }
 
+    /// What a Turn at the message comes to.
+    #[tactic(auto, unfolding(crate::specs::Node::finish_call))]
+    pub(crate) fn turned(
+        &mut self,
+        alloc: Global,
+        deck: &Deck,
+        entries: List<RingEntry>,
+        taken: u32,
+    ) -> Result<List<Fixed>, NoMemory>
+        ensures step { IfOk result (λ fixed. stepped self.new fixed ≡ steps.put_in (steps.read_entries deck.now self.old entries) taken) }
+        ensures system { self.new.tasks.system ≡ self.old.tasks.system }
+    {
+        self.read_entries(alloc, deck, entries)?;
+        self.put_in(alloc, taken)
+    }
+
     /// What the reply to a call comes to. Those that say nothing new change nothing.
     #[tactic(auto, unfolding(crate::specs::Node::finish_call))]
     pub(crate) fn finish_call(
@@ -166,10 +182,7 @@ impl NodeState {
         ensures system { self.new.tasks.system ≡ self.old.tasks.system }
     {
         match reply {
-            Reply::Turned { entries, taken, .. } => {
-                self.read_entries(alloc, deck, entries)?;
-                self.put_in(alloc, taken)
-            }
+            Reply::Turned { entries, taken, .. } => self.turned(alloc, deck, entries, taken),
             Reply::Stale { set } => {
                 self.known = set;
                 Ok(List::new(alloc))

@@ -2,16 +2,18 @@
 ghost use Rattle.std.specs.Prelude.{◌≡◌, ◌≢◌, ◌<◌, [], length, set, Some, IfOk, OnOk};
 ghost use Rattle.grs_medium.specs.Apply.{reply_to, medium_after};
 ghost use Rattle.grs_medium.specs.Medium.{systems_of};
+ghost use Rattle.grs_medium.specs.TurnReplies.{reply_of};
 ghost use Rattle.grs_node.specs.Finish.{MayFinish};
 ghost use Rattle.grs_node.specs.Node as steps;
 ghost use Rattle.grs_node.specs.declared.prepared.Prepared.TheVariants.{Call as Calls};
+ghost use Rattle.grs_wire.specs.declared.deck.Choice.TheVariants.{Turn};
 ghost use Rattle.grs_world.specs.World.{chosen};
 ghost use Rattle.grs_world.specs.Done.{last_done, done_by, journalled};
 ghost use Rattle.grs_world.specs.Running.{AreOf, nodes_of, node_at};
 
 use grs_base::{List, NoMemory, SysId};
-use grs_medium::Medium;
-use grs_node::{Node, Prepared};
+use grs_medium::{Medium, TurnReply};
+use grs_node::{Node, Prepared, TurnCall};
 use grs_wire::{Call, Choice, Deck, Fixed, Reply, ToldLine};
 use std::alloc::Global;
 
@@ -41,11 +43,7 @@ fn take_done(node: &mut Node<'_>) -> Done
 
 /// A prepared choice is finished, with the reply if a call was made.
 #[tactic(auto, using(crate::proofs::code::Logged::logged_steps))]
-fn finished(
-    node: &mut Node<'_>,
-    choice: &Choice,
-    reply: Option<Reply>,
-) -> Result<Done, NoMemory>
+fn finished(node: &mut Node<'_>, choice: &Choice, reply: Option<Reply>) -> Result<Done, NoMemory>
     requires { MayFinish node.old choice.now (journalled reply) }
     ensures node { OnOk result (node.new.node ≡ (steps.finish node.old.deck node.old.node choice.now reply).node) }
     ensures done { IfOk result (λ done. done ≡ done_by node.old.node (steps.finish node.old.deck node.old.node choice.now reply)) }
@@ -81,6 +79,38 @@ fn called(
     finished(node, choice, Some(reply))
 }
 
+/// A Turn is finished with its reply.
+#[tactic(auto, using(crate::proofs::code::Logged::logged_steps))]
+fn finished_turn(node: &mut Node<'_>, reply: TurnReply) -> Result<Done, NoMemory>
+    requires { MayFinish node.old Turn (journalled (Some (reply_of reply))) }
+    ensures node { OnOk result (node.new.node ≡ (steps.finish node.old.deck node.old.node Turn (Some (reply_of reply))).node) }
+    ensures done { IfOk result (λ done. done ≡ done_by node.old.node (steps.finish node.old.deck node.old.node Turn (Some (reply_of reply)))) }
+    ensures deck { node.new.deck ≡ node.old.deck }
+{
+    match reply {
+        TurnReply::Turned(given) => {
+            node.finish_turn(given.entries, given.taken, given.closed)?;
+            Ok(take_done(node))
+        }
+        other => finished(node, &Choice::Turn, Some(other.into_reply())),
+    }
+}
+
+/// A Turn of a system: its call and its reply are made of the parts that a Turn has, and of no others.
+#[tactic(auto, using(crate::proofs::code::Calls::calls, crate::proofs::code::Listed::listed))]
+fn turn(medium: &mut Medium, system: SysId, node: &mut Node<'_>) -> Result<Done, NoMemory>
+    requires { system.0 < systems_of medium.old.state }
+    ensures medium { OnOk result (medium.new.state ≡ (chosen node.old.deck medium.old.state system node.old.node Turn).medium) }
+    ensures node { OnOk result (node.new.node ≡ (chosen node.old.deck medium.old.state system node.old.node Turn).step.node) }
+    ensures done { IfOk result (λ done. done ≡ done_by node.old.node (chosen node.old.deck medium.old.state system node.old.node Turn).step) }
+    ensures deck { node.new.deck ≡ node.old.deck }
+    ensures systems { systems_of medium.new.state ≡ systems_of medium.old.state }
+{
+    let TurnCall { known, out } = node.prepare_turn()?;
+    let reply = medium.turn(system, known, out)?;
+    finished_turn(node, reply)
+}
+
 /// A choice of a system: it is prepared, makes at most one call of the medium, and is finished.
 #[tactic(auto, using(crate::proofs::code::Logged::logged_steps), unfolding(crate::specs::World::chosen, crate::specs::World::carry_out))]
 fn choose(
@@ -97,6 +127,9 @@ fn choose(
     ensures deck { node.new.deck ≡ node.old.deck }
     ensures systems { systems_of medium.new.state ≡ systems_of medium.old.state }
 {
+    if matches!(choice, Choice::Turn) {
+        return turn(medium, system, node);
+    }
     match node.prepare(choice)? {
         Prepared::Nothing => Ok(Done {
             fixed: List::new(alloc),

@@ -1,2 +1,3 @@
 pub mod Message
 pub mod Room
+pub mod Given

@@ -1,8 +1,9 @@
 //! The message as a whole.
-ghost use Rattle.std.specs.Prelude.{◌≡◌, ◌+◌, ◌<◌, ◌≤◌, ◌^◌, true, length, if◌then◌else◌, Some, None, IfOk, OnOk};
+ghost use Rattle.std.specs.Prelude.{◌≡◌, ◌+◌, ◌<◌, ◌≤◌, ◌^◌, true, length, if◌then◌else◌, Some, None, IfOk, IfNone, OnOk};
 ghost use Rattle.grs_base.specs.Limits.{most_systems};
 ghost use Rattle.rsa_message.specs.Message.{is_at, opened, never_opened, unseen, first_number, turn_reply, turned, turned_open, turned_closed, turn_changes, wakes, dropped, closed_by, message_at_end};
 ghost use Rattle.rsa_message.specs.Room.{HasRoom, given_to};
+ghost use Rattle.rsa_message.specs.Given.{reply_by};
 
 use crate::entries::{clear, copy_unseen, first_of_unseen, has_unseen, put};
 use crate::order::{first_in, moved_to, next_due, stands_at};
@@ -42,6 +43,15 @@ impl Model for Rsa {
     ghost view = { λ r. record { message = record { systems = r.systems; holder = r.holder; closed = r.closed; still = r.still; entries = r.entries.items; next = r.next }; room = record { caller = r.ready; entries = r.room } } };
 
     ghost invariant = { λ r. (r.systems ≤ most_systems) × (number_of r.holder < r.systems) × (r.next + r.room ≤ 2 ^ 57 + 1) × (vec_len r.entries + r.room ≤ vec_capacity r.entries) × (r.given ≡ given_to r.ready r.holder r.entries.items) };
+}
+
+/// What a Turn gives where the message is at its caller: the entries that the caller had yet to process, how many of
+/// its requests were put in, and whether the message is closed.
+#[derive(Drop)]
+pub struct Given {
+    pub entries: List<RingEntry>,
+    pub taken: u32,
+    pub closed: bool,
 }
 
 impl Rsa {
@@ -150,8 +160,37 @@ impl Rsa {
     /// A Turn of the system: it gets the entries that it has yet to process, and its requests go into the message.
     /// `live` is the set of the systems that aren't removed, `rest` the set of those at rest. It takes no memory.
     ///
-    /// Answers NotYours exactly where the message isn't at the caller, with where it is; else Turned.
+    /// Gives nothing exactly where the message isn't at the caller; it is then left as it is.
     #[tactic(auto, unfolding(crate::specs::Message::turned, crate::specs::Message::turn_reply))]
+    pub fn give(&mut self, caller: SysId, out: List<Req>, live: u32, rest: u32) -> Option<Given>
+        requires system { caller.0 < self.old.message.systems }
+        requires room { HasRoom self.old.room caller (length out) }
+        ensures given { reply_by self.old.message.holder result ≡ turn_reply self.old.message caller (length out) }
+        ensures message { self.new.message ≡ turned self.old.message caller out live rest }
+        ensures none { IfNone result (self.new.message ≡ self.old.message) }
+        ensures systems { self.new.message.systems ≡ self.old.message.systems }
+    {
+        if !stands_at(self.holder, caller) {
+            return None;
+        }
+        let closed = self.closed;
+        let entries = self.take_given(caller);
+        let taken = if closed { 0 } else { out.len() as u32 };
+        if closed {
+            self.turn_closed(caller);
+        } else {
+            self.turn_open(caller, out, live, rest);
+        }
+        Some(Given {
+            entries,
+            taken,
+            closed,
+        })
+    }
+
+    /// A Turn of the system, as `give` does it.
+    ///
+    /// Answers NotYours exactly where the message isn't at the caller, with where it is; else Turned.
     pub fn turn(&mut self, caller: SysId, out: List<Req>, live: u32, rest: u32) -> Reply
         requires system { caller.0 < self.old.message.systems }
         requires room { HasRoom self.old.room caller (length out) }
@@ -159,26 +198,21 @@ impl Rsa {
         ensures message { self.new.message ≡ turned self.old.message caller out live rest }
         ensures systems { self.new.message.systems ≡ self.old.message.systems }
     {
-        if !stands_at(self.holder, caller) {
-            return Reply::NotYours { at: self.holder };
+        match self.give(caller, out, live, rest) {
+            None => Reply::NotYours { at: self.holder },
+            Some(given) => Reply::Turned {
+                entries: given.entries,
+                taken: given.taken,
+                closed: given.closed,
+            },
         }
-        let closed = self.closed;
-        let entries = self.take_given(caller);
-        if closed {
-            self.turn_closed(caller);
-            return Reply::Turned {
-                entries,
-                taken: 0,
-                closed,
-            };
-        }
-        let taken = out.len() as u32;
-        self.turn_open(caller, out, live, rest);
-        Reply::Turned {
-            entries,
-            taken,
-            closed,
-        }
+    }
+
+    /// Where the message stands, if anywhere.
+    pub fn holder(&self) -> Option<SysId>
+        ensures { result ≡ self.now.message.holder }
+    {
+        self.holder
     }
 
     /// Whether a Turn of the system with so many requests clears its flag of rest: where an entry is given or put in,

@@ -1,11 +1,11 @@
 -- What a system prepares fits the medium.
-use Rattle.std.proofs.Common.{◌≡◌, subst, ◌≤◌, ℕ, Bool, true, false, cond, List, length, take, refl, arith}
+use Rattle.std.proofs.Common.{◌≡◌, subst, ◌≤◌, ℕ, Bool, true, false, cond, List, length, take, Some, refl, ap, arith}
 use Rattle.std.proofs.lemmas.List.{length-take}
 use Rattle.grs_base.specs.declared.resource.SysId.{SysId}
-use Rattle.grs_medium.specs.Apply.{ActFits}
+use Rattle.grs_medium.specs.Apply.{ActFits, reply_to, medium_after}
 use Rattle.grs_medium.specs.Medium.{MediumState}
 use Rattle.grs_medium.specs.Room.{is_built}
-use Rattle.grs_node.specs.Node.{Node, prepare, most_additions, may_go, is_pending}
+use Rattle.grs_node.specs.Node.{Node, prepare, finish, most_additions, may_go, is_pending}
 use Rattle.grs_node.specs.declared.prepared.Prepared.{Prepared}
 use Rattle.grs_node.specs.declared.prepared.Prepared.TheVariants.{Quiet, Call, Nothing}
 use Rattle.grs_wire.specs.declared.deck.Choice.{Choice}
@@ -14,6 +14,7 @@ use Rattle.grs_wire.specs.declared.deck.Deck.{Deck}
 use Rattle.grs_wire.specs.declared.medium.Act.TheVariants as acts
 use Rattle.grs_wire.specs.declared.medium.Call.{Call as CallOfMedium}
 use Rattle.grs_wire.specs.declared.request.Req.{Req}
+use Rattle.grs_world.specs.World.{chosen, carry_out}
 
 -- whether what was prepared, if it is a call, fits the medium
 abbrev Fits : MediumState → SysId → Prepared → Type 0
@@ -50,5 +51,10 @@ call-fits m c deck n choice call h = (subst (λ (p : Prepared). Fits m c p) h (p
 
 pub call-built : (m : MediumState) (c : SysId) (deck : Deck) (n : Node) (choice : Choice) (call : CallOfMedium) → prepare deck n choice ≡ Call call → is_built call.act ≡ true
 call-built m c deck n choice call h = (subst (λ (p : Prepared). Fits m c p) h (prepare-fits m c deck n choice)).1
+
+-- what a call that was prepared leads to
+pub chosen-call : (deck : Deck) (m : MediumState) (c : SysId) (n : Node) (choice : Choice) (call : CallOfMedium) → prepare deck n choice ≡ Call call → chosen deck m c n choice ≡ record { medium = medium_after m c call; step = finish deck n choice (Some (reply_to m c call)) }
+unfolding chosen carry_out
+chosen-call deck m c n choice call h = ap (λ (p : Prepared). carry_out deck m c n choice p) h
 
 pub ruleset calls = (call-fits, call-built)
