@@ -141,9 +141,9 @@ pub once_grow : (d : Draft) (st : Stmt) → IsRight d st → AreNamedOnce d.deck
 once_grow d stmts.Unbuilt right h = h
 once_grow d (stmts.Complex c) right h = h
 once_grow d (stmts.Rnldef r) right h = h
-once_grow d (stmts.System n) right h = once_system n d.deck.systems right.0.1 h
-once_grow d (stmts.Job n) right h = once_job n d.deck.systems right.0.1 h
-once_grow d (stmts.Task n) right h = once_task n d.deck.systems right.0.1 h
+once_grow d (stmts.System n) right h = once_system n d.deck.systems right.0.new h
+once_grow d (stmts.Job n) right h = once_job n d.deck.systems right.0.new h
+once_grow d (stmts.Task n) right h = once_task n d.deck.systems right.0.new h
 once_grow d (stmts.Line s) right h = once_line (line_of s) d.deck.systems h
 once_grow d stmts.Schedule right h = h
 once_grow d (stmts.Event s a) right h = once_event (event_of d.deck.systems s a) d.deck h

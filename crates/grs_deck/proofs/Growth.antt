@@ -274,13 +274,13 @@ first_keeps d ts (stmts.Rnldef r) all s right h =
     let e = entry_built s.0 r (behind_bytes (codes "RNLDEF") ts s.0 s.1 all) s.2 (no_test d (stmts.Rnldef r) right).long in
     no_line d (grow d (stmts.Rnldef r)) h refl (room_same d.room) h.names (entry_more r d.deck.lists e h.entries r.which)
 first_keeps d ts (stmts.System n) all s right h =
-    no_line d (grow d (stmts.System n)) h (lines_system n d.deck.systems) (room_same d.room) (name_more d n _ h (names_system n d.deck.systems) (s.1, right.0.0)) h.entries
+    no_line d (grow d (stmts.System n)) h (lines_system n d.deck.systems) (room_same d.room) (name_more d n _ h (names_system n d.deck.systems) (s.1, right.0.sized)) h.entries
 first_keeps d ts (stmts.Job n) all s right h =
-    no_line d (grow d (stmts.Job n)) h (lines_job n d.deck.systems) (room_same d.room) (name_more d n _ h (names_job n d.deck.systems right.0.2) (s.1, right.0.0)) h.entries
+    no_line d (grow d (stmts.Job n)) h (lines_job n d.deck.systems) (room_same d.room) (name_more d n _ h (names_job n d.deck.systems right.0.placed) (s.1, right.0.sized)) h.entries
 first_keeps d ts (stmts.Task n) all s right h =
-    no_line d (grow d (stmts.Task n)) h (lines_task n d.deck.systems) (room_same d.room) (name_more d n _ h (names_task n d.deck.systems right.0.2) (s.1, right.0.0)) h.entries
+    no_line d (grow d (stmts.Task n)) h (lines_task n d.deck.systems) (room_same d.room) (name_more d n _ h (names_task n d.deck.systems right.0.placed) (s.1, right.0.sized)) h.entries
 first_keeps d ts (stmts.Line x) all s right h =
-    line_more d (line_of x) h right.0.1 right.0.2 (line_built ts x all s (no_test d (stmts.Line x) right).long) (grow d (stmts.Line x)) refl refl refl
+    line_more d (line_of x) h right.0.placed right.0.room (line_built ts x all s (no_test d (stmts.Line x) right).long) (grow d (stmts.Line x)) refl refl refl
 first_keeps d ts stmts.Schedule all s right h = no_line d (grow d stmts.Schedule) h refl (room_same d.room) h.names h.entries
 first_keeps d ts (stmts.Event n a) all s right h = absurd s
 

@@ -16,7 +16,9 @@ use Rattle.grs_deck.specs.Judge.{has_bad_name, is_repeated, is_misplaced, is_ful
 use Rattle.grs_deck.specs.Grow.{grow}
 use Rattle.grs_deck.specs.Reading.{unless, judge_form, judge}
 use Rattle.grs_deck.specs.Faults.{number, SomeStmt, Applies, IsLeast}
+use Rattle.grs_deck.specs.Spells.{IsSized, IsNew, IsPlaced, HasRoom, IsKnown}
 use Rattle.grs_deck.proofs.FitsLaws.{tests_of}
+use Rattle.grs_deck.proofs.SpellsLaws.{sized_by, new_by, placed_by, room_by, known_by, of_sized, of_new, of_placed, of_room, of_known}
 
 -- the test of a kind
 abbrev holds : Kind → Draft → Stmt → Bool
@@ -88,30 +90,38 @@ verdict_below d st NoSystem k v t = absurd cc
 
 -- ---- a line that spells a statement
 
--- a test that applies to the line is the statement's
-some_holds : (d : Draft) (l : TokenLine) (st : Stmt) (test : Stmt → Bool) → Spells d.scheduled d.deck.entries l st → SomeStmt d l test → test st ≡ true
-some_holds d l st test h a = ap test (one_spelled d.scheduled d.deck.entries l st a.0 h a.1) ∙ a.2
+-- a test holds where what it tests isn't so
+wrong : {P : Type 0} (b : Bool) → (b ≡ false → P) → (P → ⊥) → b ≡ true
+wrong true by none = refl
+wrong false by none = absurd (none (by refl))
+
+not_so : {P : Type 0} (b : Bool) → (P → b ≡ false) → b ≡ true → P → ⊥
+not_so b of t p = both_ways b (of p) t
+
+-- what isn't so of the line's statement isn't so of this one, which is the same
+some_holds : (d : Draft) (l : TokenLine) (st : Stmt) (P : Stmt → Type 0) → Spells d.scheduled d.deck.entries l st → SomeStmt d l P → P st → ⊥
+some_holds d l st P h a p = a.2 (subst P (one_spelled d.scheduled d.deck.entries l st a.0 h a.1) p)
 
 applies_holds : (d : Draft) (l : TokenLine) (st : Stmt) (k : Kind) → Spells d.scheduled d.deck.entries l st → Applies k d l → holds k d st ≡ true
 applies_holds d l st UnknownStatement h a = absurd (apart d.scheduled d.deck.entries l st UnknownStatement h a)
 applies_holds d l st BadOperand h a = absurd (apart d.scheduled d.deck.entries l st BadOperand h a)
-applies_holds d l st NameLength h a = some_holds d l st has_bad_name h a
-applies_holds d l st Repeated h a = some_holds d l st (is_repeated d) h a
-applies_holds d l st OutOfPlace h a = some_holds d l st (is_misplaced d) h a
-applies_holds d l st TooMany h a = some_holds d l st (is_full d) h a
-applies_holds d l st UnknownName h a = some_holds d l st (is_unknown d) h a
-applies_holds d l st NotBuilt h a = some_holds d l st is_unbuilt h a
+applies_holds d l st NameLength h a = wrong (has_bad_name st) (sized_by st) (some_holds d l st IsSized h a)
+applies_holds d l st Repeated h a = wrong (is_repeated d st) (new_by d st) (some_holds d l st (IsNew d) h a)
+applies_holds d l st OutOfPlace h a = wrong (is_misplaced d st) (placed_by d st) (some_holds d l st (IsPlaced d) h a)
+applies_holds d l st TooMany h a = wrong (is_full d st) (room_by d st) (some_holds d l st (HasRoom d) h a)
+applies_holds d l st UnknownName h a = wrong (is_unknown d st) (known_by d st) (some_holds d l st (IsKnown d) h a)
+applies_holds d l st NotBuilt h a = wrong (is_unbuilt st) (λ e. e) (some_holds d l st (λ (x : Stmt). is_unbuilt x ≡ false) h a)
 applies_holds d l st TooLong h a = absurd a
 applies_holds d l st BadByte h a = absurd a
 applies_holds d l st NoSystem h a = absurd a
 
 holds_applies : (d : Draft) (l : TokenLine) (st : Stmt) (k : Kind) → Spells d.scheduled d.deck.entries l st → holds k d st ≡ true → Applies k d l
-holds_applies d l st NameLength h t = (st, h, t)
-holds_applies d l st Repeated h t = (st, h, t)
-holds_applies d l st OutOfPlace h t = (st, h, t)
-holds_applies d l st TooMany h t = (st, h, t)
-holds_applies d l st UnknownName h t = (st, h, t)
-holds_applies d l st NotBuilt h t = (st, h, t)
+holds_applies d l st NameLength h t = (st, h, not_so (has_bad_name st) (of_sized st) t)
+holds_applies d l st Repeated h t = (st, h, not_so (is_repeated d st) (of_new d st) t)
+holds_applies d l st OutOfPlace h t = (st, h, not_so (is_misplaced d st) (of_placed d st) t)
+holds_applies d l st TooMany h t = (st, h, not_so (is_full d st) (of_room d st) t)
+holds_applies d l st UnknownName h t = (st, h, not_so (is_unknown d st) (of_known d st) t)
+holds_applies d l st NotBuilt h t = (st, h, not_so (is_unbuilt st) (λ e. e) t)
 holds_applies d l st TooLong h t = absurd cc
 holds_applies d l st BadByte h t = absurd cc
 holds_applies d l st UnknownStatement h t = absurd cc

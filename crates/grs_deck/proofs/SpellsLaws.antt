@@ -17,8 +17,6 @@ use Rattle.job_syntax.specs.declared.display.Shown.TheVariants as shown
 use Rattle.job_syntax.specs.declared.said.Said.{Said}
 use Rattle.job_syntax.specs.declared.said.Said.TheVariants as said
 use Rattle.job_syntax.specs.Lines.{are_bad_names, has_bad_name as line_has_bad_name}
-use Rattle.rnl_syntax.specs.declared.operands.Rnldef.{Rnldef}
-use Rattle.rnl_syntax.specs.Operands.{has_bad_name as rnldef_has_bad_name}
 use Rattle.deck_form.specs.declared.event.Act.{Act}
 use Rattle.deck_form.specs.declared.event.Act.TheVariants as acts
 use Rattle.deck_form.specs.declared.form.Stmt.{Stmt}
@@ -33,7 +31,7 @@ use Rattle.grs_deck.specs.Places.{jobs_now, tasks_now, task_count, system_place,
 use Rattle.grs_deck.specs.Judge.{is_too_long, list_of, has_long_name, has_bad_name, is_repeated, is_misplaced, is_full, is_unknown, verdict}
 use Rattle.grs_deck.specs.Grow.{grow}
 use Rattle.grs_deck.specs.Reading.{judge, judge_all, no_draft, ended, reading, fault, fault_of}
-use Rattle.grs_deck.specs.Spells.{IsShort, IsShortAct, IsQname, IsRname, IsMaybeQname, IsMaybeRname, AreNames, MaySay, MayDefine, MayStand, IsRight, Says, SpellsDeck}
+use Rattle.grs_deck.specs.Spells.{IsShort, IsShortAct, IsQname, IsRname, IsMaybeQname, IsMaybeRname, AreNames, IsSized, IsNew, IsPlaced, HasRoom, IsKnown, IsRight, Says, SpellsDeck}
 use Rattle.grs_deck.proofs.FitsLaws.{NoFault, tests_of, judged}
 
 -- ---- tests and facts
@@ -143,32 +141,50 @@ names_by (said.Gqscan s) h = let k = or_parts (is_bad_qname s.names.q) (is_bad_r
 names_by (said.Display shown.Contended) h = tt
 names_by (said.Display (shown.Resource q r)) h = both_names q r h
 
-say_by : (d : Draft) (s : Said) → line_has_bad_name s ≡ false → eqb (length (tasks_now (jobs_now d.deck.systems))) 0 ≡ false → eqb d.room 0 ≡ false → MaySay d s
-say_by d s long idle full = (names_by s long, there (length (tasks_now (jobs_now d.deck.systems))) idle, there d.room full)
-
 none_yet : {A : Type 0} (xs : List A) → length xs ≡ 0 → xs ≡ []
 none_yet [] h = refl
 none_yet (x ∷ xs) h = absurd (omega (arith, h))
 
-define_by : (d : Draft) (r : Rnldef) → rnldef_has_bad_name r ≡ false → not (eqb (length d.deck.systems) 0) ≡ false → leb 4096 (length (list_of r.which d.deck.lists).entries) ≡ false → MayDefine d r
-define_by d r long misplaced full =
-    let k = or_parts (not (is_qname r.q)) (is_bad_rname r.r) long in
-    let none = eqb-true (length d.deck.systems) 0 (passed (eqb (length d.deck.systems) 0) misplaced) in
-    (qname_of r.q (passed (is_qname r.q) k.0), maybe_rname r.r k.1, none_yet d.deck.systems none, fewer 4096 (length (list_of r.which d.deck.lists).entries) full)
+pub sized_by : (st : Stmt) → has_bad_name st ≡ false → IsSized st
+sized_by (stmts.Rnldef r) h = let k = or_parts (not (is_qname r.q)) (is_bad_rname r.r) h in (qname_of r.q (passed (is_qname r.q) k.0), maybe_rname r.r k.1)
+sized_by (stmts.System n) h = short_of n h
+sized_by (stmts.Job n) h = short_of n h
+sized_by (stmts.Task n) h = short_of n h
+sized_by (stmts.Line s) h = names_by s h
+sized_by (stmts.Event s a) h = let k = or_parts (is_too_long s) (has_long_name a) h in (short_of s k.0, short_act a k.1)
+sized_by _ h = tt
 
-may_by : (d : Draft) (st : Stmt) → NoFault (has_bad_name st) (is_repeated d st) (is_misplaced d st) (is_full d st) (is_unknown d st) (is_unbuilt st) → MayStand d st
-may_by d stmts.Unbuilt h = tt
-may_by d (stmts.Complex c) h = h.misplaced
-may_by d (stmts.System n) h = (short_of n h.long, none_of (system_place d.deck.systems n) h.repeated, fewer 8 (length d.deck.systems) h.full)
-may_by d (stmts.Job n) h = (short_of n h.long, none_of (job_place (jobs_now d.deck.systems) n) h.repeated, there (length d.deck.systems) h.misplaced, fewer 64 (length (jobs_now d.deck.systems)) h.full)
-may_by d (stmts.Task n) h = (short_of n h.long, none_of (task_place (tasks_now (jobs_now d.deck.systems)) n) h.repeated, there (length (jobs_now d.deck.systems)) h.misplaced, fewer 64 (task_count (jobs_now d.deck.systems)) h.full)
-may_by d (stmts.Line s) h = say_by d s h.long h.misplaced h.full
-may_by d (stmts.Rnldef r) h = define_by d r h.long h.misplaced h.full
-may_by d stmts.Schedule h = there (length d.deck.systems) h.misplaced
-may_by d (stmts.Event s a) h = let k = or_parts (is_too_long s) (has_long_name a) h.long in (short_of s k.0, short_act a k.1, some_of (event_of d.deck.systems s a) h.unknown)
+pub new_by : (d : Draft) (st : Stmt) → is_repeated d st ≡ false → IsNew d st
+new_by d (stmts.System n) h = none_of (system_place d.deck.systems n) h
+new_by d (stmts.Job n) h = none_of (job_place (jobs_now d.deck.systems) n) h
+new_by d (stmts.Task n) h = none_of (task_place (tasks_now (jobs_now d.deck.systems)) n) h
+new_by d _ h = tt
+
+pub placed_by : (d : Draft) (st : Stmt) → is_misplaced d st ≡ false → IsPlaced d st
+placed_by d (stmts.Complex c) h = h
+placed_by d (stmts.Rnldef r) h = none_yet d.deck.systems (eqb-true (length d.deck.systems) 0 (passed (eqb (length d.deck.systems) 0) h))
+placed_by d (stmts.Job n) h = there (length d.deck.systems) h
+placed_by d (stmts.Task n) h = there (length (jobs_now d.deck.systems)) h
+placed_by d (stmts.Line s) h = there (length (tasks_now (jobs_now d.deck.systems))) h
+placed_by d stmts.Schedule h = there (length d.deck.systems) h
+placed_by d _ h = tt
+
+pub room_by : (d : Draft) (st : Stmt) → is_full d st ≡ false → HasRoom d st
+room_by d (stmts.Rnldef r) h = fewer 4096 (length (list_of r.which d.deck.lists).entries) h
+room_by d (stmts.System n) h = fewer 8 (length d.deck.systems) h
+room_by d (stmts.Job n) h = fewer 64 (length (jobs_now d.deck.systems)) h
+room_by d (stmts.Task n) h = fewer 64 (task_count (jobs_now d.deck.systems)) h
+room_by d (stmts.Line s) h = there d.room h
+room_by d _ h = tt
+
+pub known_by : (d : Draft) (st : Stmt) → is_unknown d st ≡ false → IsKnown d st
+known_by d (stmts.Event s a) h = some_of (event_of d.deck.systems s a) h
+known_by d _ h = tt
 
 pub right_of : (d : Draft) (st : Stmt) → verdict d st ≡ None → IsRight d st
-right_of d st h = let t = tests_of d st h in (may_by d st t, t.unbuilt)
+right_of d st h =
+    let t = tests_of d st h in
+    (record { sized = sized_by st t.long; new = new_by d st t.repeated; placed = placed_by d st t.misplaced; room = room_by d st t.full; known = known_by d st t.unknown }, t.unbuilt)
 
 names_fail : (q r : List ℕ) → IsQname q × IsRname r → are_bad_names q r ≡ false
 names_fail q r h = rw (of_qname q h.0, of_rname r h.1) refl
@@ -190,30 +206,45 @@ no_bad (said.Gqscan s) h = both_false (is_bad_qname s.names.q) (is_bad_rname s.n
 no_bad (said.Display shown.Contended) h = refl
 no_bad (said.Display (shown.Resource q r)) h = names_fail q r h
 
--- the tests of an entry of a name list
-record DefineTests (d : Draft) (r : Rnldef) : Type 0 where
-  long : rnldef_has_bad_name r ≡ false
-  misplaced : not (eqb (length d.deck.systems) 0) ≡ false
-  full : leb 4096 (length (list_of r.which d.deck.lists).entries) ≡ false
+pub of_sized : (st : Stmt) → IsSized st → has_bad_name st ≡ false
+of_sized (stmts.Rnldef r) h = rw (of_qname r.q h.0) (rname_fail r.r h.1)
+of_sized (stmts.System n) h = of_short n h
+of_sized (stmts.Job n) h = of_short n h
+of_sized (stmts.Task n) h = of_short n h
+of_sized (stmts.Line s) h = no_bad s h
+of_sized (stmts.Event s a) h = both_false (is_too_long s) (has_long_name a) (of_short s h.0) (act_short a h.1)
+of_sized _ h = refl
 
-of_define : (d : Draft) (r : Rnldef) → MayDefine d r → DefineTests d r
-of_define d r h = record {
-  long = rw (of_qname r.q h.0) (rname_fail r.r h.1);
-  misplaced = rw h.2 refl;
-  full = fewer_not 4096 (length (list_of r.which d.deck.lists).entries) h.3;
-}
+pub of_new : (d : Draft) (st : Stmt) → IsNew d st → is_repeated d st ≡ false
+of_new d (stmts.System n) h = none_there (system_place d.deck.systems n) h
+of_new d (stmts.Job n) h = none_there (job_place (jobs_now d.deck.systems) n) h
+of_new d (stmts.Task n) h = none_there (task_place (tasks_now (jobs_now d.deck.systems)) n) h
+of_new d _ h = refl
+
+pub of_placed : (d : Draft) (st : Stmt) → IsPlaced d st → is_misplaced d st ≡ false
+of_placed d (stmts.Complex c) h = h
+of_placed d (stmts.Rnldef r) h = rw h refl
+of_placed d (stmts.Job n) h = there_not (length d.deck.systems) h
+of_placed d (stmts.Task n) h = there_not (length (jobs_now d.deck.systems)) h
+of_placed d (stmts.Line s) h = there_not (length (tasks_now (jobs_now d.deck.systems))) h
+of_placed d stmts.Schedule h = there_not (length d.deck.systems) h
+of_placed d _ h = refl
+
+pub of_room : (d : Draft) (st : Stmt) → HasRoom d st → is_full d st ≡ false
+of_room d (stmts.Rnldef r) h = fewer_not 4096 (length (list_of r.which d.deck.lists).entries) h
+of_room d (stmts.System n) h = fewer_not 8 (length d.deck.systems) h
+of_room d (stmts.Job n) h = fewer_not 64 (length (jobs_now d.deck.systems)) h
+of_room d (stmts.Task n) h = fewer_not 64 (task_count (jobs_now d.deck.systems)) h
+of_room d (stmts.Line s) h = there_not d.room h
+of_room d _ h = refl
+
+pub of_known : (d : Draft) (st : Stmt) → IsKnown d st → is_unknown d st ≡ false
+of_known d (stmts.Event s a) h = found_there (event_of d.deck.systems s a) h.0 h.1
+of_known d _ h = refl
 
 -- no test applies to a statement that is right
 pub no_test : (d : Draft) (st : Stmt) → IsRight d st → NoFault (has_bad_name st) (is_repeated d st) (is_misplaced d st) (is_full d st) (is_unknown d st) (is_unbuilt st)
-no_test d stmts.Unbuilt h = absurd (let k : true ≡ false = h.1 in cc)
-no_test d (stmts.Complex c) h = record { long = refl; repeated = refl; misplaced = h.0; full = refl; unknown = refl; unbuilt = h.1 }
-no_test d (stmts.System n) h = record { long = of_short n h.0.0; repeated = none_there (system_place d.deck.systems n) h.0.1; misplaced = refl; full = fewer_not 8 (length d.deck.systems) h.0.2; unknown = refl; unbuilt = h.1 }
-no_test d (stmts.Job n) h = record { long = of_short n h.0.0; repeated = none_there (job_place (jobs_now d.deck.systems) n) h.0.1; misplaced = there_not (length d.deck.systems) h.0.2; full = fewer_not 64 (length (jobs_now d.deck.systems)) h.0.3; unknown = refl; unbuilt = h.1 }
-no_test d (stmts.Task n) h = record { long = of_short n h.0.0; repeated = none_there (task_place (tasks_now (jobs_now d.deck.systems)) n) h.0.1; misplaced = there_not (length (jobs_now d.deck.systems)) h.0.2; full = fewer_not 64 (task_count (jobs_now d.deck.systems)) h.0.3; unknown = refl; unbuilt = h.1 }
-no_test d (stmts.Line s) h = record { long = no_bad s h.0.0; repeated = refl; misplaced = there_not (length (tasks_now (jobs_now d.deck.systems))) h.0.1; full = there_not d.room h.0.2; unknown = refl; unbuilt = h.1 }
-no_test d (stmts.Rnldef r) h = let t = of_define d r h.0 in record { long = t.long; repeated = refl; misplaced = t.misplaced; full = t.full; unknown = refl; unbuilt = h.1 }
-no_test d stmts.Schedule h = record { long = refl; repeated = refl; misplaced = there_not (length d.deck.systems) h.0; full = refl; unknown = refl; unbuilt = h.1 }
-no_test d (stmts.Event s a) h = record { long = both_false (is_too_long s) (has_long_name a) (of_short s h.0.0) (act_short a h.0.1); repeated = refl; misplaced = refl; full = refl; unknown = found_there (event_of d.deck.systems s a) h.0.2.0 h.0.2.1; unbuilt = h.1 }
+no_test d st h = record { long = of_sized st h.0.sized; repeated = of_new d st h.0.new; misplaced = of_placed d st h.0.placed; full = of_room d st h.0.room; unknown = of_known d st h.0.known; unbuilt = h.1 }
 
 pub of_right : (d : Draft) (st : Stmt) → IsRight d st → verdict d st ≡ None
 of_right d st h = let t = no_test d st h in rw (t.long, t.repeated, t.misplaced, t.full, t.unknown, t.unbuilt) refl

@@ -1,5 +1,5 @@
 -- The first fault of a text, by the table of kinds, and what is answered of a text.
-use Rattle.std.specs.Prelude.{◌≡◌, ℕ, Bool, true, ◌≤◌, ◌⊎◌, List, ◌∷◌, ◌++◌, length, Some, None, Result, Ok, Err}
+use Rattle.std.specs.Prelude.{◌≡◌, ℕ, false, ◌≤◌, ◌⊎◌, List, ◌∷◌, ◌++◌, length, Some, None, Result, Ok, Err}
 use Rattle.grs_base.specs.declared.fault.DeckFault.{DeckFault}
 use Rattle.grs_base.specs.declared.fault.Kind.{Kind}
 use Rattle.grs_base.specs.declared.fault.Kind.TheVariants.{TooLong, BadByte, UnknownStatement, BadOperand, NameLength, Repeated, OutOfPlace, TooMany, UnknownName, NoSystem, NotBuilt}
@@ -14,9 +14,8 @@ use Rattle.deck_form.specs.Spelled.{Spells, IsNoStatement}
 use Rattle.deck_form.specs.Statements.{statements}
 use Rattle.deck_form.specs.Unbuilt.{is_unbuilt}
 use Rattle.grs_deck.specs.declared.judge.Draft.{Draft}
-use Rattle.grs_deck.specs.Judge.{has_bad_name, is_repeated, is_misplaced, is_full, is_unknown}
 use Rattle.grs_deck.specs.Reading.{no_draft}
-use Rattle.grs_deck.specs.Spells.{Says, SpellsDeck}
+use Rattle.grs_deck.specs.Spells.{IsSized, IsNew, IsPlaced, HasRoom, IsKnown, Says, SpellsDeck}
 
 -- The number of a kind.
 abbrev pub number : Kind → ℕ
@@ -32,20 +31,20 @@ number UnknownName = 9
 number NoSystem = 10
 number NotBuilt = 11
 
--- The line spells a statement, and the test holds of it.
-abbrev pub SomeStmt : Draft → TokenLine → (Stmt → Bool) → Type 0
-SomeStmt d l test = (st : Stmt) × Spells d.scheduled d.deck.entries l st × (test st ≡ true)
+-- The line spells a statement of which this isn't so.
+abbrev pub SomeStmt : Draft → TokenLine → (Stmt → Type 0) → Type 0
+SomeStmt d l P = (st : Stmt) × Spells d.scheduled d.deck.entries l st × (P st → ⊥)
 
 -- Which kinds apply to a line behind the lines that made this deck.
 abbrev pub Applies : Kind → Draft → TokenLine → Type 0
 Applies UnknownStatement d l = IsNoStatement UnknownStatement d.scheduled d.deck.entries l
 Applies BadOperand d l = IsNoStatement BadOperand d.scheduled d.deck.entries l
-Applies NameLength d l = SomeStmt d l has_bad_name
-Applies Repeated d l = SomeStmt d l (is_repeated d)
-Applies OutOfPlace d l = SomeStmt d l (is_misplaced d)
-Applies TooMany d l = SomeStmt d l (is_full d)
-Applies UnknownName d l = SomeStmt d l (is_unknown d)
-Applies NotBuilt d l = SomeStmt d l is_unbuilt
+Applies NameLength d l = SomeStmt d l IsSized
+Applies Repeated d l = SomeStmt d l (IsNew d)
+Applies OutOfPlace d l = SomeStmt d l (IsPlaced d)
+Applies TooMany d l = SomeStmt d l (HasRoom d)
+Applies UnknownName d l = SomeStmt d l (IsKnown d)
+Applies NotBuilt d l = SomeStmt d l (λ st. is_unbuilt st ≡ false)
 Applies _ d l = ⊥
 
 -- The least kind that applies.

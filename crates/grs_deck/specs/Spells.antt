@@ -10,7 +10,6 @@ use Rattle.job_syntax.specs.declared.display.Shown.{Shown}
 use Rattle.job_syntax.specs.declared.display.Shown.TheVariants as shown
 use Rattle.job_syntax.specs.declared.said.Said.{Said}
 use Rattle.job_syntax.specs.declared.said.Said.TheVariants as said
-use Rattle.rnl_syntax.specs.declared.operands.Rnldef.{Rnldef}
 use Rattle.deck_form.specs.declared.event.Act.{Act}
 use Rattle.deck_form.specs.declared.event.Act.TheVariants as acts
 use Rattle.deck_form.specs.declared.form.Stmt.{Stmt}
@@ -65,25 +64,57 @@ AreNames (said.Wait a) = IsQname a.q × IsRname a.r
 AreNames (said.Gqscan s) = IsMaybeQname s.names.q × IsMaybeRname s.names.r
 AreNames (said.Display s) = AreShownNames s
 
--- A task line: its names are right, a task stands that it belongs to, and there is room for it.
-abbrev pub MaySay : Draft → Said → Type 0
-MaySay d s = AreNames s × (0 < length (tasks_now (jobs_now d.deck.systems))) × (0 < d.room)
+-- ---- what a statement must be behind those that made this deck: one fact for each kind of fault
 
--- An entry of a name list: its names are right, no system stands yet, and its list has room.
-abbrev pub MayDefine : Draft → Rnldef → Type 0
-MayDefine d r = IsQname r.q × IsMaybeRname r.r × (d.deck.systems ≡ []) × (length (list_of r.which d.deck.lists).entries < most_entries)
+-- Its names have lengths that they may have.
+abbrev pub IsSized : Stmt → Type 0
+IsSized (stmts.Rnldef r) = IsQname r.q × IsMaybeRname r.r
+IsSized (stmts.System n) = IsShort n
+IsSized (stmts.Job n) = IsShort n
+IsSized (stmts.Task n) = IsShort n
+IsSized (stmts.Line s) = AreNames s
+IsSized (stmts.Event s a) = IsShort s × IsShortAct a
+IsSized _ = Unit {0}
+
+-- The system that it names is the first of this name, the job the first of its system, the task the first of its job.
+abbrev pub IsNew : Draft → Stmt → Type 0
+IsNew d (stmts.System n) = system_place d.deck.systems n ≡ None
+IsNew d (stmts.Job n) = job_place (jobs_now d.deck.systems) n ≡ None
+IsNew d (stmts.Task n) = task_place (tasks_now (jobs_now d.deck.systems)) n ≡ None
+IsNew d _ = Unit {0}
+
+-- It stands at its place: COMPLEX is first, and an RNLDEF stands before each system; a job stands behind a system, a
+-- task behind a job, a task line behind a task, SCHEDULE behind a system.
+abbrev pub IsPlaced : Draft → Stmt → Type 0
+IsPlaced d (stmts.Complex c) = d.begun ≡ false
+IsPlaced d (stmts.Rnldef r) = d.deck.systems ≡ []
+IsPlaced d (stmts.Job n) = 0 < length d.deck.systems
+IsPlaced d (stmts.Task n) = 0 < length (jobs_now d.deck.systems)
+IsPlaced d (stmts.Line s) = 0 < length (tasks_now (jobs_now d.deck.systems))
+IsPlaced d stmts.Schedule = 0 < length d.deck.systems
+IsPlaced d _ = Unit {0}
+
+-- There is room for it: in its name list, among the systems, the jobs and the tasks of its system, the task lines.
+abbrev pub HasRoom : Draft → Stmt → Type 0
+HasRoom d (stmts.Rnldef r) = length (list_of r.which d.deck.lists).entries < most_entries
+HasRoom d (stmts.System n) = length d.deck.systems < most_systems
+HasRoom d (stmts.Job n) = length (jobs_now d.deck.systems) < most_jobs
+HasRoom d (stmts.Task n) = task_count (jobs_now d.deck.systems) < most_tasks
+HasRoom d (stmts.Line s) = 0 < d.room
+HasRoom d _ = Unit {0}
+
+-- The names of an event line were given.
+abbrev pub IsKnown : Draft → Stmt → Type 0
+IsKnown d (stmts.Event s a) = (e : Event) × (event_of d.deck.systems s a ≡ Some e)
+IsKnown d _ = Unit {0}
 
 -- A statement may stand behind those that made this deck.
-abbrev pub MayStand : Draft → Stmt → Type 0
-MayStand d stmts.Unbuilt = Unit {0}
-MayStand d (stmts.Complex c) = d.begun ≡ false
-MayStand d (stmts.Rnldef r) = MayDefine d r
-MayStand d (stmts.System n) = IsShort n × (system_place d.deck.systems n ≡ None) × (length d.deck.systems < most_systems)
-MayStand d (stmts.Job n) = IsShort n × (job_place (jobs_now d.deck.systems) n ≡ None) × (0 < length d.deck.systems) × (length (jobs_now d.deck.systems) < most_jobs)
-MayStand d (stmts.Task n) = IsShort n × (task_place (tasks_now (jobs_now d.deck.systems)) n ≡ None) × (0 < length (jobs_now d.deck.systems)) × (task_count (jobs_now d.deck.systems) < most_tasks)
-MayStand d (stmts.Line s) = MaySay d s
-MayStand d stmts.Schedule = 0 < length d.deck.systems
-MayStand d (stmts.Event s a) = IsShort s × IsShortAct a × ((e : Event) × (event_of d.deck.systems s a ≡ Some e))
+pub record MayStand (d : Draft) (st : Stmt) : Type 0 where
+  pub sized : IsSized st
+  pub new : IsNew d st
+  pub placed : IsPlaced d st
+  pub room : HasRoom d st
+  pub known : IsKnown d st
 
 -- A statement may stand there, and its form is built.
 abbrev pub IsRight : Draft → Stmt → Type 0
