@@ -11,13 +11,11 @@ use Rattle.deck_scan.specs.declared.token.TokenLine.{TokenLine}
 use Rattle.deck_form.specs.declared.form.Stmt.{Stmt}
 use Rattle.deck_form.specs.declared.form.Key.{Key}
 use Rattle.deck_form.specs.declared.form.Key.TheVariants as keys
-use Rattle.deck_form.specs.declared.form.FormError.{FormError}
-use Rattle.deck_form.specs.declared.form.FormError.TheVariants as errors
 use Rattle.deck_form.specs.UnbuiltWord.{is_unbuilt_word}
 use Rattle.job_syntax.specs.declared.said.Verb.{Verb}
 use Rattle.job_syntax.specs.Said.{verb}
 use Rattle.rnl_syntax.specs.Lines.{is_rnldef_word}
-use Rattle.deck_form.specs.Form.{Forms, line_key, key, plain_form, or_bad, keyed, first_form, event_form, form}
+use Rattle.deck_form.specs.Form.{line_key, key, plain_form, or_bad, keyed, first_form, event_form, form}
 use Rattle.deck_form.specs.Spelled.{Spells, is_statement_word, BeginsOtherwise, NoWord, IsNoStatement, Answers}
 use Rattle.deck_form.proofs.Taken.{form_taken}
 use Rattle.deck_form.proofs.Again.{form_again}
@@ -181,10 +179,9 @@ none_is scheduled entries l NotBuilt h = absurd h
 
 -- ---- what is answered
 
-pub answers : (r : Result Stmt FormError) (scheduled : Bool) (entries : ℕ) (l : TokenLine) → Forms r (form scheduled entries l) → Answers r scheduled entries l
-answers (Ok st) scheduled entries l h = form_taken scheduled entries l st h
-answers (Err errors.NoMemory) scheduled entries l h = tt
-answers (Err (errors.Kind k)) scheduled entries l h = is_none scheduled entries l k h
+pub answers : (r : Result Stmt Kind) (scheduled : Bool) (entries : ℕ) (l : TokenLine) → r ≡ form scheduled entries l → Answers r scheduled entries l
+answers (Ok st) scheduled entries l h = form_taken scheduled entries l st (sym h)
+answers (Err k) scheduled entries l h = is_none scheduled entries l k (sym h)
 
 pub one_spelled : (scheduled : Bool) (entries : ℕ) (l : TokenLine) (a b : Stmt) → Spells scheduled entries l a → Spells scheduled entries l b → a ≡ b
 one_spelled scheduled entries l a b h k = formed_is a b (sym (form_again scheduled entries l a h) ∙ form_again scheduled entries l b k)

@@ -1,5 +1,5 @@
 -- The statements of a deck, by the tokens of their lines.
-use Rattle.std.specs.Prelude.{◌≡◌, ℕ, Bool, true, false, List, ◌∷◌, codes, Option, Some, None, Result, Ok, Err, if◌then◌else◌}
+use Rattle.std.specs.Prelude.{ℕ, Bool, true, false, List, ◌∷◌, codes, Option, Some, None, Result, Ok, Err, if◌then◌else◌}
 use Rattle.std.specs.Str.{bytes_eq}
 use Rattle.grs_base.specs.declared.fault.Kind.{Kind}
 use Rattle.grs_base.specs.declared.fault.Kind.TheVariants.{UnknownStatement, BadOperand}
@@ -10,8 +10,6 @@ use Rattle.deck_form.specs.declared.form.Stmt.{Stmt}
 use Rattle.deck_form.specs.declared.form.Stmt.TheVariants as stmts
 use Rattle.deck_form.specs.declared.form.Key.{Key}
 use Rattle.deck_form.specs.declared.form.Key.TheVariants as keys
-use Rattle.deck_form.specs.declared.form.FormError.{FormError}
-use Rattle.deck_form.specs.declared.form.FormError.TheVariants as errors
 use Rattle.deck_scan.specs.Next.{◌>>=◌, end_at}
 use Rattle.job_syntax.specs.declared.said.Verb.{Verb}
 use Rattle.job_syntax.specs.Said.{verb, said_at}
@@ -21,15 +19,6 @@ use Rattle.deck_form.specs.Words.{named_at}
 use Rattle.deck_form.specs.Complex.{complex_at}
 use Rattle.deck_form.specs.Event.{event_at}
 use Rattle.deck_form.specs.UnbuiltWord.{is_unbuilt_word}
-
-abbrev pub FormFails : FormError → Result Stmt Kind → Type 0
-FormFails errors.NoMemory read = Unit {0}
-FormFails (errors.Kind k) read = read ≡ Err k
-
--- What a function returned is what reading gives, unless memory ran out.
-abbrev pub Forms : Result Stmt FormError → Result Stmt Kind → Type 0
-Forms (Ok x) read = read ≡ Ok x
-Forms (Err e) read = FormFails e read
 
 abbrev pub line_key : Option Verb → Key
 line_key None = keys.Unknown

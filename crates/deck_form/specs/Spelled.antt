@@ -12,8 +12,6 @@ use Rattle.deck_form.specs.declared.event.Act.{Act}
 use Rattle.deck_form.specs.declared.event.Act.TheVariants as acts
 use Rattle.deck_form.specs.declared.form.Stmt.{Stmt}
 use Rattle.deck_form.specs.declared.form.Stmt.TheVariants as stmts
-use Rattle.deck_form.specs.declared.form.FormError.{FormError}
-use Rattle.deck_form.specs.declared.form.FormError.TheVariants as errors
 use Rattle.deck_scan.specs.Next.{Sets}
 use Rattle.job_syntax.specs.Said.{verb}
 use Rattle.job_syntax.specs.Spelled.{IsSaid}
@@ -132,9 +130,7 @@ IsNoStatement UnknownStatement scheduled entries l = (scheduled ≡ false) × No
 IsNoStatement BadOperand scheduled entries l = (scheduled ≡ false → NoWord l → ⊥) × ((st : Stmt) → Spells scheduled entries l st → ⊥)
 IsNoStatement _ scheduled entries l = ⊥
 
--- What is answered of a line: the statement that it spells, or why it is none. Want of memory is the only
--- other answer.
-abbrev pub Answers : Result Stmt FormError → Bool → ℕ → TokenLine → Type 0
+-- What is answered of a line: the statement that it spells, or why it is none.
+abbrev pub Answers : Result Stmt Kind → Bool → ℕ → TokenLine → Type 0
 Answers (Ok st) scheduled entries l = Spells scheduled entries l st
-Answers (Err errors.NoMemory) scheduled entries l = Unit {0}
-Answers (Err (errors.Kind k)) scheduled entries l = IsNoStatement k scheduled entries l
+Answers (Err k) scheduled entries l = IsNoStatement k scheduled entries l

@@ -1,5 +1,5 @@
 //! The operands of COMPLEX, in any order, each at most once.
-ghost use Rattle.std.specs.Prelude.{◌≡◌, IfErr};
+ghost use Rattle.std.specs.Prelude.{◌≡◌};
 ghost use Rattle.deck_scan.specs.Next.{Reads, maybe};
 ghost use Rattle.deck_form.specs.Complex.{mode_of, is_entries, entries_of, limit_of, with_star, with_entries, with_limit, with_operand, operand_at, complex_at};
 
@@ -22,15 +22,14 @@ pub struct Setup {
 
 #[tactic(auto, unfolding(crate::specs::Complex::mode_of))]
 fn mode_of(w: &[u8]) -> Result<bool, Miss>
-    ensures reads { Reads (λ x. x) result (mode_of w.now) }
-    ensures bad { IfErr result (λ e. e ≡ Miss.Bad) }
+    ensures { Reads (λ x. x) result (mode_of w.now) }
 {
     if w == b"RING".as_slice() {
         Ok(false)
     } else if w == b"STAR".as_slice() {
         Ok(true)
     } else {
-        Err(Miss::Bad)
+        Err(Miss)
     }
 }
 
@@ -42,32 +41,29 @@ fn is_entries(n: u32) -> bool
 
 #[tactic(auto, unfolding(crate::specs::Complex::entries_of))]
 fn entries_of(w: &[u8]) -> Result<u32, Miss>
-    ensures reads { Reads (λ x. x) result (entries_of w.now) }
-    ensures bad { IfErr result (λ e. e ≡ Miss.Bad) }
+    ensures { Reads (λ x. x) result (entries_of w.now) }
 {
     let n = number_of(w)?;
-    if is_entries(n) { Ok(n) } else { Err(Miss::Bad) }
+    if is_entries(n) { Ok(n) } else { Err(Miss) }
 }
 
 #[tactic(auto, unfolding(crate::specs::Complex::limit_of))]
 fn limit_of(w: &[u8]) -> Result<u32, Miss>
-    ensures reads { Reads (λ x. x) result (limit_of w.now) }
-    ensures bad { IfErr result (λ e. e ≡ Miss.Bad) }
+    ensures { Reads (λ x. x) result (limit_of w.now) }
 {
     let n = number_of(w)?;
     if 1 <= n && n <= MOST_LIMIT {
         Ok(n)
     } else {
-        Err(Miss::Bad)
+        Err(Miss)
     }
 }
 
 fn with_star(setup: Setup, star: bool) -> Result<Setup, Miss>
-    ensures reads { Reads (λ x. x) result (with_star setup star) }
-    ensures bad { IfErr result (λ e. e ≡ Miss.Bad) }
+    ensures { Reads (λ x. x) result (with_star setup star) }
 {
     match setup.star {
-        Some(_) => Err(Miss::Bad),
+        Some(_) => Err(Miss),
         None => Ok(Setup {
             star: Some(star),
             ..setup
@@ -76,11 +72,10 @@ fn with_star(setup: Setup, star: bool) -> Result<Setup, Miss>
 }
 
 fn with_entries(setup: Setup, entries: u32) -> Result<Setup, Miss>
-    ensures reads { Reads (λ x. x) result (with_entries setup entries) }
-    ensures bad { IfErr result (λ e. e ≡ Miss.Bad) }
+    ensures { Reads (λ x. x) result (with_entries setup entries) }
 {
     match setup.entries {
-        Some(_) => Err(Miss::Bad),
+        Some(_) => Err(Miss),
         None => Ok(Setup {
             entries: Some(entries),
             ..setup
@@ -89,11 +84,10 @@ fn with_entries(setup: Setup, entries: u32) -> Result<Setup, Miss>
 }
 
 fn with_limit(setup: Setup, limit: u32) -> Result<Setup, Miss>
-    ensures reads { Reads (λ x. x) result (with_limit setup limit) }
-    ensures bad { IfErr result (λ e. e ≡ Miss.Bad) }
+    ensures { Reads (λ x. x) result (with_limit setup limit) }
 {
     match setup.limit {
-        Some(_) => Err(Miss::Bad),
+        Some(_) => Err(Miss),
         None => Ok(Setup {
             limit: Some(limit),
             ..setup
@@ -104,8 +98,7 @@ fn with_limit(setup: Setup, limit: u32) -> Result<Setup, Miss>
 /// Takes the value of an operand.
 #[tactic(auto, unfolding(crate::specs::Complex::with_operand))]
 fn with_operand(setup: Setup, word: &[u8], value: &[u8]) -> Result<Setup, Miss>
-    ensures reads { Reads (λ x. x) result (with_operand setup word.now value.now) }
-    ensures bad { IfErr result (λ e. e ≡ Miss.Bad) }
+    ensures { Reads (λ x. x) result (with_operand setup word.now value.now) }
 {
     if word == b"MODE".as_slice() {
         with_star(setup, mode_of(value)?)
@@ -114,15 +107,14 @@ fn with_operand(setup: Setup, word: &[u8], value: &[u8]) -> Result<Setup, Miss>
     } else if word == b"LIMIT".as_slice() {
         with_limit(setup, limit_of(value)?)
     } else {
-        Err(Miss::Bad)
+        Err(Miss)
     }
 }
 
 /// One more operand.
 #[tactic(auto, unfolding(crate::specs::Complex::operand_at))]
-fn operand_at(setup: Setup, ts: &[Token]) -> Result<(Setup, &[Token]), Miss>
-    ensures reads { Reads (λ x. (x.0, x.1.now)) result (operand_at setup ts.now) }
-    ensures bad { IfErr result (λ e. e ≡ Miss.Bad) }
+fn operand_at<'a, 't>(setup: Setup, ts: &'a [Token<'t>]) -> Result<(Setup, &'a [Token<'t>]), Miss>
+    ensures { Reads (λ x. (x.0, x.1.now)) result (operand_at setup ts.now) }
 {
     let (word, ts) = any_word_at(ts)?;
     let ts = open_at(ts)?;
@@ -132,9 +124,11 @@ fn operand_at(setup: Setup, ts: &[Token]) -> Result<(Setup, &[Token]), Miss>
     Ok((setup, ts))
 }
 
-fn maybe_operand(setup: Setup, ts: &[Token]) -> Result<(Setup, &[Token]), Miss>
-    ensures reads { Reads (λ x. (x.0, x.1.now)) result (maybe operand_at setup ts.now) }
-    ensures bad { IfErr result (λ e. e ≡ Miss.Bad) }
+fn maybe_operand<'a, 't>(
+    setup: Setup,
+    ts: &'a [Token<'t>],
+) -> Result<(Setup, &'a [Token<'t>]), Miss>
+    ensures { Reads (λ x. (x.0, x.1.now)) result (maybe operand_at setup ts.now) }
 {
     if ts.len() == 0 {
         return Ok((setup, ts));
@@ -144,9 +138,8 @@ fn maybe_operand(setup: Setup, ts: &[Token]) -> Result<(Setup, &[Token]), Miss>
 
 /// At most as many operands as there are kinds of them, and nothing after them.
 #[tactic(auto, unfolding(crate::specs::Complex::complex_at))]
-pub fn complex_at(ts: &[Token]) -> Result<Setup, Miss>
-    ensures reads { Reads (λ x. x) result (complex_at ts.now) }
-    ensures bad { IfErr result (λ e. e ≡ Miss.Bad) }
+pub fn complex_at(ts: &[Token<'_>]) -> Result<Setup, Miss>
+    ensures { Reads (λ x. x) result (complex_at ts.now) }
 {
     let none = Setup {
         star: None,

@@ -4,19 +4,23 @@ ghost use Rattle.deck_scan.specs.Next.{Reads};
 ghost use Rattle.deck_form.specs.Event.{verb, pair_at, alone_at, entry_at, act_at, event_at};
 
 use crate::words::{dotted_at, named_at, number_of, short_at};
-use deck_scan::{Miss, Token, any_word_at, end_at};
-use grs_base::List;
-use std::alloc::Global;
+use deck_scan::{GivenName, Miss, Token, any_word_at, end_at};
 
 /// What a system does at an event, with names of any length.
 #[derive(Drop)]
-pub enum Act {
+pub enum Act<'t> {
     /// A task of it goes on.
-    Task { job: List<u8>, task: List<u8> },
+    Task {
+        job: GivenName<'t>,
+        task: GivenName<'t>,
+    },
     /// It takes its turn at the message.
     Turn,
     /// Read and not carried out, like all below but `Rest`.
-    Send { job: List<u8>, task: List<u8> },
+    Send {
+        job: GivenName<'t>,
+        task: GivenName<'t>,
+    },
     Take,
     Settle,
     /// A lock entry, below the deck's number of them.
@@ -25,7 +29,7 @@ pub enum Act {
     Leave(u32),
     Switch,
     /// The system that is removed.
-    Purge(List<u8>),
+    Purge(GivenName<'t>),
     /// It comes to rest.
     Rest,
 }
@@ -77,17 +81,17 @@ fn verb_of(w: &[u8]) -> Verb
 
 /// The names of a job and a task, and nothing after them.
 #[tactic(auto, unfolding(crate::specs::Event::pair_at))]
-fn pair_at(alloc: Global, ts: &[Token]) -> Result<(List<u8>, List<u8>), Miss>
+fn pair_at<'a, 't>(ts: &'a [Token<'t>]) -> Result<(GivenName<'a>, GivenName<'a>), Miss>
     ensures { Reads (λ x. x) result (pair_at ts.now) }
 {
-    let (job, task, ts) = dotted_at(alloc, ts)?;
+    let (job, task, ts) = dotted_at(ts)?;
     end_at(ts)?;
     Ok((job, task))
 }
 
 /// An entry, and nothing after it.
 #[tactic(auto, unfolding(crate::specs::Event::entry_at))]
-fn entry_at(entries: u32, ts: &[Token]) -> Result<u32, Miss>
+fn entry_at(entries: u32, ts: &[Token<'_>]) -> Result<u32, Miss>
     ensures { Reads (λ x. x) result (entry_at entries ts.now) }
 {
     let (w, ts) = any_word_at(ts)?;
@@ -96,12 +100,12 @@ fn entry_at(entries: u32, ts: &[Token]) -> Result<u32, Miss>
     if entry < entries {
         Ok(entry)
     } else {
-        Err(Miss::Bad)
+        Err(Miss)
     }
 }
 
-fn alone_at(act: Act, ts: &[Token]) -> Result<Act, Miss>
-    ensures { Reads (λ x. x) result (alone_at act ts.now) }
+fn alone_at<'a>(act: Act<'a>, ts: &[Token<'_>]) -> Result<Act<'a>, Miss>
+    ensures { Reads (λ x. x) result (alone_at act.entry ts.now) }
 {
     end_at(ts)?;
     Ok(act)
@@ -109,17 +113,17 @@ fn alone_at(act: Act, ts: &[Token]) -> Result<Act, Miss>
 
 /// What stands behind the word of an event.
 #[tactic(auto, unfolding(crate::specs::Event::act_at))]
-fn act_at(alloc: Global, entries: u32, verb: Verb, ts: &[Token]) -> Result<Act, Miss>
+fn act_at<'a, 't>(entries: u32, verb: Verb, ts: &'a [Token<'t>]) -> Result<Act<'a>, Miss>
     ensures { Reads (λ x. x) result (act_at entries verb ts.now) }
 {
     match verb {
         Verb::Task => {
-            let (job, task) = pair_at(alloc, ts)?;
+            let (job, task) = pair_at(ts)?;
             Ok(Act::Task { job, task })
         }
         Verb::Turn => alone_at(Act::Turn, ts),
         Verb::Send => {
-            let (job, task) = pair_at(alloc, ts)?;
+            let (job, task) = pair_at(ts)?;
             Ok(Act::Send { job, task })
         }
         Verb::Take => alone_at(Act::Take, ts),
@@ -127,19 +131,19 @@ fn act_at(alloc: Global, entries: u32, verb: Verb, ts: &[Token]) -> Result<Act, 
         Verb::Tell => Ok(Act::Tell(entry_at(entries, ts)?)),
         Verb::Leave => Ok(Act::Leave(entry_at(entries, ts)?)),
         Verb::Switch => alone_at(Act::Switch, ts),
-        Verb::Purge => Ok(Act::Purge(named_at(alloc, ts)?)),
+        Verb::Purge => Ok(Act::Purge(named_at(ts)?)),
         Verb::Rest => alone_at(Act::Rest, ts),
-        Verb::Unknown => Err(Miss::Bad),
+        Verb::Unknown => Err(Miss),
     }
 }
 
 /// A system and what it does.
 #[tactic(auto, unfolding(crate::specs::Event::event_at))]
-pub fn event_at(alloc: Global, entries: u32, ts: &[Token]) -> Result<(List<u8>, Act), Miss>
+pub fn event_at<'a, 't>(entries: u32, ts: &'a [Token<'t>]) -> Result<(GivenName<'a>, Act<'a>), Miss>
     ensures { Reads (λ x. x) result (event_at entries ts.now) }
 {
-    let (system, ts) = short_at(alloc, ts)?;
+    let (system, ts) = short_at(ts)?;
     let (w, ts) = any_word_at(ts)?;
-    let act = act_at(alloc, entries, verb_of(w), ts)?;
+    let act = act_at(entries, verb_of(w), ts)?;
     Ok((system, act))
 }

@@ -1,7 +1,7 @@
 //! The statement of a line: by its first word before SCHEDULE, an event behind it.
 ghost use Rattle.std.specs.Prelude.{◌≡◌, Option};
 ghost use Rattle.deck_scan.specs.Next.{Reads};
-ghost use Rattle.deck_form.specs.Form.{plain_form, first_form, event_form, form, line_key, key, or_bad, Forms};
+ghost use Rattle.deck_form.specs.Form.{plain_form, first_form, event_form, form, line_key, key, or_bad};
 ghost use Rattle.deck_form.specs.Spelled.{Answers};
 ghost use Rattle.deck_form.specs.declared.form.Stmt.{Stmt as StmtValue};
 
@@ -9,43 +9,33 @@ use crate::complex::{Setup, complex_at};
 use crate::event::{Act, event_at};
 use crate::unbuilt::is_unbuilt_word;
 use crate::words::named_at;
-use deck_scan::{Miss, Token, TokenLine, end_at};
-use grs_base::{Kind, List};
+use deck_scan::{GivenName, Miss, Token, TokenLine, end_at};
+use grs_base::Kind;
 use job_syntax::{Said, Verb, said_at, verb_of};
 use rnl_syntax::{Rnldef, is_rnldef_word, rnldef_at};
-use std::alloc::Global;
 
 /// A statement, with names of any length.
 #[derive(Drop)]
-pub enum Stmt {
+pub enum Stmt<'t> {
     /// A statement with the word AT, GQSCAN, DISPLAY or D, which this program doesn't carry out. Nothing
     /// more of it was read.
     Unbuilt,
     /// The settings of the complex.
     Complex(Setup),
     /// An entry of a name list.
-    Rnldef(Rnldef),
+    Rnldef(Rnldef<'t>),
     /// The name of a system.
-    System(List<u8>),
+    System(GivenName<'t>),
     /// The name of a job.
-    Job(List<u8>),
+    Job(GivenName<'t>),
     /// The name of a task.
-    Task(List<u8>),
+    Task(GivenName<'t>),
     /// What a task is to ask or to wait for.
-    Line(Said),
+    Line(Said<'t>),
     /// Every line behind it is an event.
     Schedule,
     /// What a system does next.
-    Event { system: List<u8>, act: Act },
-}
-
-/// Why a line is no statement.
-#[derive(Clone, Copy, Debug, PartialEq, Eq)]
-pub enum FormError {
-    /// `UnknownStatement` or `BadOperand`.
-    Kind(Kind),
-    /// Memory was wanting for the names.
-    NoMemory,
+    Event { system: GivenName<'t>, act: Act<'t> },
 }
 
 /// The words with which statements begin.
@@ -63,13 +53,12 @@ pub enum Key {
 }
 
 /// What is read, or BadOperand.
-fn or_bad(read: Result<Stmt, Miss>) -> Result<Stmt, FormError>
-    ensures { (x : Option StmtValue) → Reads (λ y. y) read x → Forms result (or_bad x) }
+fn or_bad<'a>(read: Result<Stmt<'a>, Miss>) -> Result<Stmt<'a>, Kind>
+    ensures { (x : Option StmtValue) → Reads (λ y. y) read.entry x → result ≡ or_bad x }
 {
     match read {
         Ok(st) => Ok(st),
-        Err(Miss::Bad) => Err(FormError::Kind(Kind::BadOperand)),
-        Err(Miss::NoMemory) => Err(FormError::NoMemory),
+        Err(Miss) => Err(Kind::BadOperand),
     }
 }
 
@@ -107,67 +96,66 @@ fn key_of(w: &[u8]) -> Key
 
 /// What stands behind the first word.
 #[tactic(auto, unfolding(crate::specs::Form::plain_form))]
-fn plain_form(alloc: Global, key: Key, ts: &[Token]) -> Result<Stmt, Miss>
+fn plain_form<'a, 't>(key: Key, ts: &'a [Token<'t>]) -> Result<Stmt<'a>, Miss>
     ensures { Reads (λ x. x) result (plain_form key ts.now) }
 {
     match key {
         Key::Complex => Ok(Stmt::Complex(complex_at(ts)?)),
-        Key::Rnldef => Ok(Stmt::Rnldef(rnldef_at(alloc, ts)?)),
-        Key::System => Ok(Stmt::System(named_at(alloc, ts)?)),
-        Key::Job => Ok(Stmt::Job(named_at(alloc, ts)?)),
-        Key::Task => Ok(Stmt::Task(named_at(alloc, ts)?)),
-        Key::Line(verb) => Ok(Stmt::Line(said_at(alloc, verb, ts)?)),
+        Key::Rnldef => Ok(Stmt::Rnldef(rnldef_at(ts)?)),
+        Key::System => Ok(Stmt::System(named_at(ts)?)),
+        Key::Job => Ok(Stmt::Job(named_at(ts)?)),
+        Key::Task => Ok(Stmt::Task(named_at(ts)?)),
+        Key::Line(verb) => Ok(Stmt::Line(said_at(verb, ts)?)),
         Key::Schedule => {
             end_at(ts)?;
             Ok(Stmt::Schedule)
         }
         Key::Unbuilt => Ok(Stmt::Unbuilt),
-        Key::Unknown => Err(Miss::Bad),
+        Key::Unknown => Err(Miss),
     }
 }
 
 /// A statement before SCHEDULE. A word that something else stands directly behind is no statement word.
 #[tactic(auto, unfolding(crate::specs::Form::first_form))]
-fn first_form(alloc: Global, joined: bool, ts: &[Token]) -> Result<Stmt, FormError>
-    ensures { Forms result (first_form joined ts.now) }
+fn first_form<'a, 't>(joined: bool, ts: &'a [Token<'t>]) -> Result<Stmt<'a>, Kind>
+    ensures { result ≡ first_form joined ts.now }
 {
     if joined {
-        return Err(FormError::Kind(Kind::UnknownStatement));
+        return Err(Kind::UnknownStatement);
     }
     match ts.split_first() {
-        Some((Token::Word(w), rest)) => match key_of(w.as_slice()) {
-            Key::Unknown => Err(FormError::Kind(Kind::UnknownStatement)),
-            key => or_bad(plain_form(alloc, key, rest)),
+        Some((Token::Word(w), rest)) => match key_of(w.bytes()) {
+            Key::Unknown => Err(Kind::UnknownStatement),
+            key => or_bad(plain_form(key, rest)),
         },
-        Some((Token::Unclosed, _)) => Err(FormError::Kind(Kind::BadOperand)),
-        _ => Err(FormError::Kind(Kind::UnknownStatement)),
+        Some((Token::Unclosed, _)) => Err(Kind::BadOperand),
+        _ => Err(Kind::UnknownStatement),
     }
 }
 
 /// An event line.
 #[tactic(auto, unfolding(crate::specs::Form::event_form))]
-fn event_form(alloc: Global, entries: u32, ts: &[Token]) -> Result<Stmt, Miss>
+fn event_form<'a, 't>(entries: u32, ts: &'a [Token<'t>]) -> Result<Stmt<'a>, Miss>
     ensures { Reads (λ x. x) result (event_form entries ts.now) }
 {
-    let (system, act) = event_at(alloc, entries, ts)?;
+    let (system, act) = event_at(entries, ts)?;
     Ok(Stmt::Event { system, act })
 }
 
 /// What is read of a line.
 #[tactic(auto, unfolding(crate::specs::Form::form))]
-fn read_form(
-    alloc: Global,
+fn read_form<'a, 't>(
     scheduled: bool,
     entries: u32,
-    line: &TokenLine,
-) -> Result<Stmt, FormError>
-    ensures { Forms result (form scheduled entries line.now) }
+    line: &'a TokenLine<'t>,
+) -> Result<Stmt<'a>, Kind>
+    ensures { result ≡ form scheduled entries line.now }
 {
     let ts = line.tokens.as_slice();
     if scheduled {
-        or_bad(event_form(alloc, entries, ts))
+        or_bad(event_form(entries, ts))
     } else {
-        first_form(alloc, line.joined, ts)
+        first_form(line.joined, ts)
     }
 }
 
@@ -178,14 +166,13 @@ fn read_form(
 ///
 /// A line before SCHEDULE whose first word is no statement word is `UnknownStatement`; any other
 /// line that spells no statement is `BadOperand`.
-pub fn statement(
-    alloc: Global,
+pub fn statement<'a, 't>(
     scheduled: bool,
     entries: u32,
-    line: &TokenLine,
-) -> Result<Stmt, FormError>
+    line: &'a TokenLine<'t>,
+) -> Result<Stmt<'a>, Kind>
     ensures exact { Answers result scheduled entries line.now }
-    ensures read { Forms result (form scheduled entries line.now) }
+    ensures read { result ≡ form scheduled entries line.now }
 {
-    read_form(alloc, scheduled, entries, line)
+    read_form(scheduled, entries, line)
 }

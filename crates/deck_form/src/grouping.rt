@@ -10,31 +10,29 @@ use std::mem;
 
 /// The statements so far.
 #[derive(Drop)]
-pub struct Gathering {
+pub struct Gathering<'t> {
     /// Those to which no line can belong any more.
-    pub done: List<TokenLine>,
+    pub done: List<TokenLine<'t>>,
     /// The last one.
-    pub last: Option<TokenLine>,
+    pub last: Option<TokenLine<'t>>,
     /// Whether SCHEDULE is among those that are done.
     pub scheduled: bool,
 }
 
-fn is_schedule(ts: &[Token]) -> bool
+fn is_schedule(ts: &[Token<'_>]) -> bool
     ensures { result ≡ is_schedule ts.now }
 {
     match ts.split_first() {
-        Some((Token::Word(w), rest)) => {
-            rest.len() == 0 && w.as_slice() == b"SCHEDULE".as_slice()
-        }
+        Some((Token::Word(w), rest)) => { rest.len() == 0 && w.bytes() == b"SCHEDULE".as_slice() }
         _ => false,
     }
 }
 
-impl Gathering {
+impl<'t> Gathering<'t> {
     /// Takes a line behind the statement so far.
     #[tactic(auto, unfolding(crate::specs::Statements::after))]
-    fn take_after(&mut self, last: TokenLine, line: TokenLine) -> Result<(), NoMemory>
-        ensures { OnOk result (self.new ≡ after self.old last line) }
+    fn take_after(&mut self, last: TokenLine<'t>, line: TokenLine<'t>) -> Result<(), NoMemory>
+        ensures { OnOk result (self.new ≡ after self.old last.entry line.entry) }
     {
         if self.scheduled || is_schedule(last.tokens.as_slice()) {
             self.scheduled = true;
@@ -51,8 +49,8 @@ impl Gathering {
 
     /// Takes the next line.
     #[tactic(auto, unfolding(crate::specs::Statements::gathered, crate::specs::Statements::after))]
-    fn take(&mut self, line: TokenLine) -> Result<(), NoMemory>
-        ensures { OnOk result (self.new ≡ gathered self.old line) }
+    fn take(&mut self, line: TokenLine<'t>) -> Result<(), NoMemory>
+        ensures { OnOk result (self.new ≡ gathered self.old line.entry) }
     {
         match mem::replace(&mut self.last, None) {
             None => {
@@ -64,8 +62,8 @@ impl Gathering {
     }
 
     /// All statements.
-    fn finish(self) -> Result<List<TokenLine>, NoMemory>
-        ensures { IfOk result (λ all. all ≡ finished self) }
+    fn finish(self) -> Result<List<TokenLine<'t>>, NoMemory>
+        ensures { IfOk result (λ all. all ≡ finished self.entry) }
     {
         let mut all = self.done;
         match self.last {
@@ -79,8 +77,8 @@ impl Gathering {
 }
 
 /// Takes all lines.
-fn gather(alloc: Global, lines: List<TokenLine>) -> Result<Gathering, NoMemory>
-    ensures { IfOk result (λ g. g ≡ gather_all no_statements lines) }
+fn gather<'t>(alloc: Global, lines: List<TokenLine<'t>>) -> Result<Gathering<'t>, NoMemory>
+    ensures { IfOk result (λ g. g ≡ gather_all no_statements lines.entry) }
 {
     let mut gathering = Gathering {
         done: List::new(alloc),
@@ -95,8 +93,11 @@ fn gather(alloc: Global, lines: List<TokenLine>) -> Result<Gathering, NoMemory>
 
 /// The statements of lines, each as one line with the number of its first.
 #[tactic(auto, using(crate::proofs::Gathered::gathers))]
-pub fn statements(alloc: Global, lines: List<TokenLine>) -> Result<List<TokenLine>, NoMemory>
-    ensures { IfOk result (λ all. all ≡ statements lines) }
+pub fn statements<'t>(
+    alloc: Global,
+    lines: List<TokenLine<'t>>,
+) -> Result<List<TokenLine<'t>>, NoMemory>
+    ensures { IfOk result (λ all. all ≡ statements lines.entry) }
 {
     let gathering = gather(alloc, lines)?;
     gathering.finish()

@@ -12,7 +12,7 @@ mod words;
 
 pub use complex::Setup;
 pub use event::Act;
-pub use form::{FormError, Stmt, statement};
+pub use form::{Stmt, statement};
 pub use grouping::statements;
 pub use laws::one_statement;
 pub use unbuilt::is_unbuilt;

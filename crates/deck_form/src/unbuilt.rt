@@ -26,7 +26,7 @@ fn is_star(star: Option<bool>) -> bool
     }
 }
 
-fn is_unbuilt_act(act: &Act) -> bool
+fn is_unbuilt_act(act: &Act<'_>) -> bool
     ensures { result ≡ is_unbuilt_act act.now }
 {
     match act {
@@ -45,7 +45,7 @@ fn is_unbuilt_act(act: &Act) -> bool
 
 /// Whether a statement has a form that is not built: one of those words, MODE(STAR), or an event other than
 /// TASK, TURN and REST.
-pub fn is_unbuilt(st: &Stmt) -> bool
+pub fn is_unbuilt(st: &Stmt<'_>) -> bool
     ensures { result ≡ is_unbuilt st.now }
 {
     match st {

@@ -1,11 +1,9 @@
 //! Names of systems, jobs and tasks, and numbers, as the bytes of a word.
-ghost use Rattle.std.specs.Prelude.{◌≡◌, ◌<◌, ◌==◌, length, position, IfErr, IfSome};
+ghost use Rattle.std.specs.Prelude.{◌≡◌, ◌<◌, ◌==◌, length, position, IfSome};
 ghost use Rattle.deck_scan.specs.Next.{Reads};
 ghost use Rattle.deck_form.specs.Words.{is_digit, is_name_byte, is_name, all_name, short_at, named_at, dotted_at, parted, digits, number_of};
 
-use deck_scan::{Miss, Token, any_word_at, end_at};
-use grs_base::List;
-use std::alloc::Global;
+use deck_scan::{GivenName, Miss, Token, any_word_at, end_at};
 
 /// How many digits a number may have, so that it has less than 32 bits.
 const MOST_DIGITS: usize = 9;
@@ -49,23 +47,23 @@ fn is_name(w: &[u8]) -> bool
 
 /// The name of a system, job or task, of any length.
 #[tactic(auto, unfolding(crate::specs::Words::short_at))]
-pub fn short_at(alloc: Global, ts: &[Token]) -> Result<(List<u8>, &[Token]), Miss>
+pub fn short_at<'a, 't>(ts: &'a [Token<'t>]) -> Result<(GivenName<'a>, &'a [Token<'t>]), Miss>
     ensures { Reads (λ x. (x.0, x.1.now)) result (short_at ts.now) }
 {
     let (w, rest) = any_word_at(ts)?;
     if is_name(w) {
-        Ok((List::from_bytes(alloc, w)?, rest))
+        Ok((GivenName::new(w), rest))
     } else {
-        Err(Miss::Bad)
+        Err(Miss)
     }
 }
 
 /// The name of a system, job or task, of any length, and nothing after it.
 #[tactic(auto, unfolding(crate::specs::Words::named_at))]
-pub fn named_at(alloc: Global, ts: &[Token]) -> Result<List<u8>, Miss>
+pub fn named_at<'a, 't>(ts: &'a [Token<'t>]) -> Result<GivenName<'a>, Miss>
     ensures { Reads (λ x. x) result (named_at ts.now) }
 {
-    let (name, ts) = short_at(alloc, ts)?;
+    let (name, ts) = short_at(ts)?;
     end_at(ts)?;
     Ok(name)
 }
@@ -79,52 +77,51 @@ fn point_of(w: &[u8]) -> Option<usize>
 }
 
 /// A name, a point, a name.
-fn parted(alloc: Global, w: &[u8]) -> Result<(List<u8>, List<u8>), Miss>
+fn parted<'a>(w: &'a [u8]) -> Result<(GivenName<'a>, GivenName<'a>), Miss>
     ensures { Reads (λ x. x) result (parted (position (λ b. b == 46) w.now) w.now) }
 {
     match point_of(w) {
-        None => Err(Miss::Bad),
+        None => Err(Miss),
         Some(i) => {
             let job = &w[..i];
             let task = &w[i + 1..];
             if !is_name(job) {
-                return Err(Miss::Bad);
+                return Err(Miss);
             }
             if !is_name(task) {
-                return Err(Miss::Bad);
+                return Err(Miss);
             }
-            Ok((
-                List::from_bytes(alloc, job)?,
-                List::from_bytes(alloc, task)?,
-            ))
+            Ok((GivenName::new(job), GivenName::new(task)))
         }
     }
 }
 
+/// The names of a job and a task, and the tokens behind them.
+type Dotted<'a, 't> = (GivenName<'a>, GivenName<'a>, &'a [Token<'t>]);
+
 /// The names of a job and a task with a point between them.
 #[tactic(auto, unfolding(crate::specs::Words::dotted_at))]
-pub fn dotted_at(alloc: Global, ts: &[Token]) -> Result<(List<u8>, List<u8>, &[Token]), Miss>
+pub fn dotted_at<'a, 't>(ts: &'a [Token<'t>]) -> Result<Dotted<'a, 't>, Miss>
     ensures { Reads (λ x. (x.0, x.1, x.2.now)) result (dotted_at ts.now) }
 {
     let (w, rest) = any_word_at(ts)?;
-    let (job, task) = parted(alloc, w)?;
+    let (job, task) = parted(w)?;
     Ok((job, task, rest))
 }
 
 /// The number that 1 to 9 decimal digits write.
 #[tactic(auto, unfolding(crate::specs::Words::number_of, crate::specs::Words::digits))]
 pub fn number_of(w: &[u8]) -> Result<u32, Miss>
-    ensures reads { Reads (λ x. x) result (number_of w.now) }
-    ensures bad { IfErr result (λ e. e ≡ Miss.Bad) }
+    ensures { Reads (λ x. x) result (number_of w.now) }
 {
     if w.is_empty() || w.len() > MOST_DIGITS {
-        return Err(Miss::Bad);
+        return Err(Miss);
     }
     let mut number = 0;
     let mut rest = w;
     while let Some((b, tail)) = rest.split_first() {
         if !is_digit(*b) {
-            return Err(Miss::Bad);
+            return Err(Miss);
         }
         number = number * 10 + u32::from(*b - b'0');
         rest = tail;

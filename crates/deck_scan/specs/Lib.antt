@@ -8,3 +8,4 @@ pub mod Named
 pub mod Lengths
 pub mod Next
 pub mod AnyBytes
+pub mod Part

@@ -4,21 +4,16 @@ use Rattle.std.specs.Str.{bytes_eq}
 use Rattle.deck_scan.specs.declared.token.Token.{Token}
 use Rattle.deck_scan.specs.declared.token.Token.TheVariants.{Word, Name, Open, Close, Comma, Equals}
 use Rattle.deck_scan.specs.declared.miss.Miss.{Miss}
-use Rattle.deck_scan.specs.declared.miss.Miss.TheVariants as misses
 
 infixl 10 ◌>>=◌
 abbrev pub ◌>>=◌ : {A B : Type 0} → Option A → (A → Option B) → Option B
 (Some x) >>= f = f x
 None >>= f = None
 
-abbrev pub Misses : {Y : Type 0} → Miss → Option Y → Type 0
-Misses misses.NoMemory read = Unit {0}
-Misses misses.Bad read = read ≡ None
-
--- What a function returned, seen by view, is what reading gives, unless memory ran out.
+-- What a function returned, seen by view, is what reading gives.
 abbrev pub Reads : {X Y : Type 0} → (X → Y) → Result X Miss → Option Y → Type 0
 Reads view (Ok x) read = read ≡ Some (view x)
-Reads view (Err e) read = Misses e read
+Reads view (Err e) read = read ≡ None
 
 abbrev pub open_at : List Token → Option (List Token)
 open_at (Open ∷ ts) = Some ts

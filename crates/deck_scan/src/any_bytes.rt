@@ -27,8 +27,8 @@ fn take_wrong(scan: &mut Scan, alloc: Global) -> Result<(), NoMemory>
 }
 
 /// The lines of a text that was read to its end.
-fn ended(scan: Scan, alloc: Global) -> Result<List<TokenLine>, NoMemory>
-    ensures { IfOk result (λ ls. ls ≡ (end_line (finish_in scan.mode scan)).lines) }
+fn ended<'t>(scan: Scan<'t>, alloc: Global) -> Result<List<TokenLine<'t>>, NoMemory>
+    ensures { IfOk result (λ ls. ls ≡ (end_line (finish_in scan.entry.mode scan.entry)).lines) }
 {
     let mut scan = scan;
     if MOST_LINES < scan.line || MOST_LINES < scan.begun {
@@ -40,7 +40,7 @@ fn ended(scan: Scan, alloc: Global) -> Result<List<TokenLine>, NoMemory>
 }
 
 /// What is read of a text.
-fn read_any(alloc: Global, text: &[u8]) -> Result<List<TokenLine>, NoMemory>
+fn read_any<'t>(alloc: Global, text: &'t [u8]) -> Result<List<TokenLine<'t>>, NoMemory>
     ensures { IfOk result (λ ls. ls ≡ lines_of (readable text.now)) }
 {
     let mut scan = Scan::new(alloc);
@@ -66,7 +66,7 @@ fn read_any(alloc: Global, text: &[u8]) -> Result<List<TokenLine>, NoMemory>
 /// to it and is no token.
 ///
 /// It is `NoMemory` for want of memory, also where the text has more than 4,294,967,293 lines.
-pub fn any_lines(alloc: Global, text: &[u8]) -> Result<List<TokenLine>, NoMemory>
+pub fn any_lines<'t>(alloc: Global, text: &'t [u8]) -> Result<List<TokenLine<'t>>, NoMemory>
     ensures { IfOk result (λ ls. SpellsLines (readable text.now) ls) }
 {
     read_any(alloc, text)

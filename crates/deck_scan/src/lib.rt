@@ -5,6 +5,7 @@
 mod any_bytes;
 mod bytes;
 mod closes;
+mod given;
 mod laws;
 mod lengths;
 mod miss;
@@ -14,6 +15,7 @@ mod token;
 
 pub use any_bytes::any_lines;
 pub use closes::bytes_to_close;
+pub use given::GivenName;
 pub use laws::{bad_bytes, printed_names, spelled_lines};
 pub use lengths::{is_bad_qname, is_bad_rname, maybe_qname, maybe_rname, qname_of, rname_of};
 pub use miss::{Miss, or_bad, refused};
@@ -21,4 +23,4 @@ pub use next::{
     any_word_at, close_at, comma_at, end_at, equals_at, name_at, open_at, value_at, word_at,
 };
 pub use scan::{MOST_TEXT_BYTES, lines};
-pub use token::{Token, TokenLine};
+pub use token::{Part, Token, TokenLine};

@@ -1,28 +1,14 @@
-//! Why tokens are not read, and the fault that a reader tells of it. Every reader of tokens answers so,
+//! That tokens are of another form, and the fault that a reader tells of it. Every reader of tokens answers so,
 //! in this crate and in those above.
 ghost use Rattle.std.specs.Prelude.{◌≡◌, Option};
-ghost use Rattle.deck_scan.specs.declared.miss.Miss.TheVariants as misses;
 ghost use Rattle.deck_scan.specs.Gives.{Gives, or_bad};
 ghost use Rattle.deck_scan.specs.Next.{Reads};
 
-use grs_base::{DeckFault, Kind, NoMemory, ReadError};
+use grs_base::{DeckFault, Kind, ReadError};
 
-/// Why tokens are not read.
+/// The tokens are of another form than the one that is read.
 #[derive(Clone, Copy, Debug, PartialEq, Eq)]
-pub enum Miss {
-    /// The tokens are of another form.
-    Bad,
-    /// Memory was wanting for the names that stand there.
-    NoMemory,
-}
-
-impl From<NoMemory> for Miss {
-    ghost from_gives = { λ _ e. e ≡ misses.NoMemory };
-
-    fn from(_e: NoMemory) -> Miss {
-        Miss::NoMemory
-    }
-}
+pub struct Miss;
 
 /// A fault of this kind on this line, which counts from 1; 0 is the text as a whole.
 pub fn refused(line: u32, kind: Kind) -> ReadError
@@ -37,7 +23,6 @@ pub fn or_bad<T>(line: u32, read: Result<T, Miss>) -> Result<T, ReadError>
 {
     match read {
         Ok(value) => Ok(value),
-        Err(Miss::Bad) => Err(refused(line, Kind::BadOperand)),
-        Err(Miss::NoMemory) => Err(ReadError::NoMemory),
+        Err(Miss) => Err(refused(line, Kind::BadOperand)),
     }
 }

@@ -1,104 +1,95 @@
 //! The next token. Each reader takes what it reads from the front of the tokens and hands on the rest;
-//! it is `Bad` where something else stands there, and `NoMemory` only where it copies a name.
-ghost use Rattle.std.specs.Prelude.{◌≡◌, IfErr};
+//! where something else stands there it is a `Miss`. Nothing is copied.
+ghost use Rattle.std.specs.Prelude.{◌≡◌};
 ghost use Rattle.deck_scan.specs.Next.{Reads, open_at, close_at, comma_at, equals_at, end_at, word_at, any_word_at, value_at, name_at};
 
+use crate::given::GivenName;
 use crate::miss::Miss;
 use crate::token::Token;
-use grs_base::List;
-use std::alloc::Global;
 
 /// Takes `(`.
-pub fn open_at(ts: &[Token]) -> Result<&[Token], Miss>
-    ensures reads { Reads (λ x. x.now) result (open_at ts.now) }
-    ensures bad { IfErr result (λ e. e ≡ Miss.Bad) }
+pub fn open_at<'a, 't>(ts: &'a [Token<'t>]) -> Result<&'a [Token<'t>], Miss>
+    ensures { Reads (λ x. x.now) result (open_at ts.now) }
 {
     match ts.split_first() {
         Some((Token::Open, rest)) => Ok(rest),
-        _ => Err(Miss::Bad),
+        _ => Err(Miss),
     }
 }
 
 /// Takes `)`.
-pub fn close_at(ts: &[Token]) -> Result<&[Token], Miss>
-    ensures reads { Reads (λ x. x.now) result (close_at ts.now) }
-    ensures bad { IfErr result (λ e. e ≡ Miss.Bad) }
+pub fn close_at<'a, 't>(ts: &'a [Token<'t>]) -> Result<&'a [Token<'t>], Miss>
+    ensures { Reads (λ x. x.now) result (close_at ts.now) }
 {
     match ts.split_first() {
         Some((Token::Close, rest)) => Ok(rest),
-        _ => Err(Miss::Bad),
+        _ => Err(Miss),
     }
 }
 
 /// Takes `,`.
-pub fn comma_at(ts: &[Token]) -> Result<&[Token], Miss>
-    ensures reads { Reads (λ x. x.now) result (comma_at ts.now) }
-    ensures bad { IfErr result (λ e. e ≡ Miss.Bad) }
+pub fn comma_at<'a, 't>(ts: &'a [Token<'t>]) -> Result<&'a [Token<'t>], Miss>
+    ensures { Reads (λ x. x.now) result (comma_at ts.now) }
 {
     match ts.split_first() {
         Some((Token::Comma, rest)) => Ok(rest),
-        _ => Err(Miss::Bad),
+        _ => Err(Miss),
     }
 }
 
 /// Takes `=`.
-pub fn equals_at(ts: &[Token]) -> Result<&[Token], Miss>
-    ensures reads { Reads (λ x. x.now) result (equals_at ts.now) }
-    ensures bad { IfErr result (λ e. e ≡ Miss.Bad) }
+pub fn equals_at<'a, 't>(ts: &'a [Token<'t>]) -> Result<&'a [Token<'t>], Miss>
+    ensures { Reads (λ x. x.now) result (equals_at ts.now) }
 {
     match ts.split_first() {
         Some((Token::Equals, rest)) => Ok(rest),
-        _ => Err(Miss::Bad),
+        _ => Err(Miss),
     }
 }
 
 /// Nothing stands there any more.
-pub fn end_at(ts: &[Token]) -> Result<(), Miss>
-    ensures reads { Reads (λ x. x) result (end_at ts.now) }
-    ensures bad { IfErr result (λ e. e ≡ Miss.Bad) }
+pub fn end_at(ts: &[Token<'_>]) -> Result<(), Miss>
+    ensures { Reads (λ x. x) result (end_at ts.now) }
 {
     match ts.split_first() {
-        Some(_) => Err(Miss::Bad),
+        Some(_) => Err(Miss),
         None => Ok(()),
     }
 }
 
 /// Takes a word, and gives its bytes.
-pub fn any_word_at(ts: &[Token]) -> Result<(&[u8], &[Token]), Miss>
-    ensures reads { Reads (λ x. (x.0.now, x.1.now)) result (any_word_at ts.now) }
-    ensures bad { IfErr result (λ e. e ≡ Miss.Bad) }
+pub fn any_word_at<'a, 't>(ts: &'a [Token<'t>]) -> Result<(&'a [u8], &'a [Token<'t>]), Miss>
+    ensures { Reads (λ x. (x.0.now, x.1.now)) result (any_word_at ts.now) }
 {
     match ts.split_first() {
-        Some((Token::Word(w), rest)) => Ok((w.as_slice(), rest)),
-        _ => Err(Miss::Bad),
+        Some((Token::Word(w), rest)) => Ok((w.bytes(), rest)),
+        _ => Err(Miss),
     }
 }
 
 /// Takes this word.
-pub fn word_at<'a>(word: &[u8], ts: &'a [Token]) -> Result<&'a [Token], Miss>
-    ensures reads { Reads (λ x. x.now) result (word_at word.now ts.now) }
-    ensures bad { IfErr result (λ e. e ≡ Miss.Bad) }
+pub fn word_at<'a, 't>(word: &[u8], ts: &'a [Token<'t>]) -> Result<&'a [Token<'t>], Miss>
+    ensures { Reads (λ x. x.now) result (word_at word.now ts.now) }
 {
     let (w, rest) = any_word_at(ts)?;
-    if w == word { Ok(rest) } else { Err(Miss::Bad) }
+    if w == word { Ok(rest) } else { Err(Miss) }
 }
 
 /// Takes `=` and a word, and gives the bytes of the word.
-pub fn value_at(ts: &[Token]) -> Result<(&[u8], &[Token]), Miss>
-    ensures reads { Reads (λ x. (x.0.now, x.1.now)) result (value_at ts.now) }
-    ensures bad { IfErr result (λ e. e ≡ Miss.Bad) }
+pub fn value_at<'a, 't>(ts: &'a [Token<'t>]) -> Result<(&'a [u8], &'a [Token<'t>]), Miss>
+    ensures { Reads (λ x. (x.0.now, x.1.now)) result (value_at ts.now) }
 {
     let ts = equals_at(ts)?;
     any_word_at(ts)
 }
 
-/// Takes the name of a resource, plain, quoted or hexadecimal, and gives its bytes, of any length.
-pub fn name_at(alloc: Global, ts: &[Token]) -> Result<(List<u8>, &[Token]), Miss>
+/// Takes the name of a resource, plain, quoted or hexadecimal, of any length.
+pub fn name_at<'a, 't>(ts: &'a [Token<'t>]) -> Result<(GivenName<'a>, &'a [Token<'t>]), Miss>
     ensures { Reads (λ x. (x.0, x.1.now)) result (name_at ts.now) }
 {
     match ts.split_first() {
-        Some((Token::Word(w), rest)) => Ok((List::from_bytes(alloc, w.as_slice())?, rest)),
-        Some((Token::Name(w), rest)) => Ok((List::from_bytes(alloc, w.as_slice())?, rest)),
-        _ => Err(Miss::Bad),
+        Some((Token::Word(w), rest)) => Ok((GivenName::new(w.bytes()), rest)),
+        Some((Token::Name(w), rest)) => Ok((GivenName::new(w.bytes()), rest)),
+        _ => Err(Miss),
     }
 }

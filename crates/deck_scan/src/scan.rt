@@ -7,7 +7,7 @@ ghost use Rattle.deck_scan.specs.Scan.{put, put_word, put_open, end_line, break_
 
 use crate::bytes::{digit_of, is_allowed_byte, is_hex_byte, is_word_byte};
 use crate::miss::refused;
-use crate::token::{Token, TokenLine};
+use crate::token::{Part, Token, TokenLine};
 use grs_base::{Kind, List, NoMemory, ReadError};
 use std::alloc::Global;
 use std::mem;
@@ -39,7 +39,7 @@ pub enum Mode {
 
 /// What has been read.
 #[derive(Drop)]
-pub struct Scan {
+pub struct Scan<'t> {
     /// The number of the line, from 1.
     pub line: u32,
     /// The line on which the last comment began.
@@ -50,15 +50,15 @@ pub struct Scan {
     /// The bytes of the token that stands open.
     pub part: List<u8>,
     /// The tokens of this line.
-    pub tokens: List<Token>,
+    pub tokens: List<Token<'t>>,
     /// Whether the line has one token, a word, and nothing stood behind it yet.
     pub near: bool,
     /// Whether a token stood directly behind the line's first word.
     pub joined: bool,
-    pub lines: List<TokenLine>,
+    pub lines: List<TokenLine<'t>>,
 }
 
-impl Scan {
+impl<'t> Scan<'t> {
     pub(crate) fn new(alloc: Global) -> Self
         ensures { result ≡ start }
     {
@@ -76,8 +76,8 @@ impl Scan {
     }
 
     #[tactic(auto, unfolding(crate::specs::Scan::put))]
-    fn put(&mut self, alloc: Global, token: Token) -> Result<(), NoMemory>
-        ensures { OnOk result (self.new ≡ put token self.old) }
+    fn put(&mut self, alloc: Global, token: Token<'t>) -> Result<(), NoMemory>
+        ensures { OnOk result (self.new ≡ put token.entry self.old) }
     {
         self.tokens.push(token)?;
         self.joined = self.joined || self.near;
@@ -120,7 +120,7 @@ impl Scan {
     {
         let is_first = self.tokens.len() == 0;
         let part = self.take_part(alloc);
-        self.put(alloc, Token::Word(part))?;
+        self.put(alloc, Token::Word(Part::made(part)))?;
         self.near = is_first;
         Ok(())
     }
@@ -130,7 +130,7 @@ impl Scan {
         ensures { OnOk result (self.new ≡ put (Token.Name self.old.part) self.old) }
     {
         let part = self.take_part(alloc);
-        self.put(alloc, Token::Name(part))
+        self.put(alloc, Token::Name(Part::made(part)))
     }
 
     #[tactic(auto, unfolding(crate::specs::Scan::put, crate::specs::Scan::put_open))]
@@ -384,7 +384,7 @@ impl Scan {
 }
 
 /// The lines of a text that is not too long.
-fn scan_lines(alloc: Global, text: &[u8]) -> Result<List<TokenLine>, ReadError>
+fn scan_lines<'t>(alloc: Global, text: &'t [u8]) -> Result<List<TokenLine<'t>>, ReadError>
     requires { length text.now ≤ most_text_bytes }
     ensures { Gives result (lines_or_fault text.now) }
 {
@@ -416,7 +416,7 @@ fn scan_lines(alloc: Global, text: &[u8]) -> Result<List<TokenLine>, ReadError>
 /// is each but blank to `~`, LF and a CR directly before an LF, is `BadByte`, with the line of the
 /// first one. Want of memory is `NoMemory`.
 #[tactic(auto, unfolding(crate::specs::Reading::lines_or_fault))]
-pub fn lines(alloc: Global, text: &[u8]) -> Result<List<TokenLine>, ReadError>
+pub fn lines<'t>(alloc: Global, text: &'t [u8]) -> Result<List<TokenLine<'t>>, ReadError>
     // By the grammar of pieces.
     ensures exact { Answers result text.now }
     // By the function on lists that the readers above this one are built on.

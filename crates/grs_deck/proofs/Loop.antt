@@ -1,5 +1,5 @@
 -- Taking lines one after the other, as a loop does.
-use Rattle.std.proofs.Common.{◌≡◌, List, [], ◌∷◌, length, Result, Ok, Err, refl, sym, ap, ◌∙◌, arith}
+use Rattle.std.proofs.Common.{◌≡◌, ◌+◌, ◌<◌, ◌≤◌, ℕ, zero, suc, List, [], ◌∷◌, length, drop, get_or, Result, Ok, Err, refl, sym, ap, ◌∙◌, arith}
 use Rattle.grs_base.specs.declared.fault.DeckFault.{DeckFault}
 use Rattle.grs_base.specs.declared.fault.ReadError.{ReadError}
 use Rattle.grs_base.specs.declared.fault.ReadError.TheVariants as errors
@@ -25,3 +25,15 @@ pub is_done : (d : Draft) (rest : List TokenLine) (total : Result Draft DeckFaul
 unfolding judge_all
 is_done d [] total none so_far = sym so_far
 is_done d (l ∷ rest) total none so_far = absurd (omega (arith, none))
+
+-- from a line on, and behind it
+pub dropped : (ls : List TokenLine) (i : ℕ) (line : TokenLine) → i < length ls → line ≡ get_or ls i line → drop i ls ≡ line ∷ drop (i + 1) ls
+dropped [] i line within is = absurd (omega (arith, within))
+dropped (l ∷ ls) zero line within is = ap (λ (x : TokenLine). x ∷ ls) (sym is)
+dropped (l ∷ ls) (suc i) line within is = let e : suc i + 1 ≡ suc (i + 1) = omega arith in rw e (dropped ls i line (omega (arith, within)) is)
+
+pub all_dropped : (ls : List TokenLine) (i : ℕ) → length ls ≤ i → length (drop i ls) ≡ 0
+all_dropped [] zero h = refl
+all_dropped [] (suc i) h = refl
+all_dropped (l ∷ ls) zero h = absurd (omega (arith, h))
+all_dropped (l ∷ ls) (suc i) h = all_dropped ls i (omega (arith, h))

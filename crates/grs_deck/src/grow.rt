@@ -1,5 +1,5 @@
 //! What each statement adds to a deck. What grows is the last system, its last job, its last task.
-ghost use Rattle.std.specs.Prelude.{◌≡◌, false, OnOk};
+ghost use Rattle.std.specs.Prelude.{◌≡◌, false, OnOk, IfOk};
 ghost use Rattle.grs_deck.specs.Judge.{has_bad_name, is_list_full, is_crowded};
 ghost use Rattle.grs_deck.specs.Whole.{AreLists};
 ghost use Rattle.grs_deck.specs.Places.{Fits};
@@ -8,8 +8,9 @@ ghost use Rattle.grs_deck.specs.Grow.{with_entry, add_job, add_task, add_line, i
 use crate::limits::{DEFAULT_ENTRIES, DEFAULT_LIMIT};
 use crate::places::event_of;
 use deck_form::{Setup, Stmt};
+use deck_scan::GivenName;
 use grs_base::{Line, List, Lists, NoMemory, RnlEntry, Which};
-use grs_wire::{Deck, JobDef, SystemDef, TaskDef};
+use grs_wire::{Deck, JobDef, Name, SystemDef, TaskDef};
 use job_syntax::line_of;
 use rnl_syntax::entry_of;
 use std::alloc::Global;
@@ -28,7 +29,7 @@ fn push_entry(lists: &mut Lists, entry: RnlEntry) -> Result<(), NoMemory>
 }
 
 /// Adds a job to the last system.
-fn push_job(systems: &mut List<SystemDef>, alloc: Global, name: List<u8>) -> Result<(), NoMemory>
+fn push_job(systems: &mut List<SystemDef>, alloc: Global, name: Name) -> Result<(), NoMemory>
     ensures { OnOk result (systems.new ≡ add_job name systems.old) }
 {
     match systems.pop() {
@@ -44,7 +45,7 @@ fn push_job(systems: &mut List<SystemDef>, alloc: Global, name: List<u8>) -> Res
 }
 
 /// Adds a task to the last job.
-fn push_task(jobs: &mut List<JobDef>, alloc: Global, name: List<u8>) -> Result<(), NoMemory>
+fn push_task(jobs: &mut List<JobDef>, alloc: Global, name: Name) -> Result<(), NoMemory>
     ensures { OnOk result (jobs.new ≡ add_task name jobs.old) }
 {
     match jobs.pop() {
@@ -89,7 +90,7 @@ fn push_job_line(jobs: &mut List<JobDef>, line: Line) -> Result<(), NoMemory>
 fn push_system_task(
     systems: &mut List<SystemDef>,
     alloc: Global,
-    name: List<u8>,
+    name: Name,
 ) -> Result<(), NoMemory>
     ensures { OnOk result (systems.new ≡ in_jobs (add_task name) systems.old) }
 {
@@ -124,38 +125,54 @@ fn set_up(deck: &mut Deck, setup: Setup)
     deck.limit = setup.limit.unwrap_or(DEFAULT_LIMIT);
 }
 
-/// Adds what a statement says whose names have the right lengths.
-pub fn grow_deck(deck: &mut Deck, alloc: Global, st: Stmt) -> Result<(), NoMemory>
-    requires names { has_bad_name st ≡ false }
+/// The name of a system, job or task, in memory of its own.
+fn kept_name(alloc: Global, name: &GivenName<'_>) -> Result<Name, NoMemory>
+    ensures { IfOk result (λ kept. kept ≡ name.now) }
+{
+    List::from_bytes(alloc, name.bytes())
+}
+
+/// Adds what a statement says whose names have the right lengths. Its names are copied here.
+pub fn grow_deck(deck: &mut Deck, alloc: Global, st: &Stmt<'_>) -> Result<(), NoMemory>
+    requires names { has_bad_name st.now ≡ false }
     requires systems { Fits deck.old.systems }
     requires lists { AreLists deck.old.lists }
-    requires room { is_crowded deck.old st ≡ false }
-    ensures { OnOk result (deck.new ≡ grow_deck deck.old st) }
+    requires room { is_crowded deck.old st.now ≡ false }
+    ensures { OnOk result (deck.new ≡ grow_deck deck.old st.now) }
 {
     match st {
         Stmt::Unbuilt => Ok(()),
         Stmt::Complex(setup) => {
-            set_up(deck, setup);
+            set_up(deck, *setup);
             Ok(())
         }
         Stmt::Rnldef(rnldef) => {
-            let entry = entry_of(alloc, &rnldef)?;
+            let entry = entry_of(alloc, rnldef)?;
             push_entry(&mut deck.lists, entry)
         }
-        Stmt::System(name) => deck.systems.push(SystemDef {
-            name,
-            desk: List::new(alloc),
-            jobs: List::new(alloc),
-        }),
-        Stmt::Job(name) => push_job(&mut deck.systems, alloc, name),
-        Stmt::Task(name) => push_system_task(&mut deck.systems, alloc, name),
+        Stmt::System(name) => {
+            let name = kept_name(alloc, name)?;
+            deck.systems.push(SystemDef {
+                name,
+                desk: List::new(alloc),
+                jobs: List::new(alloc),
+            })
+        }
+        Stmt::Job(name) => {
+            let name = kept_name(alloc, name)?;
+            push_job(&mut deck.systems, alloc, name)
+        }
+        Stmt::Task(name) => {
+            let name = kept_name(alloc, name)?;
+            push_system_task(&mut deck.systems, alloc, name)
+        }
         Stmt::Line(said) => {
-            let line = line_of(alloc, &said)?;
+            let line = line_of(alloc, said)?;
             push_system_line(&mut deck.systems, line)
         }
         Stmt::Schedule => Ok(()),
         Stmt::Event { system, act } => {
-            match event_of(deck.systems.as_slice(), system.as_slice(), &act) {
+            match event_of(deck.systems.as_slice(), system.bytes(), act) {
                 None => Ok(()),
                 Some(event) => deck.events.push(event),
             }

@@ -29,27 +29,27 @@ fn is_too_long(name: &[u8]) -> bool
     name.len() > MOST_NAME_BYTES
 }
 
-fn has_long_name(act: &Act) -> bool
+fn has_long_name(act: &Act<'_>) -> bool
     ensures { result ≡ has_long_name act.now }
 {
     match act {
-        Act::Task { job, task } => is_too_long(job.as_slice()) || is_too_long(task.as_slice()),
-        Act::Send { job, task } => is_too_long(job.as_slice()) || is_too_long(task.as_slice()),
-        Act::Purge(name) => is_too_long(name.as_slice()),
+        Act::Task { job, task } => is_too_long(job.bytes()) || is_too_long(task.bytes()),
+        Act::Send { job, task } => is_too_long(job.bytes()) || is_too_long(task.bytes()),
+        Act::Purge(name) => is_too_long(name.bytes()),
         _ => false,
     }
 }
 
-fn has_bad_name(st: &Stmt) -> bool
+fn has_bad_name(st: &Stmt<'_>) -> bool
     ensures { result ≡ has_bad_name st.now }
 {
     match st {
-        Stmt::System(n) => is_too_long(n.as_slice()),
-        Stmt::Job(n) => is_too_long(n.as_slice()),
-        Stmt::Task(n) => is_too_long(n.as_slice()),
+        Stmt::System(n) => is_too_long(n.bytes()),
+        Stmt::Job(n) => is_too_long(n.bytes()),
+        Stmt::Task(n) => is_too_long(n.bytes()),
         Stmt::Rnldef(rnldef) => rnl_syntax::has_bad_name(rnldef),
         Stmt::Line(said) => job_syntax::has_bad_name(said),
-        Stmt::Event { system, act } => is_too_long(system.as_slice()) || has_long_name(act),
+        Stmt::Event { system, act } => is_too_long(system.bytes()) || has_long_name(act),
         _ => false,
     }
 }
@@ -63,14 +63,14 @@ fn is_there(place: Option<usize>) -> bool
     }
 }
 
-fn is_repeated(draft: &Draft, st: &Stmt) -> bool
+fn is_repeated(draft: &Draft, st: &Stmt<'_>) -> bool
     ensures { result ≡ is_repeated draft.now st.now }
 {
     let systems = draft.deck.systems.as_slice();
     match st {
-        Stmt::System(n) => is_there(system_place(systems, n.as_slice())),
-        Stmt::Job(n) => is_there(job_place(jobs_now(systems), n.as_slice())),
-        Stmt::Task(n) => is_there(task_place(tasks_now(jobs_now(systems)), n.as_slice())),
+        Stmt::System(n) => is_there(system_place(systems, n.bytes())),
+        Stmt::Job(n) => is_there(job_place(jobs_now(systems), n.bytes())),
+        Stmt::Task(n) => is_there(task_place(tasks_now(jobs_now(systems)), n.bytes())),
         _ => false,
     }
 }
@@ -82,7 +82,7 @@ fn is_idle(systems: &[SystemDef]) -> bool
     tasks_now(jobs_now(systems)).len() == 0
 }
 
-fn is_misplaced(draft: &Draft, st: &Stmt) -> bool
+fn is_misplaced(draft: &Draft, st: &Stmt<'_>) -> bool
     ensures { result ≡ is_misplaced draft.now st.now }
 {
     let systems = draft.deck.systems.as_slice();
@@ -111,7 +111,7 @@ fn is_list_full(lists: &Lists, which: Which) -> bool
     MOST_ENTRIES <= entries
 }
 
-fn is_full(draft: &Draft, st: &Stmt) -> bool
+fn is_full(draft: &Draft, st: &Stmt<'_>) -> bool
     requires { Fits draft.now.deck.systems }
     ensures { result ≡ is_full draft.now st.now }
 {
@@ -126,20 +126,20 @@ fn is_full(draft: &Draft, st: &Stmt) -> bool
     }
 }
 
-fn is_unknown(draft: &Draft, st: &Stmt) -> bool
+fn is_unknown(draft: &Draft, st: &Stmt<'_>) -> bool
     requires { Fits draft.now.deck.systems }
     ensures { result ≡ is_unknown draft.now st.now }
 {
     match st {
         Stmt::Event { system, act } => {
-            event_of(draft.deck.systems.as_slice(), system.as_slice(), act).is_none()
+            event_of(draft.deck.systems.as_slice(), system.bytes(), act).is_none()
         }
         _ => false,
     }
 }
 
 /// The least kind that applies to a statement of the right form.
-pub fn verdict(draft: &Draft, st: &Stmt) -> Option<Kind>
+pub fn verdict(draft: &Draft, st: &Stmt<'_>) -> Option<Kind>
     requires { Fits draft.now.deck.systems }
     ensures { result ≡ verdict draft.now st.now }
 {

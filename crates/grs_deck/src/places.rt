@@ -98,7 +98,7 @@ fn task_in(id: SysId, found: &SystemDef, job: &[u8], task: &[u8]) -> Option<Task
 }
 
 /// What a system does, where each name that it says is known.
-fn choice_of(systems: &[SystemDef], id: SysId, found: &SystemDef, act: &Act) -> Option<Choice>
+fn choice_of(systems: &[SystemDef], id: SysId, found: &SystemDef, act: &Act<'_>) -> Option<Choice>
     requires systems { Fits systems.now }
     requires found { IsWithin found.now }
     ensures { result ≡ choice_of systems.now id found.now act.now }
@@ -107,15 +107,15 @@ fn choice_of(systems: &[SystemDef], id: SysId, found: &SystemDef, act: &Act) -> 
         Act::Task { job, task } => Some(Choice::Task(task_in(
             id,
             found,
-            job.as_slice(),
-            task.as_slice(),
+            job.bytes(),
+            task.bytes(),
         )?)),
         Act::Turn => Some(Choice::Turn),
         Act::Send { job, task } => Some(Choice::Send(task_in(
             id,
             found,
-            job.as_slice(),
-            task.as_slice(),
+            job.bytes(),
+            task.bytes(),
         )?)),
         Act::Take => Some(Choice::Take),
         Act::Settle => Some(Choice::Settle),
@@ -123,7 +123,7 @@ fn choice_of(systems: &[SystemDef], id: SysId, found: &SystemDef, act: &Act) -> 
         Act::Leave(entry) => Some(Choice::Leave(*entry)),
         Act::Switch => Some(Choice::Switch),
         Act::Purge(name) => {
-            let (other, _) = system_at(systems, name.as_slice())?;
+            let (other, _) = system_at(systems, name.bytes())?;
             if other.0 == id.0 {
                 None
             } else {
@@ -135,7 +135,7 @@ fn choice_of(systems: &[SystemDef], id: SysId, found: &SystemDef, act: &Act) -> 
 }
 
 /// The event of an event line, where each name that it says is known.
-pub fn event_of(systems: &[SystemDef], system: &[u8], act: &Act) -> Option<Event>
+pub fn event_of(systems: &[SystemDef], system: &[u8], act: &Act<'_>) -> Option<Event>
     requires { Fits systems.now }
     ensures { result ≡ event_of systems.now system.now act.now }
 {

@@ -13,13 +13,13 @@ ghost use Rattle.grs_deck.specs.Reading.{judge_statement, judge, judge_all, ende
 use crate::grow::grow_deck;
 use crate::judge::{Draft, verdict};
 use crate::limits::{DEFAULT_ENTRIES, DEFAULT_LIMIT, MOST_LINES};
-use deck_form::{FormError, Stmt, statement, statements};
+use deck_form::{Stmt, statement, statements};
 use deck_scan::{TokenLine, lines, refused};
 use grs_base::{Kind, List, Lists, NoMemory, ReadError};
 use grs_wire::Deck;
 use std::alloc::Global;
 
-fn is_schedule(st: &Stmt) -> bool
+fn is_schedule(st: &Stmt<'_>) -> bool
     ensures { result ≡ is_schedule st.now }
 {
     match st {
@@ -29,7 +29,7 @@ fn is_schedule(st: &Stmt) -> bool
 }
 
 /// How many task lines a statement is.
-fn line_count(st: &Stmt) -> u32
+fn line_count(st: &Stmt<'_>) -> u32
     ensures { result ≡ line_count st.now }
 {
     match st {
@@ -39,25 +39,25 @@ fn line_count(st: &Stmt) -> u32
 }
 
 /// Adds what a statement without a fault says.
-fn grow(draft: &mut Draft, alloc: Global, st: Stmt) -> Result<(), NoMemory>
-    requires right { verdict draft.old st ≡ None }
+fn grow(draft: &mut Draft, alloc: Global, st: &Stmt<'_>) -> Result<(), NoMemory>
+    requires right { verdict draft.old st.now ≡ None }
     requires systems { Fits draft.old.deck.systems }
     requires lists { AreLists draft.old.deck.lists }
-    ensures { OnOk result (draft.new ≡ grow draft.old st) }
+    ensures { OnOk result (draft.new ≡ grow draft.old st.now) }
 {
     draft.begun = true;
-    draft.scheduled = draft.scheduled || is_schedule(&st);
-    draft.room = draft.room.saturating_sub(line_count(&st));
+    draft.scheduled = draft.scheduled || is_schedule(st);
+    draft.room = draft.room.saturating_sub(line_count(st));
     grow_deck(&mut draft.deck, alloc, st)
 }
 
 /// Takes a statement of the right form.
-fn take_statement(draft: &mut Draft, alloc: Global, at: u32, st: Stmt) -> Result<(), ReadError>
+fn take_statement(draft: &mut Draft, alloc: Global, at: u32, st: &Stmt<'_>) -> Result<(), ReadError>
     requires systems { Fits draft.old.deck.systems }
     requires lists { AreLists draft.old.deck.lists }
-    ensures { Took result draft.new (judge_statement draft.old at st) }
+    ensures { Took result draft.new (judge_statement draft.old at st.now) }
 {
-    match verdict(draft, &st) {
+    match verdict(draft, st) {
         Some(kind) => Err(refused(at, kind)),
         None => {
             grow(draft, alloc, st)?;
@@ -68,15 +68,14 @@ fn take_statement(draft: &mut Draft, alloc: Global, at: u32, st: Stmt) -> Result
 
 /// Takes a line.
 #[tactic(auto, unfolding(crate::specs::Reading::judge))]
-fn take_line(draft: &mut Draft, alloc: Global, line: &TokenLine) -> Result<(), ReadError>
+fn take_line(draft: &mut Draft, alloc: Global, line: &TokenLine<'_>) -> Result<(), ReadError>
     requires systems { Fits draft.old.deck.systems }
     requires lists { AreLists draft.old.deck.lists }
     ensures { Took result draft.new (judge draft.old line.now) }
 {
-    match statement(alloc, draft.scheduled, draft.deck.entries, line) {
-        Err(FormError::NoMemory) => Err(ReadError::NoMemory),
-        Err(FormError::Kind(kind)) => Err(refused(line.at, kind)),
-        Ok(st) => take_statement(draft, alloc, line.at, st),
+    match statement(draft.scheduled, draft.deck.entries, line) {
+        Err(kind) => Err(refused(line.at, kind)),
+        Ok(st) => take_statement(draft, alloc, line.at, &st),
     }
 }
 
@@ -100,14 +99,14 @@ fn start(alloc: Global) -> Draft
 }
 
 /// Takes the lines of statements in order, up to the first with a fault.
-fn take_lines(alloc: Global, lines: &[TokenLine]) -> Result<Draft, ReadError>
+fn take_lines(alloc: Global, lines: &[TokenLine<'_>]) -> Result<Draft, ReadError>
     ensures { Gives result (judge_all no_draft lines.now) }
 {
     let mut draft = start(alloc);
-    let mut rest = lines;
-    while let Some((line, tail)) = rest.split_first() {
+    let mut next = 0;
+    while let Some(line) = lines.get(next) {
         take_line(&mut draft, alloc, line)?;
-        rest = tail;
+        next += 1;
     }
     Ok(draft)
 }

@@ -1,5 +1,5 @@
 -- A printed line is read again.
-use Rattle.std.proofs.Common.{◌≡◌, ℕ, ◌+◌, ◌/◌, ◌%◌, ◌<◌, ◌≤◌, Bool, true, false, List, [], ◌∷◌, ◌++◌, length, Option, Some, None, refl, sym, ap, subst, arith, append_assoc, append-nil, length-append, inl}
+use Rattle.std.proofs.Common.{◌≡◌, ℕ, ◌+◌, ◌/◌, ◌%◌, ◌<◌, ◌≤◌, Bool, true, false, List, [], ◌∷◌, ◌++◌, length, Option, Some, None, refl, sym, ap, subst, arith, append_assoc, append-nil, inl}
 use Rattle.std.specs.Prelude.{codes, ◌&&◌, ◌||◌, is_none}
 use Rattle.std.specs.List.{flat_map}
 use Rattle.std.proofs.lemmas.Bool.{and_from, and_parts, leb-true}
@@ -27,7 +27,7 @@ use Rattle.deck_scan.specs.AnyBytes.{readable}
 use Rattle.deck_scan.proofs.AnyLemmas.{any_text}
 use Rattle.deck_scan.proofs.Names.{qname_nonempty, rname_nonempty}
 use Rattle.deck_scan.proofs.Print.{name_names}
-use Rattle.deck_scan.proofs.Bits.{Bit, Of, Called, Mark, text_of, tokens_of, is_bit, starts_apart, are_bits, line_of_bits, bits_line, size, bits_long}
+use Rattle.deck_scan.proofs.Bits.{Bit, Of, Called, Mark, text_of, tokens_of, is_bit, starts_apart, are_bits, line_of_bits, bits_line, size}
 use Rattle.job_syntax.specs.declared.options.Opts.{Opts}
 use Rattle.job_syntax.specs.declared.display.Shown.TheVariants as shown
 use Rattle.job_syntax.specs.declared.said.Said.{Said}

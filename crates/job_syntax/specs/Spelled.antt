@@ -1,5 +1,5 @@
 -- How the tokens of a line spell what a task line says, by cases on it.
-use Rattle.std.specs.Prelude.{◌≡◌, ℕ, Bool, true, false, ◌⊎◌, List, [], ◌∷◌, ◌++◌, codes, Some, None}
+use Rattle.std.specs.Prelude.{◌≡◌, ℕ, Bool, true, false, ◌⊎◌, List, [], ◌∷◌, ◌++◌, codes, Some, None, Result, Ok, Err}
 use Rattle.std.specs.List.{flat_map}
 use Rattle.grs_base.specs.declared.line.Scope.{Scope}
 use Rattle.grs_base.specs.declared.line.Scope.TheVariants as scopes
@@ -8,6 +8,7 @@ use Rattle.grs_base.specs.declared.resource.Ret.{Ret}
 use Rattle.grs_base.specs.declared.resource.Ret.TheVariants.{RetNone, RetUse, RetHave, RetTest, RetChng, RetEcb}
 use Rattle.deck_scan.specs.declared.token.Token.{Token}
 use Rattle.deck_scan.specs.declared.token.Token.TheVariants.{Word, Open, Close, Comma, Equals}
+use Rattle.deck_scan.specs.declared.miss.Miss.{Miss}
 use Rattle.deck_scan.specs.Next.{Names, Sets}
 use Rattle.job_syntax.specs.declared.options.Opts.{Opts}
 use Rattle.job_syntax.specs.declared.ask.Ask.{Ask}
@@ -145,3 +146,9 @@ pub record IsSaid (ts : List Token) (s : Said) : Type 0 where
   pub parts : ts ≡ Word word ∷ behind
   pub is_word : IsWord (verb_for s) word
   pub is_behind : IsBehind behind s
+
+-- What is answered of the tokens behind a first word: the task line of this word that they spell, or that they
+-- spell none.
+abbrev pub Answers : Result Said Miss → Verb → List Token → Type 0
+Answers (Ok s) v ts = (verb_for s ≡ v) × IsBehind ts s
+Answers (Err e) v ts = (s : Said) → verb_for s ≡ v → IsBehind ts s → ⊥

@@ -4,30 +4,29 @@ ghost use Rattle.deck_scan.specs.Next.{Reads};
 ghost use Rattle.job_syntax.specs.Ask.{scope_at, ctl_at, names_at, enq_may, reserve_may, deq_may, wait_may, controlled_at, uncontrolled_at, enq_at, reserve_at, deq_at, wait_at, place_at};
 
 use crate::options::{Opts, options_at};
-use deck_scan::{Miss, Token, any_word_at, close_at, comma_at, name_at, open_at};
-use grs_base::{Ctl, List, Ret, Scope};
-use std::alloc::Global;
+use deck_scan::{GivenName, Miss, Token, any_word_at, close_at, comma_at, name_at, open_at};
+use grs_base::{Ctl, Ret, Scope};
 
 /// What a task line names, with names of any length, and the options that stand in it.
 #[derive(Drop)]
-pub struct Ask {
+pub struct Ask<'t> {
     /// The bytes of the qname as they are written, trailing blanks too.
-    pub q: List<u8>,
+    pub q: GivenName<'t>,
     /// The bytes of the rname.
-    pub r: List<u8>,
+    pub r: GivenName<'t>,
     pub scope: Scope,
     pub opts: Opts,
 }
 
 /// What an ENQ or a RESERVE says.
 #[derive(Drop)]
-pub struct EnqAsk {
+pub struct EnqAsk<'t> {
     pub ctl: Ctl,
-    pub ask: Ask,
+    pub ask: Ask<'t>,
 }
 
 #[tactic(auto, unfolding(crate::specs::Ask::ctl_at))]
-fn ctl_at(ts: &[Token]) -> Result<(Ctl, &[Token]), Miss>
+fn ctl_at<'a, 't>(ts: &'a [Token<'t>]) -> Result<(Ctl, &'a [Token<'t>]), Miss>
     ensures { Reads (λ x. (x.0, x.1.now)) result (ctl_at ts.now) }
 {
     let (w, rest) = any_word_at(ts)?;
@@ -36,12 +35,12 @@ fn ctl_at(ts: &[Token]) -> Result<(Ctl, &[Token]), Miss>
     } else if w == b"S".as_slice() {
         Ok((Ctl::S, rest))
     } else {
-        Err(Miss::Bad)
+        Err(Miss)
     }
 }
 
 #[tactic(auto, unfolding(crate::specs::Ask::scope_at))]
-fn scope_at(ts: &[Token]) -> Result<(Scope, &[Token]), Miss>
+fn scope_at<'a, 't>(ts: &'a [Token<'t>]) -> Result<(Scope, &'a [Token<'t>]), Miss>
     ensures { Reads (λ x. (x.0, x.1.now)) result (scope_at ts.now) }
 {
     let (w, rest) = any_word_at(ts)?;
@@ -52,26 +51,29 @@ fn scope_at(ts: &[Token]) -> Result<(Scope, &[Token]), Miss>
     } else if w == b"SYSTEMS".as_slice() {
         Ok((Scope::Systems, rest))
     } else {
-        Err(Miss::Bad)
+        Err(Miss)
     }
 }
 
+/// A qname, an rname, and the tokens behind them.
+type Names<'a, 't> = (GivenName<'a>, GivenName<'a>, &'a [Token<'t>]);
+
 /// An open parenthesis and two names, each with a comma behind it.
 #[tactic(auto, unfolding(crate::specs::Ask::names_at))]
-fn names_at(alloc: Global, ts: &[Token]) -> Result<(List<u8>, List<u8>, &[Token]), Miss>
+fn names_at<'a, 't>(ts: &'a [Token<'t>]) -> Result<Names<'a, 't>, Miss>
     ensures { Reads (λ x. (x.0, x.1, x.2.now)) result (names_at ts.now) }
 {
     let ts = open_at(ts)?;
-    let (q, ts) = name_at(alloc, ts)?;
+    let (q, ts) = name_at(ts)?;
     let ts = comma_at(ts)?;
-    let (r, ts) = name_at(alloc, ts)?;
+    let (r, ts) = name_at(ts)?;
     let ts = comma_at(ts)?;
     Ok((q, r, ts))
 }
 
 /// A scope, the closing parenthesis, and the options.
 #[tactic(auto, unfolding(crate::specs::Ask::place_at))]
-fn place_at(ts: &[Token]) -> Result<(Scope, Opts), Miss>
+fn place_at(ts: &[Token<'_>]) -> Result<(Scope, Opts), Miss>
     ensures { Reads (λ x. x) result (place_at ts.now) }
 {
     let (scope, ts) = scope_at(ts)?;
@@ -81,14 +83,14 @@ fn place_at(ts: &[Token]) -> Result<(Scope, Opts), Miss>
 }
 
 /// An ENQ has no UCB.
-fn enq_may(ask: &Ask) -> bool
+fn enq_may(ask: &Ask<'_>) -> bool
     ensures { result ≡ enq_may ask.now }
 {
     ask.opts.unit.is_none()
 }
 
 /// A RESERVE has UCB, and the scope SYSTEMS.
-fn reserve_may(ask: &Ask) -> bool
+fn reserve_may(ask: &Ask<'_>) -> bool
     ensures { result ≡ reserve_may ask.now }
 {
     match ask.scope {
@@ -99,7 +101,7 @@ fn reserve_may(ask: &Ask) -> bool
 }
 
 /// A DEQ has RET=NONE or RET=HAVE alone.
-fn deq_may(ask: &Ask) -> bool
+fn deq_may(ask: &Ask<'_>) -> bool
     ensures { result ≡ deq_may ask.now }
 {
     match ask.opts.ret {
@@ -111,7 +113,7 @@ fn deq_may(ask: &Ask) -> bool
 }
 
 /// A WAIT has neither RET nor UCB.
-fn wait_may(ask: &Ask) -> bool
+fn wait_may(ask: &Ask<'_>) -> bool
     ensures { result ≡ wait_may ask.now }
 {
     ask.opts.ret.is_none() && ask.opts.unit.is_none()
@@ -119,10 +121,10 @@ fn wait_may(ask: &Ask) -> bool
 
 /// Names, a control, a scope and options.
 #[tactic(auto, unfolding(crate::specs::Ask::controlled_at))]
-fn controlled_at(alloc: Global, ts: &[Token]) -> Result<EnqAsk, Miss>
+fn controlled_at<'a, 't>(ts: &'a [Token<'t>]) -> Result<EnqAsk<'a>, Miss>
     ensures { Reads (λ x. x) result (controlled_at ts.now) }
 {
-    let (q, r, ts) = names_at(alloc, ts)?;
+    let (q, r, ts) = names_at(ts)?;
     let (ctl, ts) = ctl_at(ts)?;
     let ts = comma_at(ts)?;
     let (scope, opts) = place_at(ts)?;
@@ -134,62 +136,54 @@ fn controlled_at(alloc: Global, ts: &[Token]) -> Result<EnqAsk, Miss>
 
 /// Names, a scope and options.
 #[tactic(auto, unfolding(crate::specs::Ask::uncontrolled_at))]
-fn uncontrolled_at(alloc: Global, ts: &[Token]) -> Result<Ask, Miss>
+fn uncontrolled_at<'a, 't>(ts: &'a [Token<'t>]) -> Result<Ask<'a>, Miss>
     ensures { Reads (λ x. x) result (uncontrolled_at ts.now) }
 {
-    let (q, r, ts) = names_at(alloc, ts)?;
+    let (q, r, ts) = names_at(ts)?;
     let (scope, opts) = place_at(ts)?;
     Ok(Ask { q, r, scope, opts })
 }
 
 /// What stands behind ENQ: no UCB.
 #[tactic(auto, unfolding(crate::specs::Ask::enq_at))]
-pub fn enq_at(alloc: Global, ts: &[Token]) -> Result<EnqAsk, Miss>
+pub fn enq_at<'a, 't>(ts: &'a [Token<'t>]) -> Result<EnqAsk<'a>, Miss>
     ensures { Reads (λ x. x) result (enq_at ts.now) }
 {
-    let enq = controlled_at(alloc, ts)?;
+    let enq = controlled_at(ts)?;
     if enq_may(&enq.ask) {
         Ok(enq)
     } else {
-        Err(Miss::Bad)
+        Err(Miss)
     }
 }
 
 /// What stands behind RESERVE: the scope SYSTEMS, and UCB.
 #[tactic(auto, unfolding(crate::specs::Ask::reserve_at))]
-pub fn reserve_at(alloc: Global, ts: &[Token]) -> Result<EnqAsk, Miss>
+pub fn reserve_at<'a, 't>(ts: &'a [Token<'t>]) -> Result<EnqAsk<'a>, Miss>
     ensures { Reads (λ x. x) result (reserve_at ts.now) }
 {
-    let reserve = controlled_at(alloc, ts)?;
+    let reserve = controlled_at(ts)?;
     if reserve_may(&reserve.ask) {
         Ok(reserve)
     } else {
-        Err(Miss::Bad)
+        Err(Miss)
     }
 }
 
 /// What stands behind DEQ: of RET only NONE and HAVE, and no ECB.
 #[tactic(auto, unfolding(crate::specs::Ask::deq_at))]
-pub fn deq_at(alloc: Global, ts: &[Token]) -> Result<Ask, Miss>
+pub fn deq_at<'a, 't>(ts: &'a [Token<'t>]) -> Result<Ask<'a>, Miss>
     ensures { Reads (λ x. x) result (deq_at ts.now) }
 {
-    let ask = uncontrolled_at(alloc, ts)?;
-    if deq_may(&ask) {
-        Ok(ask)
-    } else {
-        Err(Miss::Bad)
-    }
+    let ask = uncontrolled_at(ts)?;
+    if deq_may(&ask) { Ok(ask) } else { Err(Miss) }
 }
 
 /// What stands behind WAIT: no option but RNL.
 #[tactic(auto, unfolding(crate::specs::Ask::wait_at))]
-pub fn wait_at(alloc: Global, ts: &[Token]) -> Result<Ask, Miss>
+pub fn wait_at<'a, 't>(ts: &'a [Token<'t>]) -> Result<Ask<'a>, Miss>
     ensures { Reads (λ x. x) result (wait_at ts.now) }
 {
-    let ask = uncontrolled_at(alloc, ts)?;
-    if wait_may(&ask) {
-        Ok(ask)
-    } else {
-        Err(Miss::Bad)
-    }
+    let ask = uncontrolled_at(ts)?;
+    if wait_may(&ask) { Ok(ask) } else { Err(Miss) }
 }

@@ -17,25 +17,25 @@ fn are_bad_names(q: &[u8], r: &[u8]) -> bool
     !is_qname(q) || !is_rname(r)
 }
 
-fn is_bad_shown(shown: &Shown) -> bool
+fn is_bad_shown(shown: &Shown<'_>) -> bool
     ensures { result ≡ is_bad_shown shown.now }
 {
     match shown {
         Shown::Contended => false,
-        Shown::Resource { q, r } => are_bad_names(q.as_slice(), r.as_slice()),
+        Shown::Resource { q, r } => are_bad_names(q.bytes(), r.bytes()),
     }
 }
 
 /// Whether a name has a length that it may not have: a qname of blanks alone or over 8 bytes, an rname of
 /// no byte or over 255.
-pub fn has_bad_name(said: &Said) -> bool
+pub fn has_bad_name(said: &Said<'_>) -> bool
     ensures { result ≡ has_bad_name said.now }
 {
     match said {
-        Said::Enq(enq) => are_bad_names(enq.ask.q.as_slice(), enq.ask.r.as_slice()),
-        Said::Reserve(enq) => are_bad_names(enq.ask.q.as_slice(), enq.ask.r.as_slice()),
-        Said::Deq(ask) => are_bad_names(ask.q.as_slice(), ask.r.as_slice()),
-        Said::Wait(ask) => are_bad_names(ask.q.as_slice(), ask.r.as_slice()),
+        Said::Enq(enq) => are_bad_names(enq.ask.q.bytes(), enq.ask.r.bytes()),
+        Said::Reserve(enq) => are_bad_names(enq.ask.q.bytes(), enq.ask.r.bytes()),
+        Said::Deq(ask) => are_bad_names(ask.q.bytes(), ask.r.bytes()),
+        Said::Wait(ask) => are_bad_names(ask.q.bytes(), ask.r.bytes()),
         Said::Gqscan(scan) => is_bad_qname(&scan.names.q) || is_bad_rname(&scan.names.r),
         Said::Display(shown) => is_bad_shown(shown),
     }
@@ -79,18 +79,18 @@ fn names_of(alloc: Global, q: &[u8], r: &[u8]) -> Result<(Qname, Rname), NoMemor
     Ok((q, r))
 }
 
-fn enq_line(alloc: Global, enq: &EnqAsk) -> Result<Line, NoMemory>
+fn enq_line(alloc: Global, enq: &EnqAsk<'_>) -> Result<Line, NoMemory>
     requires { are_bad_names enq.now.ask.q enq.now.ask.r ≡ false }
     ensures { IfOk result (λ l. l ≡ enq_line enq.now) }
 {
-    let (q, r) = names_of(alloc, enq.ask.q.as_slice(), enq.ask.r.as_slice())?;
+    let (q, r) = names_of(alloc, enq.ask.q.bytes(), enq.ask.r.bytes())?;
     let item = Item {
         q,
         r,
         ctl: enq.ctl,
         scope: enq.ask.scope,
     };
-    let mut items = List::new(alloc);
+    let mut items = List::with_room(alloc, 1)?;
     items.push(item)?;
     Ok(Line::Enq {
         items,
@@ -99,11 +99,11 @@ fn enq_line(alloc: Global, enq: &EnqAsk) -> Result<Line, NoMemory>
     })
 }
 
-fn reserve_line(alloc: Global, enq: &EnqAsk) -> Result<Line, NoMemory>
+fn reserve_line(alloc: Global, enq: &EnqAsk<'_>) -> Result<Line, NoMemory>
     requires { are_bad_names enq.now.ask.q enq.now.ask.r ≡ false }
     ensures { IfOk result (λ l. l ≡ reserve_line enq.now) }
 {
-    let (q, r) = names_of(alloc, enq.ask.q.as_slice(), enq.ask.r.as_slice())?;
+    let (q, r) = names_of(alloc, enq.ask.q.bytes(), enq.ask.r.bytes())?;
     Ok(Line::Reserve {
         q,
         r,
@@ -114,11 +114,11 @@ fn reserve_line(alloc: Global, enq: &EnqAsk) -> Result<Line, NoMemory>
     })
 }
 
-fn deq_line(alloc: Global, ask: &Ask) -> Result<Line, NoMemory>
+fn deq_line(alloc: Global, ask: &Ask<'_>) -> Result<Line, NoMemory>
     requires { are_bad_names ask.now.q ask.now.r ≡ false }
     ensures { IfOk result (λ l. l ≡ deq_line ask.now) }
 {
-    let (q, r) = names_of(alloc, ask.q.as_slice(), ask.r.as_slice())?;
+    let (q, r) = names_of(alloc, ask.q.bytes(), ask.r.bytes())?;
     Ok(Line::Deq {
         q,
         r,
@@ -129,11 +129,11 @@ fn deq_line(alloc: Global, ask: &Ask) -> Result<Line, NoMemory>
     })
 }
 
-fn wait_line(alloc: Global, ask: &Ask) -> Result<Line, NoMemory>
+fn wait_line(alloc: Global, ask: &Ask<'_>) -> Result<Line, NoMemory>
     requires { are_bad_names ask.now.q ask.now.r ≡ false }
     ensures { IfOk result (λ l. l ≡ wait_line ask.now) }
 {
-    let (q, r) = names_of(alloc, ask.q.as_slice(), ask.r.as_slice())?;
+    let (q, r) = names_of(alloc, ask.q.bytes(), ask.r.bytes())?;
     Ok(Line::Wait {
         q,
         r,
@@ -142,7 +142,7 @@ fn wait_line(alloc: Global, ask: &Ask) -> Result<Line, NoMemory>
     })
 }
 
-fn filter_of(alloc: Global, names: &Wanted) -> Result<Filter, NoMemory>
+fn filter_of(alloc: Global, names: &Wanted<'_>) -> Result<Filter, NoMemory>
     requires q { is_bad_qname names.now.q ≡ false }
     requires r { is_bad_rname names.now.r ≡ false }
     ensures { IfOk result (λ f. f ≡ filter_of names.now) }
@@ -156,21 +156,21 @@ fn filter_of(alloc: Global, names: &Wanted) -> Result<Filter, NoMemory>
     }
 }
 
-fn display_line(alloc: Global, shown: &Shown) -> Result<Line, NoMemory>
+fn display_line(alloc: Global, shown: &Shown<'_>) -> Result<Line, NoMemory>
     requires { is_bad_shown shown.now ≡ false }
     ensures { IfOk result (λ l. l ≡ display_line shown.now) }
 {
     match shown {
         Shown::Contended => Ok(Line::DisplayC),
         Shown::Resource { q, r } => {
-            let (q, r) = names_of(alloc, q.as_slice(), r.as_slice())?;
+            let (q, r) = names_of(alloc, q.bytes(), r.bytes())?;
             Ok(Line::DisplayRes { q, r })
         }
     }
 }
 
 /// The line that a task line makes whose names have the right lengths.
-pub fn line_of(alloc: Global, said: &Said) -> Result<Line, NoMemory>
+pub fn line_of(alloc: Global, said: &Said<'_>) -> Result<Line, NoMemory>
     requires { has_bad_name said.now ≡ false }
     ensures { IfOk result (λ l. l ≡ line_of said.now) }
 {

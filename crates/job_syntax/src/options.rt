@@ -1,6 +1,6 @@
 //! The options behind the parentheses of a task line, in any order, each at most once. Which of
 //! them a line may have is not said here.
-ghost use Rattle.std.specs.Prelude.{◌≡◌, IfErr};
+ghost use Rattle.std.specs.Prelude.{◌≡◌};
 ghost use Rattle.deck_scan.specs.Next.{Reads, maybe};
 ghost use Rattle.job_syntax.specs.Options.{with_ret, with_rnl, with_unit, ret_of, rnl_of, chosen, option_at, options_at};
 
@@ -21,8 +21,7 @@ pub struct Opts {
 
 #[tactic(auto, unfolding(crate::specs::Options::ret_of))]
 fn ret_of(w: &[u8]) -> Result<Ret, Miss>
-    ensures reads { Reads (λ x. x) result (ret_of w.now) }
-    ensures bad { IfErr result (λ e. e ≡ Miss.Bad) }
+    ensures { Reads (λ x. x) result (ret_of w.now) }
 {
     if w == b"NONE".as_slice() {
         Ok(Ret::RetNone)
@@ -35,30 +34,28 @@ fn ret_of(w: &[u8]) -> Result<Ret, Miss>
     } else if w == b"CHNG".as_slice() {
         Ok(Ret::RetChng)
     } else {
-        Err(Miss::Bad)
+        Err(Miss)
     }
 }
 
 #[tactic(auto, unfolding(crate::specs::Options::rnl_of))]
 fn rnl_of(w: &[u8]) -> Result<bool, Miss>
-    ensures reads { Reads (λ x. x) result (rnl_of w.now) }
-    ensures bad { IfErr result (λ e. e ≡ Miss.Bad) }
+    ensures { Reads (λ x. x) result (rnl_of w.now) }
 {
     if w == b"YES".as_slice() {
         Ok(true)
     } else if w == b"NO".as_slice() {
         Ok(false)
     } else {
-        Err(Miss::Bad)
+        Err(Miss)
     }
 }
 
 fn with_ret(opts: Opts, ret: Ret) -> Result<Opts, Miss>
-    ensures reads { Reads (λ x. x) result (with_ret opts ret) }
-    ensures bad { IfErr result (λ e. e ≡ Miss.Bad) }
+    ensures { Reads (λ x. x) result (with_ret opts ret) }
 {
     match opts.ret {
-        Some(_) => Err(Miss::Bad),
+        Some(_) => Err(Miss),
         None => Ok(Opts {
             ret: Some(ret),
             ..opts
@@ -67,11 +64,10 @@ fn with_ret(opts: Opts, ret: Ret) -> Result<Opts, Miss>
 }
 
 fn with_rnl(opts: Opts, rnl: bool) -> Result<Opts, Miss>
-    ensures reads { Reads (λ x. x) result (with_rnl opts rnl) }
-    ensures bad { IfErr result (λ e. e ≡ Miss.Bad) }
+    ensures { Reads (λ x. x) result (with_rnl opts rnl) }
 {
     match opts.rnl {
-        Some(_) => Err(Miss::Bad),
+        Some(_) => Err(Miss),
         None => Ok(Opts {
             rnl: Some(rnl),
             ..opts
@@ -80,11 +76,10 @@ fn with_rnl(opts: Opts, rnl: bool) -> Result<Opts, Miss>
 }
 
 fn with_unit(opts: Opts, unit: u16) -> Result<Opts, Miss>
-    ensures reads { Reads (λ x. x) result (with_unit opts unit) }
-    ensures bad { IfErr result (λ e. e ≡ Miss.Bad) }
+    ensures { Reads (λ x. x) result (with_unit opts unit) }
 {
     match opts.unit {
-        Some(_) => Err(Miss::Bad),
+        Some(_) => Err(Miss),
         None => Ok(Opts {
             unit: Some(unit),
             ..opts
@@ -94,9 +89,12 @@ fn with_unit(opts: Opts, unit: u16) -> Result<Opts, Miss>
 
 /// What stands behind the first word of an option.
 #[tactic(auto, unfolding(crate::specs::Options::chosen))]
-fn chosen<'a>(opts: Opts, w: &[u8], ts: &'a [Token]) -> Result<(Opts, &'a [Token]), Miss>
-    ensures reads { Reads (λ x. (x.0, x.1.now)) result (chosen opts w.now ts.now) }
-    ensures bad { IfErr result (λ e. e ≡ Miss.Bad) }
+fn chosen<'a, 't>(
+    opts: Opts,
+    w: &[u8],
+    ts: &'a [Token<'t>],
+) -> Result<(Opts, &'a [Token<'t>]), Miss>
+    ensures { Reads (λ x. (x.0, x.1.now)) result (chosen opts w.now ts.now) }
 {
     if w == b"ECB".as_slice() {
         Ok((with_ret(opts, Ret::RetEcb)?, ts))
@@ -113,24 +111,22 @@ fn chosen<'a>(opts: Opts, w: &[u8], ts: &'a [Token]) -> Result<(Opts, &'a [Token
         let unit = unit_of(v)?;
         Ok((with_unit(opts, unit)?, ts))
     } else {
-        Err(Miss::Bad)
+        Err(Miss)
     }
 }
 
 /// One more option.
 #[tactic(auto, unfolding(crate::specs::Options::option_at))]
-fn option_at(opts: Opts, ts: &[Token]) -> Result<(Opts, &[Token]), Miss>
-    ensures reads { Reads (λ x. (x.0, x.1.now)) result (option_at opts ts.now) }
-    ensures bad { IfErr result (λ e. e ≡ Miss.Bad) }
+fn option_at<'a, 't>(opts: Opts, ts: &'a [Token<'t>]) -> Result<(Opts, &'a [Token<'t>]), Miss>
+    ensures { Reads (λ x. (x.0, x.1.now)) result (option_at opts ts.now) }
 {
     let ts = comma_at(ts)?;
     let (w, ts) = any_word_at(ts)?;
     chosen(opts, w, ts)
 }
 
-fn maybe_option(opts: Opts, ts: &[Token]) -> Result<(Opts, &[Token]), Miss>
-    ensures reads { Reads (λ x. (x.0, x.1.now)) result (maybe option_at opts ts.now) }
-    ensures bad { IfErr result (λ e. e ≡ Miss.Bad) }
+fn maybe_option<'a, 't>(opts: Opts, ts: &'a [Token<'t>]) -> Result<(Opts, &'a [Token<'t>]), Miss>
+    ensures { Reads (λ x. (x.0, x.1.now)) result (maybe option_at opts ts.now) }
 {
     if ts.len() == 0 {
         return Ok((opts, ts));
@@ -140,9 +136,8 @@ fn maybe_option(opts: Opts, ts: &[Token]) -> Result<(Opts, &[Token]), Miss>
 
 /// At most as many options as there are kinds of them, and nothing after them.
 #[tactic(auto, unfolding(crate::specs::Options::options_at))]
-pub fn options_at(ts: &[Token]) -> Result<Opts, Miss>
-    ensures reads { Reads (λ x. x) result (options_at ts.now) }
-    ensures bad { IfErr result (λ e. e ≡ Miss.Bad) }
+pub fn options_at(ts: &[Token<'_>]) -> Result<Opts, Miss>
+    ensures { Reads (λ x. x) result (options_at ts.now) }
 {
     let none = Opts {
         ret: None,

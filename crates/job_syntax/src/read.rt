@@ -9,52 +9,52 @@ use deck_scan::{Token, TokenLine, any_lines, or_bad, refused};
 use grs_base::{Kind, Line, ReadError};
 use std::alloc::Global;
 
-fn said_by(alloc: Global, at: u32, verb: Option<Verb>, ts: &[Token]) -> Result<Said, ReadError>
+fn said_by<'a, 't>(at: u32, verb: Option<Verb>, ts: &'a [Token<'t>]) -> Result<Said<'a>, ReadError>
     ensures { Gives result (said_by at verb ts.now) }
 {
     match verb {
         None => Err(refused(at, Kind::UnknownStatement)),
-        Some(verb) => or_bad(at, said_at(alloc, verb, ts)),
+        Some(verb) => or_bad(at, said_at(verb, ts)),
     }
 }
 
 /// What a line says.
 #[tactic(auto, unfolding(crate::specs::Reading::said_on))]
-fn said_on(alloc: Global, line: &TokenLine) -> Result<Said, ReadError>
+fn said_on<'a, 't>(line: &'a TokenLine<'t>) -> Result<Said<'a>, ReadError>
     ensures { Gives result (said_on line.now) }
 {
     if line.joined {
         return Err(refused(line.at, Kind::UnknownStatement));
     }
     match line.tokens.as_slice().split_first() {
-        Some((Token::Word(w), rest)) => said_by(alloc, line.at, verb_of(w.as_slice()), rest),
+        Some((Token::Word(w), rest)) => said_by(line.at, verb_of(w.bytes()), rest),
         Some((Token::Unclosed, _)) => Err(refused(line.at, Kind::BadOperand)),
         _ => Err(refused(line.at, Kind::UnknownStatement)),
     }
 }
 
 /// The line that a task line makes which stands alone.
-fn alone(alloc: Global, at: u32, said: Said, rest: &[TokenLine]) -> Result<Line, ReadError>
-    ensures { Gives result (sized_alone at said rest.now) }
+fn alone(alloc: Global, at: u32, said: &Said<'_>, rest: &[TokenLine<'_>]) -> Result<Line, ReadError>
+    ensures { Gives result (sized_alone at said.now rest.now) }
 {
-    if has_bad_name(&said) {
+    if has_bad_name(said) {
         return Err(refused(at, Kind::NameLength));
     }
     match rest.split_first() {
         Some((next, _)) => Err(refused(next.at, Kind::BadOperand)),
-        None => Ok(line_of(alloc, &said)?),
+        None => Ok(line_of(alloc, said)?),
     }
 }
 
 #[tactic(auto, unfolding(crate::specs::Reading::one_line))]
-fn one_line(alloc: Global, all: &[TokenLine]) -> Result<Line, ReadError>
+fn one_line(alloc: Global, all: &[TokenLine<'_>]) -> Result<Line, ReadError>
     ensures { Gives result (one_line all.now) }
 {
     match all.split_first() {
         None => Err(refused(1, Kind::UnknownStatement)),
         Some((line, rest)) => {
-            let said = said_on(alloc, line)?;
-            alone(alloc, line.at, said, rest)
+            let said = said_on(line)?;
+            alone(alloc, line.at, &said, rest)
         }
     }
 }

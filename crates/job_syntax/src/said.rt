@@ -2,23 +2,23 @@
 ghost use Rattle.std.specs.Prelude.{◌≡◌};
 ghost use Rattle.deck_scan.specs.Next.{Reads};
 ghost use Rattle.job_syntax.specs.Said.{verb, said_at};
+ghost use Rattle.job_syntax.specs.Spelled.{Answers};
 
 use crate::ask::{Ask, EnqAsk, deq_at, enq_at, reserve_at, wait_at};
 use crate::display::{ScanAsk, Shown, display_at, scan_at};
 use deck_scan::{Miss, Token};
-use std::alloc::Global;
 
 /// What a task line says, with names of any length.
 #[derive(Drop)]
-pub enum Said {
+pub enum Said<'t> {
     /// No unit stands.
-    Enq(EnqAsk),
+    Enq(EnqAsk<'t>),
     /// The scope is SYSTEMS, and a unit stands.
-    Reserve(EnqAsk),
-    Deq(Ask),
-    Wait(Ask),
-    Gqscan(ScanAsk),
-    Display(Shown),
+    Reserve(EnqAsk<'t>),
+    Deq(Ask<'t>),
+    Wait(Ask<'t>),
+    Gqscan(ScanAsk<'t>),
+    Display(Shown<'t>),
 }
 
 /// The words with which task lines begin. `D` is `Display` too.
@@ -56,17 +56,26 @@ pub fn verb_of(w: &[u8]) -> Option<Verb>
     }
 }
 
-/// What stands behind the first word of a task line. It is `Bad` where its form is another.
+/// What stands behind the first word, by that word.
 #[tactic(auto, unfolding(crate::specs::Said::said_at))]
-pub fn said_at(alloc: Global, verb: Verb, ts: &[Token]) -> Result<Said, Miss>
+fn by_verb<'a, 't>(verb: Verb, ts: &'a [Token<'t>]) -> Result<Said<'a>, Miss>
     ensures { Reads (λ x. x) result (said_at verb ts.now) }
 {
     match verb {
-        Verb::Enq => Ok(Said::Enq(enq_at(alloc, ts)?)),
-        Verb::Reserve => Ok(Said::Reserve(reserve_at(alloc, ts)?)),
-        Verb::Deq => Ok(Said::Deq(deq_at(alloc, ts)?)),
-        Verb::Wait => Ok(Said::Wait(wait_at(alloc, ts)?)),
-        Verb::Gqscan => Ok(Said::Gqscan(scan_at(alloc, ts)?)),
-        Verb::Display => Ok(Said::Display(display_at(alloc, ts)?)),
+        Verb::Enq => Ok(Said::Enq(enq_at(ts)?)),
+        Verb::Reserve => Ok(Said::Reserve(reserve_at(ts)?)),
+        Verb::Deq => Ok(Said::Deq(deq_at(ts)?)),
+        Verb::Wait => Ok(Said::Wait(wait_at(ts)?)),
+        Verb::Gqscan => Ok(Said::Gqscan(scan_at(ts)?)),
+        Verb::Display => Ok(Said::Display(display_at(ts)?)),
     }
+}
+
+/// What the tokens behind the first word of a task line say. Behind `WAIT` the tokens of `(A,B,STEP)` say that a task
+/// waits for control of the resource `A`, `B` of its step, and those of `(A,B)` are a `Miss`.
+pub fn said_at<'a, 't>(verb: Verb, ts: &'a [Token<'t>]) -> Result<Said<'a>, Miss>
+    ensures exact { Answers result verb ts.now }
+    ensures read { Reads (λ x. x) result (said_at verb ts.now) }
+{
+    by_verb(verb, ts)
 }

@@ -1,5 +1,5 @@
 //! Units of devices, as the bytes of a word.
-ghost use Rattle.std.specs.Prelude.{◌≡◌, ◌<◌, IfOk, IfErr};
+ghost use Rattle.std.specs.Prelude.{◌<◌, IfOk};
 ghost use Rattle.deck_scan.specs.Next.{Reads};
 ghost use Rattle.job_syntax.specs.Unit.{hex_of, hex_at, unit_of};
 
@@ -8,25 +8,23 @@ use deck_scan::Miss;
 /// The value of a hexadecimal digit of either case.
 fn hex_of(b: u8) -> Result<u8, Miss>
     ensures value { Reads (λ x. x) result (hex_of b) }
-    ensures bad { IfErr result (λ e. e ≡ Miss.Bad) }
     ensures small { IfOk result (λ x. x < 16) }
 {
     match b {
         b'0'..=b'9' => Ok(b - b'0'),
         b'A'..=b'F' => Ok(b - b'A' + 10),
         b'a'..=b'f' => Ok(b - b'a' + 10),
-        _ => Err(Miss::Bad),
+        _ => Err(Miss),
     }
 }
 
 /// A hexadecimal digit, and the bytes behind it.
 fn hex_at(w: &[u8]) -> Result<(u16, &[u8]), Miss>
     ensures value { Reads (λ x. (x.0, x.1.now)) result (hex_at w.now) }
-    ensures bad { IfErr result (λ e. e ≡ Miss.Bad) }
     ensures small { IfOk result (λ x. x.0 < 16) }
 {
     match w.split_first() {
-        None => Err(Miss::Bad),
+        None => Err(Miss),
         Some((b, rest)) => {
             let digit = hex_of(*b)?;
             Ok((u16::from(digit), rest))
@@ -37,8 +35,7 @@ fn hex_at(w: &[u8]) -> Result<(u16, &[u8]), Miss>
 /// The unit that four hexadecimal digits write.
 #[tactic(auto, unfolding(crate::specs::Unit::unit_of))]
 pub fn unit_of(w: &[u8]) -> Result<u16, Miss>
-    ensures reads { Reads (λ x. x) result (unit_of w.now) }
-    ensures bad { IfErr result (λ e. e ≡ Miss.Bad) }
+    ensures { Reads (λ x. x) result (unit_of w.now) }
 {
     let (a, w) = hex_at(w)?;
     let (b, w) = hex_at(w)?;
@@ -47,6 +44,6 @@ pub fn unit_of(w: &[u8]) -> Result<u16, Miss>
     if w.len() == 0 {
         Ok(a * 4096 + b * 256 + c * 16 + d)
     } else {
-        Err(Miss::Bad)
+        Err(Miss)
     }
 }

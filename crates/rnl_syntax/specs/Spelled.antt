@@ -1,5 +1,5 @@
 -- How tokens spell the operands of an RNLDEF.
-use Rattle.std.specs.Prelude.{◌≡◌, ℕ, false, ◌&&◌, List, [], ◌∷◌, codes, Some, None, is_none}
+use Rattle.std.specs.Prelude.{◌≡◌, ℕ, false, ◌&&◌, List, [], ◌∷◌, codes, Some, None, is_none, Result, Ok, Err}
 use Rattle.std.specs.List.{flat_map}
 use Rattle.grs_base.specs.declared.rnl.Which.{Which}
 use Rattle.grs_base.specs.declared.rnl.Which.TheVariants.{Incl, Excl, Con}
@@ -7,6 +7,7 @@ use Rattle.grs_base.specs.declared.rnl.Form.{Form}
 use Rattle.grs_base.specs.declared.rnl.Form.TheVariants.{Specific, Generic, Pattern}
 use Rattle.deck_scan.specs.declared.token.Token.{Token}
 use Rattle.deck_scan.specs.declared.token.Token.TheVariants.{Word, Open, Close}
+use Rattle.deck_scan.specs.declared.miss.Miss.{Miss}
 use Rattle.deck_scan.specs.Next.{Names, Sets}
 use Rattle.rnl_syntax.specs.declared.operands.Operands.{Operands}
 use Rattle.rnl_syntax.specs.declared.operands.Rnldef.{Rnldef}
@@ -58,3 +59,8 @@ pub record IsRnldef (ts : List Token) (d : Rnldef) : Type 0 where
   pub spelled : ts ≡ flat_map operand given
   pub operands : Sets IsFree set no_operands given (record { which = Some d.which; form = Some d.form; q = Some d.q; r = d.r })
   pub needed : (is_specific d.form && is_none d.r) ≡ false
+
+-- What is answered of the tokens behind the word RNLDEF: what they spell, or that they spell nothing.
+abbrev pub Answers : Result Rnldef Miss → List Token → Type 0
+Answers (Ok d) ts = IsRnldef ts d
+Answers (Err e) ts = (d : Rnldef) → IsRnldef ts d → ⊥

@@ -14,11 +14,11 @@ fn is_operand_word(w: &[u8]) -> bool
         || w == b"RNAME".as_slice()
 }
 
-fn begins_operand(ts: &[Token]) -> bool
+fn begins_operand(ts: &[Token<'_>]) -> bool
     ensures { result ≡ begins_operand ts.now }
 {
     match ts.split_first() {
-        Some((Token::Word(w), _)) => is_operand_word(w.as_slice()),
+        Some((Token::Word(w), _)) => is_operand_word(w.bytes()),
         _ => false,
     }
 }
@@ -30,17 +30,18 @@ pub fn is_rnldef_word(w: &[u8]) -> bool
     w == b"RNLDEF".as_slice()
 }
 
-fn begins_rnldef(ts: &[Token]) -> bool
+/// Whether a statement begins with the word RNLDEF: no other goes on over lines.
+pub fn begins_rnldef(ts: &[Token<'_>]) -> bool
     ensures { result ≡ begins_rnldef ts.now }
 {
     match ts.split_first() {
-        Some((Token::Word(w), _)) => is_rnldef_word(w.as_slice()),
+        Some((Token::Word(w), _)) => is_rnldef_word(w.bytes()),
         _ => false,
     }
 }
 
 /// Whether an operand is begun and not ended.
-fn is_open(ts: &[Token]) -> bool
+fn is_open(ts: &[Token<'_>]) -> bool
     ensures { result ≡ is_open ts.now }
 {
     ts.len() % 4 != 1
@@ -48,7 +49,7 @@ fn is_open(ts: &[Token]) -> bool
 
 /// Whether the statement so far goes on with the next line: it is an RNLDEF, and one of its operands
 /// is not ended, or the line begins with the word of an operand.
-pub fn goes_on(so_far: &TokenLine, next: &TokenLine) -> bool
+pub fn goes_on(so_far: &TokenLine<'_>, next: &TokenLine<'_>) -> bool
     ensures { result ≡ goes_on so_far.now next.now }
 {
     begins_rnldef(so_far.tokens.as_slice())
@@ -56,8 +57,11 @@ pub fn goes_on(so_far: &TokenLine, next: &TokenLine) -> bool
 }
 
 /// Puts tokens behind tokens.
-fn append_tokens(tokens: List<Token>, more: List<Token>) -> Result<List<Token>, NoMemory>
-    ensures { IfOk result (λ all. all ≡ tokens ++ more) }
+fn append_tokens<'t>(
+    tokens: List<Token<'t>>,
+    more: List<Token<'t>>,
+) -> Result<List<Token<'t>>, NoMemory>
+    ensures { IfOk result (λ all. all ≡ tokens.entry ++ more.entry) }
 {
     let mut all = tokens;
     for token in more.into_vec() {
@@ -67,8 +71,8 @@ fn append_tokens(tokens: List<Token>, more: List<Token>) -> Result<List<Token>, 
 }
 
 /// The statement so far with the tokens of a further line behind its own.
-pub fn with_line(so_far: TokenLine, next: TokenLine) -> Result<TokenLine, NoMemory>
-    ensures { IfOk result (λ l. l ≡ with_line so_far next) }
+pub fn with_line<'t>(so_far: TokenLine<'t>, next: TokenLine<'t>) -> Result<TokenLine<'t>, NoMemory>
+    ensures { IfOk result (λ l. l ≡ with_line so_far.entry next.entry) }
 {
     let tokens = append_tokens(so_far.tokens, next.tokens)?;
     Ok(TokenLine {

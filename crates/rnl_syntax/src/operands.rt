@@ -1,31 +1,32 @@
 //! The operands of RNLDEF, in any order, each at most once.
 ghost use Rattle.std.specs.Prelude.{◌≡◌, true, false, IfOk};
 ghost use Rattle.deck_scan.specs.Next.{Reads, maybe};
+ghost use Rattle.rnl_syntax.specs.Spelled.{Answers};
 ghost use Rattle.rnl_syntax.specs.Operands.{which_of, form_of, with_which, with_form, with_q, with_r, value_of, operand_at, is_specific, whole, rnldef_at, has_bad_name, entry_of};
 
 use deck_scan::{
-    Miss, Token, any_word_at, close_at, end_at, is_bad_rname, maybe_rname, name_at, open_at,
-    qname_of,
+    GivenName, Miss, Token, any_word_at, close_at, end_at, is_bad_rname, maybe_rname, name_at,
+    open_at, qname_of,
 };
-use grs_base::{Form, List, NoMemory, RnlEntry, Which, is_qname};
+use grs_base::{Form, NoMemory, RnlEntry, Which, is_qname};
 use std::alloc::Global;
 
 /// The operands that stand in an RNLDEF: RNL, TYPE, QNAME and RNAME, with names of any length.
 #[derive(Drop)]
-pub struct Operands {
+pub struct Operands<'t> {
     pub which: Option<Which>,
     pub form: Option<Form>,
-    pub q: Option<List<u8>>,
-    pub r: Option<List<u8>>,
+    pub q: Option<GivenName<'t>>,
+    pub r: Option<GivenName<'t>>,
 }
 
 /// An RNLDEF of the right form, with names of any length.
 #[derive(Drop)]
-pub struct Rnldef {
+pub struct Rnldef<'t> {
     pub which: Which,
     pub form: Form,
-    pub q: List<u8>,
-    pub r: Option<List<u8>>,
+    pub q: GivenName<'t>,
+    pub r: Option<GivenName<'t>>,
 }
 
 #[tactic(auto, unfolding(crate::specs::Operands::which_of))]
@@ -39,7 +40,7 @@ fn which_of(w: &[u8]) -> Result<Which, Miss>
     } else if w == b"CON".as_slice() {
         Ok(Which::Con)
     } else {
-        Err(Miss::Bad)
+        Err(Miss)
     }
 }
 
@@ -54,15 +55,15 @@ fn form_of(w: &[u8]) -> Result<Form, Miss>
     } else if w == b"PATTERN".as_slice() {
         Ok(Form::Pattern)
     } else {
-        Err(Miss::Bad)
+        Err(Miss)
     }
 }
 
-fn with_which(o: Operands, which: Which) -> Result<Operands, Miss>
-    ensures { Reads (λ x. x) result (with_which o which) }
+fn with_which<'a>(o: Operands<'a>, which: Which) -> Result<Operands<'a>, Miss>
+    ensures { Reads (λ x. x) result (with_which o.entry which) }
 {
     match o.which {
-        Some(_) => Err(Miss::Bad),
+        Some(_) => Err(Miss),
         None => Ok(Operands {
             which: Some(which),
             form: o.form,
@@ -72,11 +73,11 @@ fn with_which(o: Operands, which: Which) -> Result<Operands, Miss>
     }
 }
 
-fn with_form(o: Operands, form: Form) -> Result<Operands, Miss>
-    ensures { Reads (λ x. x) result (with_form o form) }
+fn with_form<'a>(o: Operands<'a>, form: Form) -> Result<Operands<'a>, Miss>
+    ensures { Reads (λ x. x) result (with_form o.entry form) }
 {
     match o.form {
-        Some(_) => Err(Miss::Bad),
+        Some(_) => Err(Miss),
         None => Ok(Operands {
             which: o.which,
             form: Some(form),
@@ -86,11 +87,11 @@ fn with_form(o: Operands, form: Form) -> Result<Operands, Miss>
     }
 }
 
-fn with_q(o: Operands, q: List<u8>) -> Result<Operands, Miss>
-    ensures { Reads (λ x. x) result (with_q o q) }
+fn with_q<'a>(o: Operands<'a>, q: GivenName<'a>) -> Result<Operands<'a>, Miss>
+    ensures { Reads (λ x. x) result (with_q o.entry q.entry) }
 {
     match o.q {
-        Some(_) => Err(Miss::Bad),
+        Some(_) => Err(Miss),
         None => Ok(Operands {
             which: o.which,
             form: o.form,
@@ -100,11 +101,11 @@ fn with_q(o: Operands, q: List<u8>) -> Result<Operands, Miss>
     }
 }
 
-fn with_r(o: Operands, r: List<u8>) -> Result<Operands, Miss>
-    ensures { Reads (λ x. x) result (with_r o r) }
+fn with_r<'a>(o: Operands<'a>, r: GivenName<'a>) -> Result<Operands<'a>, Miss>
+    ensures { Reads (λ x. x) result (with_r o.entry r.entry) }
 {
     match o.r {
-        Some(_) => Err(Miss::Bad),
+        Some(_) => Err(Miss),
         None => Ok(Operands {
             which: o.which,
             form: o.form,
@@ -116,13 +117,12 @@ fn with_r(o: Operands, r: List<u8>) -> Result<Operands, Miss>
 
 /// The value of the operand of this word.
 #[tactic(auto, unfolding(crate::specs::Operands::value_of))]
-fn value_of<'a>(
-    alloc: Global,
-    o: Operands,
+fn value_of<'a, 't>(
+    o: Operands<'a>,
     w: &[u8],
-    ts: &'a [Token],
-) -> Result<(Operands, &'a [Token]), Miss>
-    ensures { Reads (λ x. (x.0, x.1.now)) result (value_of o w.now ts.now) }
+    ts: &'a [Token<'t>],
+) -> Result<(Operands<'a>, &'a [Token<'t>]), Miss>
+    ensures { Reads (λ x. (x.0, x.1.now)) result (value_of o.entry w.now ts.now) }
 {
     if w == b"RNL".as_slice() {
         let (v, ts) = any_word_at(ts)?;
@@ -133,35 +133,41 @@ fn value_of<'a>(
         let form = form_of(v)?;
         Ok((with_form(o, form)?, ts))
     } else if w == b"QNAME".as_slice() {
-        let (q, ts) = name_at(alloc, ts)?;
+        let (q, ts) = name_at(ts)?;
         Ok((with_q(o, q)?, ts))
     } else if w == b"RNAME".as_slice() {
-        let (r, ts) = name_at(alloc, ts)?;
+        let (r, ts) = name_at(ts)?;
         Ok((with_r(o, r)?, ts))
     } else {
-        Err(Miss::Bad)
+        Err(Miss)
     }
 }
 
 /// One more operand.
 #[tactic(auto, unfolding(crate::specs::Operands::operand_at))]
-fn operand_at(alloc: Global, o: Operands, ts: &[Token]) -> Result<(Operands, &[Token]), Miss>
-    ensures { Reads (λ x. (x.0, x.1.now)) result (operand_at o ts.now) }
+fn operand_at<'a, 't>(
+    o: Operands<'a>,
+    ts: &'a [Token<'t>],
+) -> Result<(Operands<'a>, &'a [Token<'t>]), Miss>
+    ensures { Reads (λ x. (x.0, x.1.now)) result (operand_at o.entry ts.now) }
 {
     let (w, ts) = any_word_at(ts)?;
     let ts = open_at(ts)?;
-    let (o, ts) = value_of(alloc, o, w, ts)?;
+    let (o, ts) = value_of(o, w, ts)?;
     let ts = close_at(ts)?;
     Ok((o, ts))
 }
 
-fn maybe_operand(alloc: Global, o: Operands, ts: &[Token]) -> Result<(Operands, &[Token]), Miss>
-    ensures { Reads (λ x. (x.0, x.1.now)) result (maybe operand_at o ts.now) }
+fn maybe_operand<'a, 't>(
+    o: Operands<'a>,
+    ts: &'a [Token<'t>],
+) -> Result<(Operands<'a>, &'a [Token<'t>]), Miss>
+    ensures { Reads (λ x. (x.0, x.1.now)) result (maybe operand_at o.entry ts.now) }
 {
     if ts.len() == 0 {
         return Ok((o, ts));
     }
-    operand_at(alloc, o, ts)
+    operand_at(o, ts)
 }
 
 fn is_specific(form: Form) -> bool
@@ -176,14 +182,14 @@ fn is_specific(form: Form) -> bool
 
 /// Wants RNL, TYPE and QNAME, and RNAME where the entry is SPECIFIC.
 #[tactic(auto, unfolding(crate::specs::Operands::whole))]
-fn whole(o: Operands) -> Result<Rnldef, Miss>
-    ensures { Reads (λ x. x) result (whole o) }
+fn whole<'a>(o: Operands<'a>) -> Result<Rnldef<'a>, Miss>
+    ensures { Reads (λ x. x) result (whole o.entry) }
 {
-    let which = o.which.ok_or(Miss::Bad)?;
-    let form = o.form.ok_or(Miss::Bad)?;
-    let q = o.q.ok_or(Miss::Bad)?;
+    let which = o.which.ok_or(Miss)?;
+    let form = o.form.ok_or(Miss)?;
+    let q = o.q.ok_or(Miss)?;
     if is_specific(form) && o.r.is_none() {
-        return Err(Miss::Bad);
+        return Err(Miss);
     }
     Ok(Rnldef {
         which,
@@ -193,10 +199,9 @@ fn whole(o: Operands) -> Result<Rnldef, Miss>
     })
 }
 
-/// What stands behind the word RNLDEF: at most as many operands as there are kinds of them, and
-/// nothing after them.
+/// At most as many operands as there are kinds of them, and nothing after them.
 #[tactic(auto, unfolding(crate::specs::Operands::rnldef_at))]
-pub fn rnldef_at(alloc: Global, ts: &[Token]) -> Result<Rnldef, Miss>
+fn operands_at<'a, 't>(ts: &'a [Token<'t>]) -> Result<Rnldef<'a>, Miss>
     ensures { Reads (λ x. x) result (rnldef_at ts.now) }
 {
     let none = Operands {
@@ -205,27 +210,36 @@ pub fn rnldef_at(alloc: Global, ts: &[Token]) -> Result<Rnldef, Miss>
         q: None,
         r: None,
     };
-    let (first, ts) = maybe_operand(alloc, none, ts)?;
-    let (second, ts) = maybe_operand(alloc, first, ts)?;
-    let (third, ts) = maybe_operand(alloc, second, ts)?;
-    let (fourth, ts) = maybe_operand(alloc, third, ts)?;
+    let (first, ts) = maybe_operand(none, ts)?;
+    let (second, ts) = maybe_operand(first, ts)?;
+    let (third, ts) = maybe_operand(second, ts)?;
+    let (fourth, ts) = maybe_operand(third, ts)?;
     end_at(ts)?;
     whole(fourth)
 }
 
+/// What the tokens behind the word RNLDEF say. Those of `RNL(CON) TYPE(GENERIC) QNAME(A)` say an entry of the conversion
+/// list for all names of `A`, and without the last operand they are a `Miss`.
+pub fn rnldef_at<'a, 't>(ts: &'a [Token<'t>]) -> Result<Rnldef<'a>, Miss>
+    ensures exact { Answers result ts.now }
+    ensures read { Reads (λ x. x) result (rnldef_at ts.now) }
+{
+    operands_at(ts)
+}
+
 /// Whether a name has a length that it may not have.
-pub fn has_bad_name(d: &Rnldef) -> bool
+pub fn has_bad_name(d: &Rnldef<'_>) -> bool
     ensures { result ≡ has_bad_name d.now }
 {
-    !is_qname(d.q.as_slice()) || is_bad_rname(&d.r)
+    !is_qname(d.q.bytes()) || is_bad_rname(&d.r)
 }
 
 /// The entry that a statement makes whose names have the right lengths.
-pub fn entry_of(alloc: Global, d: &Rnldef) -> Result<RnlEntry, NoMemory>
+pub fn entry_of(alloc: Global, d: &Rnldef<'_>) -> Result<RnlEntry, NoMemory>
     requires { has_bad_name d.now ≡ false }
     ensures { IfOk result (λ e. e ≡ entry_of d.now) }
 {
-    let q = qname_of(alloc, d.q.as_slice())?;
+    let q = qname_of(alloc, d.q.bytes())?;
     let r = maybe_rname(alloc, &d.r)?;
     Ok(RnlEntry {
         which: d.which,

@@ -13,16 +13,16 @@ use std::mem;
 
 /// The first statement so far.
 #[derive(Drop)]
-pub struct Front {
-    pub statement: Option<TokenLine>,
+pub struct Front<'t> {
+    pub statement: Option<TokenLine<'t>>,
     /// Whether no line can belong to it any more.
     pub ended: bool,
 }
 
-impl Front {
+impl<'t> Front<'t> {
     /// Takes a line behind the statement so far.
-    fn take_behind(&mut self, so_far: TokenLine, line: TokenLine) -> Result<(), NoMemory>
-        ensures { OnOk result (self.new ≡ taken_behind (Option.Some so_far) self.old line) }
+    fn take_behind(&mut self, so_far: TokenLine<'t>, line: TokenLine<'t>) -> Result<(), NoMemory>
+        ensures { OnOk result (self.new ≡ taken_behind (Option.Some so_far.entry) self.old line.entry) }
     {
         if goes_on(&so_far, &line) {
             self.statement = Some(with_line(so_far, line)?);
@@ -36,8 +36,8 @@ impl Front {
 
     /// Takes the next line.
     #[tactic(auto, unfolding(crate::specs::Reading::taken))]
-    fn take(&mut self, line: TokenLine) -> Result<(), NoMemory>
-        ensures { OnOk result (self.new ≡ taken self.old line) }
+    fn take(&mut self, line: TokenLine<'t>) -> Result<(), NoMemory>
+        ensures { OnOk result (self.new ≡ taken self.old line.entry) }
     {
         if self.ended {
             return Ok(());
@@ -54,8 +54,8 @@ impl Front {
 
 /// The first statement of lines.
 #[tactic(auto, using(crate::proofs::Gathered::gathers))]
-fn first_statement(all: List<TokenLine>) -> Result<Option<TokenLine>, NoMemory>
-    ensures { IfOk result (λ s. s ≡ first_statement all) }
+fn first_statement<'t>(all: List<TokenLine<'t>>) -> Result<Option<TokenLine<'t>>, NoMemory>
+    ensures { IfOk result (λ s. s ≡ first_statement all.entry) }
 {
     let mut front = Front {
         statement: None,
@@ -67,11 +67,11 @@ fn first_statement(all: List<TokenLine>) -> Result<Option<TokenLine>, NoMemory>
     Ok(front.statement)
 }
 
-fn by_word(alloc: Global, at: u32, w: &[u8], ts: &[Token]) -> Result<Rnldef, ReadError>
+fn by_word<'a, 't>(at: u32, w: &[u8], ts: &'a [Token<'t>]) -> Result<Rnldef<'a>, ReadError>
     ensures { Gives result (by_word at w.now ts.now) }
 {
     if is_rnldef_word(w) {
-        or_bad(at, rnldef_at(alloc, ts))
+        or_bad(at, rnldef_at(ts))
     } else {
         Err(refused(at, Kind::UnknownStatement))
     }
@@ -79,21 +79,21 @@ fn by_word(alloc: Global, at: u32, w: &[u8], ts: &[Token]) -> Result<Rnldef, Rea
 
 /// What a statement says.
 #[tactic(auto, unfolding(crate::specs::Reading::rnldef_on))]
-fn rnldef_on(alloc: Global, statement: &TokenLine) -> Result<Rnldef, ReadError>
+fn rnldef_on<'a, 't>(statement: &'a TokenLine<'t>) -> Result<Rnldef<'a>, ReadError>
     ensures { Gives result (rnldef_on statement.now) }
 {
     if statement.joined {
         return Err(refused(statement.at, Kind::UnknownStatement));
     }
     match statement.tokens.as_slice().split_first() {
-        Some((Token::Word(w), rest)) => by_word(alloc, statement.at, w.as_slice(), rest),
+        Some((Token::Word(w), rest)) => by_word(statement.at, w.bytes(), rest),
         Some((Token::Unclosed, _)) => Err(refused(statement.at, Kind::BadOperand)),
         _ => Err(refused(statement.at, Kind::UnknownStatement)),
     }
 }
 
 /// The entry of a statement whose names have the right lengths.
-fn sized(alloc: Global, at: u32, rnldef: &Rnldef) -> Result<RnlEntry, ReadError>
+fn sized(alloc: Global, at: u32, rnldef: &Rnldef<'_>) -> Result<RnlEntry, ReadError>
     ensures { Gives result (sized at rnldef.now) }
 {
     if has_bad_name(rnldef) {
@@ -102,13 +102,13 @@ fn sized(alloc: Global, at: u32, rnldef: &Rnldef) -> Result<RnlEntry, ReadError>
     Ok(entry_of(alloc, rnldef)?)
 }
 
-fn entry_on(alloc: Global, statement: Option<TokenLine>) -> Result<RnlEntry, ReadError>
-    ensures { Gives result (entry_on statement) }
+fn entry_on(alloc: Global, statement: &Option<TokenLine<'_>>) -> Result<RnlEntry, ReadError>
+    ensures { Gives result (entry_on statement.now) }
 {
     match statement {
         None => Err(refused(1, Kind::UnknownStatement)),
         Some(statement) => {
-            let rnldef = rnldef_on(alloc, &statement)?;
+            let rnldef = rnldef_on(statement)?;
             sized(alloc, statement.at, &rnldef)
         }
     }
@@ -120,7 +120,7 @@ fn read_entry(alloc: Global, text: &[u8]) -> Result<RnlEntry, ReadError>
 {
     let all = any_lines(alloc, text)?;
     let statement = first_statement(all)?;
-    entry_on(alloc, statement)
+    entry_on(alloc, &statement)
 }
 
 /// How many operands the statement of an entry has.
