@@ -1,11 +1,10 @@
 -- The statements of lines: each line is one, but that an RNLDEF before SCHEDULE may go over several.
-use Rattle.std.specs.Prelude.{Bool, true, false, ◌||◌, List, [], ◌∷◌, ◌++◌, codes, Option, Some, None, if◌then◌else◌}
+use Rattle.std.specs.Prelude.{Bool, true, false, List, [], ◌∷◌, codes, Option, Some, None, if◌then◌else◌}
 use Rattle.std.specs.Str.{bytes_eq}
 use Rattle.deck_scan.specs.declared.token.Token.{Token}
 use Rattle.deck_scan.specs.declared.token.Token.TheVariants.{Word}
 use Rattle.deck_scan.specs.declared.token.TokenLine.{TokenLine}
 use Rattle.rnl_syntax.specs.Lines.{goes_on, with_line}
-use Rattle.deck_form.specs.declared.grouping.Gathering.{Gathering}
 
 -- The line is SCHEDULE.
 abbrev pub is_schedule : List Token → Bool
@@ -25,32 +24,14 @@ unfoldable pub statements : List TokenLine → List TokenLine
 statements [] = []
 statements (l ∷ ls) = statements_from l ls
 
--- ---- as one pass over the lines finds them
+-- ---- as they are read one by one
 
--- A line behind the statement so far.
-unfoldable pub after : Gathering → TokenLine → TokenLine → Gathering
-after g s l =
-    if g.scheduled || is_schedule s.tokens then record { done = g.done ++ s ∷ []; last = Some l; scheduled = true }
-    else if goes_on s l then record g { last = Some (with_line s l) }
-    else record g { done = g.done ++ s ∷ []; last = Some l }
+-- The lines to come, where one may have been read ahead.
+abbrev pub line_first : Option TokenLine → List TokenLine → List TokenLine
+line_first None ls = ls
+line_first (Some l) ls = l ∷ ls
 
-abbrev pub gathered_from : Option TokenLine → Gathering → TokenLine → Gathering
-gathered_from None g l = record g { last = Some l }
-gathered_from (Some s) g l = after g s l
-
-unfoldable pub gathered : Gathering → TokenLine → Gathering
-gathered g l = gathered_from g.last g l
-
-unfoldable pub gather_all : Gathering → List TokenLine → Gathering
-gather_all g [] = g
-gather_all g (l ∷ ls) = gather_all (gathered g l) ls
-
-abbrev pub no_statements : Gathering
-no_statements = record { done = []; last = None; scheduled = false }
-
-abbrev pub with_last : List TokenLine → Option TokenLine → List TokenLine
-with_last done None = done
-with_last done (Some s) = done ++ s ∷ []
-
-abbrev pub finished : Gathering → List TokenLine
-finished g = with_last g.done g.last
+-- The statements to come of lines, of which one may have been read ahead, behind SCHEDULE or not.
+unfoldable pub still : Bool → Option TokenLine → List TokenLine → List TokenLine
+still true ahead ls = line_first ahead ls
+still false ahead ls = statements (line_first ahead ls)

@@ -13,6 +13,6 @@ mod words;
 pub use complex::Setup;
 pub use event::Act;
 pub use form::{Stmt, statement};
-pub use grouping::statements;
+pub use grouping::Statements;
 pub use laws::one_statement;
 pub use unbuilt::is_unbuilt;

@@ -1,9 +1,12 @@
 -- The line of the first byte that a deck may not have.
-use Rattle.std.proofs.Common.{◌≡◌, ℕ, ◌+◌, Bool, true, false, cond, eqb, List, [], ◌∷◌, ◌++◌, Some, None, refl, sym, ap, subst, ◌∙◌, arith}
-use Rattle.std.specs.Prelude.{◌&&◌}
+use Rattle.std.proofs.Common.{◌≡◌, ℕ, ◌+◌, Bool, true, false, cond, eqb, List, [], ◌∷◌, ◌++◌, length, ◌≤◌, Option, Some, None, refl, sym, ap, subst, ◌∙◌, arith}
+use Rattle.std.specs.Prelude.{◌&&◌, ◌||◌}
+use Rattle.std.specs.List.{list_all}
+use Rattle.grs_base.specs.Printed.{is_printable}
 use Rattle.std.proofs.lemmas.Bool.{and_from, and_parts}
 use Rattle.std.proofs.lemmas.List.{append-nil}
-use Rattle.deck_scan.specs.Bytes.{is_allowed, bad_line, are_allowed, line_ends, IsFirstBad}
+use Rattle.deck_scan.specs.Pieces.{is_in_comment}
+use Rattle.deck_scan.specs.Bytes.{begins, is_allowed, bad_line, are_allowed, line_ends, IsFirstBad}
 
 raised : (lf : Bool) (n k : ℕ) → cond lf (n + 1) n + k ≡ n + (cond lf 1 0 + k)
 raised true n k = omega arith
@@ -53,3 +56,41 @@ all_good n (b ∷ bs) h =
     let k = and_parts (is_allowed b (bs ++ [])) (are_allowed bs []) h in
     let here : is_allowed b bs ≡ true = subst (λ (t : List ℕ). is_allowed b t ≡ true) (append-nil bs) k.0 in
     rw here (all_good (cond (eqb b 10) (n + 1) n) bs k.1)
+
+-- ---- as the reader finds it
+
+pub common_good : (n : ℕ) (text : List ℕ) → list_all is_in_comment text ≡ true → bad_line n text ≡ None
+unfolding bad_line is_allowed
+common_good n [] h = refl
+common_good n (b ∷ bs) h =
+    let k = and_parts (is_in_comment b) (list_all is_in_comment bs) h in
+    rw (allowed (is_printable b) (eqb b 10) (eqb b 13 && begins 10 bs) k.0) (common_good (cond (eqb b 10) (n + 1) n) bs k.1)
+  where
+    allowed : (p lf cr : Bool) → (p || lf) ≡ true → (p || lf || cr) ≡ true
+    allowed true lf cr h = refl
+    allowed false true cr h = refl
+    allowed false false cr h = absurd cc
+
+pub bad_here : (n : ℕ) (rest : List ℕ) (b : ℕ) (tail : List ℕ) (total : Option ℕ) → rest ≡ b ∷ tail → is_allowed b tail ≡ false → bad_line n rest ≡ total → Some n ≡ total
+unfolding bad_line
+bad_here n rest b tail total is bad h =
+    let here : bad_line n (b ∷ tail) ≡ Some n = rw bad refl in
+    sym here ∙ ap (bad_line n) (sym is) ∙ h
+
+pub bad_later : (n : ℕ) (rest : List ℕ) (b : ℕ) (tail : List ℕ) (new : ℕ) (total : Option ℕ) → rest ≡ b ∷ tail → is_allowed b tail ≡ true → new ≡ cond (eqb b 10) (n + 1) n → bad_line n rest ≡ total → bad_line new tail ≡ total
+unfolding bad_line
+bad_later n rest b tail new total is ok made h =
+    let here : bad_line n (b ∷ tail) ≡ bad_line (cond (eqb b 10) (n + 1) n) tail = rw ok refl in
+    ap (λ (m : ℕ). bad_line m tail) made ∙ sym here ∙ ap (bad_line n) (sym is) ∙ h
+
+pub bad_nowhere : (n : ℕ) (rest : List ℕ) (total : Option ℕ) → length rest ≡ 0 → bad_line n rest ≡ total → None ≡ total
+unfolding bad_line
+bad_nowhere n [] total none h = h
+bad_nowhere n (b ∷ bs) total none h = absurd (omega (arith, none))
+
+pub line_small : (b n new : ℕ) → new ≡ cond (eqb b 10) (n + 1) n → new ≤ n + 1
+line_small b n new h = go (eqb b 10) h
+  where
+    go : (x : Bool) → new ≡ cond x (n + 1) n → new ≤ n + 1
+    go true e = omega (arith, e)
+    go false e = omega (arith, e)

@@ -73,19 +73,19 @@ record Hexes (text : List ℕ) : Type 0 where
   every : list_all is_between_quotes ds ≡ true
   ends : ClosesHex tail ⊎ Breaks tail
 
-record ClosesComment (tail : List ℕ) : Type 0 where
-  ps : List Piece
-  is : tail ≡ 42 ∷ 47 ∷ spelled ps
-  are : are_pieces ps ≡ true
+pub record ClosesComment (tail : List ℕ) : Type 0 where
+  pub ps : List Piece
+  pub is : tail ≡ 42 ∷ 47 ∷ spelled ps
+  pub are : are_pieces ps ≡ true
 
 -- a comment is open
-record Comments (text : List ℕ) : Type 0 where
-  c : List ℕ
-  tail : List ℕ
-  is : text ≡ c ++ tail
-  no_end : has_no_end c ≡ true
-  every : list_all is_in_comment c ≡ true
-  ends : ClosesComment tail ⊎ (tail ≡ [])
+pub record Comments (text : List ℕ) : Type 0 where
+  pub c : List ℕ
+  pub tail : List ℕ
+  pub is : text ≡ c ++ tail
+  pub no_end : has_no_end c ≡ true
+  pub every : list_all is_in_comment c ≡ true
+  pub ends : ClosesComment tail ⊎ (tail ≡ [])
 
 -- ---- a piece in front
 
@@ -344,3 +344,7 @@ found (b ∷ bs) h =
 -- Pieces spell the text.
 pub found_pieces : (text : List ℕ) → list_all is_in_comment text ≡ true → (ps : List Piece) × (text ≡ spelled ps) × (are_pieces ps ≡ true)
 found_pieces text h = let k = (found text h).0.blanks in (k.ps, k.is, k.are)
+
+-- A text in which a comment stands open ends that comment, or doesn't.
+pub found_comment : (text : List ℕ) → list_all is_in_comment text ≡ true → Comments text
+found_comment text h = (found text h).0.comments

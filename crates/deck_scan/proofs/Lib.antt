@@ -1,5 +1,4 @@
 pub mod ScanLemmas
-pub mod Loop
 pub mod Said
 pub mod Found
 pub mod Pieced
@@ -13,3 +12,6 @@ pub mod Taking
 pub mod Again
 pub mod AnyLemmas
 pub mod Counted
+pub mod Ahead
+pub mod Rows
+pub mod Pieces

@@ -1,8 +1,8 @@
 -- A text of allowed bytes spells just the lines that are read.
-use Rattle.std.proofs.Common.{◌≡◌, ℕ, ◌+◌, Bool, true, false, cond, not, eqb, ltb, List, [], ◌∷◌, length, Option, Some, None, Result, Ok, Err, refl, sym, ap, subst, ◌∙◌}
+use Rattle.std.proofs.Common.{◌≡◌, ℕ, ◌+◌, Bool, true, false, cond, not, eqb, ltb, List, [], ◌∷◌, length, ◌≤◌, Option, Some, None, Result, Ok, Err, refl, sym, ap, subst, ◌∙◌}
 use Rattle.std.specs.Prelude.{◌&&◌, ◌||◌}
 use Rattle.std.specs.List.{list_all}
-use Rattle.std.proofs.lemmas.Bool.{and_from}
+use Rattle.std.proofs.lemmas.Bool.{and_from, le-ltb}
 use Rattle.grs_base.specs.Printed.{is_printable}
 use Rattle.grs_base.specs.declared.fault.DeckFault.{DeckFault}
 use Rattle.grs_base.specs.declared.fault.Kind.TheVariants.{TooLong}
@@ -18,7 +18,7 @@ use Rattle.deck_scan.specs.Reading.{most_text_bytes, bad_byte, byte_fault, Answe
 use Rattle.deck_scan.proofs.Said.{at_end, all_run}
 use Rattle.deck_scan.proofs.Found.{found_pieces}
 
-cr_passed : (text : List ℕ) (s : Scan) → scan_from s text ≡ scan_from s (without_cr text)
+pub cr_passed : (text : List ℕ) (s : Scan) → scan_from s text ≡ scan_from s (without_cr text)
 unfolding scan_from step
 cr_passed [] s = refl
 cr_passed (b ∷ bs) s = go (eqb b 13) refl (λ x. cr_passed bs x)
@@ -31,7 +31,7 @@ lines-read : (text : List ℕ) → lines_of text ≡ at_end (scan_from start (wi
 unfolding lines_of
 lines-read text = ap at_end (cr_passed text start)
 
-blank_first : (t : List ℕ) → followed_by Blank t ≡ true
+pub blank_first : (t : List ℕ) → followed_by Blank t ≡ true
 blank_first [] = refl
 blank_first (b ∷ bs) = refl
 
@@ -44,7 +44,7 @@ by_lf : {A : Type 0} (lf : Bool) (n : ℕ) (o : Option ℕ) → (o ≡ None → 
 by_lf true n o f k = f k
 by_lf false n o f k = absurd cc
 
-allowed_holds : (text : List ℕ) (n : ℕ) → bad_line n text ≡ None → list_all is_in_comment (without_cr text) ≡ true
+pub allowed_holds : (text : List ℕ) (n : ℕ) → bad_line n text ≡ None → list_all is_in_comment (without_cr text) ≡ true
 unfolding bad_line is_allowed
 allowed_holds [] n h = refl
 allowed_holds (b ∷ bs) n h = go (is_printable b) (eqb b 10) (eqb b 13) refl refl refl (λ m k. allowed_holds bs m k) h
@@ -95,3 +95,15 @@ answers (Err (read_errors.Fault f)) text h = go (byte_fault text) h
     go : (g : Option DeckFault) → unless_fault g (lines_of text) ≡ Err f → g ≡ Some f
     go None k = absurd cc
     go (Some g) k = cc
+
+-- ---- the lines of a deck
+
+no_fault : (text : List ℕ) → length text ≤ most_text_bytes → None ≡ bad_line 1 text → byte_fault text ≡ None
+no_fault text short good = rw (le-ltb most_text_bytes (length text) short, ← good) refl
+
+pub deck_spelled : (text : List ℕ) (ls : List TokenLine) → length text ≤ most_text_bytes → None ≡ bad_line 1 text → ls ≡ lines_of text → (byte_fault text ≡ None) × SpellsLines text ls
+deck_spelled text ls short good is = (no_fault text short good, subst (SpellsLines text) (sym is) (spelled_found text (sym good)))
+
+pub deck_read : (text : List ℕ) (ls : List TokenLine) → length text ≤ most_text_bytes → None ≡ bad_line 1 text → ls ≡ lines_of text → lines_or_fault text ≡ Ok ls
+unfolding lines_or_fault
+deck_read text ls short good is = rw (no_fault text short good, is) refl

@@ -33,7 +33,7 @@ word_32 : is_word 32 ≡ false
 unfolding is_word
 word_32 = refl
 
-word_10 : is_word 10 ≡ false
+pub word_10 : is_word 10 ≡ false
 unfolding is_word
 word_10 = refl
 
@@ -74,11 +74,11 @@ with t r = record r { tokens = r.tokens ++ t ∷ []; joined = r.joined || r.near
 abbrev pub place_of : Scan → Place
 place_of s = record { line = s.line; tokens = s.tokens; near = s.near; joined = s.joined; lines = s.lines }
 
-end_line-state : (m : Mode) (w : List ℕ) (r : Scan) → end_line (state m w r) ≡ state m w (end_line r)
+pub end_line-state : (m : Mode) (w : List ℕ) (r : Scan) → end_line (state m w r) ≡ state m w (end_line r)
 unfolding end_line
 end_line-state m w r = refl
 
-place-end_line : (s : Scan) → place_of (end_line s) ≡ next_line (place_of s)
+pub place-end_line : (s : Scan) → place_of (end_line s) ≡ next_line (place_of s)
 unfolding end_line
 place-end_line s = refl
 
@@ -242,17 +242,17 @@ hex_finish (a ∷ b ∷ ds) s = go (is_hex a) (is_hex b) (hex_finish ds s)
 -- ---- comments
 
 -- what is open in a comment, by whether a star stands before
-abbrev comment_mode : Bool → Mode
+abbrev pub comment_mode : Bool → Mode
 comment_mode true = AfterStar
 comment_mode false = InComment
 
 -- whether a star stands last
-abbrev star_after : Bool → List ℕ → Bool
+abbrev pub star_after : Bool → List ℕ → Bool
 star_after star [] = star
 star_after star (b ∷ bs) = star_after (eqb b 42) bs
 
 -- behind a star no slash comes
-abbrev Inside : Bool → List ℕ → Type 0
+abbrev pub Inside : Bool → List ℕ → Type 0
 Inside star c = ((star && begins 47 c) ≡ false) × (has_no_end c ≡ true)
 
 inside_tail : (star : Bool) (b : ℕ) (bs : List ℕ) → Inside star (b ∷ bs) → Inside (eqb b 42) bs
@@ -281,13 +281,13 @@ unfolding end_line
 begun-passed true r = refl
 begun-passed false r = refl
 
-record CommentRun (star : Bool) (c rest : List ℕ) (r : Scan) : Type 0 where
-  after : Scan
-  same : scan_from (state (comment_mode star) [] r) (c ++ rest) ≡ scan_from (state (comment_mode (star_after star c)) [] after) rest
-  place : place_of after ≡ over c (place_of r)
-  begun : after.begun ≡ r.begun
+pub record CommentRun (star : Bool) (c rest : List ℕ) (r : Scan) : Type 0 where
+  pub after : Scan
+  pub same : scan_from (state (comment_mode star) [] r) (c ++ rest) ≡ scan_from (state (comment_mode (star_after star c)) [] after) rest
+  pub place : place_of after ≡ over c (place_of r)
+  pub begun : after.begun ≡ r.begun
 
-comment_run : (star : Bool) (c rest : List ℕ) (r : Scan) → Inside star c → list_all is_in_comment c ≡ true → CommentRun star c rest r
+pub comment_run : (star : Bool) (c rest : List ℕ) (r : Scan) → Inside star c → list_all is_in_comment c ≡ true → CommentRun star c rest r
 unfolding scan_from
 comment_run star [] rest r h e = record { after = r; same = refl; place = refl; begun = refl }
 comment_run star (b ∷ bs) rest r h e =
@@ -300,7 +300,7 @@ comment_run star (b ∷ bs) rest r h e =
       begun = k.begun ∙ begun-passed (eqb b 10) r;
     }
 
-comment_close : (star : Bool) (rest : List ℕ) (s : Scan) → scan_from (state (comment_mode star) [] s) (42 ∷ 47 ∷ rest) ≡ scan_from (state InBlank [] s) rest
+pub comment_close : (star : Bool) (rest : List ℕ) (s : Scan) → scan_from (state (comment_mode star) [] s) (42 ∷ 47 ∷ rest) ≡ scan_from (state InBlank [] s) rest
 unfolding scan_from step step_in
 comment_close true rest s = refl
 comment_close false rest s = refl
@@ -308,7 +308,7 @@ comment_close false rest s = refl
 -- ---- from one piece to the next
 
 -- the scan after a piece: its token may still be open
-abbrev sits : Piece → Scan → Scan
+abbrev pub sits : Piece → Scan → Scan
 sits (Plain w) r = state InWord w r
 sits (Quoted n) r = state AfterQuote n r
 sits LoneSlash r = state AfterSlash [] r
@@ -318,7 +318,7 @@ sits (OpenComment c) r = state (comment_mode (star_after false c)) [] r
 sits _ r = state InBlank [] r
 
 -- where a token that is open is put among the tokens
-abbrev settle : Piece → Scan → Scan
+abbrev pub settle : Piece → Scan → Scan
 settle (Plain w) r = record (with (Word w) r) { near = eqb (length r.tokens) 0 }
 settle (Quoted n) r = with (Name n) r
 settle LoneSlash r = with Stray r
@@ -335,7 +335,7 @@ lf_begun : (r : Scan) → state InBlank [] (end_line r) ≡ begin (state InBlank
 unfolding end_line begin
 lf_begun r = refl
 
-enters : (p : Piece) (b : ℕ) (r : Scan) → eqb b 13 ≡ false → may_follow p b ≡ true → step (sits p r) b ≡ begin (state InBlank [] (settle p r)) b
+pub enters : (p : Piece) (b : ℕ) (r : Scan) → eqb b 13 ≡ false → may_follow p b ≡ true → step (sits p r) b ≡ begin (state InBlank [] (settle p r)) b
 unfolding step step_in put put_word
 enters (Plain w) b r cr h = let k = and_parts (not (is_word b)) (not (eqb b 39 && is_x w)) h in rw (cr, not_true (is_word b) k.0, not_true (eqb b 39 && is_x w) k.1) refl
 enters (Quoted n) b r cr h = rw (cr, not_true (eqb b 39) h) refl
@@ -363,10 +363,10 @@ begins_stray b r printable word mark =
     other n is = ne_eqb b n (λ e. let P : ℕ → Type 0 = λ m. is_mark m ≡ false in let k : is_mark n ≡ false = subst P e mark in let z : false ≡ true = sym k ∙ is in cc)
 
 -- what is read of one piece
-record Read (p q : Piece) (r : Scan) (rest : List ℕ) : Type 0 where
-  after : Scan
-  same : scan_from (sits p r) (spelling q ++ rest) ≡ scan_from (sits q after) rest
-  place : place_of (settle q after) ≡ past q (place_of (settle p r))
+pub record Read (p q : Piece) (r : Scan) (rest : List ℕ) : Type 0 where
+  pub after : Scan
+  pub same : scan_from (sits p r) (spelling q ++ rest) ≡ scan_from (sits q after) rest
+  pub place : place_of (settle q after) ≡ past q (place_of (settle p r))
 
 -- the first byte of a piece, and then its others
 first : (p : Piece) (b : ℕ) (bs : List ℕ) (r next : Scan) → eqb b 13 ≡ false → may_follow p b ≡ true → begin (state InBlank [] (settle p r)) b ≡ next → scan_from (sits p r) (b ∷ bs) ≡ scan_from next bs
@@ -401,10 +401,10 @@ unfolding begin
 quote_begin p bs r f = first p 39 bs r (state InQuote [] (settle p r)) refl f refl
 
 -- the scan in a comment that begins here
-abbrev commented : Scan → Scan
+abbrev pub commented : Scan → Scan
 commented r = record r { begun = r.line; near = false }
 
-comment_begin : (p : Piece) (bs : List ℕ) (r : Scan) → may_follow p 47 ≡ true → scan_from (sits p r) (47 ∷ 42 ∷ bs) ≡ scan_from (state InComment [] (commented (settle p r))) bs
+pub comment_begin : (p : Piece) (bs : List ℕ) (r : Scan) → may_follow p 47 ≡ true → scan_from (sits p r) (47 ∷ 42 ∷ bs) ≡ scan_from (state InComment [] (commented (settle p r))) bs
 unfolding scan_from step step_in begin
 comment_begin p bs r f = first p 47 (42 ∷ bs) r (state AfterSlash [] (settle p r)) refl f refl
 
@@ -412,14 +412,14 @@ inside_from : (c : List ℕ) → is_piece (Comment c) ≡ true → Inside false 
 inside_from c h = (refl, (and_parts (has_no_end c) (list_all is_in_comment c) h).0)
 
 -- a comment that is not closed, from where the text stands at its end
-abbrev over_from : Place → ℕ → Place
+abbrev pub over_from : Place → ℕ → Place
 over_from p n = record (with_token Unclosed (next_line p)) { line = n }
 
-unclosed : (c : List ℕ) (s : Scan) → place_of (settle (OpenComment c) s) ≡ over_from (place_of s) s.begun
+pub unclosed : (c : List ℕ) (s : Scan) → place_of (settle (OpenComment c) s) ≡ over_from (place_of s) s.begun
 unfolding end_line
 unclosed c s = refl
 
-piece_run : (p q : Piece) (r : Scan) (rest : List ℕ) → is_piece q ≡ true → followed_by p (spelling q ++ rest) ≡ true → Read p q r rest
+pub piece_run : (p q : Piece) (r : Scan) (rest : List ℕ) → is_piece q ≡ true → followed_by p (spelling q ++ rest) ≡ true → Read p q r rest
 unfolding begin put scan_from step step_in
 piece_run p (Plain w) r rest h f = word_next p w rest r h f
 piece_run p (Quoted n) r rest h f = record {
@@ -477,7 +477,7 @@ piece_run p (OpenComment c) r rest h f =
 abbrev pub at_end : Scan → List TokenLine
 at_end s = (end_line (finish_in s.mode s)).lines
 
-ends_there : (p : Piece) (r : Scan) → at_end (sits p r) ≡ (next_line (place_of (settle p r))).lines
+pub ends_there : (p : Piece) (r : Scan) → at_end (sits p r) ≡ (next_line (place_of (settle p r))).lines
 unfolding finish_in put put_word end_line
 ends_there (Plain w) r = refl
 ends_there (Quoted n) r = refl

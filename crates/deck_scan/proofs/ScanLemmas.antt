@@ -1,13 +1,12 @@
 -- What a step does to the number of the line.
-use Rattle.std.proofs.Common.{◌≡◌, ℕ, ◌+◌, ◌≤◌, Bool, true, false, cond, eqb, refl}
+use Rattle.std.proofs.Common.{◌≡◌, ℕ, ◌+◌, Bool, true, false, cond, eqb, refl}
 use Rattle.std.proofs.lemmas.Bool.{eqb-true}
-use Rattle.deck_scan.specs.Reading.{most_text_bytes}
 use Rattle.deck_scan.specs.declared.token.Token.TheVariants.{Name, Close, Comma, Equals, Stray}
 use Rattle.deck_scan.specs.declared.scan.Scan.{Scan}
 use Rattle.deck_scan.specs.declared.scan.Mode.{Mode}
 use Rattle.deck_scan.specs.declared.scan.Mode.TheVariants.{InBlank, AfterSlash, InWord, InQuote, AfterQuote, InHex, InHexLow, InBadHex, InComment, AfterStar}
 use Rattle.deck_scan.specs.Bytes.{is_word, is_hex}
-use Rattle.deck_scan.specs.Scan.{put, put_word, put_open, end_line, break_off, begin_word, begin, step_in, step, finish_in}
+use Rattle.deck_scan.specs.Scan.{put, put_word, put_open, end_line, break_off, begin_word, begin, step_in, step}
 
 -- what holds of both scans holds of the chosen one
 chosen : (P : Scan → Type 0) (b : Bool) (x y : Scan) → P x → P y → P (cond b x y)
@@ -69,42 +68,3 @@ step-line_by s b false is = chosen (λ (x : Scan). x.line ≡ s.line) (eqb b 13)
 
 pub step-line : (s : Scan) (b : ℕ) → (step s b).line ≡ cond (eqb b 10) (s.line + 1) s.line
 step-line s b = step-line_by s b (eqb b 10) refl
-
--- where the last comment began
-module _ (n : ℕ) where
-  abbrev Low : Scan → Type 0
-  Low x = x.begun + n ≤ most_text_bytes + 1
-
-  begin-low : (s : Scan) (b : ℕ) → Low s → Low (begin s b)
-  unfolding begin_word put put_open end_line
-  begin-low s b h = begun Low s b h h h h h h h h (chosen Low (is_word b) _ _ h h)
-
-  in-low : (m : Mode) (s : Scan) (b : ℕ) → s.line + n ≤ most_text_bytes + 1 → Low s → Low (step_in m s b)
-  unfolding step_in put put_word end_line break_off
-  in-low InBlank s b l h = begin-low s b h
-  in-low AfterSlash s b l h = chosen Low (eqb b 42) _ _ l (begin-low (put Stray s) b h)
-  in-low InWord s b l h = chosen Low (is_word b) _ _ h (chosen Low _ _ _ h (begin-low (put_word s) b h))
-  in-low InQuote s b l h = chosen Low (eqb b 39) _ _ h (chosen Low (eqb b 10) _ _ h h)
-  in-low AfterQuote s b l h = chosen Low (eqb b 39) _ _ h (begin-low (put (Name s.part) s) b h)
-  in-low InHex s b l h = chosen Low (eqb b 39) _ _ h (chosen Low (eqb b 10) _ _ h (chosen Low (is_hex b) _ _ h h))
-  in-low InHexLow s b l h = chosen Low (eqb b 39) _ _ h (chosen Low (eqb b 10) _ _ h (chosen Low (is_hex b) _ _ h h))
-  in-low InBadHex s b l h = chosen Low (eqb b 39) _ _ h (chosen Low (eqb b 10) _ _ h h)
-  in-low InComment s b l h = chosen Low (eqb b 42) _ _ h (chosen Low (eqb b 10) _ _ h h)
-  in-low AfterStar s b l h = chosen Low (eqb b 47) _ _ h (chosen Low (eqb b 42) _ _ h (chosen Low (eqb b 10) _ _ h h))
-
-pub step-begun : (n : ℕ) (s : Scan) (b : ℕ) → s.line + n ≤ most_text_bytes + 1 → s.begun + n ≤ most_text_bytes + 1 → (step s b).begun + n ≤ most_text_bytes + 1
-unfolding step
-step-begun n s b l h = chosen (Low n) (eqb b 13) _ _ h (in-low n s.mode s b l h)
-
-pub finish-line : (m : Mode) (s : Scan) → s.line ≤ most_text_bytes + 1 → s.begun ≤ most_text_bytes + 1 → (finish_in m s).line ≤ most_text_bytes + 1
-unfolding finish_in put put_word
-finish-line InBlank s l h = l
-finish-line AfterSlash s l h = l
-finish-line InWord s l h = l
-finish-line InQuote s l h = l
-finish-line AfterQuote s l h = l
-finish-line InHex s l h = l
-finish-line InHexLow s l h = l
-finish-line InBadHex s l h = l
-finish-line InComment s l h = h
-finish-line AfterStar s l h = h

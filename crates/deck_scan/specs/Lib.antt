@@ -9,3 +9,4 @@ pub mod Lengths
 pub mod Next
 pub mod AnyBytes
 pub mod Part
+pub mod Rows

@@ -1,6 +1,11 @@
 //! Kinds of bytes: of plain names, of hexadecimal digits, and those that a deck may have.
-ghost use Rattle.std.specs.Prelude.{◌≡◌, ◌<◌};
-ghost use Rattle.deck_scan.specs.Bytes.{is_word, is_hex, digit, is_allowed};
+ghost use Rattle.std.specs.Prelude.{◌≡◌, ◌<◌, ◌≤◌, ◌+◌, ◌^◌, ◌==◌, ◌&&◌, not, length, position, IfSome, if◌then◌else◌};
+ghost use Rattle.std.specs.List.{list_all};
+ghost use Rattle.grs_base.specs.Printed.{is_printable};
+ghost use Rattle.deck_scan.specs.Bytes.{begins, is_word, is_hex, digit, is_allowed, bad_line};
+ghost use Rattle.deck_scan.specs.Pieces.{is_in_comment};
+ghost use Rattle.deck_scan.specs.Reading.{most_text_bytes};
+ghost use Rattle.deck_scan.specs.Rows.{is_no_quote, IsSplit};
 
 use grs_base::{is_plain_byte, is_printable};
 
@@ -41,4 +46,106 @@ pub fn is_allowed_byte(b: u8, rest: &[u8]) -> bool
 {
     let before_lf = matches!(rest, [b'\n', ..]);
     is_printable(b) || b == b'\n' || (b == b'\r' && before_lf)
+}
+
+/// Whether a text begins with this byte.
+pub fn begins(b: u8, text: &[u8]) -> bool
+    ensures { result ≡ begins b text.now }
+{
+    match text.split_first() {
+        Some((first, _)) => *first == b,
+        None => false,
+    }
+}
+
+/// Whether a text, of which this is the first byte and this what stands behind it, begins with these two.
+pub fn begins_pair(first: u8, second: u8, b: u8, behind: &[u8]) -> bool
+    ensures { result ≡ (b == first && begins second behind.now) }
+{
+    b == first && begins(second, behind)
+}
+
+fn end_of_word(text: &[u8]) -> Option<usize>
+    ensures at { result ≡ position (λ b. not (is_word b)) text.now }
+    ensures within { IfSome result (λ i. i ≤ length text.now) }
+{
+    text.iter().position(|b| !is_word_byte(*b))
+}
+
+/// A text cut behind the bytes of plain names at its front.
+pub fn split_word<'t>(text: &'t [u8]) -> (&'t [u8], &'t [u8])
+    ensures { IsSplit is_word text.now result.0.now result.1.now }
+{
+    match end_of_word(text) {
+        Some(i) => text.split_at(i),
+        None => (text, &[]),
+    }
+}
+
+fn quote_of(text: &[u8]) -> Option<usize>
+    ensures at { result ≡ position (λ b. not (is_no_quote b)) text.now }
+    ensures within { IfSome result (λ i. i ≤ length text.now) }
+{
+    text.iter().position(|b| *b == b'\'')
+}
+
+/// A text cut before its first quote.
+pub fn split_at_quote<'t>(text: &'t [u8]) -> (&'t [u8], &'t [u8])
+    ensures { IsSplit is_no_quote text.now result.0.now result.1.now }
+{
+    match quote_of(text) {
+        Some(i) => text.split_at(i),
+        None => (text, &[]),
+    }
+}
+
+fn end_of_printable(text: &[u8]) -> Option<usize>
+    ensures at { result ≡ position (λ b. not (is_printable b)) text.now }
+    ensures within { IfSome result (λ i. i ≤ length text.now) }
+{
+    text.iter().position(|b| !is_printable(*b))
+}
+
+/// A text cut behind the printable bytes at its front.
+pub fn split_printable<'t>(text: &'t [u8]) -> (&'t [u8], &'t [u8])
+    ensures { IsSplit is_printable text.now result.0.now result.1.now }
+{
+    match end_of_printable(text) {
+        Some(i) => text.split_at(i),
+        None => (text, &[]),
+    }
+}
+
+/// Whether all bytes are printable or end a line.
+fn all_common(text: &[u8]) -> bool
+    ensures { result ≡ list_all is_in_comment text.now }
+{
+    text.iter().all(|b| is_printable(*b) || *b == b'\n')
+}
+
+fn line_behind(b: u8, line: u32) -> u32
+    requires { line + 1 < 2 ^ 32 }
+    ensures { result ≡ (if b == 10 then line + 1 else line) }
+{
+    if b == b'\n' { line + 1 } else { line }
+}
+
+/// The line of the first byte that a deck may not have.
+pub fn bad_line(text: &[u8]) -> Option<u32>
+    requires { length text.now ≤ most_text_bytes }
+    ensures { result ≡ bad_line 1 text.now }
+{
+    if all_common(text) {
+        return None;
+    }
+    let mut line = 1;
+    let mut rest = text;
+    while let Some((b, tail)) = rest.split_first() {
+        if !is_allowed_byte(*b, tail) {
+            return Some(line);
+        }
+        line = line_behind(*b, line);
+        rest = tail;
+    }
+    None
 }

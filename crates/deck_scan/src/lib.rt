@@ -1,20 +1,24 @@
-//! From the bytes of a deck to its lines of tokens, by one pass over the bytes.
-//! It knows what a token is, and nothing of what a statement is made of.
+//! From the bytes of a deck to its lines of tokens, which are read one by one: a line is cut into pieces by
+//! searches over its bytes, and its tokens borrow them. It knows what a token is, and nothing of what a statement
+//! is made of.
 #![tactic(auto)]
 
 mod any_bytes;
 mod bytes;
 mod closes;
+mod cursor;
 mod given;
 mod laws;
 mod lengths;
 mod miss;
 mod next;
+mod row;
 mod scan;
 mod token;
 
 pub use any_bytes::any_lines;
 pub use closes::bytes_to_close;
+pub use cursor::{Lines, MOST_TEXT_BYTES};
 pub use given::GivenName;
 pub use laws::{bad_bytes, printed_names, spelled_lines};
 pub use lengths::{is_bad_qname, is_bad_rname, maybe_qname, maybe_rname, qname_of, rname_of};
@@ -22,5 +26,4 @@ pub use miss::{Miss, or_bad, refused};
 pub use next::{
     any_word_at, close_at, comma_at, end_at, equals_at, name_at, open_at, value_at, word_at,
 };
-pub use scan::{MOST_TEXT_BYTES, lines};
 pub use token::{Part, Token, TokenLine};

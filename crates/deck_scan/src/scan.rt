@@ -1,19 +1,13 @@
 //! Goes through the bytes once and keeps what stands open between two of them.
 //! It knows no statement; its lines are judged by the crates above.
-ghost use Rattle.std.specs.Prelude.{◌≡◌, ◌<◌, ◌≤◌, ◌+◌, ◌^◌, [], length, OnOk};
-ghost use Rattle.deck_scan.specs.Reading.{most_text_bytes, lines_or_fault, Answers};
-ghost use Rattle.deck_scan.specs.Gives.{Gives};
+ghost use Rattle.std.specs.Prelude.{◌≡◌, ◌<◌, ◌+◌, ◌^◌, [], OnOk};
 ghost use Rattle.deck_scan.specs.Scan.{put, put_word, put_open, end_line, break_off, begin_word, begin, step_in, step, finish_in, start};
 
-use crate::bytes::{digit_of, is_allowed_byte, is_hex_byte, is_word_byte};
-use crate::miss::refused;
+use crate::bytes::{digit_of, is_hex_byte, is_word_byte};
 use crate::token::{Part, Token, TokenLine};
-use grs_base::{Kind, List, NoMemory, ReadError};
+use grs_base::{List, NoMemory};
 use std::alloc::Global;
 use std::mem;
-
-/// The most bytes of a deck.
-pub const MOST_TEXT_BYTES: usize = 1_048_576;
 
 /// What stands open.
 #[derive(Clone, Copy)]
@@ -381,49 +375,4 @@ impl<'t> Scan<'t> {
                 self.put(alloc, Token::Stray),
         }
     }
-}
-
-/// The lines of a text that is not too long.
-fn scan_lines<'t>(alloc: Global, text: &'t [u8]) -> Result<List<TokenLine<'t>>, ReadError>
-    requires { length text.now ≤ most_text_bytes }
-    ensures { Gives result (lines_or_fault text.now) }
-{
-    let mut scan = Scan::new(alloc);
-    let mut rest = text;
-    while let Some((b, tail)) = rest.split_first() {
-        if !is_allowed_byte(*b, tail) {
-            return Err(refused(scan.line, Kind::BadByte));
-        }
-        scan.step(alloc, *b)?;
-        rest = tail;
-    }
-    scan.finish(alloc)?;
-    scan.end_line(alloc)?;
-    Ok(scan.lines)
-}
-
-/// The lines of a deck that have a token, in order. Blanks and comments separate tokens and are gone,
-/// and a comment that is not closed is a line of its own at the end. Of the deck
-///
-///     JOB J1    /* nightly */
-///
-///     ENQ (PAYROLL,'it''s',E,SYSTEM)
-///
-/// the lines are 1 with the words `JOB` and `J1`, and 3 with the word `ENQ`, `(`, the word `PAYROLL`,
-/// a comma, the name `it's`, a comma, and so on.
-///
-/// A deck of more than 1,048,576 bytes is `TooLong`, with line 0. A byte that no deck may have, which
-/// is each but blank to `~`, LF and a CR directly before an LF, is `BadByte`, with the line of the
-/// first one. Want of memory is `NoMemory`.
-#[tactic(auto, unfolding(crate::specs::Reading::lines_or_fault))]
-pub fn lines<'t>(alloc: Global, text: &'t [u8]) -> Result<List<TokenLine<'t>>, ReadError>
-    // By the grammar of pieces.
-    ensures exact { Answers result text.now }
-    // By the function on lists that the readers above this one are built on.
-    ensures read { Gives result (lines_or_fault text.now) }
-{
-    if text.len() > MOST_TEXT_BYTES {
-        return Err(refused(0, Kind::TooLong));
-    }
-    scan_lines(alloc, text)
 }

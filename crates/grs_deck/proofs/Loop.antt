@@ -1,12 +1,22 @@
 -- Taking lines one after the other, as a loop does.
-use Rattle.std.proofs.Common.{◌≡◌, ◌+◌, ◌<◌, ◌≤◌, ℕ, zero, suc, List, [], ◌∷◌, length, drop, get_or, Result, Ok, Err, refl, sym, ap, ◌∙◌, arith}
+use Rattle.std.proofs.Common.{◌≡◌, List, [], ◌∷◌, length, Option, Some, None, Result, Ok, Err, refl, sym, ap, subst, ◌∙◌, arith}
 use Rattle.grs_base.specs.declared.fault.DeckFault.{DeckFault}
 use Rattle.grs_base.specs.declared.fault.ReadError.{ReadError}
 use Rattle.grs_base.specs.declared.fault.ReadError.TheVariants as errors
 use Rattle.deck_scan.specs.declared.token.TokenLine.{TokenLine}
 use Rattle.deck_scan.specs.Gives.{Fails}
+use Rattle.deck_scan.specs.Rows.{Next}
 use Rattle.grs_deck.specs.declared.judge.Draft.{Draft}
 use Rattle.grs_deck.specs.Reading.{judge, judge_all}
+
+-- what was taken of the lines to come
+pub one_next : (found : Option TokenLine) (line : TokenLine) (rest tail : List TokenLine) → found ≡ Some line → Next found rest tail → rest ≡ line ∷ tail
+one_next found line rest tail is h = subst (λ (f : Option TokenLine). Next f rest tail) is h
+
+pub none_next : (found : Option TokenLine) (rest tail : List TokenLine) → found ≡ None → Next found rest tail → length rest ≡ 0
+none_next found rest tail is h =
+    let k : Next None rest tail = subst (λ (f : Option TokenLine). Next f rest tail) is h in
+    ap length k.0
 
 pub goes_on : (d new : Draft) (rest tail : List TokenLine) (line : TokenLine) (total : Result Draft DeckFault) → rest ≡ line ∷ tail → judge d line ≡ Ok new → judge_all d rest ≡ total → judge_all new tail ≡ total
 unfolding judge_all
@@ -25,15 +35,3 @@ pub is_done : (d : Draft) (rest : List TokenLine) (total : Result Draft DeckFaul
 unfolding judge_all
 is_done d [] total none so_far = sym so_far
 is_done d (l ∷ rest) total none so_far = absurd (omega (arith, none))
-
--- from a line on, and behind it
-pub dropped : (ls : List TokenLine) (i : ℕ) (line : TokenLine) → i < length ls → line ≡ get_or ls i line → drop i ls ≡ line ∷ drop (i + 1) ls
-dropped [] i line within is = absurd (omega (arith, within))
-dropped (l ∷ ls) zero line within is = ap (λ (x : TokenLine). x ∷ ls) (sym is)
-dropped (l ∷ ls) (suc i) line within is = let e : suc i + 1 ≡ suc (i + 1) = omega arith in rw e (dropped ls i line (omega (arith, within)) is)
-
-pub all_dropped : (ls : List TokenLine) (i : ℕ) → length ls ≤ i → length (drop i ls) ≡ 0
-all_dropped [] zero h = refl
-all_dropped [] (suc i) h = refl
-all_dropped (l ∷ ls) zero h = absurd (omega (arith, h))
-all_dropped (l ∷ ls) (suc i) h = all_dropped ls i (omega (arith, h))

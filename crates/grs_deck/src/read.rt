@@ -13,8 +13,8 @@ ghost use Rattle.grs_deck.specs.Reading.{judge_statement, judge, judge_all, ende
 use crate::grow::grow_deck;
 use crate::judge::{Draft, verdict};
 use crate::limits::{DEFAULT_ENTRIES, DEFAULT_LIMIT, MOST_LINES};
-use deck_form::{Stmt, statement, statements};
-use deck_scan::{TokenLine, lines, refused};
+use deck_form::{Statements, Stmt, statement};
+use deck_scan::{Lines, TokenLine, refused};
 use grs_base::{Kind, List, Lists, NoMemory, ReadError};
 use grs_wire::Deck;
 use std::alloc::Global;
@@ -98,15 +98,14 @@ fn start(alloc: Global) -> Draft
     }
 }
 
-/// Takes the lines of statements in order, up to the first with a fault.
-fn take_lines(alloc: Global, lines: &[TokenLine<'_>]) -> Result<Draft, ReadError>
-    ensures { Gives result (judge_all no_draft lines.now) }
+/// Takes statements in order, up to the first with a fault. Each is let go before the next one is read.
+fn take_all(alloc: Global, statements: Statements<'_>) -> Result<Draft, ReadError>
+    ensures { Gives result (judge_all no_draft statements.entry) }
 {
     let mut draft = start(alloc);
-    let mut next = 0;
-    while let Some(line) = lines.get(next) {
-        take_line(&mut draft, alloc, line)?;
-        next += 1;
+    let mut rest = statements;
+    while let Some(line) = rest.next(alloc)? {
+        take_line(&mut draft, alloc, &line)?;
     }
     Ok(draft)
 }
@@ -127,9 +126,8 @@ fn end(draft: Draft) -> Result<Deck, ReadError>
 fn read_all(alloc: Global, text: &[u8]) -> Result<Deck, ReadError>
     ensures { Gives result (reading text.now) }
 {
-    let all = lines(alloc, text)?;
-    let all = statements(alloc, all)?;
-    let draft = take_lines(alloc, all.as_slice())?;
+    let lines = Lines::new(text)?;
+    let draft = take_all(alloc, Statements::new(lines))?;
     end(draft)
 }
 
