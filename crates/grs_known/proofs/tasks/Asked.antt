@@ -30,7 +30,7 @@ use Rattle.task_state.specs.Replies.{phase_after}
 use Rattle.grs_known.specs.Told.{entry_of_line, entries_behind, queues, queues_at, queued_last, is_control, tells_control, is_code_before, is_code_of, is_post_of, is_end_of}
 use Rattle.grs_known.proofs.lists.Entries.{asked_at-grows, end_among-push}
 use Rattle.grs_known.proofs.lists.Lines.{asks-more, asks_of-at, passed-none, passed-stop}
-use Rattle.grs_known.proofs.tasks.Invariant.{Each, key, has_res, is_distinct, IsEntryOn, IsEcb, IsRec, WaitsFor, may_pass, Passed, IsNext, IsInPhase, IsTask, is_post_before, has_ended, code_bound}
+use Rattle.grs_known.proofs.tasks.Invariant.{has_own, Each, key, has_res, is_distinct, IsEntryOn, IsEcb, IsRec, WaitsFor, may_pass, Passed, IsNext, IsInPhase, IsTask, is_post_before, has_ended, code_bound}
 use Rattle.grs_known.proofs.tasks.Granted.{codes_later, lt_suc}
 use Rattle.grs_known.proofs.tasks.Keys.{each-kept}
 use Rattle.grs_known.proofs.lists.Truths.{not_true, or_second}
@@ -232,11 +232,12 @@ module _ (ls : List Meaning) (p : Past) (T : List ToldLine) (leaving : Res → B
     not_ended_after (End c) = refl
 
     -- the task afterwards, given its records
-    pub task-asked : (verb : Verb) (c : Code) (ys : List Rec) → code_of h ≡ c → map key ys ≡ ks → is_distinct ys ≡ true →
+    pub task-asked : (verb : Verb) (c : Code) (ys : List Rec) → code_of h ≡ c → map key ys ≡ ks → ((q : Res) → has q ≡ true → has_own q ks ≡ true) → is_distinct ys ≡ true →
         Each (IsRec ls (p.asked ++ h ∷ []) (told_after T t (suc n) verb c) has (λ r. false) t (suc n) (phase_after c)) ys →
         IsTask ls asked_past (told_after T t (suc n) verb c) (λ r. false) t (record { line = suc n; phase = phase_after c; code = code_in (phase_after c) code; records = ys; outstanding = o; rows = ws })
-    task-asked verb c ys e keys distinct recs = record {
+    task-asked verb c ys e keys owned distinct recs = record {
       keys = keys;
+      owned = owned;
       distinct = distinct;
       within = slice_get-within ls n l k.at;
       count = λ u. count_new;

@@ -2,7 +2,7 @@
 use Rattle.std.proofs.Common.{◌≡◌, ℕ, suc, Bool, true, false, cond, not, ◌&&◌, List, [], ◌∷◌, ◌++◌, map, Option, Some, None, ◌||◌, refl, ap, sym, ◌∙◌, subst, arith, inl, inr}
 use Rattle.std.specs.Prelude.{filter, ◌⊎◌, slice_get}
 use Rattle.std.specs.List.{list_any, list_all}
-use Rattle.std.proofs.lemmas.Bool.{and_from, cases_Bool, eq-eqb}
+use Rattle.std.proofs.lemmas.Bool.{and_parts, and_from, cases_Bool, eq-eqb}
 use Rattle.std.proofs.lemmas.Bool.Decides.{nat_tests}
 use Rattle.grs_base.specs.Same.{same_res, same_task}
 use Rattle.grs_base.specs.declared.resource.Res.{Res}
@@ -32,11 +32,11 @@ use Rattle.task_state.specs.Replies.{is_held, is_queued, is_changed, is_granted,
 use Rattle.grs_known.specs.Items.{owns_told}
 use Rattle.grs_known.specs.Past.{made_exclusive, own_by_effect, own_told, Past, after_entry}
 use Rattle.grs_known.specs.Told.{entry_of_line, queued_last, tells_control, is_code_of, is_post_of}
-use Rattle.grs_known.proofs.tasks.Invariant.{Each, key, has_res, is_distinct, IsEntryOn, IsEcb, IsRec, IsDue, IsTask, Fits, is_post_before}
-use Rattle.grs_known.proofs.tasks.Keys.{has_res-own, keys-push, distinct-push, keys-exclusive, distinct-exclusive, keys-without, distinct-without, other-without, each-without, each-push, each-exclusive}
+use Rattle.grs_known.proofs.tasks.Invariant.{Each, key, has_res, has_own, is_distinct, IsEntryOn, IsEcb, IsRec, IsDue, IsTask, Fits, is_post_before}
+use Rattle.grs_known.proofs.tasks.Keys.{has_res-own, has_own-other, has_own-exclusive, keys-push, distinct-push, keys-exclusive, distinct-exclusive, keys-without, distinct-without, other-without, each-without, each-push, each-exclusive}
 use Rattle.grs_known.proofs.tasks.Asked.{told_after, Asks, recs-asked, of_new_line, latest_new, task-asked}
-use Rattle.grs_known.proofs.lists.Truths.{no_truth, and_off}
-use Rattle.grs_known.proofs.lists.Facts.{any-last, none-more}
+use Rattle.grs_known.proofs.lists.Truths.{no_truth, false_by, and_off, or_first, or_second}
+use Rattle.grs_known.proofs.lists.Facts.{list_any-push, any-last, none-more}
 
 -- no ECB of a line after all those posted was posted
 unposted-new : (t : TaskId) (k : ℕ) (T : List ToldLine) → list_all (is_post_before t k) T ≡ true → list_any (is_post_of t k) T ≡ false
@@ -97,6 +97,15 @@ pub owned_still : (a b c : Bool) → b ≡ false → c ≡ false → ((a && not 
 owned_still true b c e f = rw e refl
 owned_still false b c e f = f
 
+-- what a task owns where one of its elements is taken out it has another element of
+pub owned-left : (ks : List (Res × Ctl)) (r q : Res) (b : Bool) → (b ≡ true → has_own q ks ≡ true) → ((b && not (same_res q r)) || false) ≡ true → has_own q (filter (λ z. not (same_res r z.0)) ks) ≡ true
+owned-left ks r q b f e = go b (same_res q r) refl f e
+  where
+    go : (b c : Bool) → same_res q r ≡ c → (b ≡ true → has_own q ks ≡ true) → ((b && not c) || false) ≡ true → has_own q (filter (λ z. not (same_res r z.0)) ks) ≡ true
+    go true false s f e = has_own-other q r ks s ∙ f refl
+    go true true s f e = cc
+    go false c s f e = cc
+
 module _ (ls : List Meaning) (p : Past) (T : List ToldLine) (t : TaskId) (n code0 : ℕ) (xs : List Rec) (o : Option Asked) (ws : List Row) (l : Meaning) (r : Res) (c : Ctl) (unit : Option ℕ) (ret : Ret) (code : Code)
     (k : Asks ls p T (λ q. false) t n code0 xs o ws l (AsksEnq r c ret)) (fits : Fits p (Enq t r c ret code)) where
   abbrev enq : HistEntry
@@ -106,7 +115,7 @@ module _ (ls : List Meaning) (p : Past) (T : List ToldLine) (t : TaskId) (n code
   new_rec = record { res = r; ctl = c; rank = 0; told = is_granted code; unit = unit; line = suc n }
 
   absent : is_queued ret code ≡ true → has_res r xs ≡ false
-  absent q = has_res-own r xs p.own k.before.keys ∙ (fits q).0
+  absent q = has_res-own r xs p.own k.before.keys ∙ fits q
 
   pushed : is_queued ret code ≡ true → with_last xs new_rec ≡ xs ++ new_rec ∷ []
   pushed q = ap (λ f. with_last_by f xs new_rec) (unrecorded xs r (absent q))
@@ -118,6 +127,22 @@ module _ (ls : List Meaning) (p : Past) (T : List ToldLine) (t : TaskId) (n code
       go true b q = ap (map key) (pushed q) ∙ keys-push xs new_rec ∙ ap (λ ks. ks ++ (r, c) ∷ []) k.before.keys
       go false true q = keys-exclusive r xs ∙ ap (map (made_exclusive r)) k.before.keys
       go false false q = k.before.keys
+
+  -- it owns what it owned, and what was given
+  owned_new : (q : Res) → owns_told enq p.owns q ≡ true → has_own q (own_told enq p.own) ≡ true
+  owned_new q o = go (is_queued ret code) (is_changed ret code) (p.owns q) (k.before.owned q) o
+    where
+      given : (a b : Bool) → (a && (b && false)) ≡ true → ⊥
+      given true true e = absurd (cc)
+      given true false e = absurd (cc)
+      given false b e = absurd (cc)
+
+      go : (a b w : Bool) → (w ≡ true → has_own q p.own ≡ true) → ((w && true) || (same_res q r && (is_granted code && a))) ≡ true → has_own q (own_by_effect (cond a Append (cond b MakeExclusive Nothing)) r c p.own) ≡ true
+      go true b true f e = list_any-push (λ z. same_res q z.0) p.own (r, c) ∙ or_first (has_own q p.own) (same_res q r) (f refl)
+      go true b false f e = list_any-push (λ z. same_res q z.0) p.own (r, c) ∙ or_second (has_own q p.own) (same_res q r) (and_parts (same_res q r) (is_granted code && true) e).0
+      go false true true f e = has_own-exclusive q r p.own ∙ f refl
+      go false false true f e = f refl
+      go false b false f e = absurd (given (same_res q r) (is_granted code) e)
 
   distinct_new : is_distinct (enq_records r c unit ret code (suc n) xs) ≡ true
   distinct_new = go (is_queued ret code) (is_changed ret code) refl
@@ -150,7 +175,7 @@ module _ (ls : List Meaning) (p : Past) (T : List ToldLine) (t : TaskId) (n code
   rec_new q =
       let at = of_new_line ls p T (λ z. false) t n code0 xs o ws l (AsksEnq r c ret) k enq in
       let latest = latest_new ls p T (λ z. false) t n code0 xs o ws l (AsksEnq r c ret) k enq r (and_from (same_res r r) _ (same_res-itself r) q) in
-      let known : is_granted code ≡ owns_told enq p.owns r = owned (p.owns r) (same_res r r) (is_granted code) (is_queued ret code) (fits q).1 (same_res-itself r) q in
+      let known : is_granted code ≡ owns_told enq p.owns r = owned (p.owns r) (same_res r r) (is_granted code) (is_queued ret code) (false_by (p.owns r) (λ o. no_truth (has_own r p.own) (k.before.owned r o) (fits q))) (same_res-itself r) q in
       record {
         entry = subst (IsEntryOn r) (sym at) (refl, q);
         latest = latest;
@@ -176,7 +201,7 @@ module _ (ls : List Meaning) (p : Past) (T : List ToldLine) (t : TaskId) (n code
   -- the task after its ENQ was decided
   pub task-enq : IsTask ls (after_entry enq p) (told_after T t (suc n) verbs.Enq code) (λ q. false) t
       (record { line = suc n; phase = phase_after code; code = code_in (phase_after code) code0; records = enq_records r c unit ret code (suc n) xs; outstanding = o; rows = ws })
-  task-enq = task-asked ls p T (λ q. false) t n code0 xs o ws l (AsksEnq r c ret) k enq (own_told enq p.own) (owns_told enq p.owns) verbs.Enq code (enq_records r c unit ret code (suc n) xs) refl keys_new distinct_new recs_new
+  task-enq = task-asked ls p T (λ q. false) t n code0 xs o ws l (AsksEnq r c ret) k enq (own_told enq p.own) (owns_told enq p.owns) verbs.Enq code (enq_records r c unit ret code (suc n) xs) refl keys_new owned_new distinct_new recs_new
 
 module _ (ls : List Meaning) (p : Past) (T : List ToldLine) (leaving : Res → Bool) (t : TaskId) (n code0 : ℕ) (xs : List Rec) (o : Option Asked) (ws : List Row) (l : Meaning) (r : Res) (have : Bool) (code : Code)
     (k : Asks ls p T leaving t n code0 xs o ws l (AsksDeq r have)) (others : (q : Res) → same_res q r ≡ false → leaving q ≡ false) (fits : Fits p (Deq t r have code)) where
@@ -195,6 +220,14 @@ module _ (ls : List Meaning) (p : Past) (T : List ToldLine) (leaving : Res → B
   keys_left true = keys-without r xs k.before.distinct ∙ ap (filter (λ z. not (same_res r z.0))) k.before.keys
   keys_left false = k.before.keys
 
+  owned_deq : (q : Res) (b : Bool) → ((p.owns q && not (same_res q r && b)) || false) ≡ true → has_own q (cond b (filter (λ z. not (same_res r z.0)) p.own) p.own) ≡ true
+  owned_deq q true o = owned-left p.own r q (p.owns q) (k.before.owned q) (ap (λ b. (p.owns q && not b) || false) (sym (and_true (same_res q r))) ∙ o)
+    where
+      and_true : (b : Bool) → (b && true) ≡ b
+      and_true true = refl
+      and_true false = refl
+  owned_deq q false o = k.before.owned q (sym (owned_still (p.owns q) (same_res q r && false) false (and_off (same_res q r) false refl) refl) ∙ o)
+
   distinct_left : (b : Bool) → is_distinct (cond b (without_first xs r) xs) ≡ true
   distinct_left true = distinct-without r xs k.before.distinct
   distinct_left false = k.before.distinct
@@ -202,4 +235,4 @@ module _ (ls : List Meaning) (p : Past) (T : List ToldLine) (leaving : Res → B
   -- the task after its DEQ was decided
   pub task-deq : IsTask ls (after_entry deq p) (told_after T t (suc n) verbs.Deq code) (λ q. false) t
       (record { line = suc n; phase = phase_after code; code = code_in (phase_after code) code0; records = cond (is_granted code) (without_first xs r) xs; outstanding = o; rows = ws })
-  task-deq = task-asked ls p T leaving t n code0 xs o ws l (AsksDeq r have) k deq (own_told deq p.own) (owns_told deq p.owns) verbs.Deq code (cond (is_granted code) (without_first xs r) xs) refl (keys_left (is_granted code)) (distinct_left (is_granted code)) (recs_left (is_granted code) refl)
+  task-deq = task-asked ls p T leaving t n code0 xs o ws l (AsksDeq r have) k deq (own_told deq p.own) (owns_told deq p.owns) verbs.Deq code (cond (is_granted code) (without_first xs r) xs) refl (keys_left (is_granted code)) (λ q o. owned_deq q (is_granted code) o) (distinct_left (is_granted code)) (recs_left (is_granted code) refl)

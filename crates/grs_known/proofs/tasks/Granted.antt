@@ -1,5 +1,5 @@
 -- A task that is told control: what holds of it afterwards, and that the lines agree.
-use Rattle.std.proofs.Common.{◌≡◌, ◌-◌, ◌+◌, ℕ, suc, Bool, true, false, not, List, [], ◌∷◌, ◌++◌, length, take, Option, Some, None, refl, ap, sym, ◌∙◌, subst, arith, inl, inr}
+use Rattle.std.proofs.Common.{◌≡◌, ◌-◌, ◌+◌, ℕ, suc, Bool, true, false, not, ◌||◌, List, [], ◌∷◌, ◌++◌, map, length, take, Option, Some, None, refl, ap, sym, ◌∙◌, subst, arith, inl, inr}
 use Rattle.std.specs.Prelude.{slice_get, IfSome, nat_lt}
 use Rattle.std.specs.List.{list_any, list_all}
 use Rattle.std.proofs.lemmas.Bool.{and_from, lt-ltb}
@@ -33,10 +33,10 @@ use Rattle.task_state.specs.Replies.{is_held}
 use Rattle.grs_known.specs.Told.{entry_of_line, queued_last, tells_control, is_code_before, is_end_of, TellsEnq, TellsWait, Posts, LineAgrees}
 use Rattle.grs_known.proofs.lists.Entries.{asked_at-grows}
 use Rattle.grs_known.proofs.lists.Lines.{asks-same, passed-more}
-use Rattle.grs_known.proofs.tasks.Invariant.{Each, IsEntryOn, IsEcb, IsRec, IsDue, WaitsFor, also, with_control, may_pass, owns_entry, Passed, IsWaitFor, IsInPhase, IsTask, is_post_before, has_ended, code_bound}
+use Rattle.grs_known.proofs.tasks.Invariant.{key, has_res, has_own, Each, IsEntryOn, IsEcb, IsRec, IsDue, WaitsFor, also, with_control, may_pass, owns_entry, Passed, IsWaitFor, IsInPhase, IsTask, is_post_before, has_ended, code_bound}
 use Rattle.grs_known.proofs.tasks.Others.{recs-told, phase-told, passed-control, phase-control}
 use Rattle.grs_known.proofs.tasks.Records.{recs-marked, keys-told, distinct-told, recs-coded, recs-posted}
-use Rattle.grs_known.proofs.tasks.Keys.{each-kept}
+use Rattle.grs_known.proofs.tasks.Keys.{has_res-own, each-kept}
 use Rattle.grs_known.proofs.lists.Truths.{no_truth, or_first, or_second}
 use Rattle.grs_known.proofs.lists.Facts.{all-kept, all-more, none-more, some_value, take-more}
 
@@ -107,6 +107,14 @@ no_end-of ls p T t n (phases.HeldLine r) e h = h.going.no_end
 no_end-of ls p T t n (phases.Ending c) e h = h.no_end
 no_end-of ls p T t n phases.Ended e h = absurd (cc)
 
+-- where a task has a record it may own
+owned-also : (p : Past) (xs : List Rec) (r : Res) → map key xs ≡ p.own → has_res r xs ≡ true → ((q : Res) → p.owns q ≡ true → has_own q p.own ≡ true) → (q : Res) → also r p.owns q ≡ true → has_own q p.own ≡ true
+owned-also p xs r keys has owned q o = go (p.owns q) (owned q) o
+  where
+    go : (b : Bool) → (b ≡ true → has_own q p.own ≡ true) → (b || same_res q r) ≡ true → has_own q p.own ≡ true
+    go true f e = f refl
+    go false f e = sym (has_res-own q xs p.own keys) ∙ ap (λ z. has_res z xs) (same_res-exact q r e) ∙ has
+
 -- A task that is told control of resource r, of which it has the record y.
 module _ (ls : List Meaning) (p : Past) (T : List ToldLine) (leaving : Res → Bool) (t : TaskId) (r : Res) (y : Rec) (same : same_res r y.res ≡ true) where
   on_entry : (o : Option HistEntry) → IsEntryOn y.res o → IsEntryOn r o
@@ -118,10 +126,10 @@ module _ (ls : List Meaning) (p : Past) (T : List ToldLine) (leaving : Res → B
   -- held by its last answer, it is told that
   pub task-coded : (n code : ℕ) (xs : List Rec) (o : Option Asked) (ws : List Row) →
       IsTask ls p T leaving t (record { line = n; phase = phases.HeldAnswer; code = code; records = xs; outstanding = o; rows = ws }) →
-      IsRec ls p.asked T p.owns leaving t n phases.HeldAnswer y → y.line ≡ n →
+      IsRec ls p.asked T p.owns leaving t n phases.HeldAnswer y → has_res r xs ≡ true → y.line ≡ n →
       IsTask ls (with_control r p) (T ++ Coded t y.line 0 verbs.Enq C00 ∷ []) leaving t (record { line = n; phase = phases.Ready; code = code; records = on_record r (λ z. record z { told = true }) xs; outstanding = o; rows = ws })
       × AgreesPast ls (with_control r p) T t (Coded t y.line 0 verbs.Enq C00)
-  task-coded n code xs o ws h rec at =
+  task-coded n code xs o ws h rec has at =
       let on : IsEntryOn r (entry_of_line ls p.asked y.line) = on_entry (entry_of_line ls p.asked y.line) rec.entry in
       let on_n : IsEntryOn r (entry_of_line ls p.asked n) = subst (λ k. IsEntryOn r (entry_of_line ls p.asked k)) at on in
       let of_line : entry_of_line ls p.asked y.line ≡ Some h.phase.last = ap (λ k. entry_of_line ls p.asked k) at ∙ h.phase.of_line in
@@ -131,6 +139,7 @@ module _ (ls : List Meaning) (p : Past) (T : List ToldLine) (leaving : Res → B
       let control : tells_control t ls p.asked r (Coded t n 0 verbs.Enq C00) ≡ true = and_from (same_task t t) _ (same_task-itself t) latest in (
         record {
           keys = keys-told r xs ∙ h.keys;
+          owned = owned-also p xs r h.keys has h.owned;
           distinct = distinct-told r xs ∙ h.distinct;
           within = h.within;
           count = λ e. h.count refl;
@@ -155,13 +164,14 @@ module _ (ls : List Meaning) (p : Past) (T : List ToldLine) (leaving : Res → B
 
   -- or by its ECB
   pub task-posted : (x : TaskState) → IsTask ls p T leaving t x →
-      IsRec ls p.asked T p.owns leaving t x.line x.phase y → IsDue ls p.asked T t y.line → has_ended x.phase ≡ false →
+      IsRec ls p.asked T p.owns leaving t x.line x.phase y → has_res r x.records ≡ true → IsDue ls p.asked T t y.line → has_ended x.phase ≡ false →
       IsTask ls (with_control r p) (T ++ Post t y.line ∷ []) leaving t (record x { records = on_record r (λ z. record z { told = true }) x.records })
       × AgreesPastOf ls (with_control r p) T t r (Post t y.line)
-  task-posted x h rec due going =
+  task-posted x h rec has due going =
       let on : IsEntryOn r (entry_of_line ls p.asked y.line) = on_entry (entry_of_line ls p.asked y.line) rec.entry in (
         record {
           keys = keys-told r x.records ∙ h.keys;
+          owned = owned-also p x.records r h.keys has h.owned;
           distinct = distinct-told r x.records ∙ h.distinct;
           within = h.within;
           count = h.count;
@@ -183,9 +193,10 @@ module _ (ls : List Meaning) (p : Past) (T : List ToldLine) (leaving : Res → B
       )
 
 -- a resource is marked of a task that is about to give it up: no line tells it
-pub task-marked : (ls : List Meaning) (p : Past) (T : List ToldLine) (leaving : Res → Bool) (t : TaskId) (r : Res) (x : TaskState) → leaving r ≡ true → IsTask ls p T leaving t x → IsTask ls (with_control r p) T leaving t (record x { records = on_record r (λ z. record z { told = true }) x.records })
-task-marked ls p T leaving t r x leaves h = record {
+pub task-marked : (ls : List Meaning) (p : Past) (T : List ToldLine) (leaving : Res → Bool) (t : TaskId) (r : Res) (x : TaskState) → leaving r ≡ true → has_res r x.records ≡ true → IsTask ls p T leaving t x → IsTask ls (with_control r p) T leaving t (record x { records = on_record r (λ z. record z { told = true }) x.records })
+task-marked ls p T leaving t r x leaves has h = record {
   keys = keys-told r x.records ∙ h.keys;
+  owned = owned-also p x.records r h.keys has h.owned;
   distinct = distinct-told r x.records ∙ h.distinct;
   within = h.within;
   count = h.count;
@@ -236,6 +247,7 @@ task-passed ls p T leaving t q n code xs o ws h own control =
     let back : (n - 1) + 1 ≡ n = omega (arith, h.phase.begun) in (
       record {
         keys = h.keys;
+        owned = h.owned;
         distinct = h.distinct;
         within = h.within;
         count = λ e. h.count refl;

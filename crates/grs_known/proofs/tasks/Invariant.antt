@@ -148,10 +148,10 @@ also r owns = λ q. owns q || same_res q r
 abbrev pub with_control : Res → Past → Past
 with_control r p = record p { owns = also r p.owns }
 
--- What a reply of the plain lists says of its asker's past: an ENQ is queued only where its task has no element, so
--- owns nothing; a DEQ that isn't answered 00 had no control to give up.
+-- What a reply of the plain lists says of its asker's past: an ENQ is queued only where its task has no element; a DEQ
+-- that isn't answered 00 had no control to give up.
 abbrev pub Fits : Past → HistEntry → Type 0
-Fits p (Enq u r c ret code) = is_queued ret code ≡ true → (has_own r p.own ≡ false) × (p.owns r ≡ false)
+Fits p (Enq u r c ret code) = is_queued ret code ≡ true → has_own r p.own ≡ false
 Fits p (Deq u r have code) = is_granted code ≡ false → p.owns r ≡ false
 Fits p (Release u r) = Unit {0}
 Fits p (Look u place filter rows) = Unit {0}
@@ -241,6 +241,8 @@ has_ended (phases.Ending c) = false
 pub record IsTask (ls : List Meaning) (p : Past) (T : List ToldLine) (leaving : Res → Bool) (t : TaskId) (x : TaskState) : Type 0 where
   -- its records are its elements, in the order in which these were queued
   pub keys : map key x.records ≡ p.own
+  -- and it owns only where it has one
+  pub owned : (r : Res) → p.owns r ≡ true → has_own r p.own ≡ true
   pub distinct : is_distinct x.records ≡ true
   -- its entries are those of the asking lines among the lines that it has taken
   pub within : x.line ≤ length ls

@@ -79,6 +79,15 @@ pub gone-without : (r : Res) (xs : List Rec) → is_distinct xs ≡ true → has
 gone-without r [] d = refl
 gone-without r (x ∷ xs) d = grind (arith, d, gone-without r xs, same_res-exact r x.res, cases_Bool (same_res r x.res))
 
+-- the elements that are left, and those that were made exclusive, are on the same resources
+pub has_own-other : (q r : Res) (ks : List (Res × Ctl)) → same_res q r ≡ false → has_own q (filter (λ k. not (same_res r k.0)) ks) ≡ has_own q ks
+has_own-other q r [] apart = refl
+has_own-other q r (k ∷ ks) apart = grind (arith, apart, has_own-other q r ks, same_res-exact r k.0, cases_Bool (same_res r k.0))
+
+pub has_own-exclusive : (q r : Res) (ks : List (Res × Ctl)) → has_own q (map (made_exclusive r) ks) ≡ has_own q ks
+has_own-exclusive q r [] = refl
+has_own-exclusive q r (k ∷ ks) = grind (arith, has_own-exclusive q r ks, cases_Bool (same_res r k.0))
+
 -- so what is left is on other resources
 pub other-without : (q r : Res) (xs : List Rec) → is_distinct xs ≡ true → has_res q (without_first xs r) ≡ true → same_res q r ≡ false
 other-without q r xs d has = false_by (same_res q r) (λ e. no_truth (has_res q (without_first xs r)) has (subst (λ z. has_res z (without_first xs r) ≡ false) (sym (same_res-exact q r e)) (gone-without r xs d)))

@@ -74,6 +74,7 @@ recs-owns ls E T has has' leaving leaving' t line ph xs same stays = each-kept (
 pub task-leaving : (ls : List Meaning) (p : Past) (T : List ToldLine) (leaving : Res → Bool) (t : TaskId) (x : TaskState) → IsTask ls p T (λ r. false) t x → IsTask ls p T leaving t x
 task-leaving ls p T leaving t x h = record {
   keys = h.keys;
+  owned = h.owned;
   distinct = h.distinct;
   within = h.within;
   count = h.count;
@@ -154,6 +155,7 @@ recs-told ls E T owns leaving t line ph l xs e = each-kept (IsRec ls E T owns le
 pub task-told : (ls : List Meaning) (p : Past) (T : List ToldLine) (leaving : Res → Bool) (t : TaskId) (x : TaskState) (l : ToldLine) → is_told_to t l ≡ false → IsTask ls p T leaving t x → IsTask ls p (T ++ l ∷ []) leaving t x
 task-told ls p T leaving t x l apart h = record {
   keys = h.keys;
+  owned = h.owned;
   distinct = h.distinct;
   within = h.within;
   count = h.count;

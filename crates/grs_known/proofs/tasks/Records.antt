@@ -1,5 +1,5 @@
 -- Telling a task control that it got by another's request.
-use Rattle.std.proofs.Common.{◌≡◌, ℕ, suc, Bool, true, false, cond, List, [], ◌∷◌, ◌++◌, map, Option, Some, None, refl, ap, sym, ◌∙◌, subst, arith, inl, inr}
+use Rattle.std.proofs.Common.{◌≡◌, ℕ, suc, Bool, true, false, cond, ◌||◌, List, [], ◌∷◌, ◌++◌, map, Option, Some, None, refl, ap, sym, ◌∙◌, subst, arith, inl, inr}
 use Rattle.std.specs.Prelude.{slice_get, ◌==◌}
 use Rattle.std.specs.List.{list_any}
 use Rattle.std.proofs.lemmas.Bool.{and_from, eqb-true}
@@ -30,6 +30,14 @@ found P (y ∷ ys) r x h e = go (same_res r y.res) refl e (found P ys r x h.1)
     go : (b : Bool) → same_res r y.res ≡ b → slice_get (y ∷ ys) (cond b 0 (suc (record_place ys r))) ≡ Some x → (record_of ys r ≡ Some x → P x × (same_res r x.res ≡ true)) → P x × (same_res r x.res ≡ true)
     go true s f more = let same : y ≡ x = cc in (subst P same h.0, ap (λ (z : Rec). same_res r z.res) (sym same) ∙ s)
     go false s f more = more f
+
+pub found_has : (xs : List Rec) (r : Res) (x : Rec) → record_of xs r ≡ Some x → has_res r xs ≡ true
+found_has [] r x e = absurd (cc)
+found_has (y ∷ ys) r x e = go (same_res r y.res) e (found_has ys r x)
+  where
+    go : (b : Bool) → slice_get (y ∷ ys) (cond b 0 (suc (record_place ys r))) ≡ Some x → (record_of ys r ≡ Some x → has_res r ys ≡ true) → (b || has_res r ys) ≡ true
+    go true f more = refl
+    go false f more = more f
 
 pub not_found : (xs : List Rec) (r : Res) → record_of xs r ≡ None → has_res r xs ≡ false
 not_found [] r e = refl

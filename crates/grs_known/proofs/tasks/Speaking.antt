@@ -4,7 +4,7 @@ use Rattle.std.specs.Prelude.{slice_get, is_some, IfSome}
 use Rattle.std.specs.List.{list_any, list_all}
 use Rattle.std.proofs.lemmas.Option.{IfSome_then}
 use Rattle.grs_base.specs.Same.{same_res, same_task}
-use Rattle.grs_base.specs.Lists.{owns, has_task, standing_of, is_owner, can_have, deq_code, enq_decision, decide_enq}
+use Rattle.grs_base.specs.Lists.{owns, has_task, standing_of, can_have, deq_code, enq_decision, decide_enq}
 use Rattle.grs_base.specs.State.{list_of, queued_by}
 use Rattle.grs_base.specs.declared.resource.Ctl.{Ctl}
 use Rattle.grs_base.specs.declared.resource.Res.{Res}
@@ -136,12 +136,7 @@ queued-absent st ret full can h = grind (arith, h)
 
 pub fits-enq : (limit : ℕ) (t : TaskId) (p : Past) (P : List HistEntry) → Speaks limit t p P → (r : Res) (c : Ctl) (ret : Ret) (full : Bool) → Fits p (Enq t r c ret (decide_enq (list_of (replay limit P) r) t c ret full).code)
 fits-enq limit t p P s r c ret full h =
-    let absent : standing_of (list_of (replay limit P) r) t ≡ Absent = queued-absent (standing_of (list_of (replay limit P) r) t) ret full (can_have (list_of (replay limit P) r) c) h in
-    (sym (has-speaks limit t p P s r) ∙ absent-has (list_of (replay limit P) r) t absent, unowned absent (p.owns r) refl)
-  where
-    unowned : standing_of (list_of (replay limit P) r) t ≡ Absent → (b : Bool) → p.owns r ≡ b → b ≡ false
-    unowned absent false e = refl
-    unowned absent true e = absurd (let f : false ≡ true = sym (ap is_owner absent) ∙ is_owner-standing (list_of (replay limit P) r) t ∙ s.owns r e in cc)
+    sym (has-speaks limit t p P s r) ∙ absent-has (list_of (replay limit P) r) t (queued-absent (standing_of (list_of (replay limit P) r) t) ret full (can_have (list_of (replay limit P) r) c) h)
 
 pub fits-deq : (limit : ℕ) (t : TaskId) (p : Past) (P : List HistEntry) → Speaks limit t p P → (r : Res) (have : Bool) → Fits p (Deq t r have (deq_code (standing_of (list_of (replay limit P) r) t) have))
 fits-deq limit t p P s r have h = go (p.owns r) refl

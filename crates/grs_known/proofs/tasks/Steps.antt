@@ -21,7 +21,6 @@ use Rattle.grs_legal.specs.Asks.{AsksRelease, asks_of, asks_in}
 use Rattle.grs_legal.specs.Legal.{end_among, passed_behind, or_else, release_next}
 use Rattle.grs_known.specs.Items.{owns_told}
 use Rattle.grs_known.specs.Past.{Past, after_entry}
-use Rattle.grs_base.proofs.SameLaws.{same_res-exact}
 use Rattle.grs_wire.specs.declared.history.HistEntry.TheVariants.{Release}
 use Rattle.task_state.specs.declared.state.Rec.{Rec}
 use Rattle.task_state.specs.declared.state.Phase.{Phase}
@@ -32,8 +31,8 @@ use Rattle.grs_known.proofs.lists.Lines.{asks-same}
 use Rattle.grs_known.proofs.tasks.Invariant.{Each, key, IsRec, WaitsFor, has_own, may_pass, Passed, asks_next, IsNext, IsWaitFor, IsTask, is_post_before}
 use Rattle.grs_known.proofs.tasks.Others.{recs-owns, recs-told}
 use Rattle.grs_known.proofs.tasks.Granted.{AgreesPast, codes_later, lt_suc, passed-line, recs-phase}
-use Rattle.grs_known.proofs.tasks.Keys.{keys-without, distinct-without, other-without, each-kept, each-without}
-use Rattle.grs_known.proofs.tasks.Decided.{owned_still}
+use Rattle.grs_known.proofs.tasks.Keys.{has_own-other, keys-without, distinct-without, other-without, each-kept, each-without}
+use Rattle.grs_known.proofs.tasks.Decided.{owned_still, owned-left}
 use Rattle.grs_known.proofs.tasks.Speaking.{queued-speaks, next-speaks}
 use Rattle.grs_known.proofs.lists.Truths.{or_second}
 use Rattle.grs_known.proofs.lists.Facts.{all-kept, all-more, none-more, slice_get-none, slice_get-past, slice_get-within, take-whole}
@@ -41,10 +40,6 @@ use Rattle.grs_known.proofs.lists.Facts.{all-kept, all-more, none-more, slice_ge
 none-filtered : (r : Res) (ks : List (Res × Ctl)) → list_any (λ k. same_res r k.0) (filter (λ k. not (same_res r k.0)) ks) ≡ false
 none-filtered r [] = refl
 none-filtered r (k ∷ ks) = grind (arith, none-filtered r ks, cases_Bool (same_res r k.0))
-
-has_own-other : (q r : Res) (ks : List (Res × Ctl)) → same_res q r ≡ false → has_own q (filter (λ k. not (same_res r k.0)) ks) ≡ has_own q ks
-has_own-other q r [] apart = refl
-has_own-other q r (k ∷ ks) apart = grind (arith, apart, has_own-other q r ks, same_res-exact r k.0, cases_Bool (same_res r k.0))
 
 -- a WAIT line that let the task pass lets it pass when it has released a resource
 pass-released : (p : Past) (t : TaskId) (r : Res) (l : Meaning) → may_pass p l ≡ true → may_pass (after_entry (Release t r) p) l ≡ true
@@ -61,6 +56,7 @@ pub task-released : (ls : List Meaning) (p : Past) (T : List ToldLine) (leaving 
     IsTask ls (after_entry (Release t r) p) T (λ q. false) t (record { line = n; phase = phases.Ending c; code = code; records = without_first xs r; outstanding = o; rows = ws })
 task-released ls p T leaving t n c code xs o ws r others k = record {
   keys = keys-without r xs k.distinct ∙ ap (filter (λ z. not (same_res r z.0))) k.keys;
+  owned = λ q o. owned-left p.own r q (p.owns q) (k.owned q) o;
   distinct = distinct-without r xs k.distinct;
   within = k.within;
   count = k.count;
@@ -114,6 +110,7 @@ module _ (ls : List Meaning) (p : Past) (T : List ToldLine) (leaving : Res → B
   pub task-skipped : may_pass p l ≡ true → IsTask ls p T leaving t (record { line = suc n; phase = phases.Ready; code = code; records = xs; outstanding = o; rows = ws })
   task-skipped lets = record {
     keys = k.keys;
+    owned = k.owned;
     distinct = k.distinct;
     within = slice_get-within ls n l at;
     count = λ e. count_same;
@@ -128,6 +125,7 @@ module _ (ls : List Meaning) (p : Past) (T : List ToldLine) (leaving : Res → B
   pub task-waited : (c : Code) → may_pass p l ≡ true → IsTask ls p (T ++ Coded t (suc n) 0 verbs.Wait c ∷ []) leaving t (record { line = suc n; phase = phases.Ready; code = code; records = xs; outstanding = o; rows = ws })
   task-waited c lets = record {
     keys = k.keys;
+    owned = k.owned;
     distinct = k.distinct;
     within = slice_get-within ls n l at;
     count = λ e. count_same;
@@ -142,6 +140,7 @@ module _ (ls : List Meaning) (p : Past) (T : List ToldLine) (leaving : Res → B
   pub task-held : (r : Res) → IsWaitFor r (Some l) → IsTask ls p T leaving t (record { line = suc n; phase = phases.HeldLine r; code = code; records = xs; outstanding = o; rows = ws })
   task-held r waits = record {
     keys = k.keys;
+    owned = k.owned;
     distinct = k.distinct;
     within = slice_get-within ls n l at;
     count = λ e. count_same;
@@ -164,6 +163,7 @@ pub task-ending : (ls : List Meaning) (p : Past) (T : List ToldLine) (leaving : 
     IsTask ls p T leaving t (record { line = n; phase = phases.Ending 0; code = 0; records = xs; outstanding = o; rows = ws })
 task-ending ls p T leaving t n code xs o ws k past_end = record {
   keys = k.keys;
+  owned = k.owned;
   distinct = k.distinct;
   within = k.within;
   count = λ e. k.count refl;
@@ -209,6 +209,7 @@ pub task-ended : (ls : List Meaning) (p : Past) (T : List ToldLine) (leaving : R
 task-ended ls p T leaving t n c code o ws k = (
   record {
     keys = k.keys;
+    owned = k.owned;
     distinct = k.distinct;
     within = k.within;
     count = λ e. k.count refl;

@@ -66,6 +66,7 @@ new_here deck t ls = record {
   speaks = record { own = refl; owns = λ r e. cc; asked = refl; last = refl };
   task = record {
     keys = refl;
+    owned = λ r e. cc;
     distinct = refl;
     within = omega arith;
     count = λ e. refl;

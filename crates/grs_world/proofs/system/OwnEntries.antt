@@ -39,6 +39,7 @@ use Rattle.grs_world.proofs.system.Replied.{replay-push}
 pub task-open : (ls : List Meaning) (p : Past) (T : List ToldLine) (leaving : Res → Bool) (t : TaskId) (x : TaskState) (o : Option Asked) → IsTask ls p T leaving t x → IsTask ls p T leaving t (record x { outstanding = o })
 task-open ls p T leaving t x o k = record {
   keys = k.keys;
+  owned = k.owned;
   distinct = k.distinct;
   within = k.within;
   count = k.count;

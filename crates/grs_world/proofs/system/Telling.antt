@@ -28,10 +28,10 @@ use Rattle.task_state.specs.Replies.{is_leaving, is_held, is_held_for, tell_cont
 use Rattle.ring_mode.specs.Ring.{is_sent}
 use Rattle.grs_known.specs.Past.{Past}
 use Rattle.grs_known.specs.Told.{tells_control}
-use Rattle.grs_known.proofs.tasks.Invariant.{IsRec, IsDue, IsTask, with_control, has_ended, is_unsent}
+use Rattle.grs_known.proofs.tasks.Invariant.{has_res, IsRec, IsDue, IsTask, with_control, has_ended, is_unsent}
 use Rattle.grs_known.proofs.tasks.Others.{is_told_to, task-told}
 use Rattle.grs_known.proofs.lists.Owners.{is_among}
-use Rattle.grs_known.proofs.tasks.Records.{found}
+use Rattle.grs_known.proofs.tasks.Records.{found, found_has}
 use Rattle.grs_known.proofs.tasks.Granted.{latest-on, task-coded, task-posted, task-marked, task-passed}
 use Rattle.grs_world.proofs.system.Seen.{Says, ToldBy, more, is_line_of}
 use Rattle.grs_world.proofs.system.Asking.{unasked, unasked-told, unasked-none, records-unasked, held-none, unheld, Opens, IsOpenBy, open-told, IsAskedBy, asked-none, asked-leaves, sent-kept}
@@ -155,8 +155,8 @@ module _ (deck : Deck) (s : ℕ) (os : Opens) (P : List HistEntry) (T0 : List To
   -- A task that owns the resource, and has the record y of it, is told.
   module _ (v : TasksView) (ours : IsOurs deck s v t ls) (k : IsHere deck os P v.told t ls (state_of v t)) (agreed : ToldBy deck s os.all P T0 v.told) (own : owns (list_of (replay deck.limit P) r) t ≡ true) where
     -- of a resource that it is about to give up it is told nothing
-    learned-marked : is_leaving r (state_of v t).outstanding ≡ true → Learned deck s os P T0 t ls v (with_told v t r)
-    learned-marked leaves =
+    learned-marked : has_res r (unasked (state_of v t)).records ≡ true → is_leaving r (state_of v t).outstanding ≡ true → Learned deck s os P T0 t ls v (with_told v t r)
+    learned-marked has leaves =
         let x : TaskState = state_of v t in
         let told : (with_told v t r).told ≡ v.told = told-told v t r in
         record {
@@ -165,7 +165,7 @@ module _ (deck : Deck) (s : ℕ) (os : Opens) (P : List HistEntry) (T0 : List To
           own = subst (λ T. IsHere deck os P T t ls (state_of (with_told v t r) t)) (sym told) (subst (λ y. IsHere deck os P v.told t ls y) (sym (state-told v t r ours.here)) (record {
             past = with_control r k.past;
             speaks = speaks-control deck.limit t k.past P k.speaks r own;
-            task = subst (λ y. IsTask ls (with_control r k.past) v.told (λ q. is_leaving q x.outstanding) t y) (sym (unasked-told x r told_rec)) (task-marked ls k.past v.told (λ q. is_leaving q x.outstanding) t r (unasked x) leaves k.task);
+            task = subst (λ y. IsTask ls (with_control r k.past) v.told (λ q. is_leaving q x.outstanding) t y) (sym (unasked-told x r told_rec)) (task-marked ls k.past v.told (λ q. is_leaving q x.outstanding) t r (unasked x) leaves has k.task);
             opened = open-told deck.limit ls t r x k.opened;
             asked = k.asked;
             sent = k.sent;
@@ -173,7 +173,7 @@ module _ (deck : Deck) (s : ℕ) (os : Opens) (P : List HistEntry) (T0 : List To
           agreed = subst (λ T. ToldBy deck s os.all P T0 T) (sym told) agreed;
         }
 
-    module _ (y : Rec) (rec : IsRec ls k.past.asked v.told k.past.owns (λ q. is_leaving q (state_of v t).outstanding) t (unasked (state_of v t)).line (unasked (state_of v t)).phase y) (same : same_res r y.res ≡ true) where
+    module _ (y : Rec) (rec : IsRec ls k.past.asked v.told k.past.owns (λ q. is_leaving q (state_of v t).outstanding) t (unasked (state_of v t)).line (unasked (state_of v t)).phase y) (has : has_res r (unasked (state_of v t)).records ≡ true) (same : same_res r y.res ≡ true) where
       -- by the code of the line that waited
       learned-coded : is_held (state_of v t).phase ≡ true → y.line ≡ (state_of v t).line → Learned deck s os P T0 t ls v (telling (with_phase (with_told v t r) t phases.Ready) (Coded t y.line 0 verbs.Enq C00))
       learned-coded held at =
@@ -182,7 +182,7 @@ module _ (deck : Deck) (s : ℕ) (os : Opens) (P : List HistEntry) (T0 : List To
           let none_open : x.outstanding ≡ None = held-none deck.limit ls t x k.opened (ap is_unsent is_held_answer) in
           let rec_plain = subst (λ (z : TaskState). IsRec ls k.past.asked v.told k.past.owns (λ q. is_leaving q x.outstanding) t z.line z.phase y) (unasked-none x none_open) rec in
           let both = task-coded ls k.past v.told (λ q. is_leaving q x.outstanding) t r y same x.line x.code x.records x.outstanding x.rows (plain k.past v.told x phases.HeldAnswer is_held_answer none_open k.task)
-          (subst (λ ph. IsRec ls k.past.asked v.told k.past.owns (λ q. is_leaving q x.outstanding) t x.line ph y) is_held_answer rec_plain) at in
+          (subst (λ ph. IsRec ls k.past.asked v.told k.past.owns (λ q. is_leaving q x.outstanding) t x.line ph y) is_held_answer rec_plain) (subst (λ (z : TaskState). has_res r z.records ≡ true) (unasked-none x none_open) has) at in
           let z : TaskState = record { line = x.line; phase = phases.Ready; code = x.code; records = on_record r told_rec x.records; outstanding = x.outstanding; rows = x.rows } in
           let l : ToldLine = Coded t y.line 0 verbs.Enq C00 in
           let speaks = speaks-control deck.limit t k.past P k.speaks r own in
@@ -204,7 +204,7 @@ module _ (deck : Deck) (s : ℕ) (os : Opens) (P : List HistEntry) (T0 : List To
           Learned deck s os P T0 t ls v (passes_wait (telling (with_told v t r) (Post t y.line)) t r)
       learned-posted stays going due =
           let x : TaskState = state_of v t in
-          let both = task-posted ls k.past v.told (λ q. is_leaving q x.outstanding) t r y same (unasked x) k.task rec due going in
+          let both = task-posted ls k.past v.told (λ q. is_leaving q x.outstanding) t r y same (unasked x) k.task rec has due going in
           let z : TaskState = record x { records = on_record r told_rec x.records } in
           let l : ToldLine = Post t y.line in
           let w : TasksView = telling (with_told v t r) l in
@@ -264,7 +264,7 @@ module _ (deck : Deck) (s : ℕ) (os : Opens) (P : List HistEntry) (T0 : List To
             let f = found (IsRec ls k.past.asked v.told k.past.owns (λ q. is_leaving q (state_of v t).outstanding) t (unasked (state_of v t)).line (unasked (state_of v t)).phase) (unasked (state_of v t)).records r y k.task.records seen in
             by_test (Learned deck s os P T0 t ls v) y.told _ _
             (λ told. learned-none v k agreed)
-            (λ untold. by_test (Learned deck s os P T0 t ls v) (is_leaving r (state_of v t).outstanding) _ _ learned-marked (λ stays. learned-record y f.0 f.1 stays (going-of y seen) untold))
+            (λ untold. by_test (Learned deck s os P T0 t ls v) (is_leaving r (state_of v t).outstanding) _ _ (learned-marked (found_has (unasked (state_of v t)).records r y seen)) (λ stays. learned-record y f.0 (found_has (unasked (state_of v t)).records r y seen) f.1 stays (going-of y seen) untold))
 
 -- tasks after control of a resource was told to these
 pub record LearnedAll (deck : Deck) (s : ℕ) (os : Opens) (P : List HistEntry) (T0 : List ToldLine) (v w : TasksView) : Type 0 where
