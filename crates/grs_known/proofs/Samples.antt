@@ -23,7 +23,7 @@ use Rattle.grs_wire.specs.declared.request.Want.TheVariants as wants
 use Rattle.grs_known.specs.Items.{RunItem, rounds, is_of, removes_system_of, took, gave, owns_after, tells, reply_in, lists, Made, history, items, Counts, mine}
 use Rattle.grs_known.specs.Known.{Known, learned, outstanding, Still, IsRight, learns_item, learns_control, Answers, Grants, Coming, after_news}
 use Rattle.grs_known.specs.Reading.{gives_among, Keeps, all_known, all_but, after_read}
-use Rattle.grs_known.specs.Past.{own_told, after_entry, after_entries, past_of, Speaks}
+use Rattle.grs_known.specs.Past.{own_told, Fits, after_entry, after_entries, past_of, Speaks}
 use Rattle.grs_known.specs.Change.{Changing, Act, AreStores, NoneChanged, switched, kept_in_change, manager_of, store_shown, view, star_event_of_all, Ring}
 use Rattle.grs_known.proofs.view.Changing.{kept_is_shown, switch_shows_history}
 use Rattle.grs_known.proofs.view.Managers.{manager_follows}
@@ -163,6 +163,16 @@ leaver_behind = record {
 -- a task of which nothing was fixed can't be behind
 behind_nothing : IsRight (task_of 1) (has_none true) [] → ⊥
 behind_nothing h = let g : false ≡ true = h.waits refl in absurd (cc)
+
+-- a task that has an element is queued no other, and one that owns isn't refused its DEQ
+queued_twice : Fits (past_of (task_of 1) (has_none true) run) (Enq (task_of 1) file E RetEcb C04) → ⊥
+queued_twice h = let g : true ≡ false = h refl in absurd (cc)
+
+queued_first : Fits (past_of (task_of 1) (has_none false) (take 1 run)) (Enq (task_of 1) file E RetEcb C04)
+queued_first = λ q. refl
+
+refused_owner : Fits (past_of (task_of 0) (has_file false) (take 1 run)) (Deq (task_of 0) file true C08) → ⊥
+refused_owner h = let g : true ≡ false = h refl in absurd (cc)
 
 -- ---- what is read by a table
 -- by the other's DEQ the task of system 1 gets the file, also while it waits for an answer; and the asker has it no more

@@ -7,3 +7,4 @@ pub mod Knowing
 pub mod Coming
 pub mod Pasts
 pub mod Reading
+pub mod Fitting

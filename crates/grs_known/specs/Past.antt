@@ -97,6 +97,19 @@ abbrev pub may_leave : Res → Option RunItem → Bool
 may_leave r None = false
 may_leave r (Some x) = gives_back r x.fixed
 
+-- whether one of a task's own elements is on this resource
+abbrev pub has_own : Res → List (Res × Ctl) → Bool
+has_own r ks = list_any (λ k. same_res r k.0) ks
+
+-- What a reply of the plain lists says of its asker's past: an ENQ is queued only where its task has no element; a DEQ
+-- that isn't answered 00 had no control to give up.
+abbrev pub Fits : Past → HistEntry → Type 0
+Fits p (Enq u r c ret code) = is_queued ret code ≡ true → has_own r p.own ≡ false
+Fits p (Deq u r have code) = is_granted code ≡ false → p.owns r ≡ false
+Fits p (Release u r) = Unit {0}
+Fits p (Look u place filter rows) = Unit {0}
+Fits p (Remove by target) = Unit {0}
+
 -- ---- laws
 
 -- A task's elements are those which its items queued, by their replies, unless its system was removed.
@@ -114,3 +127,7 @@ PastSpeaksOf = (limit : ℕ) (t : TaskId) (r : Res) (k : Known) (T : List RunIte
 -- Of a task with nothing outstanding the past by what is known is that of the history.
 abbrev pub PastSpeaks : Type 0
 PastSpeaks = (limit : ℕ) (t : TaskId) (k : Known) (T : List RunItem) → AllMade [] T → AllCount limit [] T → list_any (λ x. removes_system_of t x.fixed) T ≡ false → k.behind ≡ false → IsRight t k T → Speaks limit t (past_of t k T) (history T)
+
+-- The reply in a task's outstanding item fits its past by what is known.
+abbrev pub ReplyFits : Type 0
+ReplyFits = (t : TaskId) (k : Known) (T : List RunItem) (x : RunItem) (h : HistEntry) → AllMade [] T → list_any (λ y. removes_system_of t y.fixed) T ≡ false → outstanding t k T ≡ Some x → x.entries ≡ h ∷ [] → IsRight t k T → Fits (past_of t k T) h

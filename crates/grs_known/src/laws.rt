@@ -1,6 +1,6 @@
 //! Each function's contract is one law, and there is nothing to run.
 ghost use Rattle.grs_known.specs.Change.{TableIsPart, TurnShowsNothing, TaskShowsNothing, StarShowsItself, SwitchShowsHistory, KeptIsShown, ManagerFollows};
-ghost use Rattle.grs_known.specs.Past.{ElementsAreOfItems, PastGrows, PastSpeaks, PastSpeaksOf};
+ghost use Rattle.grs_known.specs.Past.{ElementsAreOfItems, PastGrows, PastSpeaks, PastSpeaksOf, ReplyFits};
 ghost use Rattle.grs_known.specs.Reading.{TableAnswers, OwnersStayOn, ReadingIsRight};
 ghost use Rattle.grs_known.specs.Laws.{ItemsAreHistory, RepliesAreAnswers, ListsAreReplayed, EntriesAreOfItems, OthersKeep, DecidedAtOnce, AnswerIsSent, AnswerIsLearned, ControlIsLearned, ControlIsSent, ReadInOrder, AllIsKnown, FrontOwnersStay};
 
@@ -77,6 +77,11 @@ pub fn elements_are_of_items()
 /// Learning an item makes the past of its task longer by the item's entries.
 pub fn past_grows()
     ensures { PastGrows }
+{}
+
+/// The reply in the outstanding item fits the past by what is known.
+pub fn reply_fits()
+    ensures { ReplyFits }
 {}
 
 /// Where nothing is outstanding the past by what is known is that of the history.

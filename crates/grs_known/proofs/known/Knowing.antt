@@ -22,7 +22,7 @@ last_of-push [] x = refl
 last_of-push (y ∷ []) x = refl
 last_of-push (y ∷ z ∷ xs) x = last_of-push (z ∷ xs) x
 
-all_but_last-push : (xs : List RunItem) (x : RunItem) → all_but_last (xs ++ x ∷ []) ≡ xs
+pub all_but_last-push : (xs : List RunItem) (x : RunItem) → all_but_last (xs ++ x ∷ []) ≡ xs
 all_but_last-push [] x = refl
 all_but_last-push (y ∷ []) x = refl
 all_but_last-push (y ∷ z ∷ xs) x = ap (λ zs. y ∷ zs) (all_but_last-push (z ∷ xs) x)

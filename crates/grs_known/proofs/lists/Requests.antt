@@ -23,7 +23,7 @@ use Rattle.grs_wire.specs.History.{entries_for, look_entries}
 use Rattle.grs_wire.specs.declared.request.Want.{Want}
 use Rattle.grs_wire.specs.declared.request.Want.TheVariants as wants
 use Rattle.grs_wire.proofs.WantLaws.{list_of-want_other, absent-has, by_res}
-use Rattle.task_state.specs.Replies.{is_granted, gives_up}
+use Rattle.task_state.specs.Replies.{is_queued, is_granted, gives_up}
 use Rattle.grs_known.specs.Items.{took, has_control, tells}
 use Rattle.grs_wire.specs.declared.history.HistEntry.{HistEntry}
 use Rattle.grs_wire.specs.declared.history.HistEntry.TheVariants as entries
@@ -123,6 +123,10 @@ want-tells s t (wants.Release q) r h = cc
 want-tells s t (wants.Look first count f) r h = absurd (let g : false ≡ true = sym (looks-tell s t r first count f) ∙ h in cc)
 
 -- ---- the reply
+-- what is queued was asked where its task had no element
+pub queued-absent : (st : Standing) (ret : Ret) (full can : Bool) → is_queued ret (enq_decision st ret full can).code ≡ true → st ≡ Absent
+queued-absent st ret full can h = grind (arith, h)
+
 -- what an entry gave its task it tells
 pub gave-tells : (r : Res) (hs : List HistEntry) → list_any (gave r) hs ≡ true → list_any (tells r) hs ≡ true
 gave-tells r [] h = cc

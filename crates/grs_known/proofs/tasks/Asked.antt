@@ -21,7 +21,7 @@ use Rattle.grs_wire.specs.declared.told.ToldLine.TheVariants.{Coded, Shown, Post
 use Rattle.grs_wire.specs.History.{code_of}
 use Rattle.grs_legal.specs.Asks.{Ask, asks_of, asks_in}
 use Rattle.grs_legal.specs.Legal.{passed_behind, end_among, end_or}
-use Rattle.grs_known.specs.Past.{Past}
+use Rattle.grs_known.specs.Past.{has_own, Past}
 use Rattle.task_state.specs.declared.state.Rec.{Rec}
 use Rattle.task_state.specs.declared.state.Phase.{Phase}
 use Rattle.task_state.specs.declared.state.Phase.TheVariants as phases
@@ -30,7 +30,7 @@ use Rattle.task_state.specs.Replies.{phase_after}
 use Rattle.grs_known.specs.Told.{entry_of_line, entries_behind, queues, queues_at, queued_last, is_control, tells_control, is_code_before, is_code_of, is_post_of, is_end_of}
 use Rattle.grs_known.proofs.lists.Entries.{asked_at-grows, end_among-push}
 use Rattle.grs_known.proofs.lists.Lines.{asks-more, asks_of-at, passed-none, passed-stop}
-use Rattle.grs_known.proofs.tasks.Invariant.{has_own, Each, key, has_res, is_distinct, IsEntryOn, IsEcb, IsRec, WaitsFor, may_pass, Passed, IsNext, IsInPhase, IsTask, is_post_before, has_ended, code_bound}
+use Rattle.grs_known.proofs.tasks.Invariant.{Each, key, has_res, is_distinct, IsEntryOn, IsEcb, IsRec, WaitsFor, may_pass, Passed, IsNext, IsInPhase, IsTask, is_post_before, has_ended, code_bound}
 use Rattle.grs_known.proofs.tasks.Granted.{codes_later, lt_suc}
 use Rattle.grs_known.proofs.tasks.Keys.{each-kept}
 use Rattle.grs_known.proofs.lists.Truths.{not_true, or_second}

@@ -30,9 +30,9 @@ use Rattle.task_state.specs.declared.state.Phase.TheVariants as phases
 use Rattle.task_state.specs.View.{on_record, record_of, record_place, with_last_by, with_last, without_first, code_in}
 use Rattle.task_state.specs.Replies.{is_held, is_queued, is_changed, is_granted, phase_after}
 use Rattle.grs_known.specs.Items.{owns_told}
-use Rattle.grs_known.specs.Past.{made_exclusive, own_by_effect, own_told, Past, after_entry}
+use Rattle.grs_known.specs.Past.{has_own, Fits, made_exclusive, own_by_effect, own_told, Past, after_entry}
 use Rattle.grs_known.specs.Told.{entry_of_line, queued_last, tells_control, is_code_of, is_post_of}
-use Rattle.grs_known.proofs.tasks.Invariant.{Each, key, has_res, has_own, is_distinct, IsEntryOn, IsEcb, IsRec, IsDue, IsTask, Fits, is_post_before}
+use Rattle.grs_known.proofs.tasks.Invariant.{Each, key, has_res, is_distinct, IsEntryOn, IsEcb, IsRec, IsDue, IsTask, is_post_before}
 use Rattle.grs_known.proofs.tasks.Keys.{has_res-own, has_own-other, has_own-exclusive, keys-push, distinct-push, keys-exclusive, distinct-exclusive, keys-without, distinct-without, other-without, each-without, each-push, each-exclusive}
 use Rattle.grs_known.proofs.tasks.Asked.{told_after, Asks, recs-asked, of_new_line, latest_new, task-asked}
 use Rattle.grs_known.proofs.lists.Truths.{no_truth, false_by, and_off, or_first, or_second}

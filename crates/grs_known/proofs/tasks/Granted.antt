@@ -23,7 +23,7 @@ use Rattle.grs_wire.specs.declared.told.ToldLine.TheVariants.{Coded, Shown, Post
 use Rattle.grs_wire.specs.History.{code_of, replay}
 use Rattle.grs_legal.specs.Asks.{asks_of, asks_in}
 use Rattle.grs_legal.specs.Legal.{passed_behind}
-use Rattle.grs_known.specs.Past.{Past, Speaks, SpeaksOf}
+use Rattle.grs_known.specs.Past.{has_own, Past, Speaks, SpeaksOf}
 use Rattle.task_state.specs.declared.state.Rec.{Rec}
 use Rattle.task_state.specs.declared.state.Phase.{Phase}
 use Rattle.task_state.specs.declared.state.Phase.TheVariants as phases
@@ -33,7 +33,7 @@ use Rattle.task_state.specs.Replies.{is_held}
 use Rattle.grs_known.specs.Told.{entry_of_line, queued_last, tells_control, is_code_before, is_end_of, TellsEnq, TellsWait, Posts, LineAgrees}
 use Rattle.grs_known.proofs.lists.Entries.{asked_at-grows}
 use Rattle.grs_known.proofs.lists.Lines.{asks-same, passed-more}
-use Rattle.grs_known.proofs.tasks.Invariant.{key, has_res, has_own, Each, IsEntryOn, IsEcb, IsRec, IsDue, WaitsFor, also, with_control, may_pass, owns_entry, Passed, IsWaitFor, IsInPhase, IsTask, is_post_before, has_ended, code_bound}
+use Rattle.grs_known.proofs.tasks.Invariant.{key, has_res, Each, IsEntryOn, IsEcb, IsRec, IsDue, WaitsFor, also, with_control, may_pass, owns_entry, Passed, IsWaitFor, IsInPhase, IsTask, is_post_before, has_ended, code_bound}
 use Rattle.grs_known.proofs.tasks.Others.{recs-told, phase-told, passed-control, phase-control}
 use Rattle.grs_known.proofs.tasks.Records.{recs-marked, keys-told, distinct-told, recs-coded, recs-posted}
 use Rattle.grs_known.proofs.tasks.Keys.{has_res-own, each-kept}

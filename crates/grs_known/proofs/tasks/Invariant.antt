@@ -17,12 +17,12 @@ use Rattle.grs_wire.specs.declared.told.ToldLine.TheVariants.{Coded, Shown, Post
 use Rattle.grs_wire.specs.History.{code_of}
 use Rattle.grs_legal.specs.Asks.{Ask, asks_of}
 use Rattle.grs_legal.specs.Legal.{end_among, passed_behind, or_else, release_next}
-use Rattle.grs_known.specs.Past.{Past}
+use Rattle.grs_known.specs.Past.{has_own, Past}
 use Rattle.task_state.specs.declared.state.Rec.{Rec}
 use Rattle.task_state.specs.declared.state.Phase.{Phase}
 use Rattle.task_state.specs.declared.state.Phase.TheVariants as phases
 use Rattle.task_state.specs.declared.state.TaskState.{TaskState}
-use Rattle.task_state.specs.Replies.{is_queued, is_granted, is_held}
+use Rattle.task_state.specs.Replies.{is_queued, is_held}
 use Rattle.grs_known.specs.Told.{entry_of_line, queued_last, tells_control, is_code_before, is_code_of, is_post_of, is_end_of}
 
 -- each of these records is so
@@ -122,10 +122,6 @@ pub record IsGoing (E : List HistEntry) (T : List ToldLine) (t : TaskId) : Type 
 
 -- ---- by the past of a task
 
--- whether one of a task's own elements is on this resource
-abbrev pub has_own : Res → List (Res × Ctl) → Bool
-has_own r ks = list_any (λ k. same_res r k.0) ks
-
 -- whether a line lets the task pass: at a WAIT line it owns the resource, or has no element there
 abbrev pub may_pass : Past → Meaning → Bool
 may_pass p (lines.Enq r ctl ret unit) = true
@@ -147,15 +143,6 @@ also r owns = λ q. owns q || same_res q r
 
 abbrev pub with_control : Res → Past → Past
 with_control r p = record p { owns = also r p.owns }
-
--- What a reply of the plain lists says of its asker's past: an ENQ is queued only where its task has no element; a DEQ
--- that isn't answered 00 had no control to give up.
-abbrev pub Fits : Past → HistEntry → Type 0
-Fits p (Enq u r c ret code) = is_queued ret code ≡ true → has_own r p.own ≡ false
-Fits p (Deq u r have code) = is_granted code ≡ false → p.owns r ≡ false
-Fits p (Release u r) = Unit {0}
-Fits p (Look u place filter rows) = Unit {0}
-Fits p (Remove by target) = Unit {0}
 
 -- lines up to a place that ask nothing let the task pass
 abbrev pub Passed : List Meaning → Past → ℕ → Type 0

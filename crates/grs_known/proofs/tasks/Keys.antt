@@ -9,8 +9,8 @@ use Rattle.grs_base.specs.declared.resource.Ctl.TheVariants.{E}
 use Rattle.grs_base.proofs.SameLaws.{same_res-exact, same_res-itself}
 use Rattle.task_state.specs.declared.state.Rec.{Rec}
 use Rattle.task_state.specs.View.{without_first, on_record}
-use Rattle.grs_known.specs.Past.{made_exclusive}
-use Rattle.grs_known.proofs.tasks.Invariant.{Each, key, has_res, has_own, is_distinct}
+use Rattle.grs_known.specs.Past.{has_own, made_exclusive}
+use Rattle.grs_known.proofs.tasks.Invariant.{Each, key, has_res, is_distinct}
 use Rattle.grs_known.proofs.lists.Facts.{map-append}
 use Rattle.grs_known.proofs.lists.Truths.{no_truth, false_by, or_first, or_second}
 

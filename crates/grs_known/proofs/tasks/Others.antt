@@ -12,13 +12,13 @@ use Rattle.grs_wire.specs.declared.history.HistEntry.TheVariants.{Enq, Deq, Rele
 use Rattle.grs_wire.specs.declared.told.ToldLine.{ToldLine}
 use Rattle.grs_wire.specs.declared.told.ToldLine.TheVariants.{Coded, Shown, Post, Ended, Desk}
 use Rattle.grs_legal.specs.Legal.{passed_behind}
-use Rattle.grs_known.specs.Past.{Past}
+use Rattle.grs_known.specs.Past.{has_own, Past}
 use Rattle.task_state.specs.declared.state.Rec.{Rec}
 use Rattle.task_state.specs.declared.state.Phase.{Phase}
 use Rattle.task_state.specs.declared.state.Phase.TheVariants as phases
 use Rattle.task_state.specs.declared.state.TaskState.{TaskState}
 use Rattle.grs_known.specs.Told.{tells_control, is_code_before, is_code_of, is_post_of, is_end_of}
-use Rattle.grs_known.proofs.tasks.Invariant.{Each, has_res, IsRec, IsDue, WaitsFor, has_own, may_pass, owns_entry, with_control, Passed, IsFree, IsInPhase, IsTask, is_post_before}
+use Rattle.grs_known.proofs.tasks.Invariant.{Each, has_res, IsRec, IsDue, WaitsFor, may_pass, owns_entry, with_control, Passed, IsFree, IsInPhase, IsTask, is_post_before}
 use Rattle.grs_known.proofs.tasks.Keys.{each-kept}
 use Rattle.grs_known.proofs.lists.Truths.{or_first, or_second}
 use Rattle.grs_known.proofs.lists.Facts.{all-kept, all-more, any-more, none-more}

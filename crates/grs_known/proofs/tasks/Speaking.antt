@@ -4,15 +4,13 @@ use Rattle.std.specs.Prelude.{slice_get, is_some, IfSome}
 use Rattle.std.specs.List.{list_any, list_all}
 use Rattle.std.proofs.lemmas.Option.{IfSome_then}
 use Rattle.grs_base.specs.Same.{same_res, same_task}
-use Rattle.grs_base.specs.Lists.{owns, has_task, standing_of, can_have, deq_code, enq_decision, decide_enq}
+use Rattle.grs_base.specs.Lists.{owns, has_task, standing_of, can_have, deq_code, decide_enq}
 use Rattle.grs_base.specs.State.{list_of, queued_by}
 use Rattle.grs_base.specs.declared.resource.Ctl.{Ctl}
 use Rattle.grs_base.specs.declared.resource.Res.{Res}
 use Rattle.grs_base.specs.declared.resource.Ret.{Ret}
 use Rattle.grs_base.specs.declared.resource.TaskId.{TaskId}
 use Rattle.grs_base.specs.declared.decision.Code.TheVariants.{Wait}
-use Rattle.grs_base.specs.declared.decision.Standing.{Standing}
-use Rattle.grs_base.specs.declared.decision.Standing.TheVariants.{Absent}
 use Rattle.grs_base.proofs.ListLaws.{is_owner-standing}
 use Rattle.grs_base.proofs.SameLaws.{same_res-exact}
 use Rattle.grs_legal.specs.Asks.{Ask, asks_of}
@@ -26,15 +24,15 @@ use Rattle.grs_wire.specs.declared.history.HistEntry.TheVariants.{Enq, Deq, Rele
 use Rattle.grs_wire.specs.declared.request.Want.{Want}
 use Rattle.grs_wire.proofs.HistoryLaws.{none_twice}
 use Rattle.grs_wire.proofs.WantLaws.{owns-want, absent-has}
-use Rattle.task_state.specs.Replies.{is_queued, gives_up}
+use Rattle.task_state.specs.Replies.{gives_up}
 use Rattle.grs_known.specs.Items.{took, gave, tells}
-use Rattle.grs_known.specs.Past.{own_elements, own_told, own_after, Past, after_entry, Speaks}
-use Rattle.grs_known.proofs.lists.Requests.{want-keeps, want-takes, want-tells, granted-deq}
+use Rattle.grs_known.specs.Past.{has_own, Fits, own_elements, own_told, own_after, Past, after_entry, Speaks}
+use Rattle.grs_known.proofs.lists.Requests.{queued-absent, want-keeps, want-takes, want-tells, granted-deq}
 use Rattle.grs_known.proofs.lists.Elements.{own-want, own-want_other}
-use Rattle.grs_known.proofs.lists.Requests.{gave-tells}
+use Rattle.grs_known.proofs.lists.Requests.{queued-absent, gave-tells}
 use Rattle.grs_known.proofs.lists.Entries.{line_entries-other, entries_of-other, line_entries-own, line_entries-release, entries_of-own, last_entry-push}
 use Rattle.grs_known.proofs.lists.Facts.{all-kept}
-use Rattle.grs_known.proofs.tasks.Invariant.{has_own, may_pass, owns_entry, with_control, Fits, IsFree, asks_next, passes_next, IsNext}
+use Rattle.grs_known.proofs.tasks.Invariant.{may_pass, owns_entry, with_control, IsFree, asks_next, passes_next, IsNext}
 use Rattle.grs_known.proofs.lists.Own.{queued_by-own, has_task-own}
 
 -- what a task asks next that has these entries of its lines, and elements on these resources
@@ -131,9 +129,6 @@ module _ (limit : ℕ) (t : TaskId) (p : Past) (P : List HistEntry) (s : Speaks 
       owned r false b false o k g e = cc
 
 -- ---- what the lists' reply says of the asker's past
-queued-absent : (st : Standing) (ret : Ret) (full can : Bool) → is_queued ret (enq_decision st ret full can).code ≡ true → st ≡ Absent
-queued-absent st ret full can h = grind (arith, h)
-
 pub fits-enq : (limit : ℕ) (t : TaskId) (p : Past) (P : List HistEntry) → Speaks limit t p P → (r : Res) (c : Ctl) (ret : Ret) (full : Bool) → Fits p (Enq t r c ret (decide_enq (list_of (replay limit P) r) t c ret full).code)
 fits-enq limit t p P s r c ret full h =
     sym (has-speaks limit t p P s r) ∙ absent-has (list_of (replay limit P) r) t (queued-absent (standing_of (list_of (replay limit P) r) t) ret full (can_have (list_of (replay limit P) r) c) h)

@@ -20,7 +20,7 @@ use Rattle.grs_wire.proofs.WantLaws.{by_res}
 use Rattle.grs_legal.specs.Asks.{AsksRelease, asks_of, asks_in}
 use Rattle.grs_legal.specs.Legal.{end_among, passed_behind, or_else, release_next}
 use Rattle.grs_known.specs.Items.{owns_told}
-use Rattle.grs_known.specs.Past.{Past, after_entry}
+use Rattle.grs_known.specs.Past.{has_own, Past, after_entry}
 use Rattle.grs_wire.specs.declared.history.HistEntry.TheVariants.{Release}
 use Rattle.task_state.specs.declared.state.Rec.{Rec}
 use Rattle.task_state.specs.declared.state.Phase.{Phase}
@@ -28,7 +28,7 @@ use Rattle.task_state.specs.declared.state.Phase.TheVariants as phases
 use Rattle.task_state.specs.View.{without_first}
 use Rattle.grs_known.specs.Told.{is_code_before, is_end_of}
 use Rattle.grs_known.proofs.lists.Lines.{asks-same}
-use Rattle.grs_known.proofs.tasks.Invariant.{Each, key, IsRec, WaitsFor, has_own, may_pass, Passed, asks_next, IsNext, IsWaitFor, IsTask, is_post_before}
+use Rattle.grs_known.proofs.tasks.Invariant.{Each, key, IsRec, WaitsFor, may_pass, Passed, asks_next, IsNext, IsWaitFor, IsTask, is_post_before}
 use Rattle.grs_known.proofs.tasks.Others.{recs-owns, recs-told}
 use Rattle.grs_known.proofs.tasks.Granted.{AgreesPast, codes_later, lt_suc, passed-line, recs-phase}
 use Rattle.grs_known.proofs.tasks.Keys.{has_own-other, keys-without, distinct-without, other-without, each-kept, each-without}

@@ -41,8 +41,8 @@ use Rattle.task_state.specs.declared.state.Rec.{Rec}
 use Rattle.task_state.specs.declared.state.TaskState.{TaskState}
 use Rattle.grs_known.specs.Told.{LineAgrees, TellsWait, tells_control}
 use Rattle.grs_known.proofs.lists.Owners.{is_among}
-use Rattle.grs_known.specs.Past.{Past, Speaks}
-use Rattle.grs_known.proofs.tasks.Invariant.{IsRec, has_own, may_pass, IsTask, has_res, is_unsent}
+use Rattle.grs_known.specs.Past.{has_own, Past, Speaks}
+use Rattle.grs_known.proofs.tasks.Invariant.{IsRec, may_pass, IsTask, has_res, is_unsent}
 use Rattle.grs_known.proofs.tasks.Others.{task-leaving, task-told}
 use Rattle.grs_known.proofs.tasks.Records.{found, not_found}
 use Rattle.grs_known.proofs.tasks.Keys.{has_res-own}
