@@ -46,6 +46,16 @@ fn put_entry_event(
     out.push(b'\n')
 }
 
+/// Puts an event that its kind says whole behind a text.
+#[tactic(auto, unfolding(crate::specs::Lines::line))]
+fn put_plain_event(system: &[u8], kind: &[u8], out: &mut List<u8>) -> Result<(), NoMemory>
+    ensures { OnOk result (out.new ≡ out.old ++ line (system.now ∷ kind.now ∷ [])) }
+{
+    out.append(system)?;
+    put_word(kind, out)?;
+    out.push(b'\n')
+}
+
 /// Puts an event behind a text.
 #[tactic(auto, unfolding(crate::specs::Schedule::event_line, crate::specs::Schedule::choice_words))]
 fn put_event(names: &Names, event: Event, out: &mut List<u8>) -> Result<(), NoMemory>
@@ -61,11 +71,11 @@ fn put_event(names: &Names, event: Event, out: &mut List<u8>) -> Result<(), NoMe
             let target = name_at(&names.systems, usize::from(target.0));
             put_line(&[system, b"PURGE", target], out)
         }
-        Choice::Turn => put_line(&[system, b"TURN"], out),
-        Choice::Take => put_line(&[system, b"TAKE"], out),
-        Choice::Settle => put_line(&[system, b"SETTLE"], out),
-        Choice::Switch => put_line(&[system, b"SWITCH"], out),
-        Choice::Rest => put_line(&[system, b"REST"], out),
+        Choice::Turn => put_plain_event(system, b"TURN", out),
+        Choice::Take => put_plain_event(system, b"TAKE", out),
+        Choice::Settle => put_plain_event(system, b"SETTLE", out),
+        Choice::Switch => put_plain_event(system, b"SWITCH", out),
+        Choice::Rest => put_plain_event(system, b"REST", out),
     }
 }
 
