@@ -6,7 +6,8 @@ ghost use Rattle.rnl_match.specs.Matches.{matches_qname, matches_rname, matches_
 use super::pattern::matches_pattern;
 use grs_base::{Form, Qname, Rname, RnlEntry, RnlList};
 
-/// Whether two names are the same bytes.
+/// Whether two names are the same bytes. It is asked of each entry of a list, where std's test of two slices would be a
+/// call of its own.
 fn is_same(wanted: &[u8], name: &[u8]) -> bool
     ensures { result ≡ bytes_eq wanted.now name.now }
 {

@@ -25,7 +25,8 @@ fn matches_nothing(pattern: &[u8]) -> bool
 }
 
 /// Whether a pattern behind a star matches some rest of a text. Behind the last star that was passed, at `star` of the
-/// pattern, it was tried on the text from `from` on, up to `reached` of the pattern and `place` of the text.
+/// pattern, it was tried on the text from `from` on, up to `reached` of the pattern and `place` of the text. It stays out
+/// of line, so that a pattern which fails before its first star costs little.
 #[inline(never)]
 fn matches_some_rest(pattern: &[u8], text: &[u8]) -> bool
     ensures { result ≡ some_rest (matches_pattern pattern.now) text.now }
