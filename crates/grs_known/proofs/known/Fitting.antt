@@ -1,5 +1,5 @@
 -- The reply in a task's outstanding item fits its past by what is known.
-use Rattle.std.proofs.Common.{◌≡◌, ℕ, zero, suc, Bool, true, false, cond, ◌&&◌, ◌||◌, List, [], ◌∷◌, ◌++◌, Option, Some, None, refl, ap, sym, ◌∙◌, subst, append_assoc, append-nil}
+use Rattle.std.proofs.Common.{◌≡◌, zero, suc, Bool, true, false, cond, ◌&&◌, ◌||◌, List, [], ◌∷◌, ◌++◌, Option, Some, None, refl, ap, sym, ◌∙◌, subst, append_assoc, append-nil}
 use Rattle.std.specs.List.{list_any}
 use Rattle.grs_base.specs.Lists.{standing_of, can_have}
 use Rattle.grs_base.specs.State.{list_of, deq_reply}
@@ -16,7 +16,7 @@ use Rattle.grs_wire.specs.declared.request.Want.TheVariants as wants
 use Rattle.grs_wire.proofs.WantLaws.{absent-has}
 use Rattle.task_state.specs.Replies.{is_granted, gives_up}
 use Rattle.grs_known.specs.Items.{RunItem, is_of, removes_system_of, gives_back, took, mine, lists, Made, AllMade, history}
-use Rattle.grs_known.specs.Known.{Known, all_but_last, last_of, learned, outstanding, Still, IsRight}
+use Rattle.grs_known.specs.Known.{all_but_last, last_of, learned, Still}
 use Rattle.grs_known.specs.Past.{own_elements, own_after, past_of, has_own, Fits, ReplyFits}
 use Rattle.grs_known.proofs.lists.Own.{has_task-own}
 use Rattle.grs_known.proofs.lists.Requests.{queued-absent}

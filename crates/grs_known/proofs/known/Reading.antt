@@ -1,7 +1,6 @@
 -- What a system in the ring learns by its table is right.
-use Rattle.std.proofs.Common.{◌≡◌, Bool, true, false, cond, not, ◌&&◌, ◌||◌, List, [], ◌∷◌, ◌++◌, Option, Some, None, refl, ap, sym, ◌∙◌, subst, append_assoc, append-nil}
+use Rattle.std.proofs.Common.{◌≡◌, Bool, true, false, cond, ◌&&◌, ◌||◌, List, [], ◌∷◌, ◌++◌, Some, None, refl, ap, sym, ◌∙◌, subst, append_assoc, append-nil}
 use Rattle.std.specs.List.{list_any}
-use Rattle.std.proofs.lemmas.Bool.{and_parts}
 use Rattle.grs_base.specs.Same.{same_task}
 use Rattle.grs_base.specs.Lists.{owns, standing_of, deq_code, decide_enq}
 use Rattle.grs_base.specs.State.{State, list_of, is_systems}
@@ -11,15 +10,14 @@ use Rattle.grs_base.specs.declared.resource.TaskId.{TaskId}
 use Rattle.grs_wire.specs.History.{after_fixed, fixed_entries}
 use Rattle.grs_wire.specs.Wants.{answer_to, after_want, res_wanted, became_owners, became_owners_of, new_owners}
 use Rattle.grs_wire.specs.declared.request.Answer.TheVariants.{Coded}
-use Rattle.grs_wire.specs.declared.request.Fixed.{Fixed}
-use Rattle.grs_wire.specs.declared.request.Fixed.TheVariants.{Asked, LocalLook, Purged}
+use Rattle.grs_wire.specs.declared.request.Fixed.TheVariants.{Asked}
 use Rattle.grs_wire.specs.declared.request.Req.{Req}
 use Rattle.grs_wire.specs.declared.request.Want.{Want}
 use Rattle.grs_wire.specs.declared.request.Want.TheVariants as wants
 use Rattle.grs_known.specs.Items.{RunItem, is_of, removes_system_of, gives_back, wants_round, mine, rounds, reply_in, lists, AllMade}
 use Rattle.grs_known.specs.Known.{Known, last_of, outstanding, Still, IsRight, learns_item}
 use Rattle.grs_known.specs.Change.{systems_part}
-use Rattle.grs_known.specs.Reading.{gives_among, Keeps, all_known, all_but, learns_mine, gained, learns_gained, after_read, TableAnswers, OwnersStayOn, ReadingIsRight}
+use Rattle.grs_known.specs.Reading.{gives_among, all_known, all_but, learns_mine, gained, learns_gained, TableAnswers, OwnersStayOn, ReadingIsRight}
 use Rattle.grs_known.proofs.lists.Facts.{filter-append, filter-cons_kept, some_value}
 use Rattle.grs_known.proofs.lists.Owners.{is_among, became-owns}
 use Rattle.grs_known.proofs.lists.Truths.{or_false}
