@@ -5,7 +5,7 @@ ghost use Rattle.job_syntax.specs.Reading.{said_by, said_on, sized_alone, one_li
 
 use crate::line::{has_bad_name, line_of};
 use crate::said::{Said, Verb, said_at, verb_of};
-use deck_scan::{Token, TokenLine, any_lines, or_bad, refused};
+use deck_scan::{Lines, Token, TokenLine, or_bad, refused};
 use grs_base::{Kind, Line, ReadError};
 use std::alloc::Global;
 
@@ -33,28 +33,28 @@ fn said_on<'a, 't>(line: &'a TokenLine<'t>) -> Result<Said<'a>, ReadError>
     }
 }
 
-/// The line that a task line makes which stands alone.
-fn alone(alloc: Global, at: u32, said: &Said<'_>, rest: &[TokenLine<'_>]) -> Result<Line, ReadError>
-    ensures { Gives result (sized_alone at said.now rest.now) }
+/// The line that a task line makes which stands alone. Of what stands behind it at most the next line is read.
+fn alone(alloc: Global, at: u32, said: &Said<'_>, behind: &mut Lines<'_>) -> Result<Line, ReadError>
+    ensures { Gives result (sized_alone at said.now behind.old) }
 {
     if has_bad_name(said) {
         return Err(refused(at, Kind::NameLength));
     }
-    match rest.split_first() {
-        Some((next, _)) => Err(refused(next.at, Kind::BadOperand)),
+    match behind.next(alloc)? {
+        Some(next) => Err(refused(next.at, Kind::BadOperand)),
         None => Ok(line_of(alloc, said)?),
     }
 }
 
 #[tactic(auto, unfolding(crate::specs::Reading::one_line))]
-fn one_line(alloc: Global, all: &[TokenLine<'_>]) -> Result<Line, ReadError>
-    ensures { Gives result (one_line all.now) }
+fn one_line(alloc: Global, lines: &mut Lines<'_>) -> Result<Line, ReadError>
+    ensures { Gives result (one_line lines.old) }
 {
-    match all.split_first() {
+    match lines.next(alloc)? {
         None => Err(refused(1, Kind::UnknownStatement)),
-        Some((line, rest)) => {
-            let said = said_on(line)?;
-            alone(alloc, line.at, &said, rest)
+        Some(line) => {
+            let said = said_on(&line)?;
+            alone(alloc, line.at, &said, lines)
         }
     }
 }
@@ -77,6 +77,6 @@ pub fn read_line(alloc: Global, text: &[u8]) -> Result<Line, ReadError>
     // What is spelled so is read, unless memory runs out.
     ensures only { (l : LineValue) → SpellsLine text.now l → IsOkUnlessMemory result l }
 {
-    let all = any_lines(alloc, text)?;
-    one_line(alloc, all.as_slice())
+    let mut lines = Lines::of_any(text);
+    one_line(alloc, &mut lines)
 }

@@ -1,42 +1,37 @@
--- One pass over the lines gathers the first statement.
-use Rattle.std.proofs.Common.{◌≡◌, Bool, true, false, cond, List, [], ◌∷◌, ◌++◌, Some, refl, sym, ap, ◌∙◌}
+-- The first statement, gathered line by line.
+use Rattle.std.proofs.Common.{◌≡◌, false, true, List, [], ◌∷◌, Option, Some, None, refl, sym, ap, ◌∙◌}
 use Rattle.deck_scan.specs.declared.token.TokenLine.{TokenLine}
-use Rattle.rnl_syntax.specs.declared.read.Front.{Front}
-use Rattle.rnl_syntax.specs.Lines.{goes_on, with_line}
-use Rattle.rnl_syntax.specs.Reading.{first_from, first_statement, taken, take_all, no_front}
+use Rattle.deck_scan.specs.Rows.{Next}
+use Rattle.rnl_syntax.specs.Lines.{begins_rnldef, goes_on, with_line}
+use Rattle.rnl_syntax.specs.Reading.{first_from}
 
-pub take_all-snoc : (g : Front) (ls : List TokenLine) (l : TokenLine) → take_all g (ls ++ l ∷ []) ≡ taken (take_all g ls) l
-unfolding take_all
-take_all-snoc g [] l = refl
-take_all-snoc g (m ∷ ms) l = take_all-snoc (taken g m) ms l
+-- where it is no RNLDEF it ends at once
+pub ends_alone : (s : TokenLine) (ls : List TokenLine) → begins_rnldef s.tokens ≡ false → first_from s ls ≡ s
+unfolding first_from
+ends_alone s [] h = refl
+ends_alone s (l ∷ ls) h = rw h refl
 
-pub starts : take_all no_front [] ≡ no_front
-unfolding take_all
-starts = refl
+-- no line is left
+pub gather_none : (next : Option TokenLine) (s : TokenLine) (ls new : List TokenLine) (total : TokenLine) → Next next ls new → first_from s ls ≡ total → next ≡ None → s ≡ total
+unfolding first_from
+gather_none None s ls new total h so_far e = sym (ap (first_from s) h.0) ∙ so_far
+gather_none (Some l) s ls new total h so_far e = absurd cc
 
-pub one_more : (g new : Front) (ls : List TokenLine) (l : TokenLine) → new ≡ taken g l → g ≡ take_all no_front ls → new ≡ take_all no_front (ls ++ l ∷ [])
-one_more g new ls l took so_far = took ∙ ap (λ (x : Front). taken x l) so_far ∙ sym (take_all-snoc no_front ls l)
+-- it doesn't go on with the next line
+pub gather_stops : (next : Option TokenLine) (s : TokenLine) (ls new : List TokenLine) (total : TokenLine) → Next next ls new → first_from s ls ≡ total → (line : TokenLine) → next ≡ Some line → goes_on s line ≡ false → s ≡ total
+unfolding first_from
+gather_stops None s ls new total h so_far line e stops = absurd cc
+gather_stops (Some l) s ls new total h so_far line e stops =
+    let same : l ≡ line = cc in
+    let ends : first_from s (l ∷ new) ≡ s = rw (ap (goes_on s) same ∙ stops) refl in
+    sym ends ∙ sym (ap (first_from s) h) ∙ so_far
 
-abbrev front : TokenLine → Bool → Front
-front s ended = record { statement = Some s; ended = ended }
-
--- nothing is taken behind the statement
-ended_all : (ls : List TokenLine) (s : TokenLine) → take_all (front s true) ls ≡ front s true
-unfolding take_all taken
-ended_all [] s = refl
-ended_all (l ∷ ls) s = ended_all ls s
-
-rest_gathers : (ls : List TokenLine) (s : TokenLine) → (take_all (front s false) ls).statement ≡ Some (first_from s ls)
-unfolding take_all taken first_from
-rest_gathers [] s = refl
-rest_gathers (l ∷ ls) s = go (goes_on s l) refl (λ m. rest_gathers ls m)
-  where
-    go : (b : Bool) → goes_on s l ≡ b → ((m : TokenLine) → (take_all (front m false) ls).statement ≡ Some (first_from m ls)) → (take_all (taken (front s false) l) ls).statement ≡ Some (cond b (first_from (with_line s l) ls) s)
-    go true e next = rw e (next (with_line s l))
-    go false e next = rw e (ap (λ (x : Front). x.statement) (ended_all ls s))
-
--- What is gathered of lines is their first statement.
-pub gathers : (ls : List TokenLine) → (take_all no_front ls).statement ≡ first_statement ls
-unfolding take_all taken
-gathers [] = refl
-gathers (l ∷ ls) = rest_gathers ls l
+-- it goes on with the next line
+pub gather_goes : (next : Option TokenLine) (s t : TokenLine) (ls new : List TokenLine) (total : TokenLine) → Next next ls new → first_from s ls ≡ total → (line : TokenLine) → next ≡ Some line → goes_on s line ≡ true → t ≡ with_line s line → first_from t new ≡ total
+unfolding first_from
+gather_goes None s t ls new total h so_far line e goes is = absurd cc
+gather_goes (Some l) s t ls new total h so_far line e goes is =
+    let same : l ≡ line = cc in
+    let step : first_from s (l ∷ new) ≡ first_from (with_line s l) new = rw (ap (goes_on s) same ∙ goes) refl in
+    let made : t ≡ with_line s l = is ∙ ap (with_line s) (sym same) in
+    ap (λ (x : TokenLine). first_from x new) made ∙ sym step ∙ sym (ap (first_from s) h) ∙ so_far

@@ -16,7 +16,6 @@ use Rattle.deck_scan.specs.Pieces.{SpellsLines}
 use Rattle.deck_scan.specs.AnyBytes.{readable}
 use Rattle.deck_scan.specs.Scan.{lines_of}
 use Rattle.rnl_syntax.specs.declared.operands.Rnldef.{Rnldef}
-use Rattle.rnl_syntax.specs.declared.read.Front.{Front}
 use Rattle.rnl_syntax.specs.Lines.{is_rnldef_word, goes_on, with_line}
 use Rattle.rnl_syntax.specs.Operands.{rnldef_at, has_bad_name, entry_of}
 use Rattle.rnl_syntax.specs.Spelled.{IsRnldef}
@@ -132,21 +131,6 @@ Answers (Err read_errors.NoMemory) text = Unit {0}
 Answers (Err (read_errors.Fault f)) text = IsFault text f
 
 -- ---- as the reader finds them
-
--- A line more of a text whose first statement is sought.
-abbrev pub taken_behind : Option TokenLine → Front → TokenLine → Front
-taken_behind None g l = record { statement = Some l; ended = false }
-taken_behind (Some s) g l = if goes_on s l then record { statement = Some (with_line s l); ended = false } else record { statement = Some s; ended = true }
-
-unfoldable pub taken : Front → TokenLine → Front
-taken g l = if g.ended then g else taken_behind g.statement g l
-
-unfoldable pub take_all : Front → List TokenLine → Front
-take_all g [] = g
-take_all g (l ∷ ls) = take_all (taken g l) ls
-
-abbrev pub no_front : Front
-no_front = record { statement = None; ended = false }
 
 -- How many operands the RNLDEF of an entry has.
 abbrev pub operand_count : RnlEntry → ℕ

@@ -1,70 +1,48 @@
 //! Reads an RNLDEF from the front of a text of its own.
-ghost use Rattle.std.specs.Prelude.{◌≡◌, Option, Ok, OnOk, IfOk, ℕ};
+ghost use Rattle.std.specs.Prelude.{◌≡◌, Ok, IfOk, ℕ};
 ghost use Rattle.grs_base.specs.declared.rnl.RnlEntry.{RnlEntry as EntryValue};
 ghost use Rattle.deck_scan.specs.Gives.{Gives, IsOkUnlessMemory};
-ghost use Rattle.rnl_syntax.specs.Reading.{first_statement, by_word, rnldef_on, sized, entry_on, reading, operand_count, SpellsEntry, Answers, taken_behind, taken, Found};
+ghost use Rattle.rnl_syntax.specs.Reading.{first_from, first_statement, by_word, rnldef_on, sized, entry_on, reading, operand_count, SpellsEntry, Answers, Found};
 
-use crate::lines::{goes_on, is_rnldef_word, with_line};
+use crate::lines::{begins_rnldef, goes_on, is_rnldef_word, with_line};
 use crate::operands::{Rnldef, entry_of, has_bad_name, rnldef_at};
-use deck_scan::{Token, TokenLine, any_lines, bytes_to_close, or_bad, refused};
-use grs_base::{Kind, List, NoMemory, ReadError, RnlEntry};
+use deck_scan::{Lines, Token, TokenLine, bytes_to_close, or_bad, refused};
+use grs_base::{Kind, NoMemory, ReadError, RnlEntry};
 use std::alloc::Global;
-use std::mem;
 
-/// The first statement so far.
-#[derive(Drop)]
-pub struct Front<'t> {
-    pub statement: Option<TokenLine<'t>>,
-    /// Whether no line can belong to it any more.
-    pub ended: bool,
-}
-
-impl<'t> Front<'t> {
-    /// Takes a line behind the statement so far.
-    fn take_behind(&mut self, so_far: TokenLine<'t>, line: TokenLine<'t>) -> Result<(), NoMemory>
-        ensures { OnOk result (self.new ≡ taken_behind (Option.Some so_far.entry) self.old line.entry) }
-    {
-        if goes_on(&so_far, &line) {
-            self.statement = Some(with_line(so_far, line)?);
-            self.ended = false;
-        } else {
-            self.statement = Some(so_far);
-            self.ended = true;
+/// The statement that begins with a line, with those that it goes on over. Of what stands behind it at most the next
+/// line is read.
+fn gather<'t>(
+    alloc: Global,
+    first: TokenLine<'t>,
+    lines: &mut Lines<'t>,
+) -> Result<TokenLine<'t>, NoMemory>
+    ensures { IfOk result (λ s. s ≡ first_from first.entry lines.old) }
+{
+    let mut statement = first;
+    while begins_rnldef(statement.tokens.as_slice()) {
+        let Some(line) = lines.next(alloc)? else {
+            return Ok(statement);
+        };
+        if !goes_on(&statement, &line) {
+            return Ok(statement);
         }
-        Ok(())
+        statement = with_line(statement, line)?;
     }
-
-    /// Takes the next line.
-    #[tactic(auto, unfolding(crate::specs::Reading::taken))]
-    fn take(&mut self, line: TokenLine<'t>) -> Result<(), NoMemory>
-        ensures { OnOk result (self.new ≡ taken self.old line.entry) }
-    {
-        if self.ended {
-            return Ok(());
-        }
-        match mem::replace(&mut self.statement, None) {
-            None => {
-                self.statement = Some(line);
-                Ok(())
-            }
-            Some(so_far) => self.take_behind(so_far, line),
-        }
-    }
+    Ok(statement)
 }
 
 /// The first statement of lines.
-#[tactic(auto, using(crate::proofs::Gathered::gathers))]
-fn first_statement<'t>(all: List<TokenLine<'t>>) -> Result<Option<TokenLine<'t>>, NoMemory>
-    ensures { IfOk result (λ s. s ≡ first_statement all.entry) }
+fn first_statement<'t>(
+    alloc: Global,
+    lines: &mut Lines<'t>,
+) -> Result<Option<TokenLine<'t>>, NoMemory>
+    ensures { IfOk result (λ s. s ≡ first_statement lines.old) }
 {
-    let mut front = Front {
-        statement: None,
-        ended: false,
-    };
-    for line in all.into_vec() {
-        front.take(line)?;
+    match lines.next(alloc)? {
+        None => Ok(None),
+        Some(first) => Ok(Some(gather(alloc, first, lines)?)),
     }
-    Ok(front.statement)
 }
 
 fn by_word<'a, 't>(at: u32, w: &[u8], ts: &'a [Token<'t>]) -> Result<Rnldef<'a>, ReadError>
@@ -118,8 +96,8 @@ fn entry_on(alloc: Global, statement: &Option<TokenLine<'_>>) -> Result<RnlEntry
 fn read_entry(alloc: Global, text: &[u8]) -> Result<RnlEntry, ReadError>
     ensures { Gives result (reading text.now) }
 {
-    let all = any_lines(alloc, text)?;
-    let statement = first_statement(all)?;
+    let mut lines = Lines::of_any(text);
+    let statement = first_statement(alloc, &mut lines)?;
     entry_on(alloc, &statement)
 }
 
