@@ -31,6 +31,27 @@ fn unranked(answer: Answer, owners: List<TaskId>) -> Outcome
 }
 
 impl<Q: Queues> Table<Q> {
+    /// What a request would be answered, whatever its resource. Nothing changes.
+    pub fn answer(&self, alloc: Global, req: &Req) -> Result<Answer, NoMemory>
+        ensures { IfOk result (λ answer. answer ≡ answer_to self.now.held req.now.task req.now.want) }
+    {
+        match &req.want {
+            Want::Enq {
+                res,
+                ctl,
+                ret,
+                full,
+            } => Ok(Answer::Coded(self.decide_enq(res, req.task, *ctl, *ret, *full).code)),
+            Want::Deq { res, have } => { Ok(Answer::Coded(self.decide_deq(res, req.task, *have))) }
+            Want::Release { .. } => Ok(Answer::Coded(Code::C00)),
+            Want::Look {
+                first,
+                count,
+                filter,
+            } => Ok(Answer::Rows(look_slices(alloc, self, *first, *count, filter)?)),
+        }
+    }
+
     /// Carries a request out, whatever its resource, and answers it at once. Without memory the table stays as
     /// it was.
     #[tactic(auto, using(crate::proofs::OwnerLemmas::outcomes))]
