@@ -1,0 +1,109 @@
+-- Worked entries, by which the definitions are checked: what requests are answered, and what is left, is what the rules
+-- give by hand.
+use Rattle.std.proofs.Common.{◌≡◌, ℕ, Bool, true, false, List, [], ◌∷◌, Some, None, refl, codes}
+use Rattle.std.specs.Option.{option_map}
+use Rattle.grs_base.specs.declared.decision.Code.TheVariants.{C00, C04, Wait}
+use Rattle.grs_base.specs.declared.resource.Ctl.{Ctl}
+use Rattle.grs_base.specs.declared.resource.Ctl.TheVariants.{E, S}
+use Rattle.grs_base.specs.declared.resource.Res.{Res}
+use Rattle.grs_base.specs.declared.resource.Res.TheVariants.{Systems}
+use Rattle.grs_base.specs.declared.resource.Ret.TheVariants.{RetNone, RetUse, RetChng, RetEcb}
+use Rattle.grs_base.specs.declared.resource.TaskId.{TaskId}
+use Rattle.grs_wire.specs.Wants.{answer_to}
+use Rattle.grs_wire.specs.declared.request.Answer.{Answer}
+use Rattle.grs_wire.specs.declared.request.Answer.TheVariants.{Coded}
+use Rattle.grs_wire.specs.declared.request.Req.{Req}
+use Rattle.grs_wire.specs.declared.request.Want.{Want}
+use Rattle.grs_wire.specs.declared.request.Want.TheVariants.{Enq, Deq, Release}
+use Rattle.contention_mgr.specs.Manager.{Ranked, Managed, plain, no_elements, settled, rank_given, with_mark, first_untold, any_untold_in, owner_of, entry_of_res}
+
+-- a task of a system, by its place
+abbrev task : ℕ → ℕ → TaskId
+task s n = record { system = record { 0 = s }; job = 0; task = n }
+
+abbrev asks : ℕ → ℕ → Want → Req
+asks s n w = record { task = task s n; want = w }
+
+-- an element that is kept
+abbrev kept : Res → ℕ → ℕ → Ctl → ℕ → Bool → Ranked
+kept r s n c rank untold = record { res = r; elem = record { task = task s n; ctl = c }; rank = rank; untold = untold }
+
+-- an entry after requests, at a manager of system 0
+abbrev after : Managed → List Req → Managed
+after m [] = m
+after m (q ∷ qs) = after (settled 0 m q.task q.want) qs
+
+-- what they are answered, with the ranks that they give
+abbrev given : Managed → List Req → List (Answer × ℕ)
+given m [] = []
+given m (q ∷ qs) = (answer_to (plain m.items) q.task q.want, rank_given m q.task q.want) ∷ given (settled 0 m q.task q.want) qs
+
+-- ---- two systems, each with a resource of its own under one entry
+abbrev one : Res
+one = Systems (codes "A") (codes "ONE")
+
+abbrev two : Res
+two = Systems (codes "A") (codes "TWO")
+
+abbrev both : List Req
+both = asks 0 0 (Enq one E RetNone false) ∷ asks 1 0 (Enq two E RetNone false) ∷ asks 0 0 (Deq one false) ∷ asks 1 0 (Deq two false) ∷ []
+
+both_given : given no_elements both ≡ (Coded C00, 1) ∷ (Coded C00, 2) ∷ (Coded C00, 0) ∷ (Coded C00, 0) ∷ []
+both_given = refl
+
+both_after : after no_elements both ≡ record { next = 3; items = [] }
+both_after = refl
+
+of_one_entry : entry_of_res 1 one ≡ Some 0
+of_one_entry = refl
+
+-- ---- a list of three exclusive elements, of which the first gives up control and a fourth comes
+abbrev pq : Res
+pq = Systems (codes "P") (codes "Q")
+
+abbrev three : Managed
+three = record { next = 4; items = kept pq 0 0 E 1 false ∷ kept pq 2 0 E 2 false ∷ kept pq 1 0 E 3 false ∷ [] }
+
+gives_up : after three (asks 0 0 (Deq pq false) ∷ []) ≡ record { next = 4; items = kept pq 2 0 E 2 true ∷ kept pq 1 0 E 3 false ∷ [] }
+gives_up = refl
+
+is_told_next : option_map owner_of (first_untold 0 (after three (asks 0 0 (Deq pq false) ∷ [])).items) ≡ Some (task 2 0, pq)
+is_told_next = refl
+
+is_told : with_mark false pq (task 2 0) (after three (asks 0 0 (Deq pq false) ∷ [])).items ≡ kept pq 2 0 E 2 false ∷ kept pq 1 0 E 3 false ∷ []
+is_told = refl
+
+comes_last : given (after three (asks 0 0 (Deq pq false) ∷ [])) (asks 2 1 (Enq pq S RetNone false) ∷ []) ≡ (Coded Wait, 4) ∷ []
+comes_last = refl
+
+-- ---- shared waiters of two systems get control at once, and an exclusive one waits on
+abbrev waiters : List Req
+waiters = asks 1 0 (Enq pq E RetNone false) ∷ asks 0 0 (Enq pq S RetNone false) ∷ asks 2 0 (Enq pq S RetEcb false) ∷ asks 1 1 (Enq pq E RetEcb false) ∷ asks 1 2 (Enq pq E RetUse false) ∷ []
+
+waiters_given : given no_elements waiters ≡ (Coded C00, 1) ∷ (Coded Wait, 2) ∷ (Coded C04, 3) ∷ (Coded C04, 4) ∷ (Coded C04, 0) ∷ []
+waiters_given = refl
+
+-- the manager's own task is told by its system, the other's is still to be told; who is to be told doesn't change by a later request
+shared_get_control : after (after no_elements waiters) (asks 1 0 (Release pq) ∷ asks 1 3 (Enq pq S RetNone false) ∷ []) ≡ record { next = 6; items = kept pq 0 0 S 2 false ∷ kept pq 2 0 S 3 true ∷ kept pq 1 1 E 4 false ∷ kept pq 1 3 S 5 false ∷ [] }
+shared_get_control = refl
+
+-- an owner who is still to be told may change to exclusive control, and is to be told all the same; one who gives up control isn't
+still_to_be_told : (after (after no_elements waiters) (asks 1 0 (Release pq) ∷ asks 0 0 (Deq pq false) ∷ asks 2 0 (Enq pq E RetChng false) ∷ [])).items ≡ kept pq 2 0 E 3 true ∷ kept pq 1 1 E 4 false ∷ []
+still_to_be_told = refl
+
+left_untold : (after (after no_elements waiters) (asks 1 0 (Release pq) ∷ asks 2 0 (Deq pq false) ∷ [])).items ≡ kept pq 0 0 S 2 false ∷ kept pq 1 1 E 4 false ∷ []
+left_untold = refl
+
+-- ---- of two resources that which is shown first is told first, whenever control came
+abbrev later : List Req
+later = asks 1 0 (Enq two E RetNone false) ∷ asks 2 0 (Enq two E RetEcb false) ∷ asks 1 0 (Enq one E RetNone false) ∷ asks 2 1 (Enq one E RetEcb false) ∷ asks 1 0 (Release two) ∷ asks 1 0 (Release one) ∷ []
+
+first_of_two : option_map owner_of (first_untold 0 (after no_elements later).items) ≡ Some (task 2 1, one)
+first_of_two = refl
+
+-- an owner of the system that asks isn't one of another system
+none_of_others : first_untold 2 (after no_elements later).items ≡ None
+none_of_others = refl
+
+any_is_untold : any_untold_in 0 (after no_elements later).items ≡ true
+any_is_untold = refl

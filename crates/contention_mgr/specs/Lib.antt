@@ -1,0 +1,5 @@
+pub mod Manager
+pub mod Marks
+pub mod Untold
+pub mod Loads
+pub mod Laws

@@ -1,0 +1,297 @@
+//! The manager of a system: of each lock entry what it keeps, where it manages it.
+ghost use Rattle.std.specs.Prelude.{◌≡◌, ◌≢◌, ◌<◌, ◌==◌, ℕ, true, false, is_some, length, replicate, slice_set, None, Some, option_map, IfOk, OnOk, OnErr};
+ghost use Rattle.std.specs.Option.{option_copied};
+ghost use Rattle.grs_wire.specs.Wants.{answer_to, new_owners};
+ghost use Rattle.contention_mgr.specs.Loads.{IsLoadable, loaded};
+ghost use Rattle.contention_mgr.specs.Manager.{plain, no_elements, settled, rank_given, entry_of_res, entry_wanted, kept_at, managed_at, managed_of, managed_for, items_of, with_entry, after_request, rank_for, told, after_telling, any_untold_in, any_untold_at, first_untold, owner_of};
+
+use crate::entry::Entry;
+use grs_base::{List, NoMemory, Res, Row, SysId, TaskId, entry_of, slice_of};
+use grs_wire::{Answer, Req, Want};
+use queue_table::Outcome;
+use std::alloc::Global;
+use std::marker::Model;
+
+/// What one system keeps of the lock entries that it manages, seen as its number and of each entry the next rank and the
+/// elements in order of arrival, each with its rank and whether its task is still to be told.
+#[derive(Drop)]
+pub struct Manager {
+    system: SysId,
+    entries: u32,
+    slots: Vec<Option<Entry>>,
+    alloc: Global,
+}
+
+impl Model for Manager {
+    ghost use Rattle.std.specs.Prelude.{◌≡◌, ◌≢◌, length};
+    ghost use Rattle.contention_mgr.specs.Manager.{ManagerView};
+
+    ghost Value = { ManagerView };
+
+    ghost view = { λ a. record { system = a.system; entries = a.slots.items } };
+
+    ghost invariant = { λ a. (length a.slots.items ≡ a.entries) × (a.entries ≢ 0) };
+}
+
+/// So many entries that aren't managed.
+fn empty_slots(alloc: Global, entries: u32) -> Result<Vec<Option<Entry>>, NoMemory>
+    ensures { IfOk result (λ slots. slots.items ≡ replicate entries None) }
+{
+    let mut slots = Vec::new(alloc);
+    for _ in 0..entries {
+        if slots.push(None).is_err() {
+            return Err(NoMemory);
+        }
+    }
+    Ok(slots)
+}
+
+/// The lock entry of a resource.
+fn res_entry(entries: u32, res: &Res) -> Option<u32>
+    requires { entries ≢ 0 }
+    ensures { result ≡ entry_of_res entries res.now }
+{
+    match res {
+        Res::Systems { q, r } => Some(entry_of(slice_of(q, r), entries)),
+        _ => None,
+    }
+}
+
+/// The lock entry of a request.
+fn wanted_entry(entries: u32, want: &Want) -> Option<u32>
+    requires { entries ≢ 0 }
+    ensures { result ≡ entry_wanted entries want.now }
+{
+    match want {
+        Want::Enq { res, .. } | Want::Deq { res, .. } | Want::Release { res } => {
+            res_entry(entries, res)
+        }
+        Want::Look { first, .. } => Some(entry_of(*first, entries)),
+    }
+}
+
+/// What is kept of an entry.
+fn slot(slots: &Vec<Option<Entry>>, entry: u32) -> Option<&Entry>
+    ensures { option_copied result ≡ kept_at slots.now.items entry }
+{
+    if (entry as usize) < slots.len() {
+        slots[entry as usize].as_ref()
+    } else {
+        None
+    }
+}
+
+/// Carries a request out in the lists of an entry.
+fn settle_at(
+    alloc: Global,
+    system: SysId,
+    slots: &mut Vec<Option<Entry>>,
+    entry: u32,
+    req: &Req,
+) -> Result<Outcome, NoMemory>
+    requires { is_some (kept_at slots.old.items entry) ≡ true }
+    ensures answer { IfOk result (λ outcome. outcome.answer ≡ answer_to (plain (items_of (kept_at slots.old.items entry))) req.now.task req.now.want) }
+    ensures rank { IfOk result (λ outcome. outcome.rank ≡ rank_for (kept_at slots.old.items entry) req.now.task req.now.want) }
+    ensures owners { IfOk result (λ outcome. outcome.owners ≡ new_owners (plain (items_of (kept_at slots.old.items entry))) req.now.task req.now.want) }
+    ensures after { OnOk result (slots.new.items ≡ slice_set slots.old.items entry (option_map (λ m. settled system.0 m req.now.task req.now.want) (kept_at slots.old.items entry))) }
+    ensures unchanged { OnErr result (slots.new.items ≡ slots.old.items) }
+{
+    match &mut slots[entry as usize] {
+        Some(kept) => kept.settle(alloc, system, req),
+        None => unreachable!(),
+    }
+}
+
+/// The task of an element of an entry is told that it owns this resource.
+fn tell_at(slots: &mut Vec<Option<Entry>>, entry: u32, task: TaskId, res: &Res)
+    requires { is_some (kept_at slots.old.items entry) ≡ true }
+    ensures { slots.new.items ≡ slice_set slots.old.items entry (option_map (told task res.now) (kept_at slots.old.items entry)) }
+{
+    match &mut slots[entry as usize] {
+        Some(kept) => kept.mark_told(res, task),
+        None => unreachable!(),
+    }
+}
+
+/// Whether an owner of another system is still to be told, in what is kept of an entry.
+fn is_any_in(slot: &Option<Entry>, home: SysId) -> bool
+    ensures { result ≡ any_untold_in home.0 (items_of slot.now) }
+{
+    match slot {
+        Some(kept) => kept.any_untold(home),
+        None => false,
+    }
+}
+
+/// Whether in one of these entries an owner of another system is still to be told.
+fn any_in(slots: &[Option<Entry>], home: SysId) -> bool
+    ensures { result ≡ any_untold_at home.0 slots.now }
+{
+    let mut rest = slots;
+    'slots: while let Some((slot, tail)) = rest.split_first() {
+        if is_any_in(slot, home) {
+            return true;
+        }
+        rest = tail;
+    }
+    false
+}
+
+impl Manager {
+    /// A manager of this system, of so many lock entries, none of which it manages yet.
+    pub fn new(alloc: Global, system: SysId, entries: u32) -> Result<Manager, NoMemory>
+        requires { entries ≢ 0 }
+        ensures { IfOk result (λ manager. manager ≡ record { system = system; entries = replicate entries None }) }
+    {
+        let slots = empty_slots(alloc, entries)?;
+        Ok(Manager {
+            system,
+            entries,
+            slots,
+            alloc,
+        })
+    }
+
+    /// Whether an entry is managed.
+    pub fn manages(&self, entry: u32) -> bool
+        ensures { result ≡ is_some (managed_at self.now entry) }
+    {
+        slot(&self.slots, entry).is_some()
+    }
+
+    /// Manages an entry that isn't managed, with empty lists. Without memory nothing changes.
+    pub fn begin(&mut self, entry: u32) -> Result<(), NoMemory>
+        requires below { entry < length self.old.entries }
+        requires free { is_some (managed_at self.old entry) ≡ false }
+        ensures ok { OnOk result (self.new ≡ with_entry self.old (Some entry) (Some no_elements)) }
+        ensures err { OnErr result (self.new ≡ self.old) }
+    {
+        self.slots[entry as usize] = Some(Entry::new(self.alloc));
+        Ok(())
+    }
+
+    /// Manages an entry that isn't managed, with these lists: rows of resources of the entry, each with the ranks of its
+    /// elements. All who own count as told. Without memory nothing changes.
+    pub fn load(&mut self, entry: u32, ranked: &List<(Row, List<u64>)>) -> Result<(), NoMemory>
+        requires below { entry < length self.old.entries }
+        requires free { is_some (managed_at self.old entry) ≡ false }
+        requires rows { IsLoadable (length self.old.entries) entry ranked.now }
+        ensures ok { OnOk result (self.new ≡ with_entry self.old (Some entry) (Some (loaded ranked.now))) }
+        ensures err { OnErr result (self.new ≡ self.old) }
+    {
+        let kept = Entry::load(self.alloc, ranked.as_slice())?;
+        self.slots[entry as usize] = Some(kept);
+        Ok(())
+    }
+
+    /// Whether a request is of an entry that is managed.
+    pub fn serves(&self, want: &Want) -> bool
+        ensures { result ≡ is_some (managed_for self.now want.now) }
+    {
+        match wanted_entry(self.entries, want) {
+            Some(entry) => self.manages(entry),
+            None => false,
+        }
+    }
+
+    /// Whether a resource is of an entry that is managed.
+    pub fn serves_res(&self, res: &Res) -> bool
+        ensures { result ≡ is_some (managed_of self.now res.now) }
+    {
+        match res_entry(self.entries, res) {
+            Some(entry) => self.manages(entry),
+            None => false,
+        }
+    }
+
+    /// Gives up an entry that is managed and in whose lists nothing stands.
+    pub fn end(&mut self, entry: u32)
+        requires managed { is_some (managed_at self.old entry) ≡ true }
+        requires empty { (length (items_of (managed_at self.old entry)) == 0) ≡ true }
+        ensures { self.new ≡ with_entry self.old (Some entry) None }
+    {
+        self.slots[entry as usize] = None;
+    }
+
+    /// What a held request would be answered, and the rank that it would give, 0 where it puts no element into a list.
+    /// Nothing changes. There is no memory for a rank past the last.
+    pub fn decide(&self, req: &Req) -> Result<(Answer, u64), NoMemory>
+        requires { is_some (managed_for self.now req.now.want) ≡ true }
+        ensures answer { IfOk result (λ given. given.0 ≡ answer_to (plain (items_of (managed_for self.now req.now.want))) req.now.task req.now.want) }
+        ensures rank { IfOk result (λ given. given.1 ≡ rank_for (managed_for self.now req.now.want) req.now.task req.now.want) }
+    {
+        match wanted_entry(self.entries, &req.want) {
+            Some(entry) => match slot(&self.slots, entry) {
+                Some(kept) => kept.answer(self.alloc, req),
+                None => unreachable!(),
+            },
+            None => unreachable!(),
+        }
+    }
+
+    /// Carries out a held request, by the decision that `decide` tells. Without memory nothing changes.
+    pub fn settle(&mut self, req: &Req) -> Result<Outcome, NoMemory>
+        requires { is_some (managed_for self.old req.now.want) ≡ true }
+        ensures answer { IfOk result (λ outcome. outcome.answer ≡ answer_to (plain (items_of (managed_for self.old req.now.want))) req.now.task req.now.want) }
+        ensures rank { IfOk result (λ outcome. outcome.rank ≡ rank_for (managed_for self.old req.now.want) req.now.task req.now.want) }
+        ensures owners { IfOk result (λ outcome. outcome.owners ≡ new_owners (plain (items_of (managed_for self.old req.now.want))) req.now.task req.now.want) }
+        ensures after { OnOk result (self.new ≡ after_request self.old req.now.task req.now.want) }
+        ensures unchanged { OnErr result (self.new ≡ self.old) }
+    {
+        match wanted_entry(self.entries, &req.want) {
+            Some(entry) => settle_at(self.alloc, self.system, &mut self.slots, entry, req),
+            None => unreachable!(),
+        }
+    }
+
+    /// Decides and carries out a request of a task of the manager's own system. Without memory nothing changes.
+    pub fn own_request(&mut self, req: &Req) -> Result<Outcome, NoMemory>
+        requires { is_some (managed_for self.old req.now.want) ≡ true }
+        ensures answer { IfOk result (λ outcome. outcome.answer ≡ answer_to (plain (items_of (managed_for self.old req.now.want))) req.now.task req.now.want) }
+        ensures rank { IfOk result (λ outcome. outcome.rank ≡ rank_for (managed_for self.old req.now.want) req.now.task req.now.want) }
+        ensures owners { IfOk result (λ outcome. outcome.owners ≡ new_owners (plain (items_of (managed_for self.old req.now.want))) req.now.task req.now.want) }
+        ensures after { OnOk result (self.new ≡ after_request self.old req.now.task req.now.want) }
+        ensures unchanged { OnErr result (self.new ≡ self.old) }
+    {
+        self.settle(req)
+    }
+
+    /// The owner of another system than `home` who is to be told first that it owns a resource of an entry: by the order
+    /// in which resources are shown, and on one resource in the order of its list.
+    pub fn untold(&self, entry: u32, home: SysId) -> Result<Option<(TaskId, Res)>, NoMemory>
+        ensures { IfOk result (λ owner. owner ≡ option_map owner_of (first_untold home.0 (items_of (managed_at self.now entry)))) }
+    {
+        match slot(&self.slots, entry) {
+            Some(kept) => kept.untold(self.alloc, home),
+            None => Ok(None),
+        }
+    }
+
+    /// A task is told that it owns a resource of an entry that is managed.
+    pub fn mark_told(&mut self, task: TaskId, res: &Res)
+        requires { is_some (managed_of self.old res.now) ≡ true }
+        ensures { self.new ≡ after_telling self.old task res.now }
+    {
+        match res_entry(self.entries, res) {
+            Some(entry) => tell_at(&mut self.slots, entry, task, res),
+            None => unreachable!(),
+        }
+    }
+
+    /// Whether nothing stands in the lists of an entry.
+    pub fn is_empty(&self, entry: u32) -> bool
+        ensures { result ≡ (length (items_of (managed_at self.now entry)) == 0) }
+    {
+        match slot(&self.slots, entry) {
+            Some(kept) => kept.is_empty(),
+            None => true,
+        }
+    }
+
+    /// Whether in some entry an owner of another system than `home` is still to be told.
+    pub fn any_untold(&self, home: SysId) -> bool
+        ensures { result ≡ any_untold_at home.0 self.now.entries }
+    {
+        any_in(self.slots.as_slice(), home)
+    }
+}

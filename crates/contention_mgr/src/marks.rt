@@ -1,0 +1,221 @@
+//! The ranks of the elements of one lock entry, and which of their tasks are still to be told that they own. They stand
+//! beside the lists: each resource that had an element has a number, and each element is found by that number and its
+//! task. Nothing here knows who owns.
+ghost use Rattle.std.specs.Prelude.{◌≡◌, ◌≤◌, ◌++◌, ◌∷◌, [], ◌&&◌, ℕ, true, false, cond, length, None, Some, is_some, IfSome, IfNone, IfOk, OnOk, OnErr};
+ghost use Rattle.std.specs.Map.{lookup};
+ghost use Rattle.std.specs.Ordering.{is_lt};
+ghost use Rattle.grs_base.specs.ResOrder.{res_order};
+ghost use Rattle.indexmap.specs.IndexMap.{spare};
+ghost use Rattle.grs_base.specs.Same.{same_res, same_task};
+ghost use Rattle.grs_base.specs.declared.resource.Res.{Res as ResValue};
+ghost use Rattle.grs_base.specs.declared.resource.TaskId.{TaskId as TaskValue};
+ghost use Rattle.contention_mgr.specs.Marks.{same_spot, mark_at, mark_in, numbered_from, with_told};
+ghost use Rattle.contention_mgr.specs.Untold.{is_to_tell};
+ghost use Rattle.contention_mgr.specs.declared.marks.Spot.{Spot as SpotValue};
+
+use crate::untold::least_number;
+use grs_base::{NoMemory, Res, SysId, TaskId};
+use indexmap::IndexMap;
+use std::alloc::Global;
+
+/// What is kept of an element beside its list: its rank, and whether its task got control by another's request and is
+/// still to be told.
+#[derive(Clone, Copy)]
+pub(crate) struct Mark {
+    pub rank: u64,
+    pub untold: bool,
+}
+
+/// Where an element is found: the number of its resource, and its task.
+#[derive(Clone, Copy, PartialEq, Eq, Hash)]
+pub(crate) struct Spot {
+    pub number: usize,
+    pub task: TaskId,
+}
+
+/// The marks of the elements of one entry. `names` has the resources that had an element, each with its place among
+/// them as its number.
+#[derive(Drop)]
+pub(crate) struct Marks {
+    pub names: IndexMap<Res, usize>,
+    pub marks: IndexMap<Spot, Mark>,
+    ghost numbered: { numbered_from 0 names.entries ≡ true },
+    ghost fresh: { (n : ℕ) (t : TaskValue) → length names.entries ≤ n → mark_at marks.entries n t ≡ None },
+}
+
+/// The number of a resource, if it has one.
+fn number_of(names: &IndexMap<Res, usize>, res: &Res) -> Option<usize>
+    ensures { result ≡ lookup (same_res res.now) names.now.entries }
+{
+    names.get(res).copied()
+}
+
+/// Makes room for one more number.
+fn reserve_name(names: &mut IndexMap<Res, usize>) -> Result<(), NoMemory>
+    ensures same { names.new.entries ≡ names.old.entries }
+    ensures room { OnOk result (1 ≤ spare names.new) }
+{
+    match names.reserve(1) {
+        Ok(()) => Ok(()),
+        Err(_) => Err(NoMemory),
+    }
+}
+
+/// Gives a resource that has none a number.
+fn add_name(names: &mut IndexMap<Res, usize>, res: Res, number: usize)
+    requires absent { lookup (same_res res) names.old.entries ≡ None }
+    requires room { 1 ≤ spare names.old }
+    ensures { names.new.entries ≡ names.old.entries ++ (res, number) ∷ [] }
+{
+    let _ = names.insert(res, number);
+}
+
+/// The mark at a spot.
+fn find_mark(marks: &IndexMap<Spot, Mark>, spot: Spot) -> Option<Mark>
+    ensures { result ≡ lookup (same_spot spot) marks.now.entries }
+{
+    marks.get(&spot).copied()
+}
+
+/// Makes room for one more mark.
+fn reserve_mark(marks: &mut IndexMap<Spot, Mark>) -> Result<(), NoMemory>
+    ensures same { marks.new.entries ≡ marks.old.entries }
+    ensures room { OnOk result (1 ≤ spare marks.new) }
+{
+    match marks.reserve(1) {
+        Ok(()) => Ok(()),
+        Err(_) => Err(NoMemory),
+    }
+}
+
+/// Puts a mark at a spot.
+fn put_mark(marks: &mut IndexMap<Spot, Mark>, spot: Spot, mark: Mark)
+    requires { 1 ≤ spare marks.old }
+    ensures { (s : SpotValue) → lookup (same_spot s) marks.new.entries ≡ cond (same_spot spot s) (Some mark) (lookup (same_spot s) marks.old.entries) }
+{
+    match marks.insert(spot, mark) {
+        Ok(_) => {}
+        Err(_) => unreachable!(),
+    }
+}
+
+/// Takes the mark at a spot away.
+fn take_mark(marks: &mut IndexMap<Spot, Mark>, spot: Spot)
+    ensures { (s : SpotValue) → lookup (same_spot s) marks.new.entries ≡ cond (same_spot spot s) None (lookup (same_spot s) marks.old.entries) }
+{
+    let _ = marks.swap_remove(&spot);
+}
+
+/// The task at a spot is still to be told, or was told.
+fn set_mark(marks: &mut IndexMap<Spot, Mark>, spot: Spot, untold: bool)
+    ensures { (s : SpotValue) → lookup (same_spot s) marks.new.entries ≡ cond (same_spot spot s) (with_told untold (lookup (same_spot s) marks.old.entries)) (lookup (same_spot s) marks.old.entries) }
+{
+    if let Some(mark) = marks.get_mut(&spot) {
+        mark.untold = untold;
+    }
+}
+
+impl Marks {
+    /// No marks.
+    pub(crate) fn new(alloc: Global) -> Self
+        ensures names { result.names.entries ≡ [] }
+        ensures marks { result.marks.entries ≡ [] }
+    {
+        Marks {
+            names: IndexMap::new(alloc),
+            marks: IndexMap::new(alloc),
+        }
+    }
+
+    /// The mark of a task's element on a resource.
+    pub(crate) fn get(&self, res: &Res, task: TaskId) -> Option<Mark>
+        ensures { result ≡ mark_in self.now.names.entries self.now.marks.entries res.now task }
+    {
+        match number_of(&self.names, res) {
+            Some(number) => find_mark(&self.marks, Spot { number, task }),
+            None => None,
+        }
+    }
+
+    /// The number of a resource, which gets one if it has none.
+    fn number(&mut self, alloc: Global, res: &Res) -> Result<usize, NoMemory>
+        ensures number { IfOk result (λ n. lookup (same_res res.now) self.new.names.entries ≡ Some n) }
+        ensures marks { self.new.marks.entries ≡ self.old.marks.entries }
+        ensures same { (r : ResValue) (t : TaskValue) → mark_in self.new.names.entries self.new.marks.entries r t ≡ mark_in self.old.names.entries self.old.marks.entries r t }
+    {
+        match number_of(&self.names, res) {
+            Some(number) => Ok(number),
+            None => {
+                let number = self.names.len();
+                let name = res.copy(alloc)?;
+                reserve_name(&mut self.names)?;
+                add_name(&mut self.names, name, number);
+                Ok(number)
+            }
+        }
+    }
+
+    /// Gives a task's element on a resource a mark. Without memory all marks stay.
+    pub(crate) fn add(
+        &mut self,
+        alloc: Global,
+        res: &Res,
+        task: TaskId,
+        mark: Mark,
+    ) -> Result<(), NoMemory>
+        ensures ok { OnOk result ((r : ResValue) (t : TaskValue) → mark_in self.new.names.entries self.new.marks.entries r t ≡ cond (same_res res.now r && same_task task t) (Some mark) (mark_in self.old.names.entries self.old.marks.entries r t)) }
+        ensures err { OnErr result ((r : ResValue) (t : TaskValue) → mark_in self.new.names.entries self.new.marks.entries r t ≡ mark_in self.old.names.entries self.old.marks.entries r t) }
+    {
+        let number = self.number(alloc, res)?;
+        reserve_mark(&mut self.marks)?;
+        put_mark(&mut self.marks, Spot { number, task }, mark);
+        Ok(())
+    }
+
+    /// Takes the mark of a task's element on a resource away.
+    pub(crate) fn take(&mut self, res: &Res, task: TaskId)
+        ensures { (r : ResValue) (t : TaskValue) → mark_in self.new.names.entries self.new.marks.entries r t ≡ cond (same_res res.now r && same_task task t) None (mark_in self.old.names.entries self.old.marks.entries r t) }
+    {
+        if let Some(number) = number_of(&self.names, res) {
+            take_mark(&mut self.marks, Spot { number, task });
+        }
+    }
+
+    /// The task of an element on a resource is still to be told, or was told.
+    pub(crate) fn set(&mut self, res: &Res, task: TaskId, untold: bool)
+        ensures { (r : ResValue) (t : TaskValue) → mark_in self.new.names.entries self.new.marks.entries r t ≡ cond (same_res res.now r && same_task task t) (with_told untold (mark_in self.old.names.entries self.old.marks.entries r t)) (mark_in self.old.names.entries self.old.marks.entries r t) }
+    {
+        if let Some(number) = number_of(&self.names, res) {
+            set_mark(&mut self.marks, Spot { number, task }, untold);
+        }
+    }
+
+    /// The resource that is shown first among those on which a task of another system is still to be told.
+    pub(crate) fn first_name(&self, home: SysId) -> Option<&Res>
+        ensures none { IfNone result ((r : ResValue) (t : TaskValue) → is_to_tell home.0 t (mark_in self.now.names.entries self.now.marks.entries r t) ≡ false) }
+        ensures there { IfSome result (λ r. (t : TaskValue) × (is_to_tell home.0 t (mark_in self.now.names.entries self.now.marks.entries r.now t) ≡ true)) }
+        ensures first { IfSome result (λ r. (p : ResValue) (t : TaskValue) → is_to_tell home.0 t (mark_in self.now.names.entries self.now.marks.entries p t) ≡ true → is_lt (res_order p r.now) ≡ false) }
+    {
+        match least_number(&self.names, &self.marks, home) {
+            Some(number) => match self.names.get_index(number) {
+                Some((res, _)) => Some(res),
+                None => unreachable!(),
+            },
+            None => None,
+        }
+    }
+
+    /// Whether no element has a mark.
+    pub(crate) fn is_empty(&self) -> bool
+        ensures none { result ≡ true → (r : ResValue) (t : TaskValue) → mark_in self.now.names.entries self.now.marks.entries r t ≡ None }
+        ensures some { result ≡ false → (r : ResValue) × (t : TaskValue) × (is_some (mark_in self.now.names.entries self.now.marks.entries r t) ≡ true) }
+    {
+        match self.marks.get_index(0) {
+            Some((spot, _)) => match self.names.get_index(spot.number) {
+                Some(_) => false,
+                None => unreachable!(),
+            },
+            None => true,
+        }
+    }
+}
