@@ -9,6 +9,8 @@ mod copies;
 #[cfg(test)]
 mod looks;
 #[cfg(test)]
+mod manager;
+#[cfg(test)]
 mod medium;
 #[cfg(test)]
 mod readers;
