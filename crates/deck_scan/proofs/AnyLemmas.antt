@@ -1,16 +1,12 @@
 -- A text of any bytes, as it is read.
-use Rattle.std.proofs.Common.{◌≡◌, ℕ, ◌+◌, ◌≤◌, Bool, true, false, cond, eqb, List, [], ◌∷◌, length, Some, None, Result, Ok, Err, IfOk, refl, sym, ap, subst, ◌∙◌, arith}
+use Rattle.std.proofs.Common.{◌≡◌, ℕ, ◌+◌, Bool, true, false, cond, eqb, List, [], ◌∷◌, Some, None, refl, sym, ap, subst}
 use Rattle.std.specs.Prelude.{◌&&◌, ◌||◌}
 use Rattle.grs_base.specs.Printed.{is_printable}
 use Rattle.deck_scan.specs.declared.token.TokenLine.{TokenLine}
-use Rattle.deck_scan.specs.declared.scan.Scan.{Scan}
-use Rattle.deck_scan.specs.declared.scan.Mode.{Mode}
-use Rattle.deck_scan.specs.declared.scan.Mode.TheVariants.{InBlank, AfterSlash, InWord, InQuote, AfterQuote, InHex, InHexLow, InBadHex, InComment, AfterStar}
 use Rattle.deck_scan.specs.Bytes.{begins, is_allowed, bad_line}
 use Rattle.deck_scan.specs.Pieces.{SpellsLines}
 use Rattle.deck_scan.specs.AnyBytes.{wrong_byte, readable}
-use Rattle.deck_scan.specs.Scan.{put, put_word, end_line, step, scan_from, finish_in, start, lines_of}
-use Rattle.deck_scan.proofs.ScanLemmas.{step-line}
+use Rattle.deck_scan.specs.Scan.{lines_of}
 use Rattle.deck_scan.proofs.Pieced.{spelled_found}
 
 -- ---- bytes
@@ -70,52 +66,3 @@ any_text text lines h = subst (λ (t : List ℕ). SpellsLines t lines) (sym (rea
 -- Each text of any bytes spells lines.
 pub some_lines : (text : List ℕ) → SpellsLines (readable text) (lines_of (readable text))
 some_lines text = spelled_found (readable text) (readable_allowed text 1)
-
--- ---- the scan
-
--- another byte than LF leaves the number of the line
-pub same_line : (s : Scan) (b : ℕ) → eqb b 10 ≡ false → (step s b).line ≡ s.line
-same_line s b other = step-line s b ∙ rw other refl
-
-pub any_read : {E : Type 0} (text : List ℕ) (r : Result (List TokenLine) E) → IfOk r (λ ls. ls ≡ lines_of (readable text)) → IfOk r (λ ls. SpellsLines (readable text) ls)
-any_read text (Ok ls) e = rw e (some_lines text)
-any_read text (Err e) h = tt
-
-pub goes_on : (text : List ℕ) (s new : Scan) (rest : List ℕ) (b : ℕ) (tail : List ℕ) → rest ≡ b ∷ tail → is_allowed b tail ≡ true → new ≡ step s b
-    → scan_from s (readable rest) ≡ scan_from start (readable text) → scan_from new (readable tail) ≡ scan_from start (readable text)
-unfolding readable scan_from
-goes_on text s new rest b tail is ok made h =
-    let e : scan_from s (readable (b ∷ tail)) ≡ scan_from start (readable text) = subst (λ (x : List ℕ). scan_from s (readable x) ≡ scan_from start (readable text)) is h in
-    rw made (rw ok at e)
-
-pub stops : (text : List ℕ) (s new : Scan) (rest : List ℕ) (b : ℕ) (tail : List ℕ) → rest ≡ b ∷ tail → is_allowed b tail ≡ false → new ≡ scan_from s wrong_byte
-    → scan_from s (readable rest) ≡ scan_from start (readable text) → scan_from new (readable []) ≡ scan_from start (readable text)
-unfolding readable scan_from
-stops text s new rest b tail is bad made h =
-    let e : scan_from s (readable (b ∷ tail)) ≡ scan_from start (readable text) = subst (λ (x : List ℕ). scan_from s (readable x) ≡ scan_from start (readable text)) is h in
-    rw made (rw bad at e)
-
-pub ends : (text : List ℕ) (s : Scan) (rest : List ℕ) → length rest ≡ 0 → scan_from s (readable rest) ≡ scan_from start (readable text)
-    → (end_line (finish_in s.mode s)).lines ≡ lines_of (readable text)
-unfolding readable scan_from lines_of
-ends text s [] none h = ap (λ (x : Scan). (end_line (finish_in x.mode x)).lines) h
-ends text s (b ∷ rest) none h = absurd (omega (arith, none))
-
--- the end of the text takes the number of the line or that of its comment
-pub finish_line : (m : Mode) (s : Scan) (n : ℕ) → s.line ≤ n → s.begun ≤ n → (finish_in m s).line ≤ n
-unfolding finish_in put put_word
-finish_line InBlank s n l h = l
-finish_line AfterSlash s n l h = l
-finish_line InWord s n l h = l
-finish_line InQuote s n l h = l
-finish_line AfterQuote s n l h = l
-finish_line InHex s n l h = l
-finish_line InHexLow s n l h = l
-finish_line InBadHex s n l h = l
-finish_line InComment s n l h = h
-finish_line AfterStar s n l h = h
-
-pub ends_with : {E : Type 0} (text : List ℕ) (s : Scan) (rest : List ℕ) (r : Result (List TokenLine) E) → length rest ≡ 0 → scan_from s (readable rest) ≡ scan_from start (readable text)
-    → IfOk r (λ ls. ls ≡ (end_line (finish_in s.mode s)).lines) → IfOk r (λ ls. ls ≡ lines_of (readable text))
-ends_with text s rest (Ok ls) none h e = e ∙ ends text s rest none h
-ends_with text s rest (Err e) none h k = tt

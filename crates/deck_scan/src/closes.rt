@@ -4,7 +4,7 @@ ghost use Rattle.std.specs.Prelude.{◌≡◌, ◌≤◌, IfOk};
 ghost use Rattle.deck_scan.specs.Closes.{all_closes, HaveCloses, is_blank, is_closing};
 ghost use Rattle.deck_scan.specs.Scan.{lines_of};
 
-use crate::any_bytes::MOST_LINES;
+use crate::cursor::MOST_LINES;
 use crate::scan::{Mode, Scan};
 use grs_base::NoMemory;
 use std::alloc::Global;

@@ -21,7 +21,7 @@ use std::marker::Model;
 pub const MOST_TEXT_BYTES: usize = 1_048_576;
 
 /// The greatest number of a line. No memory holds the tokens of more, and blank lines are counted no further.
-const MOST_LINES: u32 = u32::MAX - 2;
+pub(crate) const MOST_LINES: u32 = u32::MAX - 2;
 
 /// A place in a text, at the begin of a line.
 #[derive(Clone, Copy)]

@@ -3,7 +3,6 @@
 //! is made of.
 #![tactic(auto)]
 
-mod any_bytes;
 mod bytes;
 mod closes;
 mod cursor;
@@ -16,7 +15,6 @@ mod row;
 mod scan;
 mod token;
 
-pub use any_bytes::any_lines;
 pub use closes::bytes_to_close;
 pub use cursor::{Lines, MOST_TEXT_BYTES};
 pub use given::GivenName;

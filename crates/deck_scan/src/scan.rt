@@ -1,7 +1,7 @@
 //! Goes through the bytes once and keeps what stands open between two of them.
 //! It knows no statement; its lines are judged by the crates above.
 ghost use Rattle.std.specs.Prelude.{◌≡◌, ◌<◌, ◌+◌, ◌^◌, [], OnOk};
-ghost use Rattle.deck_scan.specs.Scan.{put, put_word, put_open, end_line, break_off, begin_word, begin, step_in, step, finish_in, start};
+ghost use Rattle.deck_scan.specs.Scan.{put, put_word, put_open, end_line, break_off, begin_word, begin, step_in, step, start};
 
 use crate::bytes::{digit_of, is_hex_byte, is_word_byte};
 use crate::token::{Part, Token, TokenLine};
@@ -354,25 +354,6 @@ impl<'t> Scan<'t> {
             Mode::InBadHex => self.in_bad_hex(alloc, b),
             Mode::InComment => self.in_comment(alloc, b),
             Mode::AfterStar => self.after_star(alloc, b),
-        }
-    }
-
-    #[tactic(auto, unfolding(crate::specs::Scan::finish_in, crate::specs::Scan::end_line))]
-    pub(crate) fn finish(&mut self, alloc: Global) -> Result<(), NoMemory>
-        requires { self.old.line + 1 < 2 ^ 32 }
-        ensures { OnOk result (self.new ≡ finish_in self.old.mode self.old) }
-    {
-        match self.mode {
-            Mode::InBlank => Ok(()),
-            Mode::InWord => self.put_word(alloc),
-            Mode::AfterQuote => self.put_name(alloc),
-            Mode::InComment | Mode::AfterStar => {
-                self.end_line(alloc)?;
-                self.line = self.begun;
-                self.put(alloc, Token::Unclosed)
-            }
-            Mode::AfterSlash | Mode::InQuote | Mode::InHex | Mode::InHexLow | Mode::InBadHex =>
-                self.put(alloc, Token::Stray),
         }
     }
 }
