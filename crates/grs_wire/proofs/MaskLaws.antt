@@ -2,7 +2,7 @@
 use Rattle.std.proofs.Common.{ℕ, zero, suc, ◌≡◌, ◌≢◌, true, false, not, eqb, ◌^◌, ◌+◌, ◌*◌, ◌%◌, ◌<◌, min, max, zero-mul, one-mul, pow_pos, bit_and, bit_or, w32, sym, ◌∙◌, refl, arith, eqb-true, ne_eqb}
 use Rattle.std.specs.Int.{bit_at, bit_not}
 use Rattle.std.proofs.lemmas.Nat.Bits.{bit_at_and, bit_at_xor, bit_at_or, bit_at-pow_same, bit_at-pow_other, bit_at-lt, bit_at-zero, and_pow, same_from_bits, bit_at_clear_same, bit_at_clear_other, bit_at_above}
-use Rattle.std.proofs.lemmas.Nat.{one_shl}
+use Rattle.std.proofs.lemmas.Nat.{and_le_l, one_shl, or_lt, pow_below, xor_lt}
 use native.Mathlib.Decide.{dec_lt, ℕ_discrete}
 use Rattle.grs_wire.specs.Masks.{has, without, with_also}
 
@@ -97,3 +97,14 @@ with-present m s e = same_from_bits _ _ (λ i. go i (ℕ_discrete i s))
     go : (i : ℕ) → Dec (i ≡ s) → bit_at (bit_or m (2 ^ s)) i ≡ bit_at m i
     go i (yes same) = rw (same, bit_at_or, bit_at-pow_same, max_one (bit_at m s) (bit_at-lt m s)) (sym one)
     go i (no ne) = rw (bit_at_or, bit_at-pow_other s i ne, max_zero (bit_at m i)) refl
+
+-- ---- sets of eight systems stay below 256
+pub with_also-lt : (m s : ℕ) → m < 256 → s < 8 → with_also m s < 256
+unfolding with_also
+with_also-lt m s h below = or_lt 8 m (2 ^ s) h (pow_below s 8 below)
+
+pub without-lt : (m s : ℕ) → m < 256 → without m s < 256
+unfolding without
+without-lt m s h = xor_lt 8 m (bit_and m (2 ^ s)) h (omega (arith, and_le_l m (2 ^ s)))
+
+pub ruleset small_sets = (with_also-lt, without-lt)

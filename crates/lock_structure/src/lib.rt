@@ -1,0 +1,9 @@
+//! The lock structure of star mode: a word for each lock entry, which says the systems that have interest in it
+//! and the one that manages it. This crate knows nothing of mail, of the lists that a manager keeps, or of flags.
+#![tactic(auto)]
+
+mod word;
+mod words;
+
+pub use word::Route;
+pub use words::Words;
