@@ -1,12 +1,10 @@
 -- A call without an entry in the journal is finished with nothing changed.
-use Rattle.std.proofs.Common.{◌≡◌, ℕ, Bool, true, false, List, [], ◌∷◌, Some, refl, ap, sym, ◌∙◌, subst}
-use Rattle.std.specs.Prelude.{◌&&◌, ◌==◌, not}
+use Rattle.std.proofs.Common.{◌≡◌, false, [], ◌∷◌, Some, refl, ap}
+use Rattle.std.specs.Prelude.{◌==◌, not}
 use Rattle.std.proofs.lemmas.Bool.{and_parts, eqb-true}
-use Rattle.grs_wire.specs.declared.deck.Choice.{Choice}
-use Rattle.grs_wire.specs.declared.medium.Reply.{Reply}
 use Rattle.grs_wire.specs.declared.medium.Reply.TheVariants as replies
-use Rattle.grs_node.specs.Finish.{MayFinish, UnjournalledLeaves}
-use Rattle.grs_node.specs.Log.{NodeView, finished}
+use Rattle.grs_node.specs.Finish.{UnjournalledLeaves}
+use Rattle.grs_node.specs.Log.{finished}
 use Rattle.grs_node.specs.Node.{read_entries, all_sent, put_in, finish_call, finish}
 
 pub unjournalled_leaves : UnjournalledLeaves

@@ -1,4 +1,4 @@
-use Rattle.std.proofs.Common.{◌≡◌, ◌<◌, ◌≤◌, length, sym, ◌∙◌, arith}
+use Rattle.std.proofs.Common.{◌<◌, ◌≤◌, length, sym, ◌∙◌, arith}
 use Rattle.grs_node.proofs.Deck.{walk-within, walk-behind}
 use Rattle.grs_node.proofs.scripts.is_among.Goals as goal
 
