@@ -6,5 +6,6 @@
 pub mod laws;
 mod medium;
 mod sets;
+pub mod threads;
 
 pub use medium::{Medium, TurnReply};

@@ -9,6 +9,7 @@ mod node;
 mod prepared;
 mod scripts;
 mod state;
+pub mod threads;
 mod turn;
 
 pub use node::Node;

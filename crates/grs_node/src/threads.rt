@@ -1,0 +1,16 @@
+//! What may be handed to another thread, or lent to several. There is nothing to run.
+use super::node::Node;
+use super::prepared::Prepared;
+
+/// A value that other threads may be handed and lent.
+fn crosses<T: Send + Sync>(_value: &T) {}
+
+/// A system may be handed to another thread, and lent to several.
+pub fn nodes_cross(node: &Node<'_>) {
+    crosses(node)
+}
+
+/// So may what a choice comes to.
+pub fn prepared_crosses(prepared: &Prepared) {
+    crosses(prepared)
+}
