@@ -116,11 +116,15 @@ pub fn split_printable<'t>(text: &'t [u8]) -> (&'t [u8], &'t [u8])
     }
 }
 
-/// Whether all bytes are printable or end a line.
+/// Whether all bytes are printable or end a line. It goes over all, which takes less time than to stop at the first.
 fn all_common(text: &[u8]) -> bool
     ensures { result ≡ list_all is_in_comment text.now }
 {
-    text.iter().all(|b| is_printable(*b) || *b == b'\n')
+    let mut common = true;
+    for b in text {
+        common = common & (is_printable(*b) || *b == b'\n');
+    }
+    common
 }
 
 fn line_behind(b: u8, line: u32) -> u32

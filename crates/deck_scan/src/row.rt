@@ -13,6 +13,9 @@ use crate::token::{Part, Token};
 use grs_base::{List, NoMemory};
 use std::alloc::Global;
 
+/// How many tokens most lines have at most: those of a task line with two options are 18.
+const USUAL_TOKENS: usize = 20;
+
 /// What has been read of a line.
 #[derive(Drop)]
 pub struct Row<'t> {
@@ -125,6 +128,18 @@ impl<'t> Row<'t> {
             joined: false,
             begun,
         }
+    }
+
+    /// The same, with room for the tokens of most lines.
+    fn with_room(alloc: Global) -> Result<Self, NoMemory>
+        ensures { IfOk result (λ row. row ≡ no_row None) }
+    {
+        Ok(Row {
+            tokens: List::with_room(alloc, USUAL_TOKENS)?,
+            near: false,
+            joined: false,
+            begun: None,
+        })
     }
 
     fn put(&mut self, token: Token<'t>) -> Result<(), NoMemory>
@@ -256,7 +271,7 @@ fn read_apart<'t>(alloc: Global, at: u32, text: &'t [u8]) -> Result<Row<'t>, NoM
     requires { list_all is_printable text.now ≡ true }
     ensures { IfOk result (λ row. IsRow at None text.now row) }
 {
-    let mut row = Row::new(alloc, None);
+    let mut row = Row::with_room(alloc)?;
     let mut rest = text;
     while let Some((b, tail)) = rest.split_first() {
         if begins_pair(b'/', b'*', *b, tail) {

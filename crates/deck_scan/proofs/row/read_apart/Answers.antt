@@ -4,7 +4,7 @@ use Rattle.deck_scan.proofs.Rows.{along_none, along_piece, takes_less, printable
 use Rattle.deck_scan.proofs.row.read_apart.Goals as goal
 
 pub loop-b-init : goal.loop-b-init
-loop-b-init c = record { along = λ more. along_none c.args.at c.args.text.now c.new-row.result more c.new-row.ensures; printable = c.requires; apart = ap (λ (r : Row). r.begun) c.new-row.ensures }
+loop-b-init c = record { along = λ more. along_none c.args.at c.args.text.now c.in_ok-row.row more c.in_ok-row.ensures; printable = c.requires; apart = ap (λ (r : Row). r.begun) c.in_ok-row.ensures }
 
 pub returns-in-None : goal.returns-in-None
 returns-in-None c =
