@@ -6,7 +6,7 @@ use Rattle.grs_base.specs.Lists.{owns, has_task}
 use Rattle.grs_base.specs.State.{State, list_of, queued_by}
 use Rattle.grs_base.specs.declared.resource.Res.{Res}
 use Rattle.grs_base.specs.declared.resource.Ret.{Ret}
-use Rattle.grs_base.specs.declared.resource.Ret.TheVariants.{RetNone, RetUse, RetHave, RetTest, RetChng, RetEcb}
+use Rattle.grs_base.specs.declared.resource.Ret.TheVariants.{RetEcb}
 use Rattle.grs_base.specs.declared.resource.TaskId.{TaskId}
 use Rattle.grs_base.specs.declared.decision.Code.{Code}
 use Rattle.grs_base.specs.declared.decision.Code.TheVariants.{C00, C04, C08, C14, C18, Wait, End}
@@ -21,7 +21,8 @@ use Rattle.grs_wire.specs.declared.told.ToldLine.TheVariants.{Coded, Shown, Post
 use Rattle.grs_wire.specs.History.{replay}
 use Rattle.grs_legal.specs.Asks.{asks_of, is_silent}
 use Rattle.grs_legal.specs.Legal.{line_entries, end_code, next_ask}
-use Rattle.task_state.specs.Replies.{is_queued}
+use Rattle.task_state.specs.Replies.{is_granted, is_queued}
+use Rattle.grs_known.specs.Items.{has_control}
 
 -- the entry at a place among these, where the line is there and asks something
 abbrev pub asked_at : Option Meaning → Option HistEntry → Option HistEntry
@@ -46,13 +47,7 @@ told_as (End n) = End n
 
 -- whether an ENQ gets control when it is told this code: TEST gets none
 abbrev pub gets_control : Ret → Code → Bool
-gets_control RetTest code = false
-gets_control RetNone C00 = true
-gets_control RetUse C00 = true
-gets_control RetHave C00 = true
-gets_control RetChng C00 = true
-gets_control RetEcb C00 = true
-gets_control _ _ = false
+gets_control ret code = is_granted code && has_control ret
 
 -- a line tells a task the code of an ENQ or RESERVE: the reply of its entry; and control only to an owner
 abbrev pub TellsEnq : State → TaskId → Code → Option HistEntry → Type 0

@@ -1,32 +1,24 @@
 -- Each system's table of the Systems resources is that of a front of the history. The front is counted by what was
 -- fixed, since one entry of the message is one request or one removal, whatever lines of the history it makes.
-use Rattle.std.specs.Prelude.{◌≡◌, ℕ, Bool, true, false, ◌-◌, ◌==◌, cond, List, [], ◌∷◌, Some, slice_get, unwrap_or}
+use Rattle.std.specs.Prelude.{◌≡◌, ℕ, Bool, true, ◌-◌, ◌==◌, cond, List, [], ◌∷◌, Some, slice_get, unwrap_or}
 use Rattle.grs_base.specs.declared.resource.SysId.{SysId}
 use Rattle.grs_known.specs.Change.{systems_part}
+use Rattle.grs_known.specs.Items.{goes_round}
 use Rattle.grs_node.specs.Node.{Node}
 use Rattle.grs_wire.specs.History.{replay, answered}
-use Rattle.grs_wire.specs.Wants.{res_wanted}
 use Rattle.grs_wire.specs.declared.deck.Deck.{Deck}
 use Rattle.grs_wire.specs.declared.deck.Event.{Event}
 use Rattle.grs_wire.specs.declared.request.Fixed.{Fixed}
-use Rattle.grs_wire.specs.declared.request.Fixed.TheVariants.{Asked, LocalLook, Purged}
-use Rattle.ring_mode.specs.Ring.{is_for_all}
 use Rattle.rsa_message.specs.Message.{Message, unseen, first_number}
 use Rattle.grs_world.specs.Running.{is_live}
 use Rattle.grs_world.specs.World.{World, run}
 
--- What was fixed is an entry of the message where it is a request for a resource of the whole complex, one for looks at
--- slices, or a removal.
-abbrev pub went_through : Fixed → Bool
-went_through (Asked q) = is_for_all (res_wanted q.want)
-went_through (LocalLook t f) = false
-went_through (Purged target) = true
-
--- So much was fixed before the entry that has this number in the message. Numbers begin with 1.
+-- So much was fixed before the entry that has this number in the message, where what goes with the message is an entry
+-- each. Numbers begin with 1.
 abbrev pub before_number : ℕ → List (SysId × Fixed) → List (SysId × Fixed)
 before_number number [] = []
 before_number number (x ∷ xs) =
-    cond (went_through x.1) (cond (number == 1) [] (x ∷ before_number (number - 1) xs)) (x ∷ before_number number xs)
+    cond (goes_round x.1) (cond (number == 1) [] (x ∷ before_number (number - 1) xs)) (x ∷ before_number number xs)
 
 -- The first entry that a system has still to process has this number: the next entry's, where it has processed all.
 abbrev pub first_unseen : SysId → Message → ℕ

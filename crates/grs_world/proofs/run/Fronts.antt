@@ -20,8 +20,8 @@ use Rattle.grs_wire.specs.declared.request.Want.{Want}
 use Rattle.grs_wire.specs.declared.request.Want.TheVariants as wants
 use Rattle.grs_medium.specs.Medium.{live}
 use Rattle.rsa_message.specs.Message.{unseen, first_number}
-use Rattle.ring_mode.specs.Ring.{is_for_all}
-use Rattle.grs_world.specs.Tables.{went_through, before_number, processed, TablesAreFronts}
+use Rattle.grs_known.specs.Items.{wants_round, goes_round}
+use Rattle.grs_world.specs.Tables.{before_number, processed, TablesAreFronts}
 use Rattle.grs_known.specs.Change.{systems_part}
 use Rattle.grs_world.specs.World.{World, run}
 use Rattle.grs_world.proofs.run.Came.{is_plain_ask, AllAsk, holds}
@@ -72,13 +72,13 @@ before_line number [] = []
 before_line number (h ∷ hs) = cond (through h) (cond (number == 1) [] (h ∷ before_line (number - 1) hs)) (h ∷ before_line number hs)
 
 -- A request for a resource has one line.
-one_line : (s : State) (t : TaskId) (w : Want) → is_some (res_wanted w) ≡ true → (h : HistEntry) × (entries_for s t w ≡ h ∷ []) × (through h ≡ is_for_all (res_wanted w))
+one_line : (s : State) (t : TaskId) (w : Want) → is_some (res_wanted w) ≡ true → (h : HistEntry) × (entries_for s t w ≡ h ∷ []) × (through h ≡ wants_round w)
 one_line s t (wants.Enq r c ret full) some = (_, refl, refl)
 one_line s t (wants.Deq r have) some = (_, refl, refl)
 one_line s t (wants.Release r) some = (_, refl, refl)
 one_line s t (wants.Look from count f) some = absurd (cc)
 
-line_of : (s : State) (n : SysId) (f : Fixed) → is_plain_ask f ≡ true → (h : HistEntry) × (fixed_entries s n f ≡ h ∷ []) × (through h ≡ went_through f)
+line_of : (s : State) (n : SysId) (f : Fixed) → is_plain_ask f ≡ true → (h : HistEntry) × (fixed_entries s n f ≡ h ∷ []) × (through h ≡ goes_round f)
 line_of s n (Asked q) ask = one_line s q.task q.want ask
 line_of s n (LocalLook t f) ask = absurd (cc)
 line_of s n (Purged target) ask = absurd (cc)
@@ -89,7 +89,7 @@ before-answered s number [] a = refl
 before-answered s number (x ∷ xs) a =
     let one = line_of s x.0 x.1 a.0 in
     let rest : List HistEntry = answered_from (after_fixed s x.1) xs in
-    go (went_through x.1) (number == 1) one.0 one.1 (λ k. before-answered (after_fixed s x.1) k xs a.1)
+    go (goes_round x.1) (number == 1) one.0 one.1 (λ k. before-answered (after_fixed s x.1) k xs a.1)
     ∙ sym (ap (λ hs. before_line number (hs ++ rest)) one.1 ∙ ap (λ b. cond b (cond (number == 1) [] (one.0 ∷ before_line (number - 1) rest)) (one.0 ∷ before_line number rest)) one.2)
   where
     go : (is_entry is_number : Bool) (h : HistEntry) → fixed_entries s x.0 x.1 ≡ h ∷ []

@@ -183,10 +183,10 @@ after-at_lines (End m) code = refl
 
 -- an ENQ that gets control is granted, and is none that only tests
 gets-has : (ret : Ret) (code : Code) → gets_control ret code ≡ true → has_control ret ≡ true
-gets-has ret code g = grind (arith, g)
+gets-has ret code g = (and_parts _ _ g).1
 
 gets-granted : (ret : Ret) (code : Code) → gets_control ret code ≡ true → is_granted code ≡ true
-gets-granted ret code g = grind (arith, g)
+gets-granted ret code g = (and_parts _ _ g).0
 
 -- A task of ours that is seen ready at line n: its next line is decided. v0 are the tasks when it has taken that line.
 module _ (deck : Deck) (s : ℕ) (os os' : Opens) (P : List HistEntry) (v : TasksView) (good : IsGood deck s os P v) (t : TaskId) (moves : Moves t os os') (ls : List Meaning) (ours : IsOurs deck s v t ls)
