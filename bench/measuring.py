@@ -69,7 +69,7 @@ def peak(program, deck):
     said = {"State": ""}
     with started(program, deck, full) as child:
         os.close(full)
-        while not said["State"].startswith("S"):
+        while said["State"][:1] not in ("S", "Z"):
             with open("/proc/%d/status" % child.pid) as status:
                 said = {name: value.strip() for name, _, value in (line.partition(":") for line in status)}
         with open(out, "rb") as rest:

@@ -1,4 +1,5 @@
-//! Goes through a text line by line. A line is read when it is asked for, and nothing behind it is looked at.
+//! Goes through a text line by line. A line is read when it is asked for, and nothing behind it is looked at; only for
+//! bytes that no deck may have is the whole text gone over first.
 ghost use Rattle.std.specs.Prelude.{◌≡◌, ◌<◌, ◌+◌, ◌^◌, ◌++◌, ℕ, [], length, true, false, OnErr, IfOk, IfSome, IfNone};
 ghost use Rattle.std.specs.List.{list_all};
 ghost use Rattle.grs_base.specs.Printed.{is_printable};
@@ -227,7 +228,7 @@ impl<'t> Lines<'t> {
     /// The next line, or none where no line is to come. It takes the time of that line and of what stands before
     /// it.
     ///
-    /// It is `NoMemory` for want of memory, also where more than 4,294,967,293 lines stand before, and then
+    /// It is `NoMemory` for want of memory, also where 4,294,967,293 lines or more stand before, and then
     /// nothing was taken.
     pub fn next(&mut self, alloc: Global) -> Result<Option<TokenLine<'t>>, NoMemory>
         ensures next { IfOk result (λ line. Next line self.old self.new) }

@@ -130,8 +130,9 @@ fn read_front(alloc: Global, text: &[u8]) -> Result<(RnlEntry, usize), ReadError
 }
 
 /// The entry that the RNLDEF at the front of a text makes, and how many bytes it uses: up to the closing
-/// parenthesis of its last operand. The statement goes on over lines as in a deck, and what follows it is
-/// not looked at, so a caller reads the next one from there on. Of
+/// parenthesis of its last operand. The statement goes on over lines as in a deck; of what follows it one line
+/// is read at most, and its first token alone decides anything, so a caller reads the next statement from there
+/// on. Of
 ///
 ///     RNLDEF TYPE(GENERIC) QNAME(SYSDSN)
 ///            RNL(EXCL)
