@@ -5,6 +5,7 @@ use Rattle.std.specs.List.{flat_map, position_or_len}
 use Rattle.std.specs.Str.{bytes_eq}
 use Rattle.std.proofs.lemmas.Bool.{and_parts, ne_eqb, lt-ltb}
 use Rattle.std.proofs.lemmas.List.{take_at, drop_at}
+use Rattle.grs_base.specs.ShortNames.{is_name_byte, all_name, is_name}
 use Rattle.deck_scan.specs.declared.token.Token.{Token}
 use Rattle.deck_scan.specs.declared.token.Token.TheVariants.{Word}
 use Rattle.deck_scan.specs.declared.token.TokenLine.{TokenLine}
@@ -23,7 +24,7 @@ use Rattle.deck_form.specs.declared.event.Act.TheVariants as acts
 use Rattle.deck_form.specs.declared.form.Stmt.{Stmt}
 use Rattle.deck_form.specs.declared.form.Stmt.TheVariants as stmts
 use Rattle.deck_form.specs.declared.form.Key.TheVariants as keys
-use Rattle.deck_form.specs.Words.{is_name_byte, all_name, is_name, short_at, parted, dotted_at, number_of, named_at}
+use Rattle.deck_form.specs.Words.{short_at, parted, dotted_at, number_of, named_at}
 use Rattle.deck_form.specs.Complex.{no_setup, mode_of, entries_of, limit_of, with_operand, operand_at, complex_at}
 use Rattle.deck_form.specs.Event.{verb as event_verb, pair_at, entry_at, act_at, event_at}
 use Rattle.deck_form.specs.UnbuiltWord.{is_unbuilt_word}

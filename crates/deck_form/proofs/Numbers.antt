@@ -2,7 +2,8 @@
 use Rattle.std.proofs.Common.{◌≡◌, ℕ, suc, ◌+◌, ◌-◌, ◌*◌, ◌^◌, ◌<◌, ◌≤◌, true, leb, List, ◌∷◌, length, Option, refl, sym, ap, subst, ◌∙◌, arith, lit<}
 use Rattle.std.proofs.Math.Nat.{pow-suc, pow-le-pow_right, one-le-pow}
 use Rattle.std.proofs.lemmas.Bool.{and_parts, leb-true}
-use Rattle.deck_form.specs.Words.{is_digit, digits}
+use Rattle.grs_base.specs.ShortNames.{is_digit}
+use Rattle.deck_form.specs.Words.{digits}
 
 -- one digit more
 digit_more : (n d t : ℕ) → suc t ≤ 9 → d ≤ 9 → n < 10 ^ (9 - suc t) → n * 10 + d < 10 ^ (9 - t)

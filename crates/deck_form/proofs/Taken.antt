@@ -5,6 +5,8 @@ use Rattle.std.specs.Str.{bytes_eq}
 use Rattle.std.proofs.lemmas.Bool.{and_parts, eqb-true, ltb-true}
 use Rattle.std.proofs.lemmas.List.{take-append-drop}
 use Rattle.std.proofs.lemmas.List.Quantifiers.{position-Some}
+use Rattle.grs_base.specs.ShortNames.{is_name}
+use Rattle.grs_base.specs.Limits.{is_entries, is_limit}
 use Rattle.deck_scan.specs.declared.token.Token.{Token}
 use Rattle.deck_scan.specs.declared.token.Token.TheVariants.{Word, Open, Unclosed}
 use Rattle.deck_scan.specs.declared.token.TokenLine.{TokenLine}
@@ -26,8 +28,8 @@ use Rattle.deck_form.specs.declared.form.Stmt.{Stmt}
 use Rattle.deck_form.specs.declared.form.Stmt.TheVariants as stmts
 use Rattle.deck_form.specs.declared.form.Key.{Key}
 use Rattle.deck_form.specs.declared.form.Key.TheVariants as keys
-use Rattle.deck_form.specs.Words.{is_name, short_at, parted, dotted_at, number_of, named_at}
-use Rattle.deck_form.specs.Complex.{no_setup, mode_of, is_entries, is_limit, entries_of, limit_of, with_star, with_entries, with_limit, with_operand, operand_at, complex_at}
+use Rattle.deck_form.specs.Words.{short_at, parted, dotted_at, number_of, named_at}
+use Rattle.deck_form.specs.Complex.{no_setup, mode_of, entries_of, limit_of, with_star, with_entries, with_limit, with_operand, operand_at, complex_at}
 use Rattle.deck_form.specs.Event.{verb, pair_at, entry_at, alone_at, act_at, event_at}
 use Rattle.deck_form.specs.UnbuiltWord.{is_unbuilt_word}
 use Rattle.deck_form.specs.Form.{line_key, key, plain_form, or_bad, keyed, first_form, event_form, form}

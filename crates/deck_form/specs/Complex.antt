@@ -1,6 +1,7 @@
 -- The operands of COMPLEX, in any order, each at most once.
-use Rattle.std.specs.Prelude.{ℕ, Bool, true, false, ◌&&◌, ◌||◌, ◌==◌, nat_le, List, codes, Option, Some, None, if◌then◌else◌}
+use Rattle.std.specs.Prelude.{ℕ, Bool, true, false, List, codes, Option, Some, None, if◌then◌else◌}
 use Rattle.std.specs.Str.{bytes_eq}
+use Rattle.grs_base.specs.Limits.{is_entries, is_limit}
 use Rattle.deck_scan.specs.declared.token.Token.{Token}
 use Rattle.deck_form.specs.declared.complex.Setup.{Setup}
 use Rattle.deck_scan.specs.Next.{◌>>=◌, open_at, close_at, any_word_at, up_to, once}
@@ -11,18 +12,6 @@ no_setup = record { star = None; entries = None; limit = None }
 
 unfoldable pub mode_of : List ℕ → Option Bool
 mode_of w = if bytes_eq w (codes "RING") then Some false else if bytes_eq w (codes "STAR") then Some true else None
-
--- The numbers of lock entries that there may be.
-abbrev pub is_entries : ℕ → Bool
-is_entries n = n == 1 || n == 2 || n == 4 || n == 8 || n == 16 || n == 32 || n == 64
-
--- The greatest limit of concurrent requests.
-abbrev pub most_limit : ℕ
-most_limit = 4096
-
--- The limits of concurrent requests that there may be.
-abbrev pub is_limit : ℕ → Bool
-is_limit n = nat_le 1 n && nat_le n most_limit
 
 unfoldable pub entries_of : List ℕ → Option ℕ
 entries_of w = do

@@ -4,6 +4,8 @@ use Rattle.std.specs.List.{flat_map}
 use Rattle.std.specs.Str.{bytes_eq}
 use Rattle.grs_base.specs.declared.fault.Kind.{Kind}
 use Rattle.grs_base.specs.declared.fault.Kind.TheVariants.{UnknownStatement, BadOperand}
+use Rattle.grs_base.specs.ShortNames.{is_name}
+use Rattle.grs_base.specs.Limits.{is_entries, is_limit}
 use Rattle.deck_scan.specs.declared.token.Token.{Token}
 use Rattle.deck_scan.specs.declared.token.Token.TheVariants.{Word, Open, Close, Unclosed}
 use Rattle.deck_scan.specs.declared.token.TokenLine.{TokenLine}
@@ -17,8 +19,8 @@ use Rattle.job_syntax.specs.Said.{verb}
 use Rattle.job_syntax.specs.Spelled.{IsSaid}
 use Rattle.rnl_syntax.specs.Lines.{is_rnldef_word}
 use Rattle.rnl_syntax.specs.Spelled.{IsRnldef}
-use Rattle.deck_form.specs.Words.{is_name, number_of}
-use Rattle.deck_form.specs.Complex.{no_setup, is_entries, is_limit}
+use Rattle.deck_form.specs.Words.{number_of}
+use Rattle.deck_form.specs.Complex.{no_setup}
 use Rattle.deck_form.specs.UnbuiltWord.{is_unbuilt_word}
 
 -- A name of a system, job or task, of any length.

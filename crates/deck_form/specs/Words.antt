@@ -1,23 +1,8 @@
 -- Names of systems, jobs and tasks, and numbers.
-use Rattle.std.specs.Prelude.{ℕ, Bool, true, false, not, ◌&&◌, ◌||◌, ◌==◌, ◌+◌, ◌-◌, ◌*◌, nat_le, nat_lt, List, [], ◌∷◌, length, take, drop, position, Option, Some, None, if◌then◌else◌}
+use Rattle.std.specs.Prelude.{ℕ, ◌&&◌, ◌||◌, ◌==◌, ◌+◌, ◌-◌, ◌*◌, nat_lt, List, [], ◌∷◌, length, take, drop, position, Option, Some, None, if◌then◌else◌}
+use Rattle.grs_base.specs.ShortNames.{is_digit, is_name}
 use Rattle.deck_scan.specs.declared.token.Token.{Token}
 use Rattle.deck_scan.specs.Next.{◌>>=◌, end_at, any_word_at}
-
-abbrev pub is_digit : ℕ → Bool
-is_digit b = nat_le 48 b && nat_le b 57
-
--- A to Z, 0 to 9, $, # and @.
-unfoldable pub is_name_byte : ℕ → Bool
-is_name_byte b = (nat_le 65 b && nat_le b 90) || is_digit b || b == 36 || b == 35 || b == 64
-
-unfoldable pub all_name : List ℕ → Bool
-all_name [] = true
-all_name (b ∷ bs) = is_name_byte b && all_name bs
-
--- A name of any length but none, whose first byte is no digit.
-unfoldable pub is_name : List ℕ → Bool
-is_name [] = false
-is_name (b ∷ bs) = not (is_digit b) && all_name (b ∷ bs)
 
 unfoldable pub short_at : List Token → Option (List ℕ × List Token)
 short_at ts = do

@@ -1,13 +1,12 @@
 //! The operands of COMPLEX, in any order, each at most once.
 ghost use Rattle.std.specs.Prelude.{◌≡◌};
+ghost use Rattle.grs_base.specs.Limits.{is_entries};
 ghost use Rattle.deck_scan.specs.Next.{Reads, maybe};
-ghost use Rattle.deck_form.specs.Complex.{mode_of, is_entries, entries_of, limit_of, with_star, with_entries, with_limit, with_operand, operand_at, complex_at};
+ghost use Rattle.deck_form.specs.Complex.{mode_of, entries_of, limit_of, with_star, with_entries, with_limit, with_operand, operand_at, complex_at};
 
 use crate::words::number_of;
 use deck_scan::{Miss, Token, any_word_at, close_at, end_at, open_at};
-
-/// The greatest LIMIT.
-const MOST_LIMIT: u32 = 4096;
+use grs_base::MOST_LIMIT;
 
 /// The operands that stand in a COMPLEX.
 #[derive(Clone, Copy, Debug, PartialEq, Eq)]

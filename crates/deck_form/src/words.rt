@@ -1,7 +1,8 @@
 //! Names of systems, jobs and tasks, and numbers, as the bytes of a word.
 ghost use Rattle.std.specs.Prelude.{◌≡◌, ◌<◌, ◌==◌, length, position, IfSome};
+ghost use Rattle.grs_base.specs.ShortNames.{is_digit, is_name_byte, is_name, all_name};
 ghost use Rattle.deck_scan.specs.Next.{Reads};
-ghost use Rattle.deck_form.specs.Words.{is_digit, is_name_byte, is_name, all_name, short_at, named_at, dotted_at, parted, digits, number_of};
+ghost use Rattle.deck_form.specs.Words.{short_at, named_at, dotted_at, parted, digits, number_of};
 
 use deck_scan::{GivenName, Miss, Token, any_word_at, end_at};
 
@@ -14,14 +15,14 @@ fn is_digit(b: u8) -> bool
     b'0' <= b && b <= b'9'
 }
 
-#[tactic(auto, unfolding(crate::specs::Words::is_name_byte))]
+#[tactic(auto, unfolding(grs_base::specs::ShortNames::is_name_byte))]
 fn is_name_byte(b: u8) -> bool
     ensures { result ≡ is_name_byte b }
 {
     (b'A' <= b && b <= b'Z') || is_digit(b) || b == b'$' || b == b'#' || b == b'@'
 }
 
-#[tactic(auto, unfolding(crate::specs::Words::all_name))]
+#[tactic(auto, unfolding(grs_base::specs::ShortNames::all_name))]
 fn all_name(w: &[u8]) -> bool
     ensures { result ≡ all_name w.now }
 {
@@ -35,7 +36,7 @@ fn all_name(w: &[u8]) -> bool
     true
 }
 
-#[tactic(auto, unfolding(crate::specs::Words::is_name))]
+#[tactic(auto, unfolding(grs_base::specs::ShortNames::is_name))]
 fn is_name(w: &[u8]) -> bool
     ensures { result ≡ is_name w.now }
 {

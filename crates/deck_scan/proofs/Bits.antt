@@ -5,11 +5,12 @@ use Rattle.std.specs.List.{list_all}
 use Rattle.std.proofs.lemmas.Bool.{and_from, and_parts, ne_eqb}
 use Rattle.std.proofs.lemmas.List.Folds.{list_all-append}
 use Rattle.grs_base.specs.Printed.{is_plain_byte, is_printable, quotes_doubled, hex_digits, printed_name}
+use Rattle.grs_base.specs.Names.{are_bytes}
 use Rattle.deck_scan.specs.declared.token.Token.{Token}
 use Rattle.deck_scan.specs.declared.token.Token.TheVariants.{Word, Open, Close, Comma, Equals}
 use Rattle.deck_scan.specs.declared.token.TokenLine.{TokenLine}
 use Rattle.deck_scan.specs.Bytes.{is_word}
-use Rattle.deck_scan.specs.Named.{are_bytes, name_piece, name_token}
+use Rattle.deck_scan.specs.Named.{name_piece, name_token}
 use Rattle.deck_scan.specs.Pieces.{Piece, Plain, Sign, Blank, sign, spelled, is_sign, is_nonempty, is_piece, followed_by, are_pieces, Place, next_line, past, past_all, SpellsLines}
 use Rattle.deck_scan.proofs.Names.{printable-no_cr, printable-allowed, printed-printable, plain_printable, all_kept, piece-spelling, piece-is}
 use Rattle.deck_scan.proofs.Print.{piece_on, name_followed, name_past}

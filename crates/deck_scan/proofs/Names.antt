@@ -5,12 +5,12 @@ use Rattle.std.proofs.lemmas.Bool.{and_from, and_parts, ltb-true}
 use Rattle.std.proofs.lemmas.Bool.Decides.{nat_tests}
 use Rattle.std.proofs.lemmas.List.{append-nil}
 use Rattle.std.proofs.lemmas.List.Folds.{list_all-append}
-use Rattle.grs_base.specs.Names.{is_qname, is_rname}
+use Rattle.grs_base.specs.Names.{is_qname, is_rname, are_bytes}
 use Rattle.grs_base.specs.Printed.{is_plain_byte, is_printable, quotes_doubled, hex_digit, hex_digits, printed_name}
 use Rattle.deck_scan.specs.declared.token.Token.TheVariants.{Word, Name}
 use Rattle.deck_scan.specs.Bytes.{is_allowed, bad_line, is_word, is_hex, digit}
 use Rattle.deck_scan.specs.Pieces.{Plain, Quoted, Hexed, spelling, is_nonempty, is_between_quotes, is_piece, is_hexed, unhex, hex_token, Place, past, first_place, next_line, with_token, with_word, without_cr, SpellsLines}
-use Rattle.deck_scan.specs.Named.{are_bytes, name_piece, name_line, past_name}
+use Rattle.deck_scan.specs.Named.{name_piece, name_line, past_name}
 use Rattle.deck_scan.proofs.Said.{test_not}
 
 -- ---- digits

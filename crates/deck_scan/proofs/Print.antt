@@ -4,11 +4,12 @@ use Rattle.std.specs.List.{list_all}
 use Rattle.std.proofs.lemmas.Bool.{and_from, and_parts}
 use Rattle.std.proofs.lemmas.List.Elements.{filter-append}
 use Rattle.grs_base.specs.Printed.{is_plain_byte, is_printable, hex_digits}
+use Rattle.grs_base.specs.Names.{are_bytes}
 use Rattle.deck_scan.specs.declared.token.Token.TheVariants.{Word, Name}
 use Rattle.deck_scan.specs.Next.{Names}
 use Rattle.deck_scan.specs.Bytes.{is_allowed, bad_line, is_word}
 use Rattle.deck_scan.specs.Pieces.{Piece, Plain, Quoted, Hexed, spelled, is_piece, followed_by, may_follow, are_pieces, Place, past, with_token, with_word, without_cr}
-use Rattle.deck_scan.specs.Named.{are_bytes, name_piece, name_token}
+use Rattle.deck_scan.specs.Named.{name_piece, name_token}
 use Rattle.deck_scan.proofs.Said.{test_not}
 use Rattle.deck_scan.proofs.Names.{printable-no_cr, piece-past}
 

@@ -1,26 +1,11 @@
 -- Names that can be printed, and the piece that a printed name is.
-use Rattle.std.specs.Prelude.{◌≡◌, ℕ, Bool, true, false, nat_lt, List, [], ◌∷◌, Option, Some, None, if◌then◌else◌}
+use Rattle.std.specs.Prelude.{ℕ, false, List, [], ◌∷◌, if◌then◌else◌}
 use Rattle.std.specs.List.{list_all}
-use Rattle.grs_base.specs.Names.{is_rname, IsQname}
 use Rattle.grs_base.specs.Printed.{is_plain_byte, is_printable, hex_digits}
 use Rattle.deck_scan.specs.declared.token.Token.{Token}
 use Rattle.deck_scan.specs.declared.token.Token.TheVariants.{Word, Name}
 use Rattle.deck_scan.specs.declared.token.TokenLine.{TokenLine}
 use Rattle.deck_scan.specs.Pieces.{Piece, Plain, Quoted, Hexed, Place, with_token, with_word}
-
--- These numbers are bytes.
-abbrev pub are_bytes : List ℕ → Bool
-are_bytes bs = list_all (λ b. nat_lt b 256) bs
-
--- A qname of a resource, which may be left out.
-abbrev pub IsMaybeQname : Option (List ℕ) → Type 0
-IsMaybeQname None = Unit {0}
-IsMaybeQname (Some q) = IsQname q × (are_bytes q ≡ true)
-
--- An rname of a resource, which may be left out.
-abbrev pub IsMaybeRname : Option (List ℕ) → Type 0
-IsMaybeRname None = Unit {0}
-IsMaybeRname (Some r) = (is_rname r ≡ true) × (are_bytes r ≡ true)
 
 -- The piece by which the name of these bytes is printed.
 abbrev pub name_piece : List ℕ → Piece

@@ -2,11 +2,12 @@
 //! the texts that a deck may have, and what prints a name spells it.
 ghost use Rattle.std.specs.Prelude.{◌≡◌, ℕ, List, [], ◌∷◌, Some, None, true};
 ghost use Rattle.grs_base.specs.Printed.{printed_name};
+ghost use Rattle.grs_base.specs.Names.{are_bytes};
 ghost use Rattle.deck_scan.specs.declared.token.TokenLine.{TokenLine as Line};
 ghost use Rattle.deck_scan.specs.Bytes.{bad_line, are_allowed, IsFirstBad};
 ghost use Rattle.deck_scan.specs.Scan.{lines_of};
 ghost use Rattle.deck_scan.specs.Pieces.{SpellsLines, Place, spelling, is_piece, is_nonempty, past};
-ghost use Rattle.deck_scan.specs.Named.{are_bytes, name_piece, name_line, past_name};
+ghost use Rattle.deck_scan.specs.Named.{name_piece, name_line, past_name};
 
 /// The lines that a text spells are those that are read, each text of allowed bytes spells lines,
 /// and no text spells two lists of lines.

@@ -15,6 +15,7 @@ use Rattle.grs_wire.specs.declared.deck.JobDef.{JobDef}
 use Rattle.grs_wire.specs.declared.deck.SystemDef.{SystemDef}
 use Rattle.grs_wire.specs.declared.deck.Event.{Event}
 use Rattle.grs_wire.specs.declared.deck.Deck.{Deck}
+use Rattle.grs_wire.specs.Decks.{AreDistinct, IsNamedOnce, AreNamedOnce}
 use Rattle.deck_form.specs.declared.form.Stmt.{Stmt}
 use Rattle.deck_form.specs.declared.form.Stmt.TheVariants as stmts
 use Rattle.job_syntax.specs.Lines.{line_of}
@@ -22,7 +23,6 @@ use Rattle.grs_deck.specs.declared.judge.Draft.{Draft}
 use Rattle.grs_deck.specs.Places.{at_last, jobs_now, tasks_now, system_place, job_place, task_place, event_of}
 use Rattle.grs_deck.specs.Grow.{on_last, add_job, add_task, add_line, in_jobs, in_tasks, with_event, grow}
 use Rattle.grs_deck.specs.Spells.{IsRight}
-use Rattle.grs_deck.specs.Whole.{AreDistinct, IsNamedOnce, AreNamedOnce}
 
 -- ---- one name more
 

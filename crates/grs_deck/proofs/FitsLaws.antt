@@ -7,6 +7,7 @@ use Rattle.rnl_syntax.specs.Operands.{entry_of}
 use Rattle.grs_base.specs.declared.fault.Kind.{Kind}
 use Rattle.grs_base.specs.declared.fault.Kind.TheVariants.{NameLength, Repeated, OutOfPlace, TooMany, UnknownName, NotBuilt}
 use Rattle.grs_base.specs.Rnl.{RnlView}
+use Rattle.grs_base.specs.NameLists.{IsListOf, AreLists}
 use Rattle.grs_base.specs.declared.rnl.Which.{Which}
 use Rattle.grs_base.specs.declared.rnl.Which.TheVariants.{Incl, Excl, Con}
 use Rattle.grs_base.specs.declared.rnl.RnlEntry.{RnlEntry}
@@ -17,16 +18,16 @@ use Rattle.grs_wire.specs.declared.deck.JobDef.{JobDef}
 use Rattle.grs_wire.specs.declared.deck.SystemDef.{SystemDef}
 use Rattle.grs_wire.specs.declared.deck.Event.{Event}
 use Rattle.grs_wire.specs.declared.deck.Deck.{Deck}
+use Rattle.grs_wire.specs.Decks.{task_count, IsWithin, Fits}
 use Rattle.deck_scan.specs.declared.token.TokenLine.{TokenLine}
 use Rattle.deck_form.specs.declared.form.Stmt.{Stmt}
 use Rattle.deck_form.specs.declared.form.Stmt.TheVariants as stmts
 use Rattle.deck_form.specs.Form.{form}
 use Rattle.deck_form.specs.Unbuilt.{is_unbuilt}
 use Rattle.grs_deck.specs.declared.judge.Draft.{Draft}
-use Rattle.grs_deck.specs.Places.{jobs_now, task_count, IsWithin, Fits, event_of}
+use Rattle.grs_deck.specs.Places.{jobs_now, event_of}
 use Rattle.grs_deck.specs.Judge.{has_bad_name, is_repeated, is_misplaced, is_list_full, is_full, is_crowded, is_unknown, verdict}
 use Rattle.grs_deck.specs.Grow.{on_last, add_job, add_task, add_line, in_jobs, in_tasks, add_entry, in_list, with_event, grow}
-use Rattle.grs_deck.specs.Whole.{IsListOf, AreLists}
 use Rattle.grs_deck.specs.Reading.{unless, judge_form, judge}
 use Rattle.grs_deck.proofs.PlacesLaws.{all_head, all_tail}
 

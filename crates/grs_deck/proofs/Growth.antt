@@ -6,30 +6,32 @@ use Rattle.std.proofs.lemmas.Bool.{and_parts, and_from, leb-true, le-leb}
 use Rattle.std.proofs.lemmas.List.{append-nil, map-append}
 use Rattle.std.proofs.lemmas.List.Elements.{All-nil, All-push, filter-append}
 use Rattle.std.proofs.lemmas.Grind.{flat_map-append}
-use Rattle.grs_base.specs.Names.{before_rest, trim_blanks, is_qname, is_rname, IsQname}
+use Rattle.grs_base.specs.Names.{before_rest, trim_blanks, is_qname, is_rname, IsQname, are_bytes, IsMaybeRname, AreNames}
 use Rattle.grs_base.specs.declared.line.Line.{Line}
 use Rattle.grs_base.specs.declared.rnl.Which.{Which}
 use Rattle.grs_base.specs.declared.rnl.Which.TheVariants.{Incl, Excl, Con}
 use Rattle.grs_base.specs.declared.rnl.Lists.{Lists}
 use Rattle.grs_base.proofs.NameLaws.{trim_blanks-le}
+use Rattle.grs_base.specs.Lines.{IsDeckLine, is_display}
+use Rattle.grs_base.specs.Limits.{most_lines}
+use Rattle.grs_base.specs.ShortNames.{IsShortName}
+use Rattle.grs_base.specs.NameLists.{IsEntry, AreEntries}
 use Rattle.grs_wire.specs.declared.deck.TaskDef.{TaskDef}
 use Rattle.grs_wire.specs.declared.deck.JobDef.{JobDef}
 use Rattle.grs_wire.specs.declared.deck.SystemDef.{SystemDef}
 use Rattle.grs_wire.specs.declared.deck.Event.{Event}
 use Rattle.grs_wire.specs.declared.deck.Deck.{Deck}
+use Rattle.grs_wire.specs.Decks.{all_names, all_lines}
 use Rattle.deck_scan.specs.Lengths.{is_bad_rname}
 use Rattle.deck_scan.specs.declared.token.Token.{Token}
 use Rattle.deck_scan.specs.declared.token.TokenLine.{TokenLine}
 use Rattle.deck_scan.specs.declared.token.Token.TheVariants.{Word}
-use Rattle.deck_scan.specs.Named.{are_bytes, IsMaybeRname}
 use Rattle.job_syntax.specs.declared.ask.Ask.{Ask}
 use Rattle.job_syntax.specs.declared.said.Said.{Said}
 use Rattle.job_syntax.specs.declared.said.Said.TheVariants as said
 use Rattle.job_syntax.specs.Lines.{are_bad_names, has_bad_name as line_has_bad_name, line_of}
-use Rattle.job_syntax.specs.Laws.{AreNames, IsDeckLine}
 use Rattle.job_syntax.specs.Spelled.{IsAsk, IsSaid}
 use Rattle.rnl_syntax.specs.declared.operands.Rnldef.{Rnldef}
-use Rattle.rnl_syntax.specs.Laws.{IsEntry}
 use Rattle.rnl_syntax.specs.Operands.{entry_of, has_bad_name as rnldef_has_bad_name}
 use Rattle.rnl_syntax.specs.Spelled.{IsRnldef}
 use Rattle.deck_form.specs.declared.form.Stmt.{Stmt}
@@ -37,12 +39,10 @@ use Rattle.deck_form.specs.declared.form.Stmt.TheVariants as stmts
 use Rattle.deck_form.specs.Spelled.{IsFirst, Spells}
 use Rattle.deck_form.specs.UnbuiltWord.{is_unbuilt_word}
 use Rattle.grs_deck.specs.declared.judge.Draft.{Draft}
-use Rattle.grs_deck.specs.Limits.{most_lines}
 use Rattle.grs_deck.specs.Places.{at_last, jobs_now, tasks_now, event_of}
 use Rattle.grs_deck.specs.Grow.{on_last, add_job, add_task, add_line, in_jobs, in_tasks, with_event, in_list, grow}
 use Rattle.grs_deck.specs.Reading.{no_draft}
 use Rattle.grs_deck.specs.Spells.{IsRight}
-use Rattle.grs_deck.specs.Whole.{all_names, IsShortName, all_lines, is_display, AreEntries}
 use Rattle.grs_deck.proofs.SpellsLaws.{no_test}
 use Rattle.grs_deck.proofs.Distinct.{map_same}
 use Rattle.grs_deck.proofs.TokenBytes.{says_bytes, are_of_bytes}

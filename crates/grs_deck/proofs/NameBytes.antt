@@ -4,10 +4,10 @@ use Rattle.std.specs.Prelude.{unwrap_or}
 use Rattle.std.specs.List.{list_all, flat_map}
 use Rattle.std.proofs.lemmas.Bool.{and_parts, and_from, leb-true}
 use Rattle.std.proofs.lemmas.List.Folds.{list_all-append}
-use Rattle.grs_base.specs.Names.{before_rest, trim_blanks}
+use Rattle.grs_base.specs.Names.{before_rest, trim_blanks, are_bytes}
 use Rattle.grs_base.specs.Printed.{is_between}
+use Rattle.grs_base.specs.Lines.{IsMaybeUnit}
 use Rattle.deck_scan.specs.declared.token.Token.{Token}
-use Rattle.deck_scan.specs.Named.{are_bytes}
 use Rattle.deck_scan.specs.Next.{◌>>=◌, Sets}
 use Rattle.deck_scan.proofs.Taking.{bind_some, guard_some}
 use Rattle.job_syntax.specs.declared.options.Opts.{Opts}
@@ -15,7 +15,6 @@ use Rattle.job_syntax.specs.declared.ask.Ask.{Ask}
 use Rattle.job_syntax.specs.Unit.{hex_of, hex_at, unit_of}
 use Rattle.job_syntax.specs.Options.{no_opts}
 use Rattle.job_syntax.specs.Spelled.{Opt, WithRet, WithRnl, WithUcb, IsFree, set, IsAsk}
-use Rattle.job_syntax.specs.Laws.{IsMaybeUnit}
 use Rattle.rnl_syntax.specs.declared.operands.Operands.{Operands}
 use Rattle.rnl_syntax.specs.declared.operands.Rnldef.{Rnldef}
 use Rattle.rnl_syntax.specs.Operands.{no_operands}

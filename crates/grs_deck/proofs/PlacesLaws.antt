@@ -6,7 +6,8 @@ use Rattle.grs_base.specs.declared.resource.SysId.{SysId}
 use Rattle.grs_wire.specs.declared.deck.TaskDef.{TaskDef}
 use Rattle.grs_wire.specs.declared.deck.JobDef.{JobDef}
 use Rattle.grs_wire.specs.declared.deck.SystemDef.{SystemDef}
-use Rattle.grs_deck.specs.Places.{jobs_now, task_count, job_place, task_place, task_in, IsWithin, Fits}
+use Rattle.grs_wire.specs.Decks.{task_count, IsWithin, Fits}
+use Rattle.grs_deck.specs.Places.{jobs_now, job_place, task_place, task_in}
 
 abbrev some : JobDef → Option JobDef
 some x = Some x

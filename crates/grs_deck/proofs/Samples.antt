@@ -13,8 +13,10 @@ use Rattle.grs_base.specs.declared.line.Scope.TheVariants as scopes
 use Rattle.grs_base.specs.declared.line.Line.{Line}
 use Rattle.grs_base.specs.declared.line.Line.TheVariants as lines
 use Rattle.grs_base.specs.declared.line.Item.{Item}
+use Rattle.grs_base.specs.ShortNames.{is_name_byte, all_name, is_name}
 use Rattle.grs_wire.specs.declared.deck.Deck.{Deck}
 use Rattle.grs_wire.specs.declared.deck.Choice.TheVariants as choices
+use Rattle.grs_wire.specs.Decks.{IsDeck}
 use Rattle.deck_scan.specs.Bytes.{is_word, is_hex, digit, is_allowed, bad_line}
 use Rattle.deck_scan.specs.Scan.{put, put_word, put_open, end_line, break_off, begin_word, begin, step_in, step, scan_from, finish_in, lines_of}
 use Rattle.deck_scan.specs.Reading.{lines_or_fault}
@@ -24,14 +26,13 @@ use Rattle.job_syntax.specs.Ask.{ctl_at, scope_at, names_at, place_at, controlle
 use Rattle.job_syntax.specs.Said.{verb as line_verb, said_at}
 use Rattle.rnl_syntax.specs.Operands.{which_of, form_of, value_of, operand_at as rnl_operand_at, whole as whole_rnl, rnldef_at}
 use Rattle.deck_form.specs.Statements.{statements_from, statements}
-use Rattle.deck_form.specs.Words.{is_name_byte, all_name, is_name, short_at, dotted_at, digits, number_of, named_at}
+use Rattle.deck_form.specs.Words.{short_at, dotted_at, digits, number_of, named_at}
 use Rattle.deck_form.specs.Complex.{mode_of, entries_of, limit_of, with_operand, operand_at, complex_at}
 use Rattle.deck_form.specs.Event.{verb, pair_at, entry_at, act_at, event_at}
 use Rattle.deck_form.specs.UnbuiltWord.{is_unbuilt_word}
 use Rattle.deck_form.specs.Form.{key, plain_form, first_form, event_form, form}
 use Rattle.grs_deck.specs.Places.{system_place, job_place, task_place}
 use Rattle.grs_deck.specs.Faults.{IsFault}
-use Rattle.grs_deck.specs.Whole.{IsDeck}
 use Rattle.grs_deck.proofs.First.{is_fault}
 use Rattle.grs_deck.specs.Reading.{no_lists, no_deck, judge, judge_all, reading, fault}
 

@@ -8,6 +8,7 @@ use Rattle.grs_base.specs.declared.fault.ReadError.{ReadError}
 use Rattle.grs_base.specs.declared.fault.ReadError.TheVariants as read_errors
 use Rattle.grs_base.specs.Names.{trim_blanks, is_qname, is_rname}
 use Rattle.grs_wire.specs.declared.deck.Deck.{Deck}
+use Rattle.grs_wire.specs.Decks.{task_count}
 use Rattle.deck_scan.specs.declared.token.TokenLine.{TokenLine}
 use Rattle.deck_scan.specs.Gives.{◌>>=◌, Gives, IsOkUnlessMemory, refused}
 use Rattle.deck_scan.specs.Lengths.{is_bad_qname, is_bad_rname}
@@ -27,7 +28,7 @@ use Rattle.deck_form.proofs.Taken.{form_taken}
 use Rattle.deck_form.proofs.Again.{form_again}
 use Rattle.deck_form.specs.Unbuilt.{is_unbuilt}
 use Rattle.grs_deck.specs.declared.judge.Draft.{Draft}
-use Rattle.grs_deck.specs.Places.{jobs_now, tasks_now, task_count, system_place, job_place, task_place, event_of}
+use Rattle.grs_deck.specs.Places.{jobs_now, tasks_now, system_place, job_place, task_place, event_of}
 use Rattle.grs_deck.specs.Judge.{is_too_long, list_of, has_long_name, has_bad_name, is_repeated, is_misplaced, is_full, is_unknown, verdict}
 use Rattle.grs_deck.specs.Grow.{grow}
 use Rattle.grs_deck.specs.Reading.{judge, judge_all, no_draft, ended, reading, fault, fault_of}

@@ -6,11 +6,11 @@ use Rattle.std.proofs.lemmas.Bool.{and_parts, and_from, leb-true, lt-ltb}
 use Rattle.std.proofs.lemmas.Bool.Decides.{nat_tests}
 use Rattle.std.proofs.lemmas.List.Folds.{list_all-append}
 use Rattle.grs_base.specs.Printed.{is_printable}
+use Rattle.grs_base.specs.Names.{are_bytes}
 use Rattle.deck_scan.specs.declared.token.Token.{Token}
 use Rattle.deck_scan.specs.declared.token.Token.TheVariants.{Word, Name, Open, Close, Comma, Equals, Stray, Unclosed}
 use Rattle.deck_scan.specs.declared.token.TokenLine.{TokenLine}
 use Rattle.deck_scan.specs.Bytes.{is_word, is_hex, digit}
-use Rattle.deck_scan.specs.Named.{are_bytes}
 use Rattle.deck_scan.specs.Next.{Names}
 use Rattle.deck_scan.specs.Pieces.{Piece, Plain, Quoted, Hexed, Sign, Blank, Comment, LineEnd, LoneSlash, StrayByte, OpenQuote, OpenHexed, OpenComment, is_sign, is_nonempty, spelled, is_piece, followed_by, are_pieces, is_hexed, unhex, Place, with_token, with_sign, apart, next_line, over, past, past_all, first_place, SpellsLines}
 use Rattle.deck_scan.proofs.Names.{plain_printable, all_kept}

@@ -16,6 +16,7 @@ use Rattle.grs_wire.specs.declared.deck.Event.{Event}
 use Rattle.grs_wire.specs.declared.deck.Choice.{Choice}
 use Rattle.grs_wire.specs.declared.deck.Choice.TheVariants as choices
 use Rattle.grs_wire.specs.declared.deck.Deck.{Deck}
+use Rattle.grs_wire.specs.Decks.{task_count, Fits, IsTaskOf, IsChoiceOf, IsBuilt, IsEventOf, all_lines, AreLines, AreNamedOnce, IsDeck}
 use Rattle.deck_scan.specs.declared.token.Token.{Token}
 use Rattle.deck_scan.specs.declared.token.TokenLine.{TokenLine}
 use Rattle.deck_form.specs.declared.event.Act.{Act}
@@ -23,14 +24,14 @@ use Rattle.deck_form.specs.declared.event.Act.TheVariants as acts
 use Rattle.deck_form.specs.declared.complex.Setup.{Setup}
 use Rattle.deck_form.specs.declared.form.Stmt.{Stmt}
 use Rattle.deck_form.specs.declared.form.Stmt.TheVariants as stmts
-use Rattle.deck_form.specs.Complex.{no_setup, is_entries, is_limit}
+use Rattle.deck_form.specs.Complex.{no_setup}
 use Rattle.deck_form.specs.Statements.{statements}
 use Rattle.deck_form.specs.Unbuilt.{is_unbuilt_act, is_star, is_unbuilt}
 use Rattle.deck_scan.specs.Next.{◌>>=◌, Sets}
 use Rattle.deck_form.specs.Spelled.{Operand, Mode, Entries, Limit, IsFreeOperand, set_operand, IsComplex, IsAct, Spells}
 use Rattle.deck_scan.proofs.Taking.{bind_some}
 use Rattle.grs_deck.specs.declared.judge.Draft.{Draft}
-use Rattle.grs_deck.specs.Places.{task_count, system_place, job_place, task_place, Fits, system_id, system_at, task_in, unless_own, choice_of, event_of}
+use Rattle.grs_deck.specs.Places.{system_place, job_place, task_place, system_id, system_at, task_in, unless_own, choice_of, event_of}
 use Rattle.grs_deck.specs.Grow.{with_event, grow}
 use Rattle.grs_deck.specs.Reading.{no_draft, reading}
 use Rattle.grs_deck.specs.Spells.{IsRight, Says, SpellsDeck}
@@ -38,7 +39,9 @@ use Rattle.grs_base.specs.Rnl.{no_entries}
 use Rattle.grs_base.specs.declared.rnl.Which.{Which}
 use Rattle.grs_base.specs.declared.rnl.Which.TheVariants.{Incl, Excl, Con}
 use Rattle.grs_base.specs.declared.rnl.RnlEntry.{RnlEntry}
-use Rattle.grs_deck.specs.Whole.{IsListOf, AreLists, IsTaskOf, IsChoiceOf, IsBuilt, IsEventOf, all_lines, is_display, AreLines, AreNamedOnce, IsDeck}
+use Rattle.grs_base.specs.Limits.{is_entries, is_limit}
+use Rattle.grs_base.specs.Lines.{is_display}
+use Rattle.grs_base.specs.NameLists.{IsListOf, AreLists}
 use Rattle.grs_deck.proofs.FitsLaws.{fits_grow, lists_grow}
 use Rattle.grs_deck.proofs.SpellsLaws.{no_test, reading_spells}
 use Rattle.grs_deck.proofs.Distinct.{once_none, once_grow}

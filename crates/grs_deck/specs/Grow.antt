@@ -17,8 +17,8 @@ use Rattle.deck_form.specs.declared.complex.Setup.{Setup}
 use Rattle.deck_form.specs.declared.form.Stmt.{Stmt}
 use Rattle.deck_form.specs.declared.form.Stmt.TheVariants as stmts
 use Rattle.grs_deck.specs.declared.judge.Draft.{Draft}
-use Rattle.grs_deck.specs.Limits.{default_entries, default_limit}
 use Rattle.grs_deck.specs.Places.{event_of}
+use Rattle.grs_deck.specs.Defaults.{default_entries, default_limit}
 
 -- With the last item changed.
 abbrev pub on_last : {A : Type 0} → (A → A) → List A → List A

@@ -8,6 +8,7 @@ use Rattle.grs_base.specs.declared.fault.Kind.{Kind}
 use Rattle.grs_base.specs.declared.fault.Kind.TheVariants.{NameLength, Repeated, OutOfPlace, TooMany, UnknownName, NotBuilt}
 use Rattle.grs_wire.specs.declared.deck.SystemDef.{SystemDef}
 use Rattle.grs_wire.specs.declared.deck.Deck.{Deck}
+use Rattle.grs_wire.specs.Decks.{task_count}
 use Rattle.job_syntax.specs.Lines.{has_bad_name as line_has_bad_name}
 use Rattle.rnl_syntax.specs.Operands.{has_bad_name as rnldef_has_bad_name}
 use Rattle.deck_form.specs.declared.event.Act.{Act}
@@ -16,9 +17,8 @@ use Rattle.deck_form.specs.declared.form.Stmt.{Stmt}
 use Rattle.deck_form.specs.declared.form.Stmt.TheVariants as stmts
 use Rattle.deck_form.specs.Unbuilt.{is_unbuilt}
 use Rattle.grs_deck.specs.declared.judge.Draft.{Draft}
-use Rattle.grs_base.specs.Limits.{most_systems, most_entries}
-use Rattle.grs_deck.specs.Limits.{most_name_bytes, most_jobs, most_tasks}
-use Rattle.grs_deck.specs.Places.{jobs_now, tasks_now, task_count, system_place, job_place, task_place, event_of}
+use Rattle.grs_base.specs.Limits.{most_systems, most_entries, most_name_bytes, most_jobs, most_tasks}
+use Rattle.grs_deck.specs.Places.{jobs_now, tasks_now, system_place, job_place, task_place, event_of}
 
 -- A name of a system, job or task is too long.
 abbrev pub is_too_long : List ℕ → Bool

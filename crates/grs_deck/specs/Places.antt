@@ -1,8 +1,9 @@
 -- Where systems, jobs and tasks of a deck stand.
-use Rattle.std.specs.Prelude.{ℕ, ◌+◌, ◌==◌, ◌≤◌, List, [], ◌∷◌, length, take, position, slice_get, Option, Some, None, All, if◌then◌else◌}
+use Rattle.std.specs.Prelude.{ℕ, ◌+◌, ◌==◌, List, [], ◌∷◌, take, position, slice_get, Option, Some, None, if◌then◌else◌}
 use Rattle.std.specs.Str.{bytes_eq}
 use Rattle.grs_base.specs.declared.resource.SysId.{SysId}
 use Rattle.grs_base.specs.declared.resource.TaskId.{TaskId}
+use Rattle.grs_wire.specs.Decks.{task_count}
 use Rattle.grs_wire.specs.declared.deck.TaskDef.{TaskDef}
 use Rattle.grs_wire.specs.declared.deck.JobDef.{JobDef}
 use Rattle.grs_wire.specs.declared.deck.SystemDef.{SystemDef}
@@ -12,8 +13,6 @@ use Rattle.grs_wire.specs.declared.deck.Choice.TheVariants as choices
 use Rattle.deck_form.specs.declared.event.Act.{Act}
 use Rattle.deck_form.specs.declared.event.Act.TheVariants as acts
 use Rattle.deck_scan.specs.Next.{◌>>=◌}
-use Rattle.grs_base.specs.Limits.{most_systems}
-use Rattle.grs_deck.specs.Limits.{most_commands, most_jobs, most_tasks}
 
 -- What the last item has.
 abbrev pub at_last : {A B : Type 0} → (A → List B) → List A → List B
@@ -38,22 +37,6 @@ job_place jobs name = position (λ j. bytes_eq j.name name) jobs
 
 unfoldable pub task_place : List TaskDef → List ℕ → Option ℕ
 task_place tasks name = position (λ t. bytes_eq t.name name) tasks
-
--- How many tasks the jobs have together.
-abbrev pub task_count : List JobDef → ℕ
-task_count [] = 0
-task_count (j ∷ js) = length j.tasks + task_count js
-
--- A system is within its limits of commands at its desk, of jobs and of tasks.
-pub record IsWithin (s : SystemDef) : Type 0 where
-  pub desk : length s.desk ≤ most_commands
-  pub jobs : length s.jobs ≤ most_jobs
-  pub tasks : task_count s.jobs ≤ most_tasks
-
--- The systems are within their limit, and each is within its own.
-pub record Fits (systems : List SystemDef) : Type 0 where
-  pub few : length systems ≤ most_systems
-  pub each : All IsWithin systems
 
 abbrev pub system_id : ℕ → SysId
 system_id n = record { 0 = n }

@@ -7,6 +7,7 @@ use Rattle.grs_base.specs.declared.fault.ReadError.{ReadError}
 use Rattle.grs_base.specs.Rnl.{no_entries}
 use Rattle.grs_base.specs.declared.rnl.Which.TheVariants.{Incl, Excl, Con}
 use Rattle.grs_base.specs.declared.rnl.Lists.{Lists}
+use Rattle.grs_base.specs.Limits.{most_lines}
 use Rattle.grs_wire.specs.declared.deck.Deck.{Deck}
 use Rattle.deck_scan.specs.declared.token.TokenLine.{TokenLine}
 use Rattle.deck_scan.specs.Gives.{◌>>=◌, refused, Fails}
@@ -15,9 +16,9 @@ use Rattle.deck_form.specs.declared.form.Stmt.{Stmt}
 use Rattle.deck_form.specs.Form.{form}
 use Rattle.deck_form.specs.Statements.{statements}
 use Rattle.grs_deck.specs.declared.judge.Draft.{Draft}
-use Rattle.grs_deck.specs.Limits.{most_lines, default_entries, default_limit}
 use Rattle.grs_deck.specs.Judge.{verdict}
 use Rattle.grs_deck.specs.Grow.{grow}
+use Rattle.grs_deck.specs.Defaults.{default_entries, default_limit}
 
 -- A function changed the deck to what reading gives, or returned its fault, unless memory ran out.
 abbrev pub Took : Result (Unit {0}) ReadError → Draft → Result Draft DeckFault → Type 0

@@ -1,11 +1,11 @@
 //! What each statement adds to a deck. What grows is the last system, its last job, its last task.
 ghost use Rattle.std.specs.Prelude.{◌≡◌, false, OnOk, IfOk};
+ghost use Rattle.grs_base.specs.NameLists.{AreLists};
+ghost use Rattle.grs_wire.specs.Decks.{Fits};
 ghost use Rattle.grs_deck.specs.Judge.{has_bad_name, is_list_full, is_crowded};
-ghost use Rattle.grs_deck.specs.Whole.{AreLists};
-ghost use Rattle.grs_deck.specs.Places.{Fits};
 ghost use Rattle.grs_deck.specs.Grow.{with_entry, add_job, add_task, add_line, in_jobs, in_tasks, with_setup, grow_deck};
 
-use crate::limits::{DEFAULT_ENTRIES, DEFAULT_LIMIT};
+use crate::defaults::{DEFAULT_ENTRIES, DEFAULT_LIMIT};
 use crate::places::event_of;
 use deck_form::{Setup, Stmt};
 use deck_scan::GivenName;

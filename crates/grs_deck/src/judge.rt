@@ -1,14 +1,15 @@
 //! What is wrong with a statement, where a deck has been read so far. Each test is one kind of fault.
 ghost use Rattle.std.specs.Prelude.{◌≡◌, is_some};
-ghost use Rattle.grs_deck.specs.Places.{Fits};
+ghost use Rattle.grs_wire.specs.Decks.{Fits};
 ghost use Rattle.grs_deck.specs.Judge.{is_too_long, has_long_name, has_bad_name, is_repeated, is_idle, is_misplaced, is_list_full, is_full, is_unknown, verdict};
 
-use crate::limits::{MOST_JOBS, MOST_NAME_BYTES, MOST_TASKS};
 use crate::places::{
     event_of, job_place, jobs_now, system_place, task_count, task_place, tasks_now,
 };
 use deck_form::{Act, Stmt, is_unbuilt};
-use grs_base::{Kind, Lists, MOST_ENTRIES, MOST_SYSTEMS, Which};
+use grs_base::{
+    Kind, Lists, MOST_ENTRIES, MOST_JOBS, MOST_NAME_BYTES, MOST_SYSTEMS, MOST_TASKS, Which,
+};
 use grs_wire::{Deck, SystemDef};
 
 /// A deck so far.

@@ -2,9 +2,9 @@
 ghost use Rattle.std.specs.Prelude.{◌≡◌, ◌⊎◌, ℕ, List};
 ghost use Rattle.grs_base.specs.declared.fault.DeckFault.{DeckFault as FaultValue};
 ghost use Rattle.grs_wire.specs.declared.deck.Deck.{Deck as DeckValue};
+ghost use Rattle.grs_wire.specs.Decks.{IsDeck};
 ghost use Rattle.grs_deck.specs.Spells.{SpellsDeck};
 ghost use Rattle.grs_deck.specs.Faults.{IsFault, IsFaultless};
-ghost use Rattle.grs_deck.specs.Whole.{IsDeck};
 
 /// Each text spells a deck or has a first fault, never both, and no two of either.
 pub fn one_deck()

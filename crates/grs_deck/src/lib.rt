@@ -2,13 +2,13 @@
 //! the reading.
 #![tactic(auto)]
 
+mod defaults;
 mod grow;
 mod judge;
 mod laws;
-mod limits;
 mod places;
 mod read;
 
-pub use grs_wire::{Choice, Deck, Event, JobDef, Name, SystemDef, TaskDef};
+pub use grs_wire::{Choice, Deck, Desk, Event, JobDef, Name, Order, SystemDef, TaskDef};
 pub use laws::one_deck;
 pub use read::read_deck;

@@ -1,8 +1,9 @@
 //! Where systems, jobs and tasks of a deck stand. The last of each is the one that a statement behind
 //! it belongs to.
 ghost use Rattle.std.specs.Prelude.{◌≡◌, ◌<◌, ◌≤◌, length, IfSome};
-ghost use Rattle.grs_deck.specs.Limits.{most_tasks};
-ghost use Rattle.grs_deck.specs.Places.{system_place, job_place, task_place, jobs_now, tasks_now, task_count, IsWithin, Fits, system_at, task_in, choice_of, event_of, seen};
+ghost use Rattle.grs_base.specs.Limits.{most_tasks};
+ghost use Rattle.grs_wire.specs.Decks.{task_count, IsWithin, Fits};
+ghost use Rattle.grs_deck.specs.Places.{system_place, job_place, task_place, jobs_now, tasks_now, system_at, task_in, choice_of, event_of, seen};
 
 use deck_form::Act;
 use grs_base::{SysId, TaskId};

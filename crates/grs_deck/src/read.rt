@@ -1,21 +1,21 @@
 //! Reads a deck, statement by statement, up to its first fault.
 ghost use Rattle.std.specs.Prelude.{◌≡◌, ◌||◌, OnOk, IfOk, Some, None};
+ghost use Rattle.grs_base.specs.NameLists.{AreLists};
 ghost use Rattle.deck_scan.specs.Gives.{Gives, IsOkUnlessMemory};
-ghost use Rattle.grs_deck.specs.Places.{Fits};
 ghost use Rattle.grs_deck.specs.Judge.{verdict};
 ghost use Rattle.grs_deck.specs.Grow.{is_schedule, line_count, grow};
 ghost use Rattle.grs_wire.specs.declared.deck.Deck.{Deck as DeckValue};
-ghost use Rattle.grs_deck.specs.Whole.{AreLists, IsDeck};
+ghost use Rattle.grs_wire.specs.Decks.{Fits, IsDeck};
 ghost use Rattle.grs_deck.specs.Spells.{SpellsDeck};
 ghost use Rattle.grs_deck.specs.Faults.{Answers};
 ghost use Rattle.grs_deck.specs.Reading.{judge_statement, judge, judge_all, ended, reading, Took, no_draft};
 
+use crate::defaults::{DEFAULT_ENTRIES, DEFAULT_LIMIT};
 use crate::grow::grow_deck;
 use crate::judge::{Draft, verdict};
-use crate::limits::{DEFAULT_ENTRIES, DEFAULT_LIMIT, MOST_LINES};
 use deck_form::{Statements, Stmt, statement};
 use deck_scan::{Lines, TokenLine, refused};
-use grs_base::{Kind, List, Lists, NoMemory, ReadError};
+use grs_base::{Kind, List, Lists, MOST_LINES, NoMemory, ReadError};
 use grs_wire::Deck;
 use std::alloc::Global;
 

@@ -1,7 +1,7 @@
 //! What a text is answered by: what the command writes for the deck that it spells, or the line of its first
 //! fault. The answer is built whole before any of it is written.
 ghost use Rattle.std.specs.Prelude.{◌≡◌, IfOk, if◌then◌else◌};
-ghost use Rattle.grs_deck.specs.Whole.{IsDeck};
+ghost use Rattle.grs_wire.specs.Decks.{IsDeck};
 ghost use Rattle.grs_world.specs.Agree.{Sound};
 ghost use Rattle.grs_top.specs.Seen.{whole_report, ending};
 ghost use Rattle.grs_top.specs.Lists.{lists_text};

@@ -1,8 +1,7 @@
 //! The tasks of a deck in order, each with its end in a world.
 ghost use Rattle.std.specs.Prelude.{◌≡◌, ◌≤◌, ◌+◌, ◌++◌, length, OnOk, IfOk};
-ghost use Rattle.grs_deck.specs.Limits.{most_jobs, most_tasks};
-ghost use Rattle.grs_deck.specs.Places.{task_count, Fits};
-ghost use Rattle.grs_deck.specs.Whole.{IsDeck};
+ghost use Rattle.grs_base.specs.Limits.{most_jobs, most_tasks};
+ghost use Rattle.grs_wire.specs.Decks.{task_count, Fits, IsDeck};
 ghost use Rattle.grs_top.specs.Tasks.{tasks_in, tasks_from, tasks_of_systems, tasks_of, ends_at};
 
 use grs_base::{List, NoMemory, SysId, TaskId};

@@ -1,7 +1,7 @@
 //! What the report of a deck shows: the run of the deck's events, its history, and where that leaves the
 //! lists and the tasks.
 ghost use Rattle.std.specs.Prelude.{◌≡◌, IfOk};
-ghost use Rattle.grs_deck.specs.Whole.{IsDeck};
+ghost use Rattle.grs_wire.specs.Decks.{IsDeck};
 ghost use Rattle.grs_world.specs.World.{run, hist, told};
 ghost use Rattle.grs_world.specs.Running.{units_of};
 ghost use Rattle.grs_top.specs.Tasks.{tasks_of, ends_at};

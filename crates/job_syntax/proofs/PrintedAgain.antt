@@ -4,7 +4,7 @@ use Rattle.std.specs.Prelude.{codes, ◌&&◌, ◌||◌, is_none}
 use Rattle.std.specs.List.{flat_map}
 use Rattle.std.proofs.lemmas.Bool.{and_from, and_parts, leb-true}
 use Rattle.std.proofs.lemmas.Bool.Decides.{nat_tests}
-use Rattle.grs_base.specs.Names.{is_rname, IsQname}
+use Rattle.grs_base.specs.Names.{is_rname, IsQname, IsMaybeQname, IsMaybeRname, are_bytes, AreNames}
 use Rattle.grs_base.specs.Printed.{hex_digit, ctl_word, unit_digits}
 use Rattle.grs_base.specs.declared.line.Scope.{Scope}
 use Rattle.grs_base.specs.declared.line.Scope.TheVariants as scopes
@@ -17,10 +17,11 @@ use Rattle.grs_base.specs.declared.look.Filter.TheVariants as filters
 use Rattle.grs_base.specs.declared.line.Item.{Item}
 use Rattle.grs_base.specs.declared.line.Line.{Line}
 use Rattle.grs_base.specs.declared.line.Line.TheVariants as lines
+use Rattle.grs_base.specs.Lines.{IsFilter, IsMaybeUnit, IsDeckLine}
 use Rattle.deck_scan.specs.declared.token.Token.TheVariants.{Word, Open, Close, Comma, Equals}
 use Rattle.deck_scan.specs.Bytes.{is_word}
 use Rattle.deck_scan.specs.Lengths.{is_bad_qname, is_bad_rname}
-use Rattle.deck_scan.specs.Named.{IsMaybeQname, IsMaybeRname, are_bytes, name_token}
+use Rattle.deck_scan.specs.Named.{name_token}
 use Rattle.deck_scan.specs.Next.{Sets}
 use Rattle.deck_scan.specs.Pieces.{Plain, is_piece, is_nonempty, SpellsLines}
 use Rattle.deck_scan.specs.AnyBytes.{readable}
@@ -39,7 +40,6 @@ use Rattle.job_syntax.specs.Spelled.{scope_word, reach_word, Opt, WithRet, WithR
 use Rattle.job_syntax.specs.Lines.{are_bad_names, has_bad_name, ret_or_none, rnl_or_yes, is_have, filter_of, line_of}
 use Rattle.job_syntax.specs.Printed.{printed_ret, printed_have, printed_rnl, maybe_unit, printed_line}
 use Rattle.job_syntax.specs.Reading.{SpellsLine}
-use Rattle.job_syntax.specs.Laws.{AreNames, IsFilter, IsMaybeUnit, IsDeckLine}
 
 -- ---- units
 

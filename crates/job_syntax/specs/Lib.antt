@@ -7,4 +7,3 @@ pub mod Spelled
 pub mod Lines
 pub mod Printed
 pub mod Reading
-pub mod Laws

@@ -3,6 +3,7 @@
 ghost use Rattle.std.specs.Prelude.{◌≡◌, ◌⊎◌, ℕ, List, Some};
 ghost use Rattle.grs_base.specs.declared.fault.DeckFault.{DeckFault as FaultValue};
 ghost use Rattle.grs_base.specs.declared.line.Line.{Line as LineValue};
+ghost use Rattle.grs_base.specs.Lines.{IsDeckLine};
 ghost use Rattle.deck_scan.specs.declared.token.Token.{Token as TokenValue};
 ghost use Rattle.job_syntax.specs.declared.said.Said.{Said as SaidValue};
 ghost use Rattle.job_syntax.specs.declared.said.Verb.{Verb as VerbValue};
@@ -10,7 +11,6 @@ ghost use Rattle.job_syntax.specs.Said.{verb, said_at};
 ghost use Rattle.job_syntax.specs.Spelled.{IsWord, IsBehind, verb_for};
 ghost use Rattle.job_syntax.specs.Printed.{printed_line};
 ghost use Rattle.job_syntax.specs.Reading.{SpellsLine, IsFault};
-ghost use Rattle.job_syntax.specs.Laws.{IsDeckLine};
 
 /// Of a word and the tokens behind it, exactly the task lines that they spell are read.
 pub fn spelled_tokens()

@@ -16,12 +16,14 @@ use Rattle.grs_base.specs.declared.rnl.Which.TheVariants.{Incl, Excl, Con}
 use Rattle.grs_base.specs.declared.rnl.Form.{Form}
 use Rattle.grs_base.specs.declared.rnl.Form.TheVariants.{Specific, Generic, Pattern}
 use Rattle.grs_base.specs.declared.rnl.RnlEntry.{RnlEntry}
+use Rattle.grs_base.specs.Names.{IsMaybeRname, are_bytes}
+use Rattle.grs_base.specs.NameLists.{is_specific, IsEntry}
 use Rattle.deck_scan.specs.declared.token.Token.{Token}
 use Rattle.deck_scan.specs.declared.token.Token.TheVariants.{Word, Open, Close}
 use Rattle.deck_scan.specs.declared.token.TokenLine.{TokenLine}
 use Rattle.deck_scan.specs.Bytes.{is_word, is_allowed, bad_line}
 use Rattle.deck_scan.specs.Lengths.{is_bad_rname}
-use Rattle.deck_scan.specs.Named.{IsMaybeRname, are_bytes, name_piece, name_token}
+use Rattle.deck_scan.specs.Named.{name_piece, name_token}
 use Rattle.deck_scan.specs.Pieces.{Piece, Plain, Sign, Blank, LineEnd, spelled, is_piece, is_nonempty, followed_by, are_pieces, Place, past_all, first_place, next_line, lines_said, without_cr, SpellsLines}
 use Rattle.deck_scan.specs.AnyBytes.{readable}
 use Rattle.deck_scan.proofs.AnyLemmas.{any_text}
@@ -30,11 +32,10 @@ use Rattle.deck_scan.proofs.Names.{piece-spelling, piece-is, printed-printable, 
 use Rattle.deck_scan.proofs.Print.{printable-before, printable-kept, piece_on, name_followed, name_past, name_names}
 use Rattle.rnl_syntax.specs.declared.operands.Rnldef.{Rnldef}
 use Rattle.rnl_syntax.specs.Lines.{is_open}
-use Rattle.rnl_syntax.specs.Operands.{is_specific}
 use Rattle.rnl_syntax.specs.Spelled.{which_word, form_word, WithRnl, WithType, WithQname, WithRname, IsRnldef}
 use Rattle.rnl_syntax.specs.Printed.{printed_rname, printed_rnldef}
 use Rattle.rnl_syntax.specs.Reading.{first_from, MakesEntry, ends_closed, SpellsEntry}
-use Rattle.rnl_syntax.specs.Laws.{IsEntry, begins_operands, IsLineEnd, IsNextLine, MayFollow}
+use Rattle.rnl_syntax.specs.Laws.{begins_operands, IsLineEnd, IsNextLine, MayFollow}
 use Rattle.rnl_syntax.proofs.Behind.{lines_behind}
 
 -- ---- the pieces of a printed entry

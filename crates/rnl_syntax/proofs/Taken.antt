@@ -6,13 +6,14 @@ use Rattle.grs_base.specs.declared.rnl.Which.{Which}
 use Rattle.grs_base.specs.declared.rnl.Which.TheVariants.{Incl, Excl, Con}
 use Rattle.grs_base.specs.declared.rnl.Form.{Form}
 use Rattle.grs_base.specs.declared.rnl.Form.TheVariants.{Specific, Generic, Pattern}
+use Rattle.grs_base.specs.NameLists.{is_specific}
 use Rattle.deck_scan.specs.declared.token.Token.{Token}
 use Rattle.deck_scan.specs.declared.token.Token.TheVariants.{Word, Open, Close}
 use Rattle.deck_scan.specs.Next.{◌>>=◌, open_at, close_at, any_word_at, name_at, up_to, Sets}
 use Rattle.deck_scan.proofs.Taking.{bind_some, some_is, same_bytes, IsWordOf, row, once_some, open_taken, close_taken, any_word_taken, name_taken, TookOne, all_taken}
 use Rattle.rnl_syntax.specs.declared.operands.Operands.{Operands}
 use Rattle.rnl_syntax.specs.declared.operands.Rnldef.{Rnldef}
-use Rattle.rnl_syntax.specs.Operands.{no_operands, which_of, form_of, with_which, with_form, with_q, with_r, value_of, operand_at, is_specific, whole, rnldef_at}
+use Rattle.rnl_syntax.specs.Operands.{no_operands, which_of, form_of, with_which, with_form, with_q, with_r, value_of, operand_at, whole, rnldef_at}
 use Rattle.rnl_syntax.specs.Spelled.{which_word, form_word, Operand, WithRnl, WithType, WithQname, WithRname, enclosed, operand, IsFree, set, IsRnldef}
 
 -- ---- words

@@ -1,22 +1,11 @@
--- Which entries are printed so that they are read again, and what may follow the printed form.
-use Rattle.std.specs.Prelude.{◌≡◌, ℕ, Bool, true, false, ◌&&◌, ◌⊎◌, List, [], ◌∷◌, ◌++◌, Some, is_none, take}
+-- What may follow the printed form of an entry so that it is read again, and which bytes are its statement alone.
+use Rattle.std.specs.Prelude.{◌≡◌, ℕ, Bool, true, false, ◌⊎◌, List, [], ◌∷◌, ◌++◌, Some, take}
 use Rattle.std.specs.List.{flat_map}
-use Rattle.grs_base.specs.Names.{IsQname}
-use Rattle.grs_base.specs.declared.rnl.RnlEntry.{RnlEntry}
 use Rattle.deck_scan.specs.declared.token.TokenLine.{TokenLine}
-use Rattle.deck_scan.specs.Named.{are_bytes, IsMaybeRname}
 use Rattle.deck_scan.specs.AnyBytes.{readable}
 use Rattle.deck_scan.specs.Pieces.{SpellsLines}
 use Rattle.rnl_syntax.specs.Lines.{begins_operand}
 use Rattle.rnl_syntax.specs.Reading.{first_statement, ends_closed}
-use Rattle.rnl_syntax.specs.Operands.{is_specific}
-
--- An entry that an RNLDEF can make: its names have their lengths, and a SPECIFIC entry has an rname.
-pub record IsEntry (e : RnlEntry) : Type 0 where
-  pub q : IsQname e.q
-  pub q_bytes : are_bytes e.q ≡ true
-  pub r : IsMaybeRname e.r
-  pub needed : (is_specific e.form && is_none e.r) ≡ false
 
 -- The first token of a text with these lines is RNL, TYPE, QNAME or RNAME.
 abbrev pub begins_operands : List TokenLine → Bool

@@ -1,5 +1,5 @@
 -- The operands of RNLDEF, in any order, each at most once.
-use Rattle.std.specs.Prelude.{ℕ, Bool, true, false, not, ◌&&◌, ◌||◌, List, codes, Option, Some, None, is_none, if◌then◌else◌}
+use Rattle.std.specs.Prelude.{ℕ, Bool, not, ◌&&◌, ◌||◌, List, codes, Option, Some, None, is_none, if◌then◌else◌}
 use Rattle.std.specs.Str.{bytes_eq}
 use Rattle.grs_base.specs.Names.{trim_blanks, is_qname}
 use Rattle.grs_base.specs.declared.rnl.Which.{Which}
@@ -7,6 +7,7 @@ use Rattle.grs_base.specs.declared.rnl.Which.TheVariants.{Incl, Excl, Con}
 use Rattle.grs_base.specs.declared.rnl.Form.{Form}
 use Rattle.grs_base.specs.declared.rnl.Form.TheVariants.{Specific, Generic, Pattern}
 use Rattle.grs_base.specs.declared.rnl.RnlEntry.{RnlEntry}
+use Rattle.grs_base.specs.NameLists.{is_specific}
 use Rattle.deck_scan.specs.declared.token.Token.{Token}
 use Rattle.deck_scan.specs.Next.{◌>>=◌, open_at, close_at, any_word_at, name_at, up_to, once}
 use Rattle.deck_scan.specs.Lengths.{is_bad_rname}
@@ -63,11 +64,6 @@ operand_at o ts = do
   p ← value_of o w.0 a
   b ← close_at p.1
   Some (p.0, b)
-
-abbrev pub is_specific : Form → Bool
-is_specific Specific = true
-is_specific Generic = false
-is_specific Pattern = false
 
 -- RNL, TYPE and QNAME stand; RNAME stands where the entry is SPECIFIC.
 unfoldable pub whole : Operands → Option Rnldef

@@ -5,13 +5,14 @@ use Rattle.grs_base.specs.declared.rnl.Which.{Which}
 use Rattle.grs_base.specs.declared.rnl.Which.TheVariants.{Incl, Excl, Con}
 use Rattle.grs_base.specs.declared.rnl.Form.{Form}
 use Rattle.grs_base.specs.declared.rnl.Form.TheVariants.{Specific, Generic, Pattern}
+use Rattle.grs_base.specs.NameLists.{is_specific}
 use Rattle.deck_scan.specs.declared.token.Token.{Token}
 use Rattle.deck_scan.specs.declared.token.Token.TheVariants.{Word, Open, Close}
 use Rattle.deck_scan.specs.declared.miss.Miss.{Miss}
 use Rattle.deck_scan.specs.Next.{Names, Sets}
 use Rattle.rnl_syntax.specs.declared.operands.Operands.{Operands}
 use Rattle.rnl_syntax.specs.declared.operands.Rnldef.{Rnldef}
-use Rattle.rnl_syntax.specs.Operands.{no_operands, is_specific}
+use Rattle.rnl_syntax.specs.Operands.{no_operands}
 
 abbrev pub which_word : Which → List ℕ
 which_word Incl = codes "INCL"

@@ -4,13 +4,14 @@
 ghost use Rattle.std.specs.Prelude.{◌≡◌, ◌⊎◌, ◌++◌, ℕ, List, Some, length};
 ghost use Rattle.grs_base.specs.declared.fault.DeckFault.{DeckFault as FaultValue};
 ghost use Rattle.grs_base.specs.declared.rnl.RnlEntry.{RnlEntry as EntryValue};
+ghost use Rattle.grs_base.specs.NameLists.{IsEntry};
 ghost use Rattle.deck_scan.specs.declared.token.Token.{Token as TokenValue};
 ghost use Rattle.rnl_syntax.specs.declared.operands.Rnldef.{Rnldef as RnldefValue};
 ghost use Rattle.rnl_syntax.specs.Operands.{rnldef_at};
 ghost use Rattle.rnl_syntax.specs.Spelled.{IsRnldef};
 ghost use Rattle.rnl_syntax.specs.Printed.{printed_rnldef};
 ghost use Rattle.rnl_syntax.specs.Reading.{MakesEntry, SpellsEntry, IsFault};
-ghost use Rattle.rnl_syntax.specs.Laws.{IsEntry, MayFollow, AreStatement};
+ghost use Rattle.rnl_syntax.specs.Laws.{MayFollow, AreStatement};
 
 /// Of the tokens behind the word RNLDEF, exactly the operands that they spell are read.
 pub fn spelled_tokens()

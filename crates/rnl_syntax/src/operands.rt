@@ -1,8 +1,9 @@
 //! The operands of RNLDEF, in any order, each at most once.
 ghost use Rattle.std.specs.Prelude.{◌≡◌, true, false, IfOk};
+ghost use Rattle.grs_base.specs.NameLists.{is_specific};
 ghost use Rattle.deck_scan.specs.Next.{Reads, maybe};
 ghost use Rattle.rnl_syntax.specs.Spelled.{Answers};
-ghost use Rattle.rnl_syntax.specs.Operands.{which_of, form_of, with_which, with_form, with_q, with_r, value_of, operand_at, is_specific, whole, rnldef_at, has_bad_name, entry_of};
+ghost use Rattle.rnl_syntax.specs.Operands.{which_of, form_of, with_which, with_form, with_q, with_r, value_of, operand_at, whole, rnldef_at, has_bad_name, entry_of};
 
 use deck_scan::{
     GivenName, Miss, Token, any_word_at, close_at, end_at, is_bad_rname, maybe_rname, name_at,

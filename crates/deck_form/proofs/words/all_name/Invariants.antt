@@ -1,5 +1,5 @@
 use Rattle.std.proofs.Common.{◌≡◌, length}
-use Rattle.deck_form.specs.Words.{all_name}
+use Rattle.grs_base.specs.ShortNames.{all_name}
 use Rattle.deck_form.proofs.words.all_name.Given as goal
 
 abbrev pub invariant-loop-b : goal.invariant-loop-b

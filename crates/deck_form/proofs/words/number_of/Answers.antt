@@ -1,5 +1,5 @@
 use Rattle.std.proofs.Common.{◌≡◌, ◌-◌, ◌∙◌, true, length, refl, sym, arith}
-use Rattle.deck_form.specs.Words.{is_digit}
+use Rattle.grs_base.specs.ShortNames.{is_digit}
 use Rattle.deck_form.proofs.Numbers.{none_yet, digits_more, digit_small, small_more, small_now}
 use Rattle.deck_form.proofs.words.number_of.Goals as goal
 

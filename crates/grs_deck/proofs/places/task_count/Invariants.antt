@@ -1,5 +1,5 @@
 use Rattle.std.proofs.Common.{◌≡◌, ◌+◌, length}
-use Rattle.grs_deck.specs.Places.{task_count}
+use Rattle.grs_wire.specs.Decks.{task_count}
 use Rattle.grs_deck.proofs.places.task_count.Given as goal
 
 abbrev pub invariant-loop-job : goal.invariant-loop-job

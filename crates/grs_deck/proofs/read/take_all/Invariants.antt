@@ -1,6 +1,6 @@
 use Rattle.std.proofs.Common.{◌≡◌, length}
-use Rattle.grs_deck.specs.Places.{Fits}
-use Rattle.grs_deck.specs.Whole.{AreLists}
+use Rattle.grs_base.specs.NameLists.{AreLists}
+use Rattle.grs_wire.specs.Decks.{Fits}
 use Rattle.grs_deck.specs.Reading.{judge_all}
 use Rattle.grs_deck.proofs.read.take_all.Given as goal
 

@@ -1,5 +1,5 @@
 use Rattle.std.proofs.Common.{◌≡◌, ◌+◌, ◌++◌, drop}
-use Rattle.grs_deck.specs.Places.{task_count}
+use Rattle.grs_wire.specs.Decks.{task_count}
 use Rattle.grs_top.specs.Tasks.{tasks_from}
 use Rattle.grs_top.proofs.ends.put_jobs.Given as goal
 
