@@ -7,12 +7,12 @@ use Rattle.rnl_syntax.specs.Operands.{entry_of}
 use Rattle.grs_base.specs.declared.fault.Kind.{Kind}
 use Rattle.grs_base.specs.declared.fault.Kind.TheVariants.{NameLength, Repeated, OutOfPlace, TooMany, UnknownName, NotBuilt}
 use Rattle.grs_base.specs.Rnl.{RnlView}
-use Rattle.grs_base.specs.NameLists.{IsListOf, AreLists}
 use Rattle.grs_base.specs.declared.rnl.Which.{Which}
 use Rattle.grs_base.specs.declared.rnl.Which.TheVariants.{Incl, Excl, Con}
 use Rattle.grs_base.specs.declared.rnl.RnlEntry.{RnlEntry}
 use Rattle.grs_base.specs.declared.rnl.Lists.{Lists}
 use Rattle.grs_base.specs.declared.line.Line.{Line}
+use Rattle.grs_base.specs.NameLists.{IsListOf, AreLists}
 use Rattle.grs_wire.specs.declared.deck.TaskDef.{TaskDef}
 use Rattle.grs_wire.specs.declared.deck.JobDef.{JobDef}
 use Rattle.grs_wire.specs.declared.deck.SystemDef.{SystemDef}
@@ -52,9 +52,6 @@ no_fault false false false false false false h = record { long = refl; repeated 
 
 pub tests_of : (d : Draft) (st : Stmt) → verdict d st ≡ None → NoFault (has_bad_name st) (is_repeated d st) (is_misplaced d st) (is_full d st) (is_unknown d st) (is_unbuilt st)
 tests_of d st h = no_fault (has_bad_name st) (is_repeated d st) (is_misplaced d st) (is_full d st) (is_unknown d st) (is_unbuilt st) h
-
-pub not_long : (d : Draft) (st : Stmt) → verdict d st ≡ None → has_bad_name st ≡ false
-not_long d st h = (tests_of d st h).long
 
 -- ---- each system of a list, as a pair of the first and the others
 
@@ -187,9 +184,6 @@ crowded_full d (stmts.Task n) full = refl
 crowded_full d (stmts.Line s) full = refl
 crowded_full d stmts.Schedule full = refl
 crowded_full d (stmts.Event s a) full = refl
-
-pub not_crowded : (d : Draft) (st : Stmt) → verdict d st ≡ None → is_crowded d.deck st ≡ false
-not_crowded d st h = crowded_full d st (tests_of d st h).full
 
 -- ---- lines
 

@@ -19,9 +19,6 @@ on_last-snoc {A} f (y ∷ z ∷ ys) x = ap (λ (w : List A). y ∷ w) (on_last-s
 pub at_last-is : {A B : Type 0} (f : A → List B) (all xs : List A) (x : A) → all ≡ xs ++ x ∷ [] → f x ≡ at_last f all
 at_last-is f all xs x e = rw (e, at_last-snoc) refl
 
-pub on_last-is : {A : Type 0} (f : A → A) (all xs : List A) (x : A) (new : List A) → all ≡ xs ++ x ∷ [] → new ≡ xs ++ f x ∷ [] → new ≡ on_last f all
-on_last-is f all xs x new e made = rw (e, made, on_last-snoc) refl
-
 -- the last item was taken, changed and put back
 pub changed : {A : Type 0} (f : A → A) (all xs : List A) (x y : A) (r : Result (Unit {0}) NoMemory) (new : List A) → all ≡ xs ++ x ∷ [] → y ≡ f x → OnOk r (new ≡ xs ++ y ∷ []) → OnOk r (new ≡ on_last f all)
 changed f all xs x y (Ok u) new e h made = rw (e, made, h, on_last-snoc) refl
