@@ -1,5 +1,5 @@
 //! What the lines of tasks mean, and which phases go on. Nothing here changes anything.
-ghost use Rattle.std.specs.Prelude.{◌≡◌, map, slice_get, IfOk};
+ghost use Rattle.std.specs.Prelude.{◌≡◌, ◌<◌, map, length, slice_get, IfOk, IfSome};
 ghost use Rattle.grs_legal.specs.Asks.{meaning_of};
 ghost use Rattle.grs_node.specs.Log.{end_in};
 ghost use Rattle.grs_node.specs.Node as steps;
@@ -19,7 +19,8 @@ pub(crate) fn meaning_at(
     lines: &List<Line>,
     place: u32,
 ) -> Result<Option<Meaning>, NoMemory>
-    ensures { IfOk result (λ m. m ≡ slice_get (map (meaning_of lists.now task) lines.now) place) }
+    ensures meaning { IfOk result (λ m. m ≡ slice_get (map (meaning_of lists.now task) lines.now) place) }
+    ensures within { IfOk result (λ m. IfSome m (λ _. place < length lines.now)) }
 {
     match lines.as_slice().get(place as usize) {
         None => Ok(None),

@@ -1,6 +1,7 @@
 //! A system with its deck and what it keeps of its own events. A choice is prepared; it makes at most one call
 //! of the medium, which somebody else carries out; and with the reply it is finished.
 ghost use Rattle.std.specs.Prelude.{◌≡◌, ◌<◌, ◌++◌, ◌∷◌, [], Some, true, drop, length, IfOk, IfSome, IfNone, OnOk};
+ghost use Rattle.grs_wire.specs.Decks.{IsDeck};
 ghost use Rattle.task_state.specs.View.{is_task, state_of};
 ghost use Rattle.grs_node.specs.Node as steps;
 ghost use Rattle.grs_node.specs.Units.{counted, reserved_of};
@@ -77,7 +78,8 @@ impl<'d> Node<'d> {
     /// A system of a deck before its first event.
     #[tactic(auto, unfolding(crate::specs::Node::first_node))]
     pub fn new(alloc: Global, deck: &'d Deck, system: SysId) -> Result<Node<'d>, NoMemory>
-        requires { system.0 < length deck.now.systems }
+        requires deck { IsDeck deck.now }
+        requires system { system.0 < length deck.now.systems }
         ensures { IfOk result (λ n. n ≡ starting deck.now system.0) }
     {
         let scripts = scripts_of(alloc, deck, system)?;

@@ -1,5 +1,7 @@
 //! Which task has which lines. The lines stay in the deck.
-ghost use Rattle.std.specs.Prelude.{◌≡◌, ◌++◌, map, length, slice_get, is_some, sum, option_copied, IfOk};
+ghost use Rattle.std.specs.Prelude.{◌≡◌, ◌≤◌, ◌++◌, map, length, slice_get, is_some, sum, option_copied, All, IfOk, IfSome};
+ghost use Rattle.grs_base.specs.Limits.{most_lines, most_tasks};
+ghost use Rattle.grs_wire.specs.Decks.{IsDeck};
 ghost use Rattle.grs_legal.specs.Asks as asks;
 ghost use Rattle.grs_legal.specs.Asks.{lines_in, scripts_in, scripts_from};
 ghost use Rattle.grs_node.specs.Node.{is_of_deck};
@@ -9,7 +11,7 @@ use grs_wire::{Deck, JobDef, SystemDef, TaskDef};
 use std::alloc::Global;
 use std::marker::Model;
 
-/// The lines of a task, with the place of its job.
+/// The lines of a task, as many as a deck may have at most, with the place of its job.
 #[derive(Drop)]
 pub(crate) struct Script<'d> {
     job: usize,
@@ -17,11 +19,15 @@ pub(crate) struct Script<'d> {
 }
 
 impl<'d> Model for Script<'d> {
+    ghost use Rattle.std.specs.Prelude.{◌≤◌, length};
+    ghost use Rattle.grs_base.specs.Limits.{most_lines};
     ghost use Rattle.grs_legal.specs.Asks as asks;
 
     ghost Value = { asks.Script };
 
     ghost view = { λ a. record { job = a.job; lines = a.lines.now } };
+
+    ghost invariant = { λ a. length a.lines.now ≤ most_lines };
 }
 
 /// Puts the scripts of a job's tasks behind others.
@@ -30,6 +36,7 @@ fn add_job<'d>(
     job: usize,
     tasks: &'d [TaskDef],
 ) -> Result<Vec<Script<'d>>, NoMemory>
+    requires { All (λ t. length t.lines ≤ most_lines) tasks.now }
     ensures { IfOk result (λ all. all.items ≡ scripts.entry.items ++ scripts_in job tasks.now) }
 {
     for task in tasks {
@@ -46,6 +53,7 @@ fn add_job<'d>(
 
 /// The scripts of the tasks of these jobs.
 fn scripts_of_jobs(alloc: Global, jobs: &[JobDef]) -> Result<Vec<Script<'_>>, NoMemory>
+    requires { All (λ j. All (λ t. length t.lines ≤ most_lines) j.tasks) jobs.now }
     ensures { IfOk result (λ all. all.items ≡ scripts_from 0 jobs.now) }
 {
     let mut scripts = Vec::new(alloc);
@@ -55,24 +63,14 @@ fn scripts_of_jobs(alloc: Global, jobs: &[JobDef]) -> Result<Vec<Script<'_>>, No
     Ok(scripts)
 }
 
-/// The number of tasks of a job. There is no memory for more than 4,294,967,295.
-fn size_of(job: &JobDef) -> Result<u32, NoMemory>
-    ensures { IfOk result (λ size. size ≡ length job.now.tasks) }
-{
-    let tasks = job.tasks.len();
-    if tasks > u32::MAX as usize {
-        return Err(NoMemory);
-    }
-    Ok(tasks as u32)
-}
-
 /// The numbers of tasks of these jobs.
 fn sizes_of_jobs(alloc: Global, jobs: &[JobDef]) -> Result<Vec<u32>, NoMemory>
+    requires { All (λ j. length j.tasks ≤ most_tasks) jobs.now }
     ensures { IfOk result (λ sizes. sizes.items ≡ map (λ j. length j.tasks) jobs.now) }
 {
     let mut sizes = Vec::new(alloc);
     for job in jobs {
-        if sizes.push(size_of(job)?).is_err() {
+        if sizes.push(job.tasks.len() as u32).is_err() {
             return Err(NoMemory);
         }
     }
@@ -87,11 +85,13 @@ pub(crate) fn system_at(deck: &Deck, system: SysId) -> Option<&SystemDef>
 }
 
 /// The scripts of the tasks of a system.
+#[tactic(auto, using(grs_wire::proofs::DeckLaws::parts))]
 pub(crate) fn scripts_of(
     alloc: Global,
     deck: &Deck,
     system: SysId,
 ) -> Result<List<Script<'_>>, NoMemory>
+    requires { IsDeck deck.now }
     ensures { IfOk result (λ scripts. scripts ≡ asks.scripts_of deck.now system.0) }
 {
     match system_at(deck, system) {
@@ -101,8 +101,9 @@ pub(crate) fn scripts_of(
 }
 
 /// The numbers of tasks of the jobs of a system.
-#[tactic(auto, using(crate::proofs::ScriptCounts::counts))]
+#[tactic(auto, using(grs_wire::proofs::DeckLaws::parts, crate::proofs::ScriptCounts::counts))]
 pub(crate) fn sizes_of(alloc: Global, deck: &Deck, system: SysId) -> Result<Vec<u32>, NoMemory>
+    requires { IsDeck deck.now }
     ensures { IfOk result (λ sizes. sum sizes.items ≡ length (asks.scripts_of deck.now system.0)) }
 {
     match system_at(deck, system) {
@@ -113,7 +114,8 @@ pub(crate) fn sizes_of(alloc: Global, deck: &Deck, system: SysId) -> Result<Vec<
 
 /// The lines of a task among the scripts of its system.
 pub(crate) fn lines_among<'d>(scripts: &[Script<'d>], task: TaskId) -> Option<&'d List<Line>>
-    ensures { option_copied result ≡ lines_in scripts.now task }
+    ensures lines { option_copied result ≡ lines_in scripts.now task }
+    ensures few { IfSome result (λ lines. length lines.now ≤ most_lines) }
 {
     let script = scripts.get(task.task as usize)?;
     if script.job == task.job as usize {

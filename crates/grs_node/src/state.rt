@@ -1,6 +1,7 @@
 //! A system without its deck: its tasks, its lists and its outbox, and what each event does to them. Each step
 //! gives what it fixed.
-ghost use Rattle.std.specs.Prelude.{◌≡◌, ◌∷◌, [], true, map, length, sum, option_copied, IfOk, OnOk};
+ghost use Rattle.std.specs.Prelude.{◌≡◌, ◌<◌, ◌≤◌, ◌∷◌, [], true, map, length, sum, option_copied, IfOk, IfSome, OnOk};
+ghost use Rattle.grs_base.specs.Limits.{most_lines};
 ghost use Rattle.task_state.specs.View.{new_tasks, is_task, state_of, record_of};
 ghost use Rattle.grs_legal.specs.Asks.{meaning_of, meanings, scripts_of};
 ghost use Rattle.grs_node.specs.declared.prepared.Prepared.TheVariants.{Quiet};
@@ -226,8 +227,7 @@ impl NodeState {
         }
     }
 
-    /// A task that is ready: it takes its next line, or begins to end. There is no memory for more than
-    /// 4,294,967,295 lines.
+    /// A task that is ready: it takes its next line, or begins to end.
     #[tactic(auto, using(crate::proofs::Kept::kept), unfolding(crate::specs::Node::ready_step))]
     fn ready_step(
         &mut self,
@@ -236,7 +236,8 @@ impl NodeState {
         line: Option<Meaning>,
         limit: u32,
     ) -> Result<List<Fixed>, NoMemory>
-        requires { is_task self.old.tasks task ≡ true }
+        requires task { is_task self.old.tasks task ≡ true }
+        requires line { IfSome line (λ _. (state_of self.old.tasks task).line < most_lines) }
         ensures step { IfOk result (λ fixed. stepped self.new fixed ≡ steps.ready_step limit self.old task line) }
         ensures system { self.new.tasks.system ≡ self.old.tasks.system }
     {
@@ -244,9 +245,6 @@ impl NodeState {
             self.tasks.set_phase(task, Phase::Ending(0));
             return self.end_step(alloc, task, 0);
         };
-        if self.tasks.state(task).line == u32::MAX {
-            return Err(NoMemory);
-        }
         self.tasks.next_line(task);
         self.take_line(alloc, task, line, limit)
     }
@@ -261,7 +259,8 @@ impl NodeState {
         lines: &List<Line>,
         limit: u32,
     ) -> Result<List<Fixed>, NoMemory>
-        requires { is_task self.old.tasks task ≡ true }
+        requires task { is_task self.old.tasks task ≡ true }
+        requires lines { length lines.now ≤ most_lines }
         ensures step { IfOk result (λ fixed. stepped self.new fixed ≡ steps.phase_step limit self.old task (map (meaning_of lists.now task) lines.now) (state_of self.old.tasks task).phase) }
         ensures system { self.new.tasks.system ≡ self.old.tasks.system }
     {
@@ -290,7 +289,8 @@ impl NodeState {
         lines: Option<&List<Line>>,
         limit: u32,
     ) -> Result<List<Fixed>, NoMemory>
-        requires { is_task self.old.tasks task ≡ true }
+        requires task { is_task self.old.tasks task ≡ true }
+        requires lines { IfSome lines (λ lines. length lines.now ≤ most_lines) }
         ensures step { IfOk result (λ fixed. stepped self.new fixed ≡ steps.task_step limit self.old task (meanings lists.now task (option_copied lines.entry))) }
         ensures system { self.new.tasks.system ≡ self.old.tasks.system }
     {

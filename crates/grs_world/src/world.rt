@@ -1,7 +1,7 @@
 //! The world of a run: the medium, the systems that share it, what the events fixed and what was told. Each event
 //! is one system's; one of a system that isn't there, or was removed, does nothing.
-ghost use Rattle.std.specs.Prelude.{◌≡◌, ◌<◌, ◌≤◌, ◌^◌, ◌+◌, ◌++◌, ◌∷◌, [], true, length, IfOk, OnOk};
-ghost use Rattle.grs_base.specs.Limits.{most_systems};
+ghost use Rattle.std.specs.Prelude.{◌≡◌, ◌<◌, ◌^◌, ◌+◌, ◌++◌, ◌∷◌, [], true, length, IfOk, OnOk};
+ghost use Rattle.grs_wire.specs.Decks.{IsDeck};
 ghost use Rattle.grs_node.specs.Node.{first_node};
 ghost use Rattle.grs_world.specs.World as runs;
 ghost use Rattle.grs_world.specs.Running.{starting, after, ran, nodes_of, AreOf, is_live, at_rest, units_of, task_end};
@@ -59,8 +59,9 @@ fn add_node<'d>(
     nodes: &mut List<Node<'d>>,
     system: SysId,
 ) -> Result<(), NoMemory>
+    requires deck { IsDeck deck.now }
     requires system { system.0 < length deck.now.systems }
-    requires deck { AreOf deck.now nodes.old }
+    requires nodes { AreOf deck.now nodes.old }
     ensures nodes { OnOk result (nodes_of nodes.new ≡ nodes_of nodes.old ++ first_node deck.now system.0 ∷ []) }
     ensures deck { OnOk result (AreOf deck.now nodes.new) }
     ensures count { OnOk result (length nodes.new ≡ length nodes.old + 1) }
@@ -72,7 +73,7 @@ fn add_node<'d>(
 /// The systems of a deck before their first events.
 #[tactic(auto, using(crate::proofs::system::First::first))]
 fn first_nodes<'d>(alloc: Global, deck: &'d Deck) -> Result<Vec<Node<'d>>, NoMemory>
-    requires { length deck.now.systems ≤ most_systems }
+    requires { IsDeck deck.now }
     ensures nodes { IfOk result (λ nodes. nodes_of nodes.items ≡ runs.first_nodes deck.now 0 deck.now.systems) }
     ensures deck { IfOk result (λ nodes. AreOf deck.now nodes.items) }
     ensures count { IfOk result (λ nodes. length nodes.items ≡ length deck.now.systems) }
@@ -121,8 +122,7 @@ impl<'d> World<'d> {
     /// A deck before its first event: nothing is queued and no task has begun.
     #[tactic(auto, using(crate::proofs::system::First::first), unfolding(crate::specs::World::first_world))]
     pub fn new(alloc: Global, deck: &'d Deck) -> Result<World<'d>, NoMemory>
-        requires some { 0 < length deck.now.systems }
-        requires few { length deck.now.systems ≤ most_systems }
+        requires { IsDeck deck.now }
         ensures { IfOk result (λ w. w ≡ starting deck.now) }
     {
         let systems = deck.systems.len() as u32;
@@ -251,8 +251,7 @@ impl<'d> World<'d> {
 /// The run of a list of events.
 #[tactic(auto, using(crate::proofs::code::Happens::runs))]
 pub fn replay<'d>(alloc: Global, deck: &'d Deck, events: &[Event]) -> Result<World<'d>, NoMemory>
-    requires some { 0 < length deck.now.systems }
-    requires few { length deck.now.systems ≤ most_systems }
+    requires { IsDeck deck.now }
     ensures { IfOk result (λ w. w ≡ ran deck.now events.now) }
 {
     let mut world = World::new(alloc, deck)?;

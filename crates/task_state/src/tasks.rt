@@ -1,6 +1,7 @@
 //! The tasks of a system. Each call changes one task, or tells one line.
 ghost use Rattle.std.specs.Prelude.{◌≡◌, ◌<◌, ◌+◌, ◌++◌, ◌∷◌, [], ℕ, true, length, map, sum, None, IsTrue, ◌↔◌, IfOk, OnOk, OnErr};
 ghost use Rattle.std.specs.Option.{option_copied, option_map};
+ghost use Rattle.grs_base.specs.Limits.{most_lines};
 ghost use Rattle.task_state.specs.Units.{is_count, count_at, reserves_of};
 ghost use Rattle.task_state.specs.View as view;
 ghost use Rattle.task_state.specs.View.{TasksView, new_tasks, is_task, code_in, state_of, record_of, with_line, with_phase, with_outstanding, with_record, without_record, with_told, with_exclusive, with_rank, with_rows, without_rows, telling};
@@ -240,10 +241,10 @@ impl Tasks {
         Ok(List::from_vec(count_units(self.alloc, self.tasks.as_slice())?))
     }
 
-    /// The task takes one more line.
+    /// The task takes one more line, of those that a deck may have.
     pub fn next_line(&mut self, task: TaskId)
         requires task { is_task self.old task ≡ true }
-        requires line { (state_of self.old task).line < u32.MAX }
+        requires line { (state_of self.old task).line < most_lines }
         ensures { self.new ≡ with_line self.old task }
     {
         let state = &mut self.tasks[task.task as usize];
