@@ -1,57 +1,28 @@
 //! What was told, system by system and task by task. All lines are sorted by their systems once, and those of
 //! a system by the numbers of its tasks.
-ghost use Rattle.std.specs.Prelude.{◌≡◌, ◌++◌, ◌+◌, ◌∷◌, [], codes, map, OnOk, IfOk};
-ghost use Rattle.grs_base.specs.Same.{same_task};
+ghost use Rattle.std.specs.Prelude.{◌≡◌, ◌≤◌, ◌++◌, ◌+◌, ◌∷◌, [], codes, map, length, OnOk};
+ghost use Rattle.grs_base.specs.Limits.{most_jobs, most_tasks};
+ghost use Rattle.grs_wire.specs.Decks.{task_count, IsWithin, Fits};
 ghost use Rattle.grs_report.specs.Lines.{line};
-ghost use Rattle.grs_report.specs.Told.{told_lines, is_told_to, is_told_at_desk, task_at, told_to, told_at_desk, end_of, task_text, tasks_text, jobs_text, systems_text, told_text};
+ghost use Rattle.grs_report.specs.Told.{told_lines, is_told_to, is_told_at_desk, told_to, told_at_desk, end_of, task_text, tasks_text, jobs_text, systems_text, told_text};
 
 use super::lines::put_line;
 use super::shelves::{SystemLines, sorted_by_system};
 use super::spelled::end_word;
 use super::told_line::put_told_line;
-use grs_base::{List, NoMemory, TaskId};
+use grs_base::{List, NoMemory, SysId, TaskId, is_same_task};
 use grs_wire::{JobDef, Names, SystemDef, TaskDef, TaskEnd, Told, ToldLine};
 use std::alloc::Global;
 
-/// The places of a task: its system in the deck, its job in the system, and itself in the system.
-#[derive(Clone, Copy)]
-struct Place {
-    system: usize,
-    job: usize,
-    task: usize,
-}
-
-impl Place {
-    /// The place so many tasks further on in the same job. There is no memory for more tasks than `usize`
-    /// counts.
-    fn after(self, tasks: usize) -> Result<Place, NoMemory>
-        ensures { IfOk result (λ p. p ≡ record self { task = self.task + tasks }) }
-    {
-        match self.task.checked_add(tasks) {
-            Some(task) => Ok(Place { task, ..self }),
-            None => Err(NoMemory),
-        }
-    }
-}
-
-/// Whether a task stands at these places.
-fn stands_at(place: Place, task: TaskId) -> bool
-    ensures { result ≡ same_task (task_at place.system place.job place.task) task }
-{
-    usize::from(task.system.0) == place.system
-        && usize::from(task.job) == place.job
-        && usize::from(task.task) == place.task
-}
-
-/// Whether a line is told to the task at these places.
-fn is_told_to(place: Place, line: &ToldLine) -> bool
-    ensures { result ≡ is_told_to (task_at place.system place.job place.task) line.now }
+/// Whether a line is told to a task.
+fn is_told_to(task: TaskId, line: &ToldLine) -> bool
+    ensures { result ≡ is_told_to task line.now }
 {
     match line {
-        ToldLine::Coded { task, .. }
-        | ToldLine::Shown { task, .. }
-        | ToldLine::Post { task, .. }
-        | ToldLine::Ended { task, .. } => stands_at(place, *task),
+        ToldLine::Coded { task: told, .. }
+        | ToldLine::Shown { task: told, .. }
+        | ToldLine::Post { task: told, .. }
+        | ToldLine::Ended { task: told, .. } => is_same_task(task, *told),
         ToldLine::Desk { .. } => false,
     }
 }
@@ -91,15 +62,14 @@ fn put_told_at_desk(
 fn put_told_to(
     alloc: Global,
     names: &Names,
-    place: Place,
+    task: TaskId,
     told: &[&Told],
     out: &mut List<u8>,
 ) -> Result<(), NoMemory>
-    ensures { OnOk result (out.new ≡ out.old
-        ++ told_lines names.now (told_to (task_at place.system place.job place.task) (map (λ t. t.now) told.now))) }
+    ensures { OnOk result (out.new ≡ out.old ++ told_lines names.now (told_to task (map (λ t. t.now) told.now))) }
 {
     for line in told {
-        if is_told_to(place, &line.line) {
+        if is_told_to(task, &line.line) {
             put_told_line(alloc, names, line, out)?;
         }
     }
@@ -110,22 +80,22 @@ fn put_told_to(
 fn put_told_among(
     alloc: Global,
     names: &Names,
-    place: Place,
+    task: TaskId,
     told: &SystemLines,
     out: &mut List<u8>,
 ) -> Result<(), NoMemory>
-    ensures { OnOk result (out.new ≡ out.old
-        ++ told_lines names.now (told_to (task_at place.system place.job place.task) told.now)) }
+    ensures { OnOk result (out.new ≡ out.old ++ told_lines names.now (told_to task told.now)) }
 {
-    put_told_to(alloc, names, place, told.under(place.task), out)
+    let lines = told.under(usize::from(task.task));
+    put_told_to(alloc, names, task, lines, out)
 }
 
 /// How a task stands at the end.
-fn end_of(place: Place, ended: &[(TaskId, TaskEnd)]) -> TaskEnd
-    ensures { result ≡ end_of (task_at place.system place.job place.task) ended.now }
+fn end_of(task: TaskId, ended: &[(TaskId, TaskEnd)]) -> TaskEnd
+    ensures { result ≡ end_of task ended.now }
 {
-    for (task, end) in ended {
-        if stands_at(place, *task) {
+    for (other, end) in ended {
+        if is_same_task(task, *other) {
             return *end;
         }
     }
@@ -152,33 +122,33 @@ fn put_task(
     told: &SystemLines,
     ended: &[(TaskId, TaskEnd)],
     job: &[u8],
-    place: Place,
+    task: TaskId,
     name: &[u8],
     out: &mut List<u8>,
 ) -> Result<(), NoMemory>
-    ensures { OnOk result (out.new ≡ out.old
-        ++ task_text names.now told.now ended.now job.now (task_at place.system place.job place.task) name.now) }
+    ensures { OnOk result (out.new ≡ out.old ++ task_text names.now told.now ended.now job.now task name.now) }
 {
     put_task_name(job, name, out)?;
-    put_told_among(alloc, names, place, told, out)?;
-    put_line(&[b"S".as_slice(), end_word(end_of(place, ended))], out)
+    put_told_among(alloc, names, task, told, out)?;
+    put_line(&[b"S".as_slice(), end_word(end_of(task, ended))], out)
 }
 
-/// Puts the tasks of a job behind a text. `first` has the places of the first.
+/// Puts the tasks of a job behind a text. The first of them is `first`.
 fn put_tasks(
     alloc: Global,
     names: &Names,
     told: &SystemLines,
     ended: &[(TaskId, TaskEnd)],
     job: &JobDef,
-    first: Place,
+    first: TaskId,
     out: &mut List<u8>,
 ) -> Result<(), NoMemory>
+    requires { first.task + length job.now.tasks ≤ most_tasks }
     ensures { OnOk result (out.new ≡ out.old
-        ++ tasks_text names.now told.now ended.now job.now.name first.system first.job first.task job.now.tasks) }
+        ++ tasks_text names.now told.now ended.now job.now.name first.system.0 first.job first.task job.now.tasks) }
 {
     let tasks = job.tasks.as_slice();
-    let mut place = first;
+    let mut place = first.task;
     for task in tasks {
         put_task(
             alloc,
@@ -186,11 +156,14 @@ fn put_tasks(
             told,
             ended,
             job.name.as_slice(),
-            place,
+            TaskId {
+                task: place,
+                ..first
+            },
             task.name.as_slice(),
             out,
         )?;
-        place = place.after(1)?;
+        place += 1;
     }
     Ok(())
 }
@@ -201,20 +174,23 @@ fn put_jobs(
     names: &Names,
     told: &SystemLines,
     ended: &[(TaskId, TaskEnd)],
-    system: usize,
+    system: SysId,
     jobs: &[JobDef],
     out: &mut List<u8>,
 ) -> Result<(), NoMemory>
-    ensures { OnOk result (out.new ≡ out.old ++ jobs_text names.now told.now ended.now system 0 0 jobs.now) }
+    requires jobs { length jobs.now ≤ most_jobs }
+    requires tasks { task_count jobs.now ≤ most_tasks }
+    ensures { OnOk result (out.new ≡ out.old ++ jobs_text names.now told.now ended.now system.0 0 0 jobs.now) }
 {
-    let mut first = Place {
-        system,
-        job: 0,
-        task: 0,
-    };
+    let mut task = 0;
     for (job, def) in jobs.iter().enumerate() {
-        put_tasks(alloc, names, told, ended, def, Place { job, ..first }, out)?;
-        first = first.after(def.tasks.len())?;
+        let first = TaskId {
+            system,
+            job: job as u16,
+            task,
+        };
+        put_tasks(alloc, names, told, ended, def, first, out)?;
+        task += def.tasks.len() as u16;
     }
     Ok(())
 }
@@ -225,13 +201,14 @@ fn put_system(
     names: &Names,
     told: &[&Told],
     ended: &[(TaskId, TaskEnd)],
-    system: usize,
+    system: SysId,
     def: &SystemDef,
     out: &mut List<u8>,
 ) -> Result<(), NoMemory>
+    requires { IsWithin def.now }
     ensures { OnOk result (out.new ≡ out.old
         ++ ((line (codes "SYSTEM" ∷ def.now.name ∷ []) ++ told_lines names.now (told_at_desk (map (λ t. t.now) told.now)))
-        ++ jobs_text names.now (map (λ t. t.now) told.now) ended.now system 0 0 def.now.jobs)) }
+        ++ jobs_text names.now (map (λ t. t.now) told.now) ended.now system.0 0 0 def.now.jobs)) }
 {
     put_line(&[b"SYSTEM".as_slice(), def.name.as_slice()], out)?;
     put_told_at_desk(alloc, names, told, out)?;
@@ -257,11 +234,13 @@ fn put_systems(
     systems: &[SystemDef],
     out: &mut List<u8>,
 ) -> Result<(), NoMemory>
+    requires { Fits systems.now }
     ensures { OnOk result (out.new ≡ out.old ++ systems_text names.now told.now ended.now 0 systems.now) }
 {
     let lines = sorted_by_system(alloc, told)?;
-    for (system, def) in systems.iter().enumerate() {
-        put_system(alloc, names, lines.under(system), ended, system, def, out)?;
+    for (place, def) in systems.iter().enumerate() {
+        let system = SysId(place as u8);
+        put_system(alloc, names, lines.under(place), ended, system, def, out)?;
     }
     Ok(())
 }
@@ -276,6 +255,7 @@ pub(crate) fn put_told(
     systems: &[SystemDef],
     out: &mut List<u8>,
 ) -> Result<(), NoMemory>
+    requires { Fits systems.now }
     ensures { OnOk result (out.new ≡ out.old ++ told_text names.now told.now ended.now systems.now) }
 {
     put_line(&[b"TOLD".as_slice()], out)?;

@@ -1,5 +1,6 @@
 //! The whole report, part by part. Each part is put behind the text so far.
 ghost use Rattle.std.specs.Prelude.{◌≡◌, ◌++◌, OnOk, IfOk};
+ghost use Rattle.grs_wire.specs.Decks.{IsDeck};
 ghost use Rattle.grs_report.specs.Report.{head_line, end_line, report};
 
 use super::ends::all_ended;
@@ -53,6 +54,7 @@ fn put_head(out: &mut List<u8>) -> Result<(), NoMemory>
 /// have, and a task without an entry in `ended` counts as open. Want of memory is `NoMemory`.
 #[tactic(auto, unfolding(crate::specs::Report::report))]
 pub fn report(alloc: Global, deck: &Deck, seen: &Seen) -> Result<List<u8>, NoMemory>
+    requires { IsDeck deck.now }
     ensures { IfOk result (λ text. text ≡ report deck.now seen.now) }
 {
     let names = names_of(alloc, deck)?;
