@@ -167,17 +167,6 @@ kept-take ns ms es fs n r k kept found is said =
       few = grind (arith, is, kept.few, length-without k es);
     }
 
-pub kept-none : (ns ms : List (Res × ℕ)) (es : Numbered) (n : ℕ) (r : Res) → IsKept ns es n → lookup (same_res r) ns ≡ None → ((q : Res) → lookup (same_res q) ms ≡ cond (same_res r q) None (lookup (same_res q) ns)) → IsKept ms es n
-kept-none ns ms es n r kept absent said = record {
-  rising = kept.rising;
-  apart = kept.apart;
-  numbered = λ q. said q ∙ still q ∙ kept.numbered q;
-  few = kept.few;
-}
-  where
-    still : (q : Res) → cond (same_res r q) None (lookup (same_res q) ns) ≡ lookup (same_res q) ns
-    still q = grind (arith, absent, same_res-exact r q)
-
 pub kept-on : (ns : List (Res × ℕ)) (es fs : Numbered) (n k : ℕ) (f : Rec → Rec) → ((x : Rec) → (f x).res ≡ x.res) → IsKept ns es n → fs ≡ on_number k f es → IsKept ns fs n
 kept-on ns es fs n k f same kept is = record {
   rising = ap (rises_to n) is ∙ rises-on f same n k es kept.rising;
