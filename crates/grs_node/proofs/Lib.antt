@@ -1,5 +1,4 @@
 pub mod ScriptCounts
-pub mod UnitCounts
 pub mod Places
 pub mod Kept
 pub mod Deck

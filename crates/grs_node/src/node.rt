@@ -2,9 +2,9 @@
 //! of the medium, which somebody else carries out; and with the reply it is finished.
 ghost use Rattle.std.specs.Prelude.{◌≡◌, ◌<◌, ◌++◌, ◌∷◌, [], Some, true, drop, length, IfOk, IfSome, IfNone, OnOk};
 ghost use Rattle.grs_wire.specs.Decks.{IsDeck};
+ghost use Rattle.task_state.specs.Units.{counted, reserved_of};
 ghost use Rattle.task_state.specs.View.{is_task, state_of};
 ghost use Rattle.grs_node.specs.Node as steps;
-ghost use Rattle.grs_node.specs.Units.{counted, reserved_of};
 ghost use Rattle.grs_node.specs.Finish.{MayFinish};
 ghost use Rattle.grs_node.specs.TurnCalls.{call_of};
 ghost use Rattle.grs_wire.specs.declared.deck.Choice.TheVariants.{Turn};
@@ -250,12 +250,10 @@ impl<'d> Node<'d> {
     }
 
     /// How often each unit is reserved in hardware, by unit, without those that aren't reserved.
-    #[tactic(auto, using(crate::proofs::UnitCounts::counted_units))]
     pub fn units(&self) -> Result<List<(u16, u32)>, NoMemory>
         ensures { IfOk result (λ counts. counts ≡ counted (reserved_of self.now.node.tasks.tasks)) }
     {
-        let counts = self.state.tasks.units()?;
-        Ok(counts)
+        self.state.tasks.units()
     }
 
     /// Whether a task is one of this system's.

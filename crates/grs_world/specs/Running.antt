@@ -5,7 +5,7 @@ use Rattle.grs_base.specs.declared.resource.TaskId.{TaskId}
 use Rattle.grs_medium.specs.Medium.{medium_at_end}
 use Rattle.grs_node.specs.Log.{NodeView, end_in}
 use Rattle.grs_node.specs.Node.{Node, first_node, is_pending}
-use Rattle.grs_node.specs.Units.{units_at}
+use Rattle.task_state.specs.Units.{units_at}
 use Rattle.grs_wire.specs.Masks.{has}
 use Rattle.grs_wire.specs.declared.deck.Deck.{Deck}
 use Rattle.grs_wire.specs.declared.deck.Event.{Event}

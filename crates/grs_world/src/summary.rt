@@ -1,7 +1,7 @@
 //! What is seen of the systems of a run. Nothing here changes anything.
 ghost use Rattle.std.specs.Prelude.{◌≡◌, ◌≤◌, ◌++◌, map, length, IfOk, OnOk};
 ghost use Rattle.grs_base.specs.Limits.{most_systems};
-ghost use Rattle.grs_node.specs.Units.{units_at};
+ghost use Rattle.task_state.specs.Units.{units_at};
 ghost use Rattle.grs_world.specs.Running.{nodes_of, none_pending, pending_at, units_of, end_of, task_end};
 
 use grs_base::{List, NoMemory, SysId, TaskId};

@@ -1,8 +1,8 @@
 //! The tasks of a system. Each call changes one task, or tells one line.
-ghost use Rattle.std.specs.Prelude.{◌≡◌, ◌<◌, ◌+◌, ◌++◌, ◌∷◌, [], ℕ, true, length, map, sum, None, IsTrue, ◌↔◌, IfOk, OnOk, OnErr};
+ghost use Rattle.std.specs.Prelude.{◌≡◌, ◌<◌, ◌+◌, ◌++◌, ◌∷◌, [], true, length, map, sum, None, IsTrue, ◌↔◌, IfOk, OnOk, OnErr};
 ghost use Rattle.std.specs.Option.{option_copied, option_map};
 ghost use Rattle.grs_base.specs.Limits.{most_lines};
-ghost use Rattle.task_state.specs.Units.{is_count, count_at, reserves_of};
+ghost use Rattle.task_state.specs.Units.{counted, reserved_of};
 ghost use Rattle.task_state.specs.View as view;
 ghost use Rattle.task_state.specs.View.{TasksView, new_tasks, is_task, code_in, state_of, record_of, with_line, with_phase, with_outstanding, with_record, without_record, with_told, with_exclusive, with_rank, with_rows, without_rows, telling};
 
@@ -235,8 +235,7 @@ impl Tasks {
     /// How often each unit is reserved by tasks that were told control, by unit, without those that aren't
     /// reserved.
     pub fn units(&self) -> Result<List<(u16, u32)>, NoMemory>
-        ensures by_unit { IfOk result (λ counts. is_count counts ≡ true) }
-        ensures counts { IfOk result (λ counts. (u : ℕ) → count_at u counts ≡ reserves_of u self.now.tasks) }
+        ensures { IfOk result (λ counts. counts ≡ counted (reserved_of self.now.tasks)) }
     {
         Ok(List::from_vec(count_units(self.alloc, self.tasks.as_slice())?))
     }

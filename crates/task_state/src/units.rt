@@ -1,7 +1,7 @@
 //! Reserves of hardware units, counted by unit. A unit is counted once for each record whose task was told
 //! control.
-ghost use Rattle.std.specs.Prelude.{◌≡◌, ◌+◌, ◌≤◌, ℕ, true, cond, length, insert, slice_get, IfOk, OnOk};
-ghost use Rattle.task_state.specs.Units.{reserves, reserves_in, reserves_of, count_at, is_count, counting, unit_place};
+ghost use Rattle.std.specs.Prelude.{◌≡◌, ◌≤◌, length, insert, slice_get, IfOk, OnOk};
+ghost use Rattle.task_state.specs.Units.{reserved_by, reserved_in, reserved_of, counting, counting_all, counted, unit_place};
 
 use super::records::Records;
 use super::state::{Rec, TaskState};
@@ -63,11 +63,8 @@ fn add_unit(counts: &mut Vec<(u16, u32)>, unit: u16) -> Result<(), NoMemory>
 }
 
 /// Counts what a record reserves.
-#[tactic(auto, using(crate::proofs::UnitLaws::reserved))]
 fn add_record(counts: &mut Vec<(u16, u32)>, rec: &Rec) -> Result<(), NoMemory>
-    requires { is_count counts.old.items ≡ true }
-    ensures good { OnOk result (is_count counts.new.items ≡ true) }
-    ensures counts { OnOk result ((u : ℕ) → count_at u counts.new.items ≡ count_at u counts.old.items + cond (reserves u rec.now) 1 0) }
+    ensures { OnOk result (counts.new.items ≡ counting_all counts.old.items (reserved_by rec.now)) }
 {
     match rec.unit {
         Some(unit) if rec.told => add_unit(counts, unit),
@@ -76,11 +73,9 @@ fn add_record(counts: &mut Vec<(u16, u32)>, rec: &Rec) -> Result<(), NoMemory>
 }
 
 /// Counts what these records reserve.
-#[tactic(auto, using(crate::proofs::UnitLaws::reserved))]
+#[tactic(auto, using(crate::proofs::UnitLaws::parts))]
 fn add_records(counts: &mut Vec<(u16, u32)>, records: &Records) -> Result<(), NoMemory>
-    requires { is_count counts.old.items ≡ true }
-    ensures good { OnOk result (is_count counts.new.items ≡ true) }
-    ensures counts { OnOk result ((u : ℕ) → count_at u counts.new.items ≡ count_at u counts.old.items + reserves_in u records.now) }
+    ensures { OnOk result (counts.new.items ≡ counting_all counts.old.items (reserved_in records.now)) }
 {
     for rec in records.iter() {
         add_record(counts, rec)?;
@@ -89,10 +84,9 @@ fn add_records(counts: &mut Vec<(u16, u32)>, records: &Records) -> Result<(), No
 }
 
 /// The reserves of each unit by these tasks, by unit.
-#[tactic(auto, using(crate::proofs::UnitLaws::reserved))]
+#[tactic(auto, using(crate::proofs::UnitLaws::parts))]
 pub(crate) fn count_units(alloc: Global, tasks: &[TaskState]) -> Result<Vec<(u16, u32)>, NoMemory>
-    ensures good { IfOk result (λ all. is_count all.items ≡ true) }
-    ensures counts { IfOk result (λ all. (u : ℕ) → count_at u all.items ≡ reserves_of u tasks.now) }
+    ensures { IfOk result (λ all. all.items ≡ counted (reserved_of tasks.now)) }
 {
     let mut counts = Vec::new(alloc);
     let mut rest = tasks;
