@@ -1,22 +1,28 @@
 -- A call that is said to change the medium changes it.
-use Rattle.std.proofs.Common.{◌≡◌, ℕ, ◌+◌, Bool, true, false, cond, not, ◌&&◌, ◌||◌, List, [], ◌∷◌, length, refl, ap, sym, ◌∙◌, subst, arith}
-use Rattle.std.specs.Prelude.{Option, Some, map, filter, ◌==◌, nat_lt}
+use Rattle.std.proofs.Common.{◌≡◌, ℕ, ◌+◌, ◌<◌, ◌≤◌, Bool, true, false, cond, not, ◌&&◌, ◌||◌, List, [], ◌∷◌, ◌++◌, length, drop, refl, ap, sym, ◌∙◌, subst, arith}
+use Rattle.std.specs.Prelude.{Option, Some, None, map, filter, ◌==◌, nat_lt, slice_set}
 use Rattle.std.specs.List.{list_any}
 use Rattle.std.proofs.lemmas.Bool.{and_parts, true≢false}
-use Rattle.std.proofs.lemmas.List.{append-nil}
+use Rattle.std.proofs.lemmas.List.{append-nil, get_or-set_same, get_or_past, length-drop, length_push}
+use native.Mathlib.Decide.{dec_lt}
 use Rattle.grs_base.specs.declared.resource.SysId.{SysId}
 use Rattle.grs_wire.specs.declared.request.Req.{Req}
 use Rattle.grs_wire.specs.declared.medium.Act.{Act}
 use Rattle.grs_wire.specs.declared.medium.Act.TheVariants.{Turn, Switch, Submit, Take, Settle, Tell, Leave, Purge, Rest}
+use Rattle.grs_wire.specs.declared.medium.Mail.{Mail}
 use Rattle.grs_wire.specs.declared.medium.RingEntry.{RingEntry}
 use Rattle.grs_wire.specs.declared.medium.Reply.{Reply}
+use Rattle.grs_wire.specs.LockWords.{manager, manager_number, is_manager, submitted, leave_changes, left_word}
 use Rattle.grs_wire.specs.Masks.{has, only}
 use Rattle.grs_wire.proofs.MaskLaws.{has-without_same, has-with_same}
+use Rattle.lock_structure.specs.Words.{word_at, route_by, route, submitted_words}
+use Rattle.lock_structure.proofs.WordLaws.{submitted-unmanaged, left_word-changed}
 use Rattle.rsa_message.specs.Message.{Message, is_at, or_else, first_after, is_unseen, any_unseen, left_by, cleared, stamped, is_due, moves, turned_open, turned_closed, turned, turn_changes}
-use Rattle.grs_medium.specs.Apply.{turn_row, purge_row, rest_row, row, row_changes, apply, changes, is_live, without_system}
-use Rattle.grs_medium.specs.Medium.{MediumState, systems_of, live}
+use Rattle.grs_medium.specs.Apply.{turn_row, joined, submit_on, submit_row, take_from, take_row, mail_row, leave_row, purge_row, rest_row, row, row_changes, apply, changes, is_live, without_system}
+use Rattle.grs_medium.specs.Inboxes.{inbox_of, is_empty, with_mail, without_first}
+use Rattle.grs_medium.specs.Medium.{MediumState, systems_of, awake, inbox, live, word}
 use Rattle.grs_medium.specs.Room.{is_built}
-use Rattle.grs_medium.specs.Kept.{ChangesWhatItSays, WaitsForItsHolder}
+use Rattle.grs_medium.specs.Kept.{ChangesWhatItSays, NamesWhatIsThere, WaitsForItsHolder}
 
 -- a call that isn't refused by the checks is its row
 behind_checks : {M : Type 0} (b k r : Bool) (m : M) (x : Reply × M) (y z : Reply) → (r ≡ true → ¬ (x.1 ≡ m)) → (not b && k && r) ≡ true → ¬ ((cond b (y, m) (cond k x (z, m))).1 ≡ m)
@@ -83,21 +89,61 @@ purge_moves true l m x y z h moves = absurd cc
 purge_moves false true m x y z h moves = moves
 purge_moves false false m x y z h moves = absurd cc
 
-row_moves : (m : MediumState) (c : SysId) (act : Act) → is_built act ≡ true → WaitsForItsHolder m → row_changes m c act ≡ true → ¬ ((row m c act).1 ≡ m)
-unfolding row row_changes turn_row purge_row rest_row
-row_moves m c (Turn out) built waits h = λ e. turned_moves m.message c out (live m) m.rest waits h (ap (λ (x : MediumState). x.message) e)
-row_moves m c (Purge t) built waits h =
+-- a word in place of another
+word_moves : (words : List ℕ) (entry w : ℕ) → entry < length words → ¬ (w ≡ word_at words entry) → ¬ (slice_set words entry w ≡ words)
+word_moves words entry w inside other e = other (sym (get_or-set_same words entry w 0 inside) ∙ ap (λ (x : List ℕ). word_at x entry) e)
+
+-- a mail more, and a mail less
+mail_moves : (boxes : List (List Mail)) (s : ℕ) (mail : Mail) → s < length boxes → ¬ (with_mail boxes s mail ≡ boxes)
+mail_moves boxes s mail inside e =
+    let got : inbox_of boxes s ++ mail ∷ [] ≡ inbox_of boxes s = sym (get_or-set_same boxes s (inbox_of boxes s ++ mail ∷ []) [] inside) ∙ ap (λ (x : List (List Mail)). inbox_of x s) e in
+    let same : length (inbox_of boxes s ++ mail ∷ []) ≡ length (inbox_of boxes s) = ap length got in
+    absurd (omega (arith, length_push (inbox_of boxes s) mail))
+
+taking_moves : (boxes : List (List Mail)) (s : ℕ) → 0 < length (inbox_of boxes s) → ¬ (without_first boxes s ≡ boxes)
+taking_moves boxes s filled e = by_place (dec_lt s (length boxes))
+  where
+    by_place : Dec (s < length boxes) → ⊥
+    by_place (yes inside) =
+        let got : drop 1 (inbox_of boxes s) ≡ inbox_of boxes s = sym (get_or-set_same boxes s (drop 1 (inbox_of boxes s)) [] inside) ∙ ap (λ (x : List (List Mail)). inbox_of x s) e in
+        let same : length (drop 1 (inbox_of boxes s)) ≡ length (inbox_of boxes s) = ap length got in
+        absurd (omega (arith, length-drop 1 (inbox_of boxes s)))
+    by_place (no outside) = let none : length (inbox_of boxes s) ≡ 0 = ap length (get_or_past boxes s [] (omega arith)) in absurd (omega arith)
+
+-- a Submit of another than the manager
+when : {M : Type 0} (b : Bool) (x m : M) → b ≡ true → cond b x m ≡ x
+when true x m e = refl
+when false x m e = absurd cc
+
+submit_moves : (m : MediumState) (c : SysId) (entry : ℕ) (req : Req) (o : Option SysId) → manager (word m entry) ≡ o → entry < length m.words → manager_number o ≤ length m.inboxes → not (is_manager o c) ≡ true
+    → joined m c entry ≡ record m { words = submitted_words m.words entry c; rest = awake m c } → ¬ ((submit_on m c entry req (route_by o c)).1 ≡ m)
+submit_moves m c entry req None is inside there h joins =
+    λ e. word_moves m.words entry (submitted (word m entry) c) inside (submitted-unmanaged (word m entry) c is) (ap (λ (x : MediumState). x.words) (sym joins ∙ e))
+submit_moves m c entry req (Some s) is inside there h joins = rw (is_false (s.0 == c.0) h) (λ e. mail_moves m.inboxes s.0 _ (omega arith) (ap (λ (x : MediumState). x.inboxes) e))
+
+take_moves : (m : MediumState) (c : SysId) (mails : List Mail) → inbox m c.0 ≡ mails → not (is_empty mails) ≡ true → ¬ ((take_from m c mails).1 ≡ m)
+take_moves m c [] is h = absurd cc
+take_moves m c (mail ∷ rest) is h = λ e. let filled : length (inbox m c.0) ≡ length (mail ∷ rest) = ap length is in taking_moves m.inboxes c.0 (omega arith) (ap (λ (x : MediumState). x.inboxes) e)
+
+leave_moves : (m : MediumState) (c : SysId) (entry : ℕ) → entry < length m.words → leave_changes (word m entry) c ≡ true → ¬ ((leave_row m c entry).1 ≡ m)
+unfolding leave_row
+leave_moves m c entry inside h = rw h (λ e. word_moves m.words entry (left_word (word m entry) c) inside (left_word-changed (word m entry) c h) (ap (λ (x : MediumState). x.words) e))
+
+row_moves : (m : MediumState) (c : SysId) (act : Act) → is_built act ≡ true → NamesWhatIsThere m act → WaitsForItsHolder m → row_changes m c act ≡ true → ¬ ((row m c act).1 ≡ m)
+unfolding row row_changes turn_row submit_row route take_row mail_row purge_row rest_row
+row_moves m c (Turn out) built there waits h = λ e. turned_moves m.message c out (live m) m.rest waits h (ap (λ (x : MediumState). x.message) e)
+row_moves m c (Purge t) built there waits h =
     let living = and_parts (not m.star) (is_live m t) h in
-    let there = and_parts (nat_lt t.0 (systems_of m)) (not (has m.removed t.0)) living.1 in
-    purge_moves m.star (is_live m t) m _ _ _ h (λ e. apart_by (λ (x : MediumState). has x.removed t.0) (without_system m c t) m (has-with_same m.removed t.0) (is_false (has m.removed t.0) there.1) e)
-row_moves m c Rest built waits h = λ e. apart_by (λ (x : MediumState). has x.rest c.0) _ m (has-with_same m.rest c.0) (is_false (has m.rest c.0) h) e
-row_moves m c (Switch words) built waits h = absurd cc
-row_moves m c (Submit entry req) built waits h = absurd cc
-row_moves m c Take built waits h = absurd cc
-row_moves m c (Settle to mail) built waits h = absurd cc
-row_moves m c (Tell to mail) built waits h = absurd cc
-row_moves m c (Leave entry) built waits h = absurd cc
+    let present = and_parts (nat_lt t.0 (systems_of m)) (not (has m.removed t.0)) living.1 in
+    purge_moves m.star (is_live m t) m _ _ _ h (λ e. apart_by (λ (x : MediumState). has x.removed t.0) (without_system m c t) m (has-with_same m.removed t.0) (is_false (has m.removed t.0) present.1) e)
+row_moves m c Rest built there waits h = λ e. apart_by (λ (x : MediumState). has x.rest c.0) _ m (has-with_same m.rest c.0) (is_false (has m.rest c.0) h) e
+row_moves m c (Switch words) built there waits h = absurd cc
+row_moves m c (Submit entry req) built there waits h = submit_moves m c entry req (manager (word m entry)) refl there.0 there.1 h (when _ _ m h)
+row_moves m c Take built there waits h = take_moves m c (inbox m c.0) refl h
+row_moves m c (Settle to mail) built there waits h = λ e. mail_moves m.inboxes to.0 mail there (ap (λ (x : MediumState). x.inboxes) e)
+row_moves m c (Tell to mail) built there waits h = λ e. mail_moves m.inboxes to.0 mail there (ap (λ (x : MediumState). x.inboxes) e)
+row_moves m c (Leave entry) built there waits h = leave_moves m c entry there h
 
 pub changes_what_it_says : ChangesWhatItSays
 unfolding apply changes
-changes_what_it_says m c call built waits h = behind_checks (has m.removed c.0) (call.known == m.removed) (row_changes m c call.act) m (row m c call.act) _ _ (row_moves m c call.act built waits) h
+changes_what_it_says m c call built there waits h = behind_checks (has m.removed c.0) (call.known == m.removed) (row_changes m c call.act) m (row m c call.act) _ _ (row_moves m c call.act built there waits) h

@@ -20,6 +20,7 @@ use Rattle.grs_wire.specs.declared.medium.RingEntry.{RingEntry}
 use Rattle.grs_wire.specs.declared.medium.RingBody.TheVariants as bodies
 use Rattle.grs_wire.specs.Masks.{has, without, with_also}
 use Rattle.grs_wire.specs.LockWords.{manager, lock_word, submitted, leave_reply, leave_changes, left_word}
+use Rattle.lock_structure.specs.Words.{route}
 use Rattle.rsa_message.specs.Message.{first_after, unseen, any_unseen, cleared, stamped, turn_reply, wakes, rest_after_turn, turned, turn_changes, dropped, closed_by}
 use Rattle.grs_medium.specs.Medium.{MediumState, first_medium, medium_at_end}
 use Rattle.grs_medium.specs.Apply.{turn_row, switch_row, submit_row, take_row, mail_row, leave_row, purge_row, rest_row, row, apply, row_changes, changes}
@@ -86,7 +87,7 @@ ring :
     -- a Turn that gives and puts in nothing moves the message on; a second Rest changes nothing
     × (answers (first_medium 2 1 false) ((1, 0, turn) ∷ (0, 0, turn) ∷ (1, 0, Rest) ∷ (1, 0, Rest) ∷ [])
     ≡ (NotYours (Some (sys 0)), false) ∷ (Turned [] 0 false, true) ∷ (Resting, true) ∷ (Resting, false) ∷ [])
-unfolding has without with_also first_after unseen any_unseen cleared stamped turn_reply wakes rest_after_turn turned turn_changes dropped closed_by manager lock_word submitted leave_reply leave_changes left_word medium_at_end turn_row switch_row submit_row take_row mail_row leave_row purge_row rest_row row apply row_changes changes
+unfolding has without with_also first_after unseen any_unseen cleared stamped turn_reply wakes rest_after_turn turned turn_changes dropped closed_by manager lock_word submitted leave_reply leave_changes left_word medium_at_end turn_row switch_row submit_row route take_row mail_row leave_row purge_row rest_row row apply row_changes changes
 ring = (refl, refl, refl, refl, refl, refl)
 
 -- Three systems in a ring. Where the third is removed, its calls are answered Removed, and the others are told.
@@ -107,7 +108,7 @@ removal_of_three :
     × (answers (first_medium 3 1 false) ((0, 0, Turn (ask 0 ∷ [])) ∷ (1, 0, turn) ∷ (0, 0, Purge (sys 2)) ∷ (0, 4, Turn (ask 0 ∷ ask 0 ∷ [])) ∷ (1, 4, turn) ∷ (0, 4, turn) ∷ [])
     ≡ (Turned [] 1 false, true) ∷ (Turned (entry 1 0 7 ∷ []) 0 false, true) ∷ (Purged, true) ∷ (Turned (entry 1 0 1 ∷ removal 2 0 2 3 ∷ []) 2 false, true)
     ∷ (Turned (removal 2 0 2 2 ∷ entry 3 0 3 ∷ entry 4 0 3 ∷ []) 0 false, true) ∷ (Turned (entry 3 0 1 ∷ entry 4 0 1 ∷ []) 0 false, true) ∷ [])
-unfolding has without with_also first_after unseen any_unseen cleared stamped turn_reply wakes rest_after_turn turned turn_changes dropped closed_by manager lock_word submitted leave_reply leave_changes left_word medium_at_end turn_row switch_row submit_row take_row mail_row leave_row purge_row rest_row row apply row_changes changes
+unfolding has without with_also first_after unseen any_unseen cleared stamped turn_reply wakes rest_after_turn turned turn_changes dropped closed_by manager lock_word submitted leave_reply leave_changes left_word medium_at_end turn_row switch_row submit_row route take_row mail_row leave_row purge_row rest_row row apply row_changes changes
 removal_of_three = (refl, refl, refl)
 
 -- Two systems in star mode: the first manages, the second asks it by mail, and each leaves.
@@ -126,7 +127,7 @@ star :
     -- in star mode nobody is removed, nobody changes it again, and the message stands nowhere
     × (answers (first_medium 2 1 true) ((0, 0, Purge (sys 1)) ∷ (0, 0, Switch (0 ∷ [])) ∷ (0, 0, turn) ∷ (1, 0, Leave 0) ∷ (0, 0, Tell (sys 1) (mails.Granted (t_of 1) (Systems (65 ∷ []) (66 ∷ [])))) ∷ (1, 0, Take) ∷ [])
     ≡ (InStar, false) ∷ (Already, false) ∷ (NotYours None, false) ∷ (Left, false) ∷ (Told, true) ∷ (Taken (mails.Granted (t_of 1) (Systems (65 ∷ []) (66 ∷ []))), true) ∷ [])
-unfolding star_calls has without with_also first_after unseen any_unseen cleared stamped turn_reply wakes rest_after_turn turned turn_changes dropped closed_by manager lock_word submitted leave_reply leave_changes left_word medium_at_end turn_row switch_row submit_row take_row mail_row leave_row purge_row rest_row row apply row_changes changes
+unfolding star_calls has without with_also first_after unseen any_unseen cleared stamped turn_reply wakes rest_after_turn turned turn_changes dropped closed_by manager lock_word submitted leave_reply leave_changes left_word medium_at_end turn_row switch_row submit_row route take_row mail_row leave_row purge_row rest_row row apply row_changes changes
 star = (refl, refl, refl, refl, refl)
 
 -- Three systems change to star mode: not before the caller has processed every entry. The others take their turn
@@ -142,5 +143,5 @@ switch :
     ≡ (Turned [] 1 false, true) ∷ (Turned (entry 1 0 7 ∷ []) 0 false, true) ∷ (Switched, true) ∷ (NotYours (Some (sys 2)), false) ∷ (Turned (entry 1 0 5 ∷ []) 0 true, true)
     ∷ (Turned (entry 1 0 1 ∷ []) 0 true, true) ∷ (NotYours None, false) ∷ (Already, false) ∷ [])
     × ((after_all (first_medium 3 1 false) ((0, 0, Turn (ask 0 ∷ [])) ∷ (1, 0, turn) ∷ (1, 0, Switch (263 ∷ [])) ∷ [])).words ≡ 263 ∷ [])
-unfolding has without with_also first_after unseen any_unseen cleared stamped turn_reply wakes rest_after_turn turned turn_changes dropped closed_by manager lock_word submitted leave_reply leave_changes left_word medium_at_end turn_row switch_row submit_row take_row mail_row leave_row purge_row rest_row row apply row_changes changes
+unfolding has without with_also first_after unseen any_unseen cleared stamped turn_reply wakes rest_after_turn turned turn_changes dropped closed_by manager lock_word submitted leave_reply leave_changes left_word medium_at_end turn_row switch_row submit_row route take_row mail_row leave_row purge_row rest_row row apply row_changes changes
 switch = (refl, refl, refl)

@@ -1,5 +1,5 @@
 -- The calls of the medium, row by row: what each is answered, and what the medium is afterwards.
-use Rattle.std.specs.Prelude.{◌≡◌, ◌≢◌, ◌<◌, ◌≤◌, ℕ, Bool, true, false, cond, not, ◌==◌, nat_lt, ◌&&◌, ◌||◌, List, [], ◌∷◌, length, slice_set, Option, Some, None, is_none}
+use Rattle.std.specs.Prelude.{◌≡◌, ◌≢◌, ◌<◌, ◌≤◌, ℕ, Bool, true, false, cond, not, ◌==◌, nat_lt, ◌&&◌, ◌||◌, List, [], ◌∷◌, length, Option, Some, None, is_none}
 use Rattle.std.specs.List.{list_all}
 use Rattle.grs_base.specs.Limits.{most_systems}
 use Rattle.grs_base.specs.declared.resource.SysId.{SysId}
@@ -12,9 +12,13 @@ use Rattle.grs_wire.specs.declared.medium.Mail.TheVariants as mails
 use Rattle.grs_wire.specs.declared.medium.Reply.{Reply}
 use Rattle.grs_wire.specs.declared.medium.Reply.TheVariants.{Behind, Switched, Already, Sole, Sent, Taken, Empty, Settled, Told, Purged, NoSuch, InStar, Resting, Over, Stale, Removed}
 use Rattle.grs_wire.specs.Masks.{has, with_also, all_others}
-use Rattle.grs_wire.specs.LockWords.{interest, manager, is_manager, submitted, leave_reply, leave_changes, left_word}
+use Rattle.grs_wire.specs.LockWords.{interest, manager, leave_reply, leave_changes}
+use Rattle.lock_structure.specs.Words.{route, submit_changes, submitted_words, left_words}
+use Rattle.lock_structure.specs.declared.word.Route.{Route}
+use Rattle.lock_structure.specs.declared.word.Route.TheVariants as routes
 use Rattle.rsa_message.specs.Message.{unseen, first_number, turn_reply, turned, rest_after_turn, turn_changes, closed_by, dropped}
-use Rattle.grs_medium.specs.Medium.{MediumState, systems_of, live, inbox, is_empty, medium_at_end, all_rest, awake, with_word, word, mailed}
+use Rattle.grs_medium.specs.Inboxes.{is_empty, with_mail, without_first}
+use Rattle.grs_medium.specs.Medium.{MediumState, systems_of, live, inbox, medium_at_end, all_rest, awake, word}
 
 -- Turn: the caller gets its unseen entries, and its requests go into the message
 unfoldable pub turn_row : MediumState → SysId → List Req → Reply × MediumState
@@ -31,34 +35,35 @@ switch_ring m c words None = (Switched, record m { star = true; words = words; m
 unfoldable pub switch_row : MediumState → SysId → List ℕ → Reply × MediumState
 switch_row m c words = cond m.star (Already, m) (switch_ring m c words (first_number (unseen c m.message.entries)))
 
--- Submit: the caller manages the lock entry, or its request goes to the manager
-abbrev pub submit_to : MediumState → SysId → ℕ → Req → Option SysId → Reply × MediumState
-submit_to m c entry req None = (Sole, record m { words = with_word m entry (submitted (word m entry) c); rest = awake m c })
-submit_to m c entry req (Some s) =
-    cond (s.0 == c.0)
-    (Sole, m)
-    (Sent, record m { words = with_word m entry (submitted (word m entry) c); inboxes = mailed m s.0 (mails.Request entry c req); rest = awake m c })
+-- Submit: the caller has interest in the lock entry from then on, and the first to have it manages the entry. A
+-- request that isn't the caller's own to decide goes to the manager.
+abbrev pub joined : MediumState → SysId → ℕ → MediumState
+joined m c entry = cond (submit_changes (word m entry) c) (record m { words = submitted_words m.words entry c; rest = awake m c }) m
+
+abbrev pub submit_on : MediumState → SysId → ℕ → Req → Route → Reply × MediumState
+submit_on m c entry req routes.Sole = (Sole, joined m c entry)
+submit_on m c entry req (routes.To s) = (Sent, record (joined m c entry) { inboxes = with_mail m.inboxes s.0 (mails.Request entry c req) })
 
 unfoldable pub submit_row : MediumState → SysId → ℕ → Req → Reply × MediumState
-submit_row m c entry req = submit_to m c entry req (manager (word m entry))
+submit_row m c entry req = submit_on m c entry req (route (word m entry) c)
 
 -- Take: the first mail of the caller's inbox is taken out
 abbrev pub take_from : MediumState → SysId → List Mail → Reply × MediumState
 take_from m c [] = (Empty, m)
-take_from m c (mail ∷ rest) = (Taken mail, record m { inboxes = slice_set m.inboxes c.0 rest; rest = awake m c })
+take_from m c (mail ∷ rest) = (Taken mail, record m { inboxes = without_first m.inboxes c.0; rest = awake m c })
 
 unfoldable pub take_row : MediumState → SysId → Reply × MediumState
 take_row m c = take_from m c (inbox m c.0)
 
 -- Settle and Tell: the mail goes last into the inbox
 unfoldable pub mail_row : Reply → MediumState → SysId → SysId → Mail → Reply × MediumState
-mail_row reply m c to mail = (reply, record m { inboxes = mailed m to.0 mail; rest = awake m c })
+mail_row reply m c to mail = (reply, record m { inboxes = with_mail m.inboxes to.0 mail; rest = awake m c })
 
 -- Leave: the caller gives up its interest, but no manager leaves others behind
 unfoldable pub leave_row : MediumState → SysId → ℕ → Reply × MediumState
 leave_row m c entry = (
   leave_reply (word m entry) c,
-  cond (leave_changes (word m entry) c) (record m { words = with_word m entry (left_word (word m entry) c); rest = awake m c }) m,
+  cond (leave_changes (word m entry) c) (record m { words = left_words m.words entry c; rest = awake m c }) m,
 )
 
 -- Purge: a live system is removed, in ring mode
@@ -110,7 +115,7 @@ medium_after m c call = (apply m c call).1
 unfoldable pub row_changes : MediumState → SysId → Act → Bool
 row_changes m c (Turn out) = turn_changes m.message c (length out) (live m) m.rest
 row_changes m c (Switch words) = not m.star && is_none (first_number (unseen c m.message.entries))
-row_changes m c (Submit entry req) = not (is_manager (manager (word m entry)) c)
+row_changes m c (Submit entry req) = submit_changes (word m entry) c
 row_changes m c Take = not (is_empty (inbox m c.0))
 row_changes m c (Settle to mail) = true
 row_changes m c (Tell to mail) = true

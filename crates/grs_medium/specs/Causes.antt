@@ -1,14 +1,17 @@
 -- When each answer of the medium comes. Removed is looked at first, then Stale, and then what the act asks.
-use Rattle.std.specs.Prelude.{◌≡◌, ◌↔◌, ℕ, Bool, true, false, not, ◌==◌, ◌&&◌, Option}
+use Rattle.std.specs.Prelude.{◌≡◌, ◌↔◌, ℕ, Bool, true, false, not, ◌==◌, ◌&&◌, ◌||◌, Option, Some, None, is_none}
 use Rattle.grs_base.specs.declared.resource.SysId.{SysId}
 use Rattle.grs_wire.specs.Masks.{has}
 use Rattle.grs_wire.specs.declared.medium.Act.{Act}
-use Rattle.grs_wire.specs.declared.medium.Act.TheVariants.{Turn, Purge, Rest}
+use Rattle.grs_wire.specs.declared.medium.Act.TheVariants.{Turn, Submit, Take, Settle, Tell, Leave, Purge, Rest}
 use Rattle.grs_wire.specs.declared.medium.Call.{Call}
+use Rattle.grs_wire.specs.declared.medium.Mail.{Mail}
 use Rattle.grs_wire.specs.declared.medium.Reply.TheVariants as replies
+use Rattle.grs_wire.specs.LockWords.{interest, is_kept, manager, is_manager}
 use Rattle.rsa_message.specs.Message.{is_at}
 use Rattle.grs_medium.specs.Apply.{is_live, resting, reply_to}
-use Rattle.grs_medium.specs.Medium.{MediumState, all_rest, medium_at_end}
+use Rattle.grs_medium.specs.Inboxes.{is_empty, first_mail}
+use Rattle.grs_medium.specs.Medium.{MediumState, all_rest, inbox, medium_at_end, word}
 
 -- the caller was removed
 abbrev pub is_removed : MediumState → SysId → Bool
@@ -47,6 +50,49 @@ abbrev pub rests_early : MediumState → SysId → Act → Bool
 rests_early m c Rest = not (all_rest (resting m c) && medium_at_end m)
 rests_early m c act = false
 
+-- a Submit on a lock entry that the caller manages, or nobody
+abbrev pub submits_alone : MediumState → SysId → Act → Bool
+submits_alone m c (Submit entry req) = is_none (manager (word m entry)) || is_manager (manager (word m entry)) c
+submits_alone m c act = false
+
+-- a Submit on a lock entry that another system manages
+abbrev pub submits_to_another : MediumState → SysId → Act → Bool
+submits_to_another m c (Submit entry req) = not (is_none (manager (word m entry)) || is_manager (manager (word m entry)) c)
+submits_to_another m c act = false
+
+-- the mail that a Take of the caller gets: the first of its inbox
+abbrev pub taken_mail : MediumState → SysId → Act → Option Mail
+taken_mail m c Take = first_mail (inbox m c.0)
+taken_mail m c act = None
+
+-- a Take, and the caller's inbox is empty
+abbrev pub takes_nothing : MediumState → SysId → Act → Bool
+takes_nothing m c Take = is_empty (inbox m c.0)
+takes_nothing m c act = false
+
+abbrev pub settles : Act → Bool
+settles (Settle to mail) = true
+settles act = false
+
+abbrev pub tells : Act → Bool
+tells (Tell to mail) = true
+tells act = false
+
+-- a Leave of a lock entry that the caller manages, and others have interest as well
+abbrev pub leaves_others : MediumState → SysId → Act → Bool
+leaves_others m c (Leave entry) = is_kept (word m entry) c
+leaves_others m c act = false
+
+-- any other Leave
+abbrev pub leaves : MediumState → SysId → Act → Bool
+leaves m c (Leave entry) = not (is_kept (word m entry) c)
+leaves m c act = false
+
+-- the systems that have interest in the lock entry of a Leave
+abbrev pub interested : MediumState → Act → ℕ
+interested m (Leave entry) = interest (word m entry)
+interested m act = 0
+
 abbrev pub RemovedComes : Type 0
 RemovedComes = (m : MediumState) (c : SysId) (call : Call) → (reply_to m c call ≡ replies.Removed) ↔ (is_removed m c ≡ true)
 
@@ -69,3 +115,28 @@ OverComes = (m : MediumState) (c : SysId) (call : Call) → (reply_to m c call �
 
 abbrev pub RestingComes : Type 0
 RestingComes = (m : MediumState) (c : SysId) (call : Call) → (reply_to m c call ≡ replies.Resting) ↔ ((is_heard m c call ≡ true) × (rests_early m c call.act ≡ true))
+
+abbrev pub SoleComes : Type 0
+SoleComes = (m : MediumState) (c : SysId) (call : Call) → (reply_to m c call ≡ replies.Sole) ↔ ((is_heard m c call ≡ true) × (submits_alone m c call.act ≡ true))
+
+abbrev pub SentComes : Type 0
+SentComes = (m : MediumState) (c : SysId) (call : Call) → (reply_to m c call ≡ replies.Sent) ↔ ((is_heard m c call ≡ true) × (submits_to_another m c call.act ≡ true))
+
+abbrev pub TakenComes : Type 0
+TakenComes = (m : MediumState) (c : SysId) (call : Call) (mail : Mail) → (reply_to m c call ≡ replies.Taken mail) ↔ ((is_heard m c call ≡ true) × (taken_mail m c call.act ≡ Some mail))
+
+abbrev pub EmptyComes : Type 0
+EmptyComes = (m : MediumState) (c : SysId) (call : Call) → (reply_to m c call ≡ replies.Empty) ↔ ((is_heard m c call ≡ true) × (takes_nothing m c call.act ≡ true))
+
+abbrev pub SettledComes : Type 0
+SettledComes = (m : MediumState) (c : SysId) (call : Call) → (reply_to m c call ≡ replies.Settled) ↔ ((is_heard m c call ≡ true) × (settles call.act ≡ true))
+
+abbrev pub ToldComes : Type 0
+ToldComes = (m : MediumState) (c : SysId) (call : Call) → (reply_to m c call ≡ replies.Told) ↔ ((is_heard m c call ≡ true) × (tells call.act ≡ true))
+
+-- it carries the set of the systems that have interest
+abbrev pub KeptComes : Type 0
+KeptComes = (m : MediumState) (c : SysId) (call : Call) (mask : ℕ) → (reply_to m c call ≡ replies.Kept mask) ↔ ((is_heard m c call ≡ true) × ((leaves_others m c call.act ≡ true) × (mask ≡ interested m call.act)))
+
+abbrev pub LeftComes : Type 0
+LeftComes = (m : MediumState) (c : SysId) (call : Call) → (reply_to m c call ≡ replies.Left) ↔ ((is_heard m c call ≡ true) × (leaves m c call.act ≡ true))

@@ -1,11 +1,14 @@
 -- What is said of calls that change the medium, and of calls that don't.
-use Rattle.std.specs.Prelude.{◌≡◌, true, false}
+use Rattle.std.specs.Prelude.{◌≡◌, ◌<◌, ◌≤◌, true, false, length}
 use Rattle.grs_wire.specs.Masks.{has}
 use Rattle.rsa_message.specs.Message.{is_at}
 use Rattle.grs_base.specs.declared.resource.SysId.{SysId}
+use Rattle.grs_wire.specs.LockWords.{manager, manager_number}
+use Rattle.grs_wire.specs.declared.medium.Act.{Act}
+use Rattle.grs_wire.specs.declared.medium.Act.TheVariants.{Submit, Settle, Tell, Leave}
 use Rattle.grs_wire.specs.declared.medium.Call.{Call}
 use Rattle.grs_medium.specs.Apply.{medium_after, changes}
-use Rattle.grs_medium.specs.Medium.{MediumState}
+use Rattle.grs_medium.specs.Medium.{MediumState, word}
 use Rattle.grs_medium.specs.Room.{is_built}
 
 -- A call that isn't said to change the medium leaves it as it was.
@@ -16,6 +19,14 @@ LeavesTheRest = (m : MediumState) (c : SysId) (call : Call) → is_built call.ac
 abbrev pub WaitsForItsHolder : MediumState → Type 0
 WaitsForItsHolder m = m.message.closed ≡ true → (c : SysId) → is_at m.message.holder c ≡ true → has m.message.still c.0 ≡ true
 
+-- The lock entry that an act names is there, and so is the inbox that gets its mail.
+abbrev pub NamesWhatIsThere : MediumState → Act → Type 0
+NamesWhatIsThere m (Submit entry req) = (entry < length m.words) × (manager_number (manager (word m entry)) ≤ length m.inboxes)
+NamesWhatIsThere m (Settle to mail) = to.0 < length m.inboxes
+NamesWhatIsThere m (Tell to mail) = to.0 < length m.inboxes
+NamesWhatIsThere m (Leave entry) = entry < length m.words
+NamesWhatIsThere m act = Unit {0}
+
 -- A call that is said to change the medium doesn't leave it as it was.
 abbrev pub ChangesWhatItSays : Type 0
-ChangesWhatItSays = (m : MediumState) (c : SysId) (call : Call) → is_built call.act ≡ true → WaitsForItsHolder m → changes m c call ≡ true → ¬ (medium_after m c call ≡ m)
+ChangesWhatItSays = (m : MediumState) (c : SysId) (call : Call) → is_built call.act ≡ true → NamesWhatIsThere m call.act → WaitsForItsHolder m → changes m c call ≡ true → ¬ (medium_after m c call ≡ m)

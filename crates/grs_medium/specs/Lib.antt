@@ -1,3 +1,4 @@
+pub mod Inboxes
 pub mod Medium
 pub mod Apply
 pub mod Room

@@ -1,9 +1,11 @@
 -- The medium: the part of a complex that all its systems share.
-use Rattle.std.specs.Prelude.{ℕ, Bool, cond, ◌&&◌, ◌==◌, List, [], ◌∷◌, ◌++◌, length, slice_index, slice_index_or, slice_set, replicate}
+use Rattle.std.specs.Prelude.{ℕ, Bool, cond, ◌&&◌, List, [], replicate}
 use Rattle.grs_base.specs.declared.resource.SysId.{SysId}
 use Rattle.grs_wire.specs.declared.medium.Mail.{Mail}
 use Rattle.grs_wire.specs.Masks.{has, without, others, all_others}
+use Rattle.lock_structure.specs.Words.{word_at}
 use Rattle.rsa_message.specs.Message.{Message, opened, never_opened, message_at_end}
+use Rattle.grs_medium.specs.Inboxes.{inbox_of, is_empty}
 
 -- `words` are the lock words, one for each lock entry; each system has an inbox; `removed` is the set of the
 -- systems that were removed, and `rest` the set of those whose flag of rest is set.
@@ -36,10 +38,7 @@ live m = others (systems_of m) m.removed
 
 -- the inbox of a system
 abbrev pub inbox : MediumState → ℕ → List Mail
-inbox m s = slice_index_or m.inboxes s []
-
-abbrev pub is_empty : List Mail → Bool
-is_empty mails = length mails == 0
+inbox m s = inbox_of m.inboxes s
 
 -- whether nothing is left to do with the medium: all live inboxes are empty, no entry of the message is left,
 -- and no system has yet to change to star mode
@@ -54,13 +53,6 @@ all_rest m = all_others (systems_of m) m.removed (λ s. has m.rest s)
 abbrev pub awake : MediumState → SysId → ℕ
 awake m s = without m.rest s.0
 
--- with this lock word
-abbrev pub with_word : MediumState → ℕ → ℕ → List ℕ
-with_word m entry w = slice_set m.words entry w
-
+-- the lock word of an entry
 abbrev pub word : MediumState → ℕ → ℕ
-word m entry = slice_index m.words entry
-
--- with a mail last in the inbox of a system
-abbrev pub mailed : MediumState → ℕ → Mail → List (List Mail)
-mailed m to mail = slice_set m.inboxes to (inbox m to ++ mail ∷ [])
+word m entry = word_at m.words entry

@@ -1,5 +1,5 @@
 //! Laws of the medium: each function's contract is one, and there is nothing to run.
-ghost use Rattle.grs_medium.specs.Causes.{RemovedComes, StaleComes, NotYoursComes, InStarComes, NoSuchComes, OverComes, RestingComes};
+ghost use Rattle.grs_medium.specs.Causes.{RemovedComes, StaleComes, NotYoursComes, InStarComes, NoSuchComes, OverComes, RestingComes, SoleComes, SentComes, TakenComes, EmptyComes, SettledComes, ToldComes, KeptComes, LeftComes};
 ghost use Rattle.grs_medium.specs.Kept.{LeavesTheRest, ChangesWhatItSays};
 
 /// A call that isn't said to change the medium leaves it as it was.
@@ -7,8 +7,8 @@ pub fn leaves_the_rest()
     ensures { LeavesTheRest }
 {}
 
-/// A call that is said to change the medium changes it, if a closed message stands only at a system that has
-/// yet to change to star mode.
+/// A call that is said to change the medium changes it, if its lock entry and the inbox that it mails to are
+/// there, and a closed message stands only at a system that has yet to change to star mode.
 pub fn changes_what_it_says()
     ensures { ChangesWhatItSays }
 {}
@@ -50,4 +50,47 @@ pub fn over_comes()
 /// A call that is heard is answered Resting exactly where it is any other Rest.
 pub fn resting_comes()
     ensures { RestingComes }
+{}
+
+/// A call that is heard is answered Sole exactly where it is a Submit on a lock entry that its caller manages, or
+/// nobody.
+pub fn sole_comes()
+    ensures { SoleComes }
+{}
+
+/// A call that is heard is answered Sent exactly where it is a Submit on a lock entry that another system manages.
+pub fn sent_comes()
+    ensures { SentComes }
+{}
+
+/// A call that is heard is answered Taken exactly where it is a Take and its caller's inbox isn't empty, with the
+/// first mail.
+pub fn taken_comes()
+    ensures { TakenComes }
+{}
+
+/// A call that is heard is answered Empty exactly where it is a Take and its caller's inbox is empty.
+pub fn empty_comes()
+    ensures { EmptyComes }
+{}
+
+/// A call that is heard is answered Settled exactly where it is a Settle.
+pub fn settled_comes()
+    ensures { SettledComes }
+{}
+
+/// A call that is heard is answered Told exactly where it is a Tell.
+pub fn told_comes()
+    ensures { ToldComes }
+{}
+
+/// A call that is heard is answered Kept exactly where it is a Leave of a lock entry that its caller manages, and
+/// others have interest as well, with the set of all that have.
+pub fn kept_comes()
+    ensures { KeptComes }
+{}
+
+/// A call that is heard is answered Left exactly where it is any other Leave.
+pub fn left_comes()
+    ensures { LeftComes }
 {}

@@ -3,6 +3,7 @@
 //! resources, tasks or decks.
 #![tactic(auto)]
 
+mod inboxes;
 pub mod laws;
 mod medium;
 mod sets;

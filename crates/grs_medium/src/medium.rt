@@ -1,17 +1,23 @@
 //! The medium and its calls.
-ghost use Rattle.std.specs.Prelude.{◌≡◌, ◌<◌, ◌≤◌, true, [], length, replicate, IfOk, OnOk, OnErr};
+ghost use Rattle.std.specs.Prelude.{◌≡◌, ◌<◌, ◌≤◌, true, not, length, Some, IfOk, OnOk, OnErr};
 ghost use Rattle.grs_base.specs.Limits.{most_systems};
-ghost use Rattle.grs_medium.specs.Medium.{first_medium, systems_of, medium_at_end};
-ghost use Rattle.grs_medium.specs.Apply.{turn_row, purge_row, rest_row, reply_to, medium_after, changes, row, row_changes, ActFits, MayCall};
-ghost use Rattle.grs_medium.specs.Room.{is_built, HasRoomFor};
+ghost use Rattle.grs_wire.specs.LockWords.{leave_changes};
+ghost use Rattle.grs_wire.specs.declared.request.Req.{Req as ReqSpec};
+ghost use Rattle.lock_structure.specs.Words.{route, submit_changes};
+ghost use Rattle.grs_medium.specs.Inboxes.{is_empty};
+ghost use Rattle.grs_medium.specs.Medium.{first_medium, systems_of, awake, inbox, medium_at_end, word};
+ghost use Rattle.grs_medium.specs.Apply.{turn_row, joined, submit_row, take_row, mail_row, leave_row, purge_row, rest_row, reply_to, medium_after, changes, row, row_changes, ActFits, MayCall};
+ghost use Rattle.grs_medium.specs.Room.{is_built, HasRoomFor, HasRoomOn, request_on};
 ghost use Rattle.grs_medium.specs.Acts.{act_of};
 ghost use Rattle.grs_medium.specs.TurnReplies.{reply_of};
 ghost use Rattle.rsa_message.specs.Room.{HasRoom};
 
-use crate::sets::{all_at_rest, all_empty, live_of};
+use crate::inboxes::Inboxes;
+use crate::sets::{all_at_rest, live_of};
 use grs_base::{List, NoMemory, SysId};
 use grs_wire::masks::{has_system, with_system, without_system};
 use grs_wire::{Act, Call, Mail, Reply, Req};
+use lock_structure::{Route, Words};
 use rsa_message::{Given, Rsa};
 use std::alloc::Global;
 use std::marker::Model;
@@ -22,45 +28,24 @@ pub struct Medium {
     systems: u32,
     star: bool,
     rsa: Rsa,
-    words: List<u32>,
-    inboxes: Vec<List<Mail>>,
+    words: Words,
+    inboxes: Inboxes,
     removed: u32,
     rest: u32,
 }
 
 impl Model for Medium {
     ghost use Rattle.std.specs.Prelude.{◌≡◌, ◌≤◌, length};
+    ghost use Rattle.std.specs.List.{All};
     ghost use Rattle.grs_base.specs.Limits.{most_systems};
+    ghost use Rattle.lock_structure.specs.Words.{ManagerIsBelow};
     ghost use Rattle.grs_medium.specs.Room.{MediumValue};
 
     ghost Value = { MediumValue };
 
-    ghost view = { λ m. record { state = record { star = m.star; message = m.rsa.message; words = m.words; inboxes = m.inboxes.items; removed = m.removed; rest = m.rest }; room = m.rsa.room } };
+    ghost view = { λ m. record { state = record { star = m.star; message = m.rsa.message; words = m.words; inboxes = m.inboxes.mail; removed = m.removed; rest = m.rest }; room = m.rsa.room; ready = m.inboxes.ready } };
 
-    ghost invariant = { λ m. (m.systems ≡ m.rsa.message.systems) × (m.systems ≤ most_systems) × (length m.inboxes.items ≡ m.systems) };
-}
-
-/// So many empty inboxes.
-fn empty_inboxes(alloc: Global, systems: u32) -> Result<Vec<List<Mail>>, NoMemory>
-    ensures { IfOk result (λ inboxes. inboxes.items ≡ replicate systems []) }
-{
-    let mut inboxes = Vec::new(alloc);
-    for _ in 0..systems {
-        if inboxes.push(List::new(alloc)).is_err() {
-            return Err(NoMemory);
-        }
-    }
-    Ok(inboxes)
-}
-
-/// So many lock words in which nobody has interest.
-fn empty_words(alloc: Global, entries: u32) -> Result<List<u32>, NoMemory>
-    ensures { IfOk result (λ words. words ≡ replicate entries 0) }
-{
-    match Vec::from_elem(alloc, 0, entries as usize) {
-        Ok(words) => Ok(List::from_vec(words)),
-        Err(_) => Err(NoMemory),
-    }
+    ghost invariant = { λ m. (m.systems ≡ m.rsa.message.systems) × (m.systems ≤ most_systems) × (length m.inboxes.mail ≡ m.systems) × All (ManagerIsBelow m.systems) m.words };
 }
 
 /// What a Turn is answered.
@@ -98,6 +83,11 @@ impl TurnReply {
 #[derive(Drop)]
 enum Built {
     Turn(List<Req>),
+    Submit { entry: u32, req: Req },
+    Take,
+    Settle { to: SysId, mail: Mail },
+    Tell { to: SysId, mail: Mail },
+    Leave { entry: u32 },
     Purge(SysId),
     Rest,
 }
@@ -109,9 +99,24 @@ fn built_of(act: Act) -> Built
 {
     match act {
         Act::Turn { out } => Built::Turn(out),
+        Act::Submit { entry, req } => Built::Submit { entry, req },
+        Act::Take => Built::Take,
+        Act::Settle { to, mail } => Built::Settle { to, mail },
+        Act::Tell { to, mail } => Built::Tell { to, mail },
+        Act::Leave { entry } => Built::Leave { entry },
         Act::Purge { target } => Built::Purge(target),
         Act::Rest => Built::Rest,
         _ => unreachable!(),
+    }
+}
+
+/// The mail of a request, and whom it goes to, where it goes to the manager.
+fn request_to(route: Route, entry: u32, from: SysId, req: Req) -> Option<(SysId, Mail)>
+    ensures { result ≡ request_on route entry from req }
+{
+    match route {
+        Route::Sole => None,
+        Route::To(manager) => Some((manager, Mail::Request { entry, from, req })),
     }
 }
 
@@ -122,8 +127,8 @@ impl Medium {
         requires few { systems ≤ most_systems }
         ensures { IfOk result (λ medium. medium.state ≡ first_medium systems entries star) }
     {
-        let words = empty_words(alloc, entries)?;
-        let inboxes = empty_inboxes(alloc, systems)?;
+        let words = Words::new(alloc, entries)?;
+        let inboxes = Inboxes::new(alloc, systems)?;
         Ok(Medium {
             systems,
             star,
@@ -139,7 +144,7 @@ impl Medium {
     pub fn words(&self) -> &List<u32>
         ensures { result.now ≡ self.now.state.words }
     {
-        &self.words
+        self.words.words()
     }
 
     /// Whether the complex is in star mode.
@@ -162,7 +167,19 @@ impl Medium {
     pub fn at_end(&self) -> bool
         ensures { result ≡ medium_at_end self.now.state }
     {
-        all_empty(self.systems, self.removed, self.inboxes.as_slice()) && self.rsa.at_end()
+        self.inboxes.all_empty(self.systems, self.removed) && self.rsa.at_end()
+    }
+
+    /// Makes room in the manager's inbox for one request of the caller on an entry, where it goes there.
+    fn reserve_request(&mut self, caller: SysId, entry: u32) -> Result<(), NoMemory>
+        requires { entry < length self.old.state.words }
+        ensures state { self.new.state ≡ self.old.state }
+        ensures room { OnOk result (HasRoomOn self.new.ready (route (word self.new.state entry) caller)) }
+    {
+        match self.words.route(entry, caller) {
+            Route::Sole => Ok(()),
+            Route::To(manager) => self.inboxes.reserve(manager),
+        }
     }
 
     /// Makes room for one `apply` of this call. An entry of the message past the last number that one may have is
@@ -171,13 +188,15 @@ impl Medium {
         requires call { MayCall self.old.state caller call.now }
         requires built { is_built call.now.act ≡ true }
         ensures state { self.new.state ≡ self.old.state }
-        ensures room { OnOk result (HasRoomFor self.new.room caller call.now.act) }
+        ensures room { OnOk result (HasRoomFor self.new caller call.now.act) }
     {
         match &call.act {
             Act::Turn { out } => self.rsa.reserve(caller, out.len() as u32),
+            Act::Submit { entry, req: _ } => self.reserve_request(caller, *entry),
+            Act::Settle { to, mail: _ } | Act::Tell { to, mail: _ } => self.inboxes.reserve(*to),
             Act::Purge { target: _ } => self.rsa.reserve(caller, 0),
-            Act::Rest => Ok(()),
-            _ => unreachable!(),
+            Act::Take | Act::Leave { entry: _ } | Act::Rest => Ok(()),
+            Act::Switch { words: _ } => unreachable!(),
         }
     }
 
@@ -223,6 +242,96 @@ impl Medium {
         }
         self.rsa.reserve(caller, out.len() as u32)?;
         Ok(self.give(caller, out))
+    }
+
+    /// The flag of rest of the caller is cleared.
+    fn wake(&mut self, caller: SysId)
+        requires { caller.0 < systems_of self.old.state }
+        ensures state { self.new.state ≡ record self.old.state { rest = awake self.old.state caller } }
+        ensures ready { self.new.ready ≡ self.old.ready }
+    {
+        self.rest = without_system(self.rest, caller);
+    }
+
+    /// The caller has interest in an entry from then on. It says where a request of it goes.
+    #[tactic(auto, unfolding(lock_structure::specs::Words::route))]
+    fn join(&mut self, caller: SysId, entry: u32) -> Route
+        requires caller { caller.0 < systems_of self.old.state }
+        requires entry { entry < length self.old.state.words }
+        ensures route { result ≡ route (word self.old.state entry) caller }
+        ensures state { self.new.state ≡ joined self.old.state caller entry }
+        ensures ready { self.new.ready ≡ self.old.ready }
+    {
+        if !self.words.submit_changes(entry, caller) {
+            return self.words.route(entry, caller);
+        }
+        self.wake(caller);
+        self.words.submit(entry, caller)
+    }
+
+    /// A Submit.
+    #[tactic(auto, unfolding(crate::specs::Apply::submit_row))]
+    fn submit(&mut self, caller: SysId, entry: u32, req: Req) -> Reply
+        requires caller { caller.0 < systems_of self.old.state }
+        requires entry { entry < length self.old.state.words }
+        requires room { HasRoomOn self.old.ready (route (word self.old.state entry) caller) }
+        ensures reply { result ≡ (submit_row self.old.state caller entry req).0 }
+        ensures state { self.new.state ≡ (submit_row self.old.state caller entry req).1 }
+        ensures systems { systems_of self.new.state ≡ systems_of self.old.state }
+    {
+        let route = self.join(caller, entry);
+        match request_to(route, entry, caller, req) {
+            Some((manager, mail)) => {
+                self.inboxes.put(manager, mail);
+                Reply::Sent
+            }
+            None => Reply::Sole,
+        }
+    }
+
+    /// A Take.
+    #[tactic(auto, unfolding(crate::specs::Apply::take_row))]
+    fn take(&mut self, caller: SysId) -> Reply
+        requires { caller.0 < systems_of self.old.state }
+        ensures reply { result ≡ (take_row self.old.state caller).0 }
+        ensures state { self.new.state ≡ (take_row self.old.state caller).1 }
+        ensures systems { systems_of self.new.state ≡ systems_of self.old.state }
+    {
+        match self.inboxes.take(caller) {
+            Some(mail) => {
+                self.wake(caller);
+                Reply::Taken { mail }
+            }
+            None => Reply::Empty,
+        }
+    }
+
+    /// A mail of the caller to a system, by a Settle or a Tell.
+    #[tactic(auto, unfolding(crate::specs::Apply::mail_row))]
+    fn send(&mut self, caller: SysId, to: SysId, mail: Mail)
+        requires caller { caller.0 < systems_of self.old.state }
+        requires room { self.old.ready ≡ Some to }
+        ensures state { self.new.state ≡ (mail_row Reply.Settled self.old.state caller to mail).1 }
+        ensures systems { systems_of self.new.state ≡ systems_of self.old.state }
+    {
+        self.wake(caller);
+        self.inboxes.put(to, mail);
+    }
+
+    /// A Leave.
+    #[tactic(auto, unfolding(crate::specs::Apply::leave_row))]
+    fn leave(&mut self, caller: SysId, entry: u32) -> Reply
+        requires caller { caller.0 < systems_of self.old.state }
+        requires entry { entry < length self.old.state.words }
+        ensures reply { result ≡ (leave_row self.old.state caller entry).0 }
+        ensures state { self.new.state ≡ (leave_row self.old.state caller entry).1 }
+        ensures systems { systems_of self.new.state ≡ systems_of self.old.state }
+    {
+        if !self.words.leave_changes(entry, caller) {
+            return self.words.leave_reply(entry, caller);
+        }
+        self.wake(caller);
+        self.words.leave(entry, caller)
     }
 
     /// A Purge.
@@ -276,17 +385,28 @@ impl Medium {
     }
 
     /// The row of an act.
-    #[tactic(auto, unfolding(crate::specs::Apply::row))]
+    #[tactic(auto, unfolding(crate::specs::Apply::row, crate::specs::Apply::mail_row))]
     fn act(&mut self, caller: SysId, built: Built) -> Reply
         requires caller { caller.0 < systems_of self.old.state }
         requires fits { ActFits self.old.state caller (act_of built) }
-        requires room { HasRoomFor self.old.room caller (act_of built) }
+        requires room { HasRoomFor self.old caller (act_of built) }
         ensures reply { result ≡ (row self.old.state caller (act_of built)).0 }
         ensures state { self.new.state ≡ (row self.old.state caller (act_of built)).1 }
         ensures systems { systems_of self.new.state ≡ systems_of self.old.state }
     {
         match built {
             Built::Turn(out) => self.give(caller, out).into_reply(),
+            Built::Submit { entry, req } => self.submit(caller, entry, req),
+            Built::Take => self.take(caller),
+            Built::Settle { to, mail } => {
+                self.send(caller, to, mail);
+                Reply::Settled
+            }
+            Built::Tell { to, mail } => {
+                self.send(caller, to, mail);
+                Reply::Told
+            }
+            Built::Leave { entry } => self.leave(caller, entry),
             Built::Purge(target) => self.purge(caller, target),
             Built::Rest => self.rest(caller),
         }
@@ -298,11 +418,13 @@ impl Medium {
     /// removed systems. A Turn is answered NotYours exactly where the message isn't at the caller. A Purge is
     /// answered InStar exactly in star mode, and else NoSuch exactly where the target was removed or is no system.
     /// A Rest is answered Over exactly where all that aren't removed are then at rest and nothing is left to do.
+    /// A Take is answered Empty exactly where the caller's inbox is empty, and a Leave Kept exactly where the caller
+    /// manages the lock entry and others have interest in it as well.
     #[tactic(auto, unfolding(crate::specs::Apply::apply))]
     pub fn apply(&mut self, caller: SysId, call: Call) -> Reply
         requires call { MayCall self.old.state caller call }
         requires built { is_built call.act ≡ true }
-        requires room { HasRoomFor self.old.room caller call.act }
+        requires room { HasRoomFor self.old caller call.act }
         ensures reply { result ≡ reply_to self.old.state caller call }
         ensures state { self.new.state ≡ medium_after self.old.state caller call }
         ensures systems { systems_of self.new.state ≡ systems_of self.old.state }
@@ -334,9 +456,50 @@ impl Medium {
         (Reply::Purged, true)
     }
 
+    /// What a Submit would be answered.
+    #[tactic(auto, unfolding(crate::specs::Apply::submit_row))]
+    fn preview_submit(&self, caller: SysId, entry: u32) -> (Reply, bool)
+        requires { entry < length self.now.state.words }
+        ensures reply { (req : ReqSpec) → result.0 ≡ (submit_row self.now.state caller entry req).0 }
+        ensures changes { result.1 ≡ submit_changes (word self.now.state entry) caller }
+    {
+        let reply = match self.words.route(entry, caller) {
+            Route::Sole => Reply::Sole,
+            Route::To(_) => Reply::Sent,
+        };
+        (reply, self.words.submit_changes(entry, caller))
+    }
+
+    /// What a Take would be answered, with a copy of the mail.
+    #[tactic(auto, unfolding(crate::specs::Apply::take_row))]
+    fn preview_take(&self, caller: SysId) -> Result<(Reply, bool), NoMemory>
+        requires { caller.0 < systems_of self.now.state }
+        ensures reply { IfOk result (λ shown. shown.0 ≡ (take_row self.now.state caller).0) }
+        ensures changes { IfOk result (λ shown. shown.1 ≡ not (is_empty (inbox self.now.state caller.0))) }
+    {
+        match self.inboxes.copy_first(caller)? {
+            Some(mail) => Ok((Reply::Taken { mail }, true)),
+            None => Ok((Reply::Empty, false)),
+        }
+    }
+
+    /// What a Leave would be answered.
+    #[tactic(auto, unfolding(crate::specs::Apply::leave_row))]
+    fn preview_leave(&self, caller: SysId, entry: u32) -> (Reply, bool)
+        requires caller { caller.0 < systems_of self.now.state }
+        requires entry { entry < length self.now.state.words }
+        ensures reply { result.0 ≡ (leave_row self.now.state caller entry).0 }
+        ensures changes { result.1 ≡ leave_changes (word self.now.state entry) caller }
+    {
+        (
+            self.words.leave_reply(entry, caller),
+            self.words.leave_changes(entry, caller),
+        )
+    }
+
     /// The reply that `apply` of this call would give, and whether it would change the medium. That the entry of
     /// a Purge would have a number past the last that one may have is for `reserve` to say, and not said here.
-    #[tactic(auto, unfolding(crate::specs::Apply::apply, crate::specs::Apply::row, crate::specs::Apply::turn_row, crate::specs::Apply::changes, crate::specs::Apply::row_changes))]
+    #[tactic(auto, unfolding(crate::specs::Apply::apply, crate::specs::Apply::row, crate::specs::Apply::turn_row, crate::specs::Apply::mail_row, crate::specs::Apply::changes, crate::specs::Apply::row_changes))]
     pub fn preview(&self, caller: SysId, call: &Call) -> Result<(Reply, bool), NoMemory>
         requires call { MayCall self.now.state caller call.now }
         requires built { is_built call.now.act ≡ true }
@@ -354,9 +517,14 @@ impl Medium {
             Act::Turn { out } => self
                 .rsa
                 .preview_turn(caller, out.len() as u32, live, self.rest),
+            Act::Submit { entry, req: _ } => Ok(self.preview_submit(caller, *entry)),
+            Act::Take => self.preview_take(caller),
+            Act::Settle { to: _, mail: _ } => Ok((Reply::Settled, true)),
+            Act::Tell { to: _, mail: _ } => Ok((Reply::Told, true)),
+            Act::Leave { entry } => Ok(self.preview_leave(caller, *entry)),
             Act::Purge { target } => Ok(self.preview_purge(caller, *target)),
             Act::Rest => Ok((self.rest_reply(caller), !has_system(self.rest, caller))),
-            _ => unreachable!(),
+            Act::Switch { words: _ } => unreachable!(),
         }
     }
 }

@@ -1,11 +1,9 @@
 //! What is asked of all systems that aren't removed.
-ghost use Rattle.std.specs.Prelude.{◌≡◌, ◌<◌, ◌≤◌, ◌||◌, [], length, slice_index_or};
+ghost use Rattle.std.specs.Prelude.{◌≡◌, ◌<◌, ◌≤◌, ◌||◌};
 ghost use Rattle.grs_base.specs.Limits.{most_systems};
 ghost use Rattle.grs_wire.specs.Masks.{has, others, all_others};
-ghost use Rattle.grs_medium.specs.Medium.{is_empty};
 
-use grs_base::{List, SysId};
-use grs_wire::Mail;
+use grs_base::SysId;
 use grs_wire::masks::{has_system, with_system};
 
 /// The systems that aren't removed.
@@ -40,22 +38,6 @@ pub fn all_at_rest(systems: u32, removed: u32, rest: u32) -> bool
     for s in 0..systems {
         let system = SysId(s as u8);
         if !is_removed_or_rests(removed, rest, system) {
-            return false;
-        }
-    }
-    true
-}
-
-/// Whether the inbox of each system that isn't removed is empty.
-#[tactic(auto, using(crate::proofs::SetLaws::all_others_false))]
-pub fn all_empty(systems: u32, removed: u32, inboxes: &[List<Mail>]) -> bool
-    requires few { systems ≤ most_systems }
-    requires boxes { length inboxes.now ≡ systems }
-    ensures { result ≡ all_others systems removed (λ s. is_empty (slice_index_or inboxes.now s [])) }
-{
-    for s in 0..systems {
-        let system = SysId(s as u8);
-        if !(has_system(removed, system) || inboxes[s as usize].len() == 0) {
             return false;
         }
     }

@@ -3,13 +3,16 @@ use Rattle.std.proofs.Common.{◌≡◌, ℕ, Bool, true, false, cond, List, [],
 use Rattle.std.proofs.lemmas.Bool.Decides.{nat_tests}
 use Rattle.std.specs.Prelude.{nat_le, ◌==◌, ◌&&◌}
 use Rattle.grs_base.specs.declared.resource.SysId.{SysId}
-use Rattle.grs_medium.specs.Apply.{turn_row, switch_ring, switch_row, submit_to, submit_row, take_from, take_row, mail_row, leave_row, is_live, without_system, purge_row, resting, rest_row, row, apply, reply_to}
+use Rattle.grs_medium.specs.Apply.{turn_row, switch_ring, switch_row, submit_on, submit_row, take_from, take_row, mail_row, leave_row, is_live, without_system, purge_row, resting, rest_row, row, apply, reply_to}
 use Rattle.grs_medium.specs.Medium.{MediumState, inbox, word, all_rest, medium_at_end}
 use Rattle.grs_node.specs.Finish.{is_listed, may_come}
 use Rattle.grs_node.specs.Node.{Node, prepare}
 use Rattle.grs_node.specs.declared.prepared.Prepared.{Prepared}
 use Rattle.grs_node.specs.declared.prepared.Prepared.TheVariants.{Call}
-use Rattle.grs_wire.specs.LockWords.{manager, is_kept, interest, leave_reply}
+use Rattle.lock_structure.specs.Words.{route}
+use Rattle.lock_structure.specs.declared.word.Route.{Route}
+use Rattle.lock_structure.specs.declared.word.Route.TheVariants as routes
+use Rattle.grs_wire.specs.LockWords.{is_kept, interest, leave_reply}
 use Rattle.grs_wire.specs.Masks.{has}
 use Rattle.grs_wire.specs.declared.deck.Choice.{Choice}
 use Rattle.grs_wire.specs.declared.deck.Deck.{Deck}
@@ -45,15 +48,11 @@ switch_listed m c words = by_star m.star (first_number (unseen c m.message.entri
 
 submit_listed : (m : MediumState) (c : SysId) (entry : ℕ) (req : Req) → is_listed (acts.Submit entry req) (submit_row m c entry req).0 ≡ true
 unfolding submit_row
-submit_listed m c entry req = by_manager (manager (word m entry))
+submit_listed m c entry req = by_route (route (word m entry) c)
   where
-    by_self : (b : Bool) (x y : MediumState) → is_listed (acts.Submit entry req) (cond {A = Reply × MediumState} b (Sole, x) (Sent, y)).0 ≡ true
-    by_self true x y = refl
-    by_self false x y = refl
-
-    by_manager : (o : Option SysId) → is_listed (acts.Submit entry req) (submit_to m c entry req o).0 ≡ true
-    by_manager None = refl
-    by_manager (Some s) = by_self (s.0 == c.0) _ _
+    by_route : (r : Route) → is_listed (acts.Submit entry req) (submit_on m c entry req r).0 ≡ true
+    by_route routes.Sole = refl
+    by_route (routes.To s) = refl
 
 take_listed : (m : MediumState) (c : SysId) → is_listed acts.Take (take_row m c).0 ≡ true
 unfolding take_row
