@@ -19,9 +19,3 @@ returns-clause-words c = rw (c.in_ok-words.ensures, c.words.ensures, c.medium.en
 
 pub returns-clause-star : goal.returns-clause-star
 returns-clause-star c = rw (c.star-star.ensures, c.medium-2.ensures, c.in_ok-world.ensures, c.as_slice.ensures) refl
-
-pub replay-requires-clause-some : goal.replay-requires-clause-some
-replay-requires-clause-some c = c.requires.some
-
-pub replay-requires-clause-few : goal.replay-requires-clause-few
-replay-requires-clause-few c = c.requires.fits.few
