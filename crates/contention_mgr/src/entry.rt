@@ -1,5 +1,5 @@
 //! One lock entry that is managed: the lists of its resources, and beside them the ranks of their elements.
-ghost use Rattle.std.specs.Prelude.{◌≡◌, ◌==◌, ℕ, true, false, not, cond, length, nat_le, option_map, IfOk, OnOk, OnErr};
+ghost use Rattle.std.specs.Prelude.{◌≡◌, ◌≤◌, ◌==◌, ℕ, true, false, not, cond, length, nat_le, option_map, IfOk, OnOk, OnErr};
 ghost use Rattle.std.specs.List.{list_all};
 ghost use Rattle.grs_base.specs.State.{State as Plain, release_state};
 ghost use Rattle.grs_wire.specs.Wants.{answer_to, after_want, new_owners};
@@ -116,6 +116,7 @@ fn settle_queued(
     requires queues { queues_by table.old.held req.now.task req.now.want ≡ true }
     ensures answer { IfOk result (λ outcome. outcome.answer ≡ answer_to table.old.held req.now.task req.now.want) }
     ensures rank { IfOk result (λ outcome. outcome.rank ≡ next.old) }
+    ensures last { IfOk result (λ outcome. outcome.rank ≤ last_rank) }
     ensures owners { IfOk result (λ outcome. outcome.owners ≡ new_owners table.old.held req.now.task req.now.want) }
     ensures after { OnOk result ((s : ℕ) → entry_of_parts next.new table.new.held (mark_in marks.new.names.entries marks.new.marks.entries) ≡ settled s (entry_of_parts next.old table.old.held (mark_in marks.old.names.entries marks.old.marks.entries)) req.now.task req.now.want) }
     ensures unchanged { OnErr result (entry_of_parts next.new table.new.held (mark_in marks.new.names.entries marks.new.marks.entries) ≡ entry_of_parts next.old table.old.held (mark_in marks.old.names.entries marks.old.marks.entries)) }
@@ -225,6 +226,7 @@ impl Entry {
     pub(crate) fn answer(&self, alloc: Global, req: &Req) -> Result<(Answer, u64), NoMemory>
         ensures answer { IfOk result (λ given. given.0 ≡ answer_to (plain self.now.items) req.now.task req.now.want) }
         ensures rank { IfOk result (λ given. given.1 ≡ rank_given self.now req.now.task req.now.want) }
+        ensures last { IfOk result (λ given. given.1 ≤ last_rank) }
     {
         let answer = self.table.answer(alloc, req)?;
         if queues(&self.table, req) {
@@ -246,6 +248,7 @@ impl Entry {
     ) -> Result<Outcome, NoMemory>
         ensures answer { IfOk result (λ outcome. outcome.answer ≡ answer_to (plain self.old.items) req.now.task req.now.want) }
         ensures rank { IfOk result (λ outcome. outcome.rank ≡ rank_given self.old req.now.task req.now.want) }
+        ensures last { IfOk result (λ outcome. outcome.rank ≤ last_rank) }
         ensures owners { IfOk result (λ outcome. outcome.owners ≡ new_owners (plain self.old.items) req.now.task req.now.want) }
         ensures after { OnOk result (self.new ≡ settled system.0 self.old req.now.task req.now.want) }
         ensures unchanged { OnErr result (self.new ≡ self.old) }
