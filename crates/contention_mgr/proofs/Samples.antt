@@ -1,8 +1,9 @@
 -- Worked entries, by which the definitions are checked: what requests are answered, and what is left, is what the rules
 -- give by hand.
-use Rattle.std.proofs.Common.{◌≡◌, ℕ, Bool, true, false, List, [], ◌∷◌, Some, None, refl, codes}
+use Rattle.std.proofs.Common.{◌≡◌, ℕ, Bool, true, false, List, [], ◌∷◌, Option, Some, None, refl, codes}
 use Rattle.std.specs.Option.{option_map}
 use Rattle.grs_base.specs.declared.decision.Code.TheVariants.{C00, C04, Wait}
+use Rattle.grs_base.specs.declared.look.Filter.TheVariants.{All}
 use Rattle.grs_base.specs.declared.resource.Ctl.{Ctl}
 use Rattle.grs_base.specs.declared.resource.Ctl.TheVariants.{E, S}
 use Rattle.grs_base.specs.declared.resource.Res.{Res}
@@ -14,8 +15,8 @@ use Rattle.grs_wire.specs.declared.request.Answer.{Answer}
 use Rattle.grs_wire.specs.declared.request.Answer.TheVariants.{Coded}
 use Rattle.grs_wire.specs.declared.request.Req.{Req}
 use Rattle.grs_wire.specs.declared.request.Want.{Want}
-use Rattle.grs_wire.specs.declared.request.Want.TheVariants.{Enq, Deq, Release}
-use Rattle.contention_mgr.specs.Manager.{Ranked, Managed, plain, no_elements, settled, rank_given, with_mark, first_untold, any_untold_in, owner_of, entry_of_res}
+use Rattle.grs_wire.specs.declared.request.Want.TheVariants.{Enq, Deq, Release, Look}
+use Rattle.contention_mgr.specs.Manager.{Ranked, Managed, plain, no_elements, settled, rank_given, with_mark, first_untold, any_untold_in, owner_of, entry_of_res, entry_wanted}
 
 -- a task of a system, by its place
 abbrev task : ℕ → ℕ → TaskId
@@ -56,6 +57,22 @@ both_after = refl
 
 of_one_entry : entry_of_res 1 one ≡ Some 0
 of_one_entry = refl
+
+-- ---- the entry of looks
+abbrev looks_at : ℕ → ℕ → ℕ → Option ℕ
+looks_at entries first count = entry_wanted entries (Look first count All)
+
+-- one slice has the entry of that slice
+one_slice : (looks_at 16 52 1 ≡ Some 4) × (looks_at 64 63 1 ≡ Some 63) × (looks_at 1 63 1 ≡ Some 0)
+one_slice = (refl, refl, refl)
+
+-- of one entry all slices are, of more than one no two that follow each other
+more_slices : (looks_at 1 0 64 ≡ Some 0) × (looks_at 64 0 64 ≡ None) × (looks_at 2 0 2 ≡ None) × (looks_at 2 0 3 ≡ None)
+more_slices = (refl, refl, refl, refl)
+
+-- no slice, and slices that there aren't
+no_slices : (looks_at 1 0 0 ≡ None) × (looks_at 1 64 1 ≡ None) × (looks_at 1 63 2 ≡ None) × (looks_at 16 64 1 ≡ None)
+no_slices = (refl, refl, refl, refl)
 
 -- ---- a list of three exclusive elements, of which the first gives up control and a fourth comes
 abbrev pq : Res

@@ -1,7 +1,7 @@
 -- What a manager keeps: of each lock entry that it manages the next rank, and the elements of the lists of its resources,
 -- each with its rank and whether its task is still to be told that it owns. What a request is answered, and what it
 -- leaves, is by the plain lists.
-use Rattle.std.specs.Prelude.{ℕ, ◌+◌, Bool, true, false, not, ◌&&◌, ◌||◌, ◌==◌, cond, List, [], ◌∷◌, ◌++◌, length, map, filter, Option, Some, None, unwrap_or, slice_get, slice_set}
+use Rattle.std.specs.Prelude.{ℕ, zero, suc, ◌+◌, Bool, true, false, not, ◌&&◌, ◌||◌, ◌==◌, nat_lt, nat_le, cond, List, [], ◌∷◌, ◌++◌, length, map, filter, Option, Some, None, unwrap_or, slice_get, slice_set}
 use Rattle.std.specs.List.{list_any}
 use Rattle.std.specs.Option.{option_map_or}
 use Rattle.std.specs.Ordering.{is_lt}
@@ -142,12 +142,21 @@ entry_of_res entries (Step s j q r) = None
 entry_of_res entries (System s q r) = None
 entry_of_res entries (Systems q r) = Some (entry_of (slice_of q r) entries)
 
--- the lock entry of a request; of looks that of their first slice, since their slices are all of one entry
+-- whether so many slices from this one on are all of one entry, e
+abbrev pub are_of : ℕ → ℕ → ℕ → ℕ → Bool
+are_of entries e first zero = true
+are_of entries e first (suc count) = (e == entry_of first entries) && are_of entries e (first + 1) count
+
+-- the lock entry of looks: that of their slices, where they have one, and there are these slices
+abbrev pub entry_of_looks : ℕ → ℕ → ℕ → Option ℕ
+entry_of_looks entries first count = cond (nat_lt 0 count && nat_le (first + count) 64 && are_of entries (entry_of first entries) first count) (Some (entry_of first entries)) None
+
+-- the lock entry of a request
 abbrev pub entry_wanted : ℕ → Want → Option ℕ
 entry_wanted entries (Enq r c ret full) = entry_of_res entries r
 entry_wanted entries (Deq r have) = entry_of_res entries r
 entry_wanted entries (Release r) = entry_of_res entries r
-entry_wanted entries (Look first count f) = Some (entry_of first entries)
+entry_wanted entries (Look first count f) = entry_of_looks entries first count
 
 -- what is kept of an entry, where it is managed
 abbrev pub kept_at : List (Option Managed) → ℕ → Option Managed

@@ -1,12 +1,12 @@
 //! The manager of a system: of each lock entry what it keeps, where it manages it.
-ghost use Rattle.std.specs.Prelude.{◌≡◌, ◌≢◌, ◌<◌, ◌≤◌, ◌==◌, ℕ, true, false, is_some, length, replicate, slice_set, None, Some, option_map, IfOk, OnOk, OnErr};
+ghost use Rattle.std.specs.Prelude.{◌≡◌, ◌≢◌, ◌<◌, ◌≤◌, ◌+◌, ◌==◌, ℕ, true, false, is_some, length, replicate, slice_set, None, Some, option_map, IfOk, OnOk, OnErr};
 ghost use Rattle.std.specs.Option.{option_copied};
 ghost use Rattle.grs_wire.specs.Wants.{answer_to, new_owners};
 ghost use Rattle.contention_mgr.specs.Loads.{IsLoadable, loaded, last_rank};
-ghost use Rattle.contention_mgr.specs.Manager.{plain, no_elements, settled, rank_given, entry_of_res, entry_wanted, kept_at, managed_at, managed_of, managed_for, items_of, with_entry, after_request, rank_for, told, after_telling, any_untold_in, any_untold_at, first_untold, owner_of};
+ghost use Rattle.contention_mgr.specs.Manager.{plain, no_elements, settled, rank_given, entry_of_res, are_of, entry_of_looks, entry_wanted, kept_at, managed_at, managed_of, managed_for, items_of, with_entry, after_request, rank_for, told, after_telling, any_untold_in, any_untold_at, first_untold, owner_of};
 
 use crate::entry::Entry;
-use grs_base::{List, NoMemory, Res, Row, SysId, TaskId, entry_of, slice_of};
+use grs_base::{List, NoMemory, Res, Row, SLICES, SysId, TaskId, entry_of, slice_of};
 use grs_wire::{Answer, Req, Want};
 use queue_table::Outcome;
 use std::alloc::Global;
@@ -57,6 +57,40 @@ fn res_entry(entries: u32, res: &Res) -> Option<u32>
     }
 }
 
+/// Whether so many slices from this one on are all of one entry.
+fn are_of(entries: u32, entry: u32, first: u32, count: u32) -> bool
+    requires entries { entries ≢ 0 }
+    requires there { first + count ≤ 64 }
+    ensures { result ≡ are_of entries entry first count }
+{
+    let mut slice = first;
+    let mut left = count;
+    'slices: while left > 0 {
+        if entry_of(slice, entries) != entry {
+            return false;
+        }
+        slice += 1;
+        left -= 1;
+    }
+    true
+}
+
+/// The lock entry of looks at so many slices from this one on.
+fn looks_entry(entries: u32, first: u32, count: u32) -> Option<u32>
+    requires { entries ≢ 0 }
+    ensures { result ≡ entry_of_looks entries first count }
+{
+    if count == 0 || first > SLICES || count > SLICES - first {
+        return None;
+    }
+    let entry = entry_of(first, entries);
+    if are_of(entries, entry, first, count) {
+        Some(entry)
+    } else {
+        None
+    }
+}
+
 /// The lock entry of a request.
 fn wanted_entry(entries: u32, want: &Want) -> Option<u32>
     requires { entries ≢ 0 }
@@ -66,7 +100,7 @@ fn wanted_entry(entries: u32, want: &Want) -> Option<u32>
         Want::Enq { res, .. } | Want::Deq { res, .. } | Want::Release { res } => {
             res_entry(entries, res)
         }
-        Want::Look { first, .. } => Some(entry_of(*first, entries)),
+        Want::Look { first, count, .. } => looks_entry(entries, *first, *count),
     }
 }
 
