@@ -1,8 +1,8 @@
 -- What requests make of the plain lists of an entry, and of its ranks.
-use Rattle.std.proofs.Common.{◌≡◌, ◌<◌, ◌+◌, ℕ, Bool, true, false, cond, not, ◌||◌, List, [], ◌∷◌, ◌++◌, length, map, filter, Option, Some, None, zero, suc, refl, ap, ◌∙◌, arith}
-use Rattle.std.specs.Prelude.{◌==◌, nat_lt, slice_set}
+use Rattle.std.proofs.Common.{◌≡◌, ◌<◌, ◌≤◌, ◌+◌, ℕ, Bool, true, false, cond, not, ◌||◌, List, [], ◌∷◌, ◌++◌, length, map, filter, Option, Some, None, zero, suc, refl, ap, ◌∙◌, arith}
+use Rattle.std.specs.Prelude.{◌==◌, nat_lt, max, slice_set}
 use Rattle.std.specs.Option.{option_map_or}
-use Rattle.std.specs.List.{list_all}
+use Rattle.std.specs.List.{list_any, list_all}
 use Rattle.std.proofs.lemmas.Bool.Decides.{nat_tests}
 use Rattle.grs_base.specs.Same.{same_res}
 use Rattle.grs_base.specs.Lists.{decide_enq, is_owner, standing_of}
@@ -10,12 +10,14 @@ use Rattle.grs_base.specs.State.{State, list_of, without, with_exclusive, after_
 use Rattle.grs_base.specs.declared.decision.Effect.{Effect}
 use Rattle.grs_base.specs.declared.decision.Effect.TheVariants.{Nothing, Append, MakeExclusive}
 use Rattle.grs_base.specs.declared.resource.Ctl.{Ctl}
+use Rattle.grs_base.specs.declared.resource.Elem.{Elem}
 use Rattle.grs_base.specs.declared.resource.Res.{Res}
 use Rattle.grs_base.specs.declared.resource.TaskId.{TaskId}
 use Rattle.grs_wire.specs.Wants.{new_owners}
 use Rattle.grs_wire.specs.declared.request.Want.TheVariants.{Enq, Deq, Release, Look}
 use Rattle.contention_mgr.specs.Manager.{Ranked, Managed, plain, is_of, exclusive, marked, made_exclusive, taken_out, with_mark, with_control, enqueued, given_up, settled, kept_at, managed_at, managed_for, with_entry, entry_wanted}
-use Rattle.contention_mgr.specs.Laws.{ListsFollow, TellingKeepsLists, by_rank, IsRanked, RanksRise, FirstIsAny, OthersStay}
+use Rattle.contention_mgr.specs.Loads.{RankedRow, ranked_list, ranked_rows, greatest, ranks_of, rises, rows_apart}
+use Rattle.contention_mgr.specs.Laws.{ListsFollow, TellingKeepsLists, by_rank, IsRanked, RanksBegin, LoadedRanksRise, RanksRise, TellingKeepsRanks, FirstIsAny, OthersStay}
 use Rattle.contention_mgr.proofs.UntoldLemmas.{first-any}
 
 -- ---- the plain lists
@@ -151,6 +153,76 @@ ranks_rise s m t (Deq r have) h = step (is_owner (standing_of (list_of (plain m.
     step false = h
 ranks_rise s m t (Release r) h = ranked-given s m r t (new_owners (plain m.items) t (Release r)) h
 ranks_rise s m t (Look first count f) h = h
+
+pub telling_keeps_ranks : TellingKeepsRanks
+telling_keeps_ranks t r m h = ranked-mark m.next false r t m.items h
+
+pub ranks_begin : RanksBegin
+ranks_begin = record { rising = refl; below = refl }
+
+-- ---- ranks that are loaded
+-- elements of other resources than this one
+abbrev others : Res → List Ranked → Bool
+others r xs = list_all (λ y. not (same_res r y.res)) xs
+
+before-list : (x : Ranked) (r : Res) (es : List Elem) (ns : List ℕ) (zs : List Ranked) → list_all (λ k. nat_lt x.rank k) ns ≡ true → others x.res zs ≡ true → list_all (before x) (ranked_list r es ns ++ zs) ≡ true
+before-list x r [] ns [] h o = refl
+before-list x r [] ns (z ∷ zs) h o = grind (arith, o, before-list x r [] ns zs)
+before-list x r (e ∷ es) [] [] h o = refl
+before-list x r (e ∷ es) [] (z ∷ zs) h o = grind (arith, o, before-list x r (e ∷ es) [] zs)
+before-list x r (e ∷ es) (n ∷ ns) zs h o = grind (arith, h, before-list x r es ns zs)
+
+by_rank-list : (r : Res) (es : List Elem) (ns : List ℕ) (zs : List Ranked) → rises ns ≡ true → others r zs ≡ true → by_rank zs ≡ true → by_rank (ranked_list r es ns ++ zs) ≡ true
+by_rank-list r [] ns zs h o b = b
+by_rank-list r (e ∷ es) [] zs h o b = b
+by_rank-list r (e ∷ es) (n ∷ ns) zs h o b = grind (arith, h, o, b, before-list (record { res = r; elem = e; rank = n; untold = false }) r es ns zs, by_rank-list r es ns zs)
+
+others-list : (r q : Res) (es : List Elem) (ns : List ℕ) (zs : List Ranked) → same_res r q ≡ false → others r zs ≡ true → others r (ranked_list q es ns ++ zs) ≡ true
+others-list r q [] ns zs h o = o
+others-list r q (e ∷ es) [] zs h o = o
+others-list r q (e ∷ es) (n ∷ ns) zs h o = grind (arith, h, others-list r q es ns zs)
+
+others-rows : (r : Res) (xs : List RankedRow) → list_any (λ y. same_res r y.0.res) xs ≡ false → others r (ranked_rows xs) ≡ true
+others-rows r [] h = refl
+others-rows r (x ∷ xs) h = others-list r x.0.res x.0.elems x.1 (ranked_rows xs) (grind (arith, h)) (others-rows r xs (grind (arith, h)))
+
+by_rank-rows : (xs : List RankedRow) → rows_apart xs ≡ true → list_all (λ x. rises x.1) xs ≡ true → by_rank (ranked_rows xs) ≡ true
+by_rank-rows [] a h = refl
+by_rank-rows (x ∷ xs) a h = by_rank-list x.0.res x.0.elems x.1 (ranked_rows xs) (grind (arith, h)) (others-rows x.0.res xs (grind (arith, a))) (by_rank-rows xs (grind (arith, a)) (grind (arith, h)))
+
+below-list : (k : ℕ) (r : Res) (es : List Elem) (ns : List ℕ) (zs : List Ranked) → list_all (λ n. nat_lt n k) ns ≡ true → below k zs ≡ true → below k (ranked_list r es ns ++ zs) ≡ true
+below-list k r [] ns zs h b = b
+below-list k r (e ∷ es) [] zs h b = b
+below-list k r (e ∷ es) (n ∷ ns) zs h b = grind (arith, h, below-list k r es ns zs)
+
+all-front : (k : ℕ) (ns ms : List ℕ) → list_all (λ n. nat_lt n k) (ns ++ ms) ≡ true → list_all (λ n. nat_lt n k) ns ≡ true
+all-front k [] ms h = refl
+all-front k (n ∷ ns) ms h = grind (arith, h, all-front k ns ms)
+
+all-behind : (k : ℕ) (ns ms : List ℕ) → list_all (λ n. nat_lt n k) (ns ++ ms) ≡ true → list_all (λ n. nat_lt n k) ms ≡ true
+all-behind k [] ms h = h
+all-behind k (n ∷ ns) ms h = all-behind k ns ms (grind (arith, h))
+
+below-rows : (k : ℕ) (xs : List RankedRow) → list_all (λ n. nat_lt n k) (ranks_of xs) ≡ true → below k (ranked_rows xs) ≡ true
+below-rows k [] h = refl
+below-rows k (x ∷ xs) h = below-list k x.0.res x.0.elems x.1 (ranked_rows xs) (all-front k x.1 (ranks_of xs) h) (below-rows k xs (all-behind k x.1 (ranks_of xs) h))
+
+greatest-from : (k : ℕ) (ns : List ℕ) → k ≤ greatest k ns
+greatest-from k [] = omega arith
+greatest-from k (n ∷ ns) = let rest = greatest-from (max k n) ns in omega (arith, rest)
+
+below-greatest : (k top : ℕ) (ns : List ℕ) → greatest k ns < top → list_all (λ n. nat_lt n top) ns ≡ true
+below-greatest k top [] h = refl
+below-greatest k top (n ∷ ns) h =
+    let from = greatest-from (max k n) ns in
+    let small : n < top = omega (arith, h, from) in
+    grind (arith, nat_tests, small, below-greatest (max k n) top ns h)
+
+pub loaded_ranks_rise : LoadedRanksRise
+loaded_ranks_rise entries e xs h = record {
+  rising = by_rank-rows xs h.once h.rising;
+  below = below-rows (greatest 0 (ranks_of xs) + 1) xs (below-greatest 0 (greatest 0 (ranks_of xs) + 1) (ranks_of xs) (omega arith));
+}
 
 -- ---- who is told first
 pub first_is_any : FirstIsAny

@@ -6,7 +6,8 @@ use Rattle.grs_base.specs.declared.resource.Res.{Res}
 use Rattle.grs_base.specs.declared.resource.TaskId.{TaskId}
 use Rattle.grs_wire.specs.Wants.{after_want}
 use Rattle.grs_wire.specs.declared.request.Want.{Want}
-use Rattle.contention_mgr.specs.Manager.{Ranked, Managed, ManagerView, plain, with_mark, settled, any_untold_in, first_untold, entry_wanted, managed_at, after_request}
+use Rattle.contention_mgr.specs.Loads.{RankedRow, IsLoadable, loaded}
+use Rattle.contention_mgr.specs.Manager.{Ranked, Managed, ManagerView, plain, no_elements, with_mark, settled, told, any_untold_in, first_untold, entry_wanted, managed_at, after_request}
 
 -- The plain lists of an entry after a request are what the request makes of them.
 abbrev pub ListsFollow : Type 0
@@ -26,9 +27,19 @@ pub record IsRanked (m : Managed) : Type 0 where
   pub rising : by_rank m.items ≡ true
   pub below : list_all (λ x. nat_lt x.rank m.next) m.items ≡ true
 
--- Ranks rise behind each request.
+-- Ranks rise where nothing stands in the lists, and where an entry is loaded.
+abbrev pub RanksBegin : Type 0
+RanksBegin = IsRanked no_elements
+
+abbrev pub LoadedRanksRise : Type 0
+LoadedRanksRise = (entries e : ℕ) (xs : List RankedRow) → IsLoadable entries e xs → IsRanked (loaded xs)
+
+-- They still do behind each request, and once an owner was told.
 abbrev pub RanksRise : Type 0
 RanksRise = (s : ℕ) (m : Managed) (t : TaskId) (w : Want) → IsRanked m → IsRanked (settled s m t w)
+
+abbrev pub TellingKeepsRanks : Type 0
+TellingKeepsRanks = (t : TaskId) (r : Res) (m : Managed) → IsRanked m → IsRanked (told t r m)
 
 -- The first owner to be told is found exactly where there is one.
 abbrev pub FirstIsAny : Type 0
