@@ -17,8 +17,8 @@ use Rattle.grs_wire.specs.Wants.{new_owners}
 use Rattle.grs_wire.specs.declared.request.Want.TheVariants.{Enq, Deq, Release, Look}
 use Rattle.contention_mgr.specs.Manager.{Ranked, Managed, plain, is_of, exclusive, marked, made_exclusive, taken_out, with_mark, with_control, enqueued, given_up, settled, kept_at, managed_at, managed_for, with_entry, entry_wanted}
 use Rattle.contention_mgr.specs.Loads.{RankedRow, ranked_list, ranked_rows, greatest, ranks_of, rises, rows_apart}
-use Rattle.contention_mgr.specs.Laws.{ListsFollow, TellingKeepsLists, by_rank, IsRanked, RanksBegin, LoadedRanksRise, RanksRise, TellingKeepsRanks, FirstIsAny, OthersStay}
-use Rattle.contention_mgr.proofs.UntoldLemmas.{first-any}
+use Rattle.contention_mgr.specs.Laws.{ListsFollow, TellingKeepsLists, by_rank, IsRanked, RanksBegin, LoadedRanksRise, RanksRise, TellingKeepsRanks, FirstIsAny, FirstIsUntold, OthersStay}
+use Rattle.contention_mgr.proofs.UntoldLemmas.{first-any, first-untold}
 
 -- ---- the plain lists
 plain-push : (xs : List Ranked) (x : Ranked) → plain (xs ++ x ∷ []) ≡ plain xs ++ (x.res, x.elem) ∷ []
@@ -227,6 +227,9 @@ loaded_ranks_rise entries e xs h = record {
 -- ---- who is told first
 pub first_is_any : FirstIsAny
 first_is_any = first-any
+
+pub first_is_untold : FirstIsUntold
+first_is_untold = first-untold
 
 -- ---- other entries
 kept-set : (es : List (Option Managed)) (i e : ℕ) (x : Option Managed) → (i ≡ e → ⊥) → kept_at (slice_set es i x) e ≡ kept_at es e

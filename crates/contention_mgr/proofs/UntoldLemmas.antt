@@ -200,6 +200,27 @@ first-any home (x ∷ xs) = go (is_untold home x) (first-any home xs)
     go true rest = refl
     go false rest = rest
 
+-- one that is found stands among the elements
+pub first-untold : (home : ℕ) (xs : List Ranked) (x : Ranked) → first_untold home xs ≡ Some x → (i : ℕ) × (slice_get xs i ≡ Some x) × (is_untold home x ≡ true)
+first-untold home [] x h = cc
+first-untold home (e ∷ xs) x h = by_cases (is_untold home e)
+    (λ b. chosen b (first_untold home xs) (first-untold home xs x) (subst (λ (c : Bool). cond c (Some (sooner e (first_untold home xs))) (first_untold home xs) ≡ Some x) b h))
+    (λ b. behind (first-untold home xs x (subst (λ (c : Bool). cond c (Some (sooner e (first_untold home xs))) (first_untold home xs) ≡ Some x) b h)))
+  where
+    behind : (i : ℕ) × (slice_get xs i ≡ Some x) × (is_untold home x ≡ true) → (i : ℕ) × (slice_get (e ∷ xs) i ≡ Some x) × (is_untold home x ≡ true)
+    behind found = (suc found.0, found.1, found.2)
+
+    here : is_untold home e ≡ true → e ≡ x → (i : ℕ) × (slice_get (e ∷ xs) i ≡ Some x) × (is_untold home x ≡ true)
+    here b is = (zero, ap (λ (y : Ranked). Some y) is, subst (λ (y : Ranked). is_untold home y ≡ true) is b)
+
+    chosen : is_untold home e ≡ true → (o : Option Ranked) → (o ≡ Some x → (i : ℕ) × (slice_get xs i ≡ Some x) × (is_untold home x ≡ true)) → Some (sooner e o) ≡ Some x → (i : ℕ) × (slice_get (e ∷ xs) i ≡ Some x) × (is_untold home x ≡ true)
+    chosen b None rest k = let one : e ≡ x = cc in here b one
+    chosen b (Some y) rest k = go (is_lt (res_order y.res e.res)) k
+      where
+        go : (c : Bool) → Some (cond c y e) ≡ Some x → (i : ℕ) × (slice_get (e ∷ xs) i ≡ Some x) × (is_untold home x ≡ true)
+        go true j = behind (rest j)
+        go false j = let one : e ≡ x = cc in here b one
+
 -- ---- numbers and names
 pub number-at : (k : ℕ) (es : List (Res × ℕ)) (i : ℕ) (e : Res × ℕ) → numbered_from k es ≡ true → slice_get es i ≡ Some e → e.1 ≡ k + i
 number-at k [] i e h g = cc

@@ -1,5 +1,5 @@
 -- Laws of what a manager keeps.
-use Rattle.std.specs.Prelude.{◌≡◌, ℕ, Bool, true, not, ◌&&◌, ◌||◌, nat_lt, List, [], ◌∷◌, length, Some, is_some}
+use Rattle.std.specs.Prelude.{◌≡◌, ℕ, Bool, true, not, ◌&&◌, ◌||◌, nat_lt, List, [], ◌∷◌, length, Some, is_some, slice_get}
 use Rattle.std.specs.List.{list_all}
 use Rattle.grs_base.specs.Same.{same_res}
 use Rattle.grs_base.specs.declared.resource.Res.{Res}
@@ -7,7 +7,7 @@ use Rattle.grs_base.specs.declared.resource.TaskId.{TaskId}
 use Rattle.grs_wire.specs.Wants.{after_want}
 use Rattle.grs_wire.specs.declared.request.Want.{Want}
 use Rattle.contention_mgr.specs.Loads.{RankedRow, IsLoadable, loaded}
-use Rattle.contention_mgr.specs.Manager.{Ranked, Managed, ManagerView, plain, no_elements, with_mark, settled, told, any_untold_in, first_untold, entry_wanted, managed_at, after_request}
+use Rattle.contention_mgr.specs.Manager.{Ranked, Managed, ManagerView, plain, no_elements, with_mark, settled, told, is_untold, any_untold_in, first_untold, entry_wanted, managed_at, after_request}
 
 -- The plain lists of an entry after a request are what the request makes of them.
 abbrev pub ListsFollow : Type 0
@@ -44,6 +44,10 @@ TellingKeepsRanks = (t : TaskId) (r : Res) (m : Managed) → IsRanked m → IsRa
 -- The first owner to be told is found exactly where there is one.
 abbrev pub FirstIsAny : Type 0
 FirstIsAny = (home : ℕ) (xs : List Ranked) → is_some (first_untold home xs) ≡ any_untold_in home xs
+
+-- That owner stands among the elements, is of another system, and is still to be told.
+abbrev pub FirstIsUntold : Type 0
+FirstIsUntold = (home : ℕ) (xs : List Ranked) (x : Ranked) → first_untold home xs ≡ Some x → (i : ℕ) × (slice_get xs i ≡ Some x) × (is_untold home x ≡ true)
 
 -- A request leaves what is kept of other entries than its own.
 abbrev pub OthersStay : Type 0

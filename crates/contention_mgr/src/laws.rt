@@ -1,5 +1,5 @@
 //! Laws of what a manager keeps: each function's contract is one, and there is nothing to run.
-ghost use Rattle.contention_mgr.specs.Laws.{ListsFollow, TellingKeepsLists, RanksBegin, LoadedRanksRise, RanksRise, TellingKeepsRanks, FirstIsAny, OthersStay};
+ghost use Rattle.contention_mgr.specs.Laws.{ListsFollow, TellingKeepsLists, RanksBegin, LoadedRanksRise, RanksRise, TellingKeepsRanks, FirstIsAny, FirstIsUntold, OthersStay};
 
 /// The plain lists of an entry after a request are what the request makes of them.
 pub fn lists_follow()
@@ -34,6 +34,11 @@ pub fn telling_keeps_ranks()
 /// An owner to be told is found exactly where there is one.
 pub fn first_is_any()
     ensures { FirstIsAny }
+{}
+
+/// The owner to be told first is one of the elements, of another system, and still to be told.
+pub fn first_is_untold()
+    ensures { FirstIsUntold }
 {}
 
 /// A request leaves what is kept of other entries than its own.
