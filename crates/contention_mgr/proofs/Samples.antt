@@ -6,8 +6,9 @@ use Rattle.grs_base.specs.declared.decision.Code.TheVariants.{C00, C04, Wait}
 use Rattle.grs_base.specs.declared.look.Filter.TheVariants.{All}
 use Rattle.grs_base.specs.declared.resource.Ctl.{Ctl}
 use Rattle.grs_base.specs.declared.resource.Ctl.TheVariants.{E, S}
+use Rattle.grs_base.specs.declared.resource.Elem.{Elem}
 use Rattle.grs_base.specs.declared.resource.Res.{Res}
-use Rattle.grs_base.specs.declared.resource.Res.TheVariants.{Systems}
+use Rattle.grs_base.specs.declared.resource.Res.TheVariants.{Step, System, Systems}
 use Rattle.grs_base.specs.declared.resource.Ret.TheVariants.{RetNone, RetUse, RetChng, RetEcb}
 use Rattle.grs_base.specs.declared.resource.TaskId.{TaskId}
 use Rattle.grs_wire.specs.Wants.{answer_to}
@@ -16,7 +17,8 @@ use Rattle.grs_wire.specs.declared.request.Answer.TheVariants.{Coded}
 use Rattle.grs_wire.specs.declared.request.Req.{Req}
 use Rattle.grs_wire.specs.declared.request.Want.{Want}
 use Rattle.grs_wire.specs.declared.request.Want.TheVariants.{Enq, Deq, Release, Look}
-use Rattle.contention_mgr.specs.Manager.{Ranked, Managed, plain, no_elements, settled, rank_given, with_mark, first_untold, any_untold_in, owner_of, entry_of_res, entry_wanted}
+use Rattle.contention_mgr.specs.Manager.{Ranked, Managed, plain, no_elements, settled, rank_given, with_mark, first_untold, any_untold_in, owner_of, entry_of_res, entry_wanted, managed_for, items_of, after_request, rank_for, ManagerView}
+use Rattle.contention_mgr.specs.Loads.{RankedRow, loaded, IsLoadable}
 
 -- a task of a system, by its place
 abbrev task : ℕ → ℕ → TaskId
@@ -55,8 +57,80 @@ both_given = refl
 both_after : after no_elements both ≡ record { next = 3; items = [] }
 both_after = refl
 
-of_one_entry : entry_of_res 1 one ≡ Some 0
-of_one_entry = refl
+-- ---- the entry of a resource: the hash of A and B is 16820, which is slice 52
+abbrev ab : Res
+ab = Systems (codes "A") (codes "B")
+
+entry_of_ab : (entry_of_res 16 ab ≡ Some 4) × (entry_of_res 64 ab ≡ Some 52) × (entry_of_res 1 ab ≡ Some 0)
+entry_of_ab = (refl, refl, refl)
+
+-- a resource of one system has none
+no_entry : (entry_of_res 16 (System (record { 0 = 0 }) (codes "A") (codes "B")) ≡ None) × (entry_of_res 1 (Step (record { 0 = 0 }) 0 (codes "A") (codes "B")) ≡ None)
+no_entry = (refl, refl)
+
+-- ---- a manager of two entries, of which it manages one: slice 52 is of entry 0
+abbrev manages : Option Managed → Option Managed → ManagerView
+manages first second = record { system = record { 0 = 0 }; entries = first ∷ second ∷ [] }
+
+at_manager : after_request (manages (Some no_elements) None) (task 1 0) (Enq ab E RetNone false) ≡ manages (Some (record { next = 2; items = kept ab 1 0 E 1 false ∷ [] })) None
+at_manager = refl
+
+ranked_at_manager : rank_for (managed_for (manages (Some no_elements) None) (Enq ab E RetNone false)) (task 1 0) (Enq ab E RetNone false) ≡ 1
+ranked_at_manager = refl
+
+-- what is asked of an entry that it doesn't manage changes nothing
+elsewhere : (after_request (manages None (Some no_elements)) (task 1 0) (Enq ab E RetNone false) ≡ manages None (Some no_elements))
+    × (managed_for (manages None (Some no_elements)) (Enq ab E RetNone false) ≡ None)
+    × (items_of (managed_for (manages None (Some no_elements)) (Enq ab E RetNone false)) ≡ [])
+elsewhere = (refl, refl, refl)
+
+-- ---- entries that are loaded
+abbrev holds : ℕ → ℕ → Elem
+holds s n = record { task = task s n; ctl = E }
+
+abbrev ranked_row : Res → List Elem → List ℕ → RankedRow
+ranked_row r es ns = (record { res = r; elems = es; owners = 1 }, ns)
+
+abbrev two_rows : List RankedRow
+two_rows = ranked_row ab (holds 0 0 ∷ holds 1 0 ∷ []) (2 ∷ 7 ∷ []) ∷ ranked_row one (holds 2 0 ∷ []) (5 ∷ []) ∷ []
+
+-- row by row, each element told, and the next rank the greatest plus one
+loads_rows : loaded two_rows ≡ record { next = 8; items = kept ab 0 0 E 2 false ∷ kept ab 1 0 E 7 false ∷ kept one 2 0 E 5 false ∷ [] }
+loads_rows = refl
+
+loads_nothing : loaded [] ≡ no_elements
+loads_nothing = refl
+
+loadable : IsLoadable 1 0 two_rows
+loadable = record { of_entry = refl; once = refl; apart = refl; ranked = refl; rising = refl; distinct = refl; small = refl }
+
+-- a row of another entry
+refuses_entry : IsLoadable 16 5 (ranked_row ab (holds 0 0 ∷ []) (1 ∷ []) ∷ []) → ⊥
+refuses_entry h = let never = h.of_entry in cc
+
+-- two rows of one resource
+refuses_second_row : IsLoadable 1 0 (ranked_row ab (holds 0 0 ∷ []) (1 ∷ []) ∷ ranked_row ab (holds 1 0 ∷ []) (2 ∷ []) ∷ []) → ⊥
+refuses_second_row h = let never = h.once in cc
+
+-- a task that stands twice in a row
+refuses_twice : IsLoadable 1 0 (ranked_row ab (holds 0 0 ∷ holds 0 0 ∷ []) (1 ∷ 2 ∷ []) ∷ []) → ⊥
+refuses_twice h = let never = h.apart in cc
+
+-- an element without a rank
+refuses_unranked : IsLoadable 1 0 (ranked_row ab (holds 0 0 ∷ holds 1 0 ∷ []) (1 ∷ []) ∷ []) → ⊥
+refuses_unranked h = let never = h.ranked in cc
+
+-- ranks that fall in a row
+refuses_falling : IsLoadable 1 0 (ranked_row ab (holds 0 0 ∷ holds 1 0 ∷ []) (2 ∷ 1 ∷ []) ∷ []) → ⊥
+refuses_falling h = let never = h.rising in cc
+
+-- one rank in two rows
+refuses_same_rank : IsLoadable 1 0 (ranked_row ab (holds 0 0 ∷ []) (1 ∷ []) ∷ ranked_row one (holds 1 0 ∷ []) (1 ∷ []) ∷ []) → ⊥
+refuses_same_rank h = let never = h.distinct in cc
+
+-- a rank past the last
+refuses_late : IsLoadable 1 0 (ranked_row ab (holds 0 0 ∷ []) (144115188075855873 ∷ []) ∷ []) → ⊥
+refuses_late h = let never = h.small in cc
 
 -- ---- the entry of looks
 abbrev looks_at : ℕ → ℕ → ℕ → Option ℕ
