@@ -31,7 +31,8 @@ pub record Ranked : Type 0 where
   pub rank : ℕ
   pub untold : Bool
 
--- a lock entry that is managed: the rank that its next element gets, and its elements in order of arrival
+-- a lock entry that is managed: the rank that its next element gets, and its elements, on each resource in order of
+-- arrival
 pub record Managed : Type 0 where
   pub next : ℕ
   pub items : List Ranked

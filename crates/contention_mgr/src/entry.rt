@@ -20,8 +20,8 @@ use std::marker::Model;
 /// The greatest rank that an element can have: there is no memory for one behind it.
 pub const LAST_RANK: u64 = 1 << 57;
 
-/// A managed entry, seen as the rank that its next element gets and its elements in order of arrival, each with its rank
-/// and whether its task is still to be told.
+/// A managed entry, seen as the rank that its next element gets and its elements, on each resource in order of arrival,
+/// each with its rank and whether its task is still to be told.
 #[derive(Drop)]
 pub(crate) struct Entry {
     next: u64,

@@ -13,7 +13,7 @@ use std::alloc::Global;
 use std::marker::Model;
 
 /// What one system keeps of the lock entries that it manages, seen as its number and of each entry the next rank and the
-/// elements in order of arrival, each with its rank and whether its task is still to be told.
+/// elements, on each resource in order of arrival, each with its rank and whether its task is still to be told.
 #[derive(Drop)]
 pub struct Manager {
     system: SysId,
@@ -219,7 +219,8 @@ impl Manager {
         Ok(())
     }
 
-    /// Whether a request is of an entry that is managed.
+    /// Whether a request is of an entry that is managed; one for looks is where there are its slices, one at least, and
+    /// all are of that entry.
     pub fn serves(&self, want: &Want) -> bool
         ensures { result ≡ is_some (managed_for self.now want.now) }
     {
