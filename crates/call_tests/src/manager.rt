@@ -1,12 +1,12 @@
 //! The manager of star mode, which no event reaches yet: each call that may want memory, once with ample memory, and its
 //! answers.
 use contention_mgr::Manager;
-use grs_base::{Code, Ctl, List, NameFault, Qname, Res, Ret, Rname, SysId, TaskId};
+use grs_base::{Code, Ctl, Filter, List, NameFault, Qname, Res, Ret, Rname, SysId, TaskId};
 use grs_wire::{Answer, Req, Want};
 use std::alloc::Global;
 use std::test::Fail;
 
-/// The code of an answer, its rank, and how many tasks got control.
+/// The code of an answer, its rank, and how many tasks got control or, of looks, how many rows there are.
 type Given = (Option<Code>, u64, usize);
 
 fn task(system: u8) -> TaskId {
@@ -47,10 +47,40 @@ fn deq(alloc: Global, system: u8) -> Result<Req, NameFault> {
     })
 }
 
+fn release(alloc: Global, system: u8) -> Result<Req, NameFault> {
+    let want = Want::Release {
+        res: resource(alloc)?,
+    };
+    Ok(Req {
+        task: task(system),
+        want,
+    })
+}
+
+/// A look at the slice of the resource.
+fn look(alloc: Global, system: u8) -> Result<Req, NameFault> {
+    let want = Want::Look {
+        first: 13,
+        count: 1,
+        filter: Filter::All,
+    };
+    Ok(Req {
+        task: task(system),
+        want,
+    })
+}
+
 fn code_of(answer: &Answer) -> Option<Code> {
     match answer {
         Answer::Coded(code) => Some(*code),
         Answer::Rows(_) => None,
+    }
+}
+
+fn rows_of(answer: &Answer) -> usize {
+    match answer {
+        Answer::Coded(_) => 0,
+        Answer::Rows(rows) => rows.len(),
     }
 }
 
@@ -65,9 +95,13 @@ fn given(manager: &mut Manager, req: &Req) -> Result<[Given; 2], NameFault> {
     } else {
         manager.settle(req)?
     };
+    let others = match &outcome.answer {
+        Answer::Coded(_) => outcome.owners.len(),
+        Answer::Rows(rows) => rows.len(),
+    };
     Ok([
-        (code_of(&answer), rank, 0),
-        (code_of(&outcome.answer), outcome.rank, outcome.owners.len()),
+        (code_of(&answer), rank, rows_of(&answer)),
+        (code_of(&outcome.answer), outcome.rank, others),
     ])
 }
 
@@ -103,13 +137,14 @@ fn loaded(alloc: Global) -> Result<Manager, NameFault> {
     Ok(manager)
 }
 
-/// Two tasks ask for a resource and give it up; who is told between.
-fn goes_round(alloc: Global, manager: &mut Manager) -> Result<[[Given; 2]; 4], NameFault> {
+/// Two tasks ask for a resource, one looks at it, and both give it up.
+fn goes_round(alloc: Global, manager: &mut Manager) -> Result<[[Given; 2]; 5], NameFault> {
     let first = given(manager, &enq(alloc, 0)?)?;
     let second = given(manager, &enq(alloc, 1)?)?;
-    let third = given(manager, &deq(alloc, 0)?)?;
-    let fourth = given(manager, &deq(alloc, 1)?)?;
-    Ok([first, second, third, fourth])
+    let third = given(manager, &look(alloc, 1)?)?;
+    let fourth = given(manager, &deq(alloc, 0)?)?;
+    let fifth = given(manager, &release(alloc, 1)?)?;
+    Ok([first, second, third, fourth, fifth])
 }
 
 /// Which systems are told once the first owner has given a resource up.
@@ -120,7 +155,7 @@ fn told_in_turn(alloc: Global, manager: &mut Manager) -> Result<[u8; 2], NameFau
     Ok([told(manager)?, told(manager)?])
 }
 
-fn given_by(alloc: Global) -> Result<[[Given; 2]; 4], NameFault> {
+fn given_by(alloc: Global) -> Result<[[Given; 2]; 5], NameFault> {
     let mut manager = begun(alloc)?;
     goes_round(alloc, &mut manager)
 }
@@ -138,6 +173,7 @@ fn manages(rt: HostRuntime) -> Result<(), Fail> {
         [
             [(Some(Code::C00), 1, 0), (Some(Code::C00), 1, 0)],
             [(Some(Code::Wait), 2, 0), (Some(Code::Wait), 2, 0)],
+            [(None, 0, 1), (None, 0, 1)],
             [(Some(Code::C00), 0, 0), (Some(Code::C00), 0, 1)],
             [(Some(Code::C00), 0, 0), (Some(Code::C00), 0, 0)],
         ]
