@@ -36,7 +36,7 @@ enum Brief {
 /// What a call would be answered, and whether it changes the medium.
 type Seen = (Brief, bool);
 
-fn brief_mail(mail: &Mail) -> Brief {
+fn mail_in_brief(mail: &Mail) -> Brief {
     match mail {
         Mail::Request { .. } => Brief::Asked,
         Mail::Answered { rank, .. } => Brief::Answered(*rank),
@@ -44,12 +44,12 @@ fn brief_mail(mail: &Mail) -> Brief {
     }
 }
 
-fn brief(reply: &Reply) -> Brief {
+fn in_brief(reply: &Reply) -> Brief {
     match reply {
         Reply::Turned { entries, .. } => Brief::Turned(entries.len()),
         Reply::Sole => Brief::Sole,
         Reply::Sent => Brief::Sent,
-        Reply::Taken { mail } => brief_mail(mail),
+        Reply::Taken { mail } => mail_in_brief(mail),
         Reply::Empty => Brief::Empty,
         Reply::Settled => Brief::Settled,
         Reply::Told => Brief::Told,
@@ -66,7 +66,7 @@ fn previewed(medium: &Medium, caller: SysId, call: &Call) -> Result<Seen, NoMemo
     requires built { is_built call.now.act ≡ true }
 {
     let (reply, changes) = medium.preview(caller, call)?;
-    Ok((brief(&reply), changes))
+    Ok((in_brief(&reply), changes))
 }
 
 /// A call that isn't made is let go.
@@ -76,7 +76,7 @@ fn give_up(_call: Call) -> NoMemory {
 
 /// A reply is let go, and told in brief.
 fn let_go(reply: Reply) -> Brief {
-    brief(&reply)
+    in_brief(&reply)
 }
 
 /// What a call is answered.
