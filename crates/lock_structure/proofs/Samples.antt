@@ -1,12 +1,13 @@
 -- Worked words, by which the rules of lock words are checked. As a number a word is its set of systems, 256 times
 -- the manager's number plus one, and 4096 times the epoch.
-use Rattle.std.proofs.Common.{◌≡◌, ℕ, true, false, [], ◌∷◌, Some, None, refl}
+use Rattle.std.proofs.Common.{◌≡◌, ℕ, true, false, List, [], ◌∷◌, Some, None, refl, arith}
 use Rattle.grs_base.specs.declared.resource.SysId.{SysId}
 use Rattle.grs_wire.specs.declared.medium.Reply.TheVariants.{Left, Kept}
 use Rattle.grs_wire.specs.LockWords.{interest, manager, epoch, lock_word, submitted, leave_reply, leave_changes, left_word}
 use Rattle.grs_wire.specs.Masks.{has, without, with_also}
 use Rattle.lock_structure.specs.declared.word.Route.TheVariants.{Sole, To}
 use Rattle.lock_structure.specs.Words.{route, submit_changes, submitted_words, left_words}
+use Rattle.lock_structure.specs.Laws.{IsManaged, is_interested, manager_at}
 
 abbrev sys : ℕ → SysId
 sys n = record { 0 = n }
@@ -61,3 +62,39 @@ parts :
     × (manager 8192 ≡ None)
 unfolding manager lock_word
 parts = (refl, refl, refl, refl, refl, refl, refl, refl)
+
+-- ---- a manager exactly where somebody has interest, and one of them
+managed : IsManaged 0 × IsManaged 257 × IsManaged 259 × IsManaged 8455 × IsManaged 8192
+unfolding has manager
+managed = (refl, refl, refl, refl, refl)
+
+-- interest without a manager, a manager without interest, and one that has none where another has
+refuses_unmanaged : IsManaged 3 → ⊥
+unfolding manager
+refuses_unmanaged h = let never : 3 ≡ 0 = h in absurd (omega arith)
+
+refuses_manager_alone : IsManaged 256 → ⊥
+unfolding has manager
+refuses_manager_alone h = let never : false ≡ true = h in cc
+
+refuses_other_manager : IsManaged 258 → ⊥
+unfolding has manager
+refuses_other_manager h = let never : false ≡ true = h in cc
+
+-- Of two entries, the second system joins the first at one, and is alone at the other: it gets interest where it asked.
+abbrev joined_words : List ℕ
+joined_words = submitted_words (514 ∷ 257 ∷ []) 1 (sys 1)
+
+interest_after :
+    (is_interested joined_words 1 0 ≡ true)
+    × (is_interested joined_words 1 1 ≡ true)
+    × (is_interested joined_words 1 2 ≡ false)
+    × (is_interested joined_words 0 0 ≡ false)
+    × (manager_at joined_words 1 ≡ Some (sys 0))
+    -- it gives it up again; then the manager does, behind whom there is none
+    × (is_interested (left_words joined_words 1 (sys 1)) 1 1 ≡ false)
+    × (is_interested (left_words joined_words 1 (sys 1)) 1 0 ≡ true)
+    × (manager_at (left_words joined_words 1 (sys 1)) 1 ≡ Some (sys 0))
+    × (manager_at (left_words (left_words joined_words 1 (sys 1)) 1 (sys 0)) 1 ≡ None)
+unfolding has without with_also manager lock_word submitted leave_changes left_word
+interest_after = (refl, refl, refl, refl, refl, refl, refl, refl, refl)

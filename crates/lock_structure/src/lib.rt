@@ -2,6 +2,7 @@
 //! and the one that manages it. This crate knows nothing of mail, of the lists that a manager keeps, or of flags.
 #![tactic(auto)]
 
+pub mod laws;
 mod word;
 mod words;
 
