@@ -111,9 +111,9 @@ taking_moves boxes s filled e = by_place (dec_lt s (length boxes))
     by_place (no outside) = let none : length (inbox_of boxes s) ≡ 0 = ap length (get_or_past boxes s [] (omega arith)) in absurd (omega arith)
 
 -- a Submit of another than the manager
-when : {M : Type 0} (b : Bool) (x m : M) → b ≡ true → cond b x m ≡ x
-when true x m e = refl
-when false x m e = absurd cc
+unless : {M : Type 0} (b : Bool) (m x : M) → b ≡ false → cond b m x ≡ x
+unless true m x e = absurd cc
+unless false m x e = refl
 
 submit_moves : (m : MediumState) (c : SysId) (entry : ℕ) (req : Req) (o : Option SysId) → manager (word m entry) ≡ o → entry < length m.words → manager_number o ≤ length m.inboxes → not (is_manager o c) ≡ true
     → joined m c entry ≡ record m { words = submitted_words m.words entry c; rest = awake m c } → ¬ ((submit_on m c entry req (route_by o c)).1 ≡ m)
@@ -138,7 +138,7 @@ row_moves m c (Purge t) built there waits h =
     purge_moves m.star (is_live m t) m _ _ _ h (λ e. apart_by (λ (x : MediumState). has x.removed t.0) (without_system m c t) m (has-with_same m.removed t.0) (is_false (has m.removed t.0) present.1) e)
 row_moves m c Rest built there waits h = λ e. apart_by (λ (x : MediumState). has x.rest c.0) _ m (has-with_same m.rest c.0) (is_false (has m.rest c.0) h) e
 row_moves m c (Switch words) built there waits h = absurd cc
-row_moves m c (Submit entry req) built there waits h = submit_moves m c entry req (manager (word m entry)) refl there.0 there.1 h (when _ _ m h)
+row_moves m c (Submit entry req) built there waits h = submit_moves m c entry req (manager (word m entry)) refl there.0 there.1 h (unless _ m _ (is_false _ h))
 row_moves m c Take built there waits h = take_moves m c (inbox m c.0) refl h
 row_moves m c (Settle to mail) built there waits h = λ e. mail_moves m.inboxes to.0 mail there (ap (λ (x : MediumState). x.inboxes) e)
 row_moves m c (Tell to mail) built there waits h = λ e. mail_moves m.inboxes to.0 mail there (ap (λ (x : MediumState). x.inboxes) e)

@@ -103,6 +103,10 @@ rest_kept m c count lives rest h = by_at (is_at m.holder c) (m.closed || moves m
     by_at true false d e = refl
     by_at false b d e = refl
 
+when : {M : Type 0} (b : Bool) (m x : M) → b ≡ true → cond b m x ≡ m
+when true m x e = refl
+when false m x e = absurd cc
+
 unless : {M : Type 0} (b : Bool) (x m : M) → b ≡ false → cond b x m ≡ m
 unless true x m e = absurd cc
 unless false x m e = refl
@@ -124,7 +128,7 @@ row_kept m c (Turn out) built h =
 row_kept m c (Purge t) built h = not_purged m.star (is_live m t) m _ _ _ h
 row_kept m c Rest built h = ap (λ (x : ℕ). record m { rest = x }) (with-present m.rest c.0 (is_true (has m.rest c.0) h))
 row_kept m c (Switch words) built h = absurd cc
-row_kept m c (Submit entry req) built h = submit_kept m c entry req (manager (word m entry)) h (unless _ _ m h)
+row_kept m c (Submit entry req) built h = submit_kept m c entry req (manager (word m entry)) h (when _ m _ (is_true _ h))
 row_kept m c Take built h = take_kept m c (inbox m c.0) h
 row_kept m c (Settle to mail) built h = absurd cc
 row_kept m c (Tell to mail) built h = absurd cc

@@ -130,6 +130,24 @@ star :
 unfolding star_calls has without with_also first_after unseen any_unseen cleared stamped turn_reply wakes rest_after_turn turned turn_changes dropped closed_by manager lock_word submitted leave_reply leave_changes left_word medium_at_end turn_row switch_row submit_row route take_row mail_row leave_row purge_row rest_row row apply row_changes changes
 star = (refl, refl, refl, refl, refl)
 
+-- A request of a system that has interest already leaves the word, and yet goes to the manager and clears the flag of
+-- rest. The manager's own changes nothing, nor its flag.
+rested : MediumState
+rested = after_all (first_medium 2 1 true) ((0, 0, Submit 0 (ask 0)) ∷ (1, 0, Submit 0 (ask 1)) ∷ (0, 0, Rest) ∷ (1, 0, Rest) ∷ [])
+
+further_calls : List Made
+further_calls = (1, 0, Submit 0 (ask 1)) ∷ (0, 0, Submit 0 (ask 0)) ∷ []
+
+further :
+    (rested.words ≡ 259 ∷ [])
+    × (rested.rest ≡ 3)
+    × (answers rested further_calls ≡ (Sent, true) ∷ (Sole, false) ∷ [])
+    × ((after_all rested further_calls).words ≡ 259 ∷ [])
+    × ((after_all rested further_calls).rest ≡ 1)
+    × ((after_all rested further_calls).inboxes ≡ (mails.Request 0 (sys 1) (ask 1) ∷ mails.Request 0 (sys 1) (ask 1) ∷ []) ∷ [] ∷ [])
+unfolding rested further_calls has without with_also first_after unseen any_unseen cleared stamped turn_reply wakes rest_after_turn turned turn_changes dropped closed_by manager lock_word submitted leave_reply leave_changes left_word medium_at_end turn_row switch_row submit_row route take_row mail_row leave_row purge_row rest_row row apply row_changes changes
+further = (refl, refl, refl, refl, refl, refl)
+
 -- Three systems change to star mode: not before the caller has processed every entry. The others take their turn
 -- at the closed message, which gives what they have yet to process and takes nothing more.
 switch :

@@ -12,8 +12,8 @@ use Rattle.grs_wire.specs.declared.medium.Mail.TheVariants as mails
 use Rattle.grs_wire.specs.declared.medium.Reply.{Reply}
 use Rattle.grs_wire.specs.declared.medium.Reply.TheVariants.{Behind, Switched, Already, Sole, Sent, Taken, Empty, Settled, Told, Purged, NoSuch, InStar, Resting, Over, Stale, Removed}
 use Rattle.grs_wire.specs.Masks.{has, with_also, all_others}
-use Rattle.grs_wire.specs.LockWords.{interest, manager, leave_reply, leave_changes}
-use Rattle.lock_structure.specs.Words.{route, submit_changes, submitted_words, left_words}
+use Rattle.grs_wire.specs.LockWords.{interest, manager, is_manager, leave_reply, leave_changes}
+use Rattle.lock_structure.specs.Words.{route, submitted_words, left_words}
 use Rattle.lock_structure.specs.declared.word.Route.{Route}
 use Rattle.lock_structure.specs.declared.word.Route.TheVariants as routes
 use Rattle.rsa_message.specs.Message.{unseen, first_number, turn_reply, turned, rest_after_turn, turn_changes, closed_by, dropped}
@@ -36,9 +36,12 @@ unfoldable pub switch_row : MediumState → SysId → List ℕ → Reply × Medi
 switch_row m c words = cond m.star (Already, m) (switch_ring m c words (first_number (unseen c m.message.entries)))
 
 -- Submit: the caller has interest in the lock entry from then on, and the first to have it manages the entry. A
--- request that isn't the caller's own to decide goes to the manager.
+-- request that isn't the caller's own to decide goes to the manager. A manager's own request changes nothing.
+abbrev pub manages : MediumState → SysId → ℕ → Bool
+manages m c entry = is_manager (manager (word m entry)) c
+
 abbrev pub joined : MediumState → SysId → ℕ → MediumState
-joined m c entry = cond (submit_changes (word m entry) c) (record m { words = submitted_words m.words entry c; rest = awake m c }) m
+joined m c entry = cond (manages m c entry) m (record m { words = submitted_words m.words entry c; rest = awake m c })
 
 abbrev pub submit_on : MediumState → SysId → ℕ → Req → Route → Reply × MediumState
 submit_on m c entry req routes.Sole = (Sole, joined m c entry)
@@ -111,11 +114,12 @@ reply_to m c call = (apply m c call).0
 abbrev pub medium_after : MediumState → SysId → Call → MediumState
 medium_after m c call = (apply m c call).1
 
--- whether an act that is neither answered Removed nor Stale changes the medium
+-- whether an act that is neither answered Removed nor Stale changes the medium; a Submit at another's entry does by its
+-- mail, also where the word stays
 unfoldable pub row_changes : MediumState → SysId → Act → Bool
 row_changes m c (Turn out) = turn_changes m.message c (length out) (live m) m.rest
 row_changes m c (Switch words) = not m.star && is_none (first_number (unseen c m.message.entries))
-row_changes m c (Submit entry req) = submit_changes (word m entry) c
+row_changes m c (Submit entry req) = not (manages m c entry)
 row_changes m c Take = not (is_empty (inbox m c.0))
 row_changes m c (Settle to mail) = true
 row_changes m c (Tell to mail) = true

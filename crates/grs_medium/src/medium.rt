@@ -3,10 +3,10 @@ ghost use Rattle.std.specs.Prelude.{◌≡◌, ◌<◌, ◌≤◌, true, not, le
 ghost use Rattle.grs_base.specs.Limits.{most_systems};
 ghost use Rattle.grs_wire.specs.LockWords.{leave_changes};
 ghost use Rattle.grs_wire.specs.declared.request.Req.{Req as ReqSpec};
-ghost use Rattle.lock_structure.specs.Words.{route, submit_changes};
+ghost use Rattle.lock_structure.specs.Words.{route};
 ghost use Rattle.grs_medium.specs.Inboxes.{is_empty};
 ghost use Rattle.grs_medium.specs.Medium.{first_medium, systems_of, awake, inbox, medium_at_end, word};
-ghost use Rattle.grs_medium.specs.Apply.{turn_row, joined, submit_row, take_row, mail_row, leave_row, purge_row, rest_row, reply_to, medium_after, changes, row, row_changes, ActFits, MayCall};
+ghost use Rattle.grs_medium.specs.Apply.{turn_row, manages, joined, submit_row, take_row, mail_row, leave_row, purge_row, rest_row, reply_to, medium_after, changes, row, row_changes, ActFits, MayCall};
 ghost use Rattle.grs_medium.specs.Room.{is_built, HasRoomFor, HasRoomOn, request_on};
 ghost use Rattle.grs_medium.specs.Acts.{act_of};
 ghost use Rattle.grs_medium.specs.TurnReplies.{reply_of};
@@ -262,7 +262,7 @@ impl Medium {
         ensures state { self.new.state ≡ joined self.old.state caller entry }
         ensures ready { self.new.ready ≡ self.old.ready }
     {
-        if !self.words.submit_changes(entry, caller) {
+        if self.words.is_managed_by(entry, caller) {
             return self.words.route(entry, caller);
         }
         self.wake(caller);
@@ -461,13 +461,13 @@ impl Medium {
     fn preview_submit(&self, caller: SysId, entry: u32) -> (Reply, bool)
         requires { entry < length self.now.state.words }
         ensures reply { (req : ReqSpec) → result.0 ≡ (submit_row self.now.state caller entry req).0 }
-        ensures changes { result.1 ≡ submit_changes (word self.now.state entry) caller }
+        ensures changes { result.1 ≡ not (manages self.now.state caller entry) }
     {
         let reply = match self.words.route(entry, caller) {
             Route::Sole => Reply::Sole,
             Route::To(_) => Reply::Sent,
         };
-        (reply, self.words.submit_changes(entry, caller))
+        (reply, !self.words.is_managed_by(entry, caller))
     }
 
     /// What a Take would be answered, with a copy of the mail.

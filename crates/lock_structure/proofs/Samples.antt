@@ -3,10 +3,10 @@
 use Rattle.std.proofs.Common.{◌≡◌, ℕ, true, false, List, [], ◌∷◌, Some, None, refl, arith}
 use Rattle.grs_base.specs.declared.resource.SysId.{SysId}
 use Rattle.grs_wire.specs.declared.medium.Reply.TheVariants.{Left, Kept}
-use Rattle.grs_wire.specs.LockWords.{interest, manager, epoch, lock_word, submitted, leave_reply, leave_changes, left_word}
+use Rattle.grs_wire.specs.LockWords.{interest, manager, epoch, lock_word, is_manager, submitted, leave_reply, leave_changes, left_word}
 use Rattle.grs_wire.specs.Masks.{has, without, with_also}
 use Rattle.lock_structure.specs.declared.word.Route.TheVariants.{Sole, To}
-use Rattle.lock_structure.specs.Words.{route, submit_changes, submitted_words, left_words}
+use Rattle.lock_structure.specs.Words.{route, submitted_words, left_words}
 use Rattle.lock_structure.specs.Laws.{IsManaged, is_interested, manager_at}
 
 abbrev sys : ℕ → SysId
@@ -16,19 +16,21 @@ sys n = record { 0 = n }
 joining :
     (submitted_words (0 ∷ 0 ∷ []) 1 (sys 0) ≡ 0 ∷ 257 ∷ [])
     × (route 0 (sys 0) ≡ Sole)
-    × (submit_changes 0 (sys 0) ≡ true)
+    × (is_manager (manager 0) (sys 0) ≡ false)
     × (submitted_words (0 ∷ 257 ∷ []) 1 (sys 1) ≡ 0 ∷ 259 ∷ [])
     × (route 257 (sys 1) ≡ To (sys 0))
-    × (submit_changes 257 (sys 1) ≡ true)
-    -- the manager's own request, and a further one of the other
+    × (is_manager (manager 257) (sys 1) ≡ false)
+    -- the manager's own request, and a further one of the other: neither changes the word, but that goes to the manager
     × (route 259 (sys 0) ≡ Sole)
-    × (submit_changes 259 (sys 0) ≡ false)
+    × (is_manager (manager 259) (sys 0) ≡ true)
     × (submitted_words (259 ∷ []) 0 (sys 0) ≡ 259 ∷ [])
+    × (route 259 (sys 1) ≡ To (sys 0))
+    × (is_manager (manager 259) (sys 1) ≡ false)
     × (submitted_words (259 ∷ []) 0 (sys 1) ≡ 259 ∷ [])
     -- the last of eight systems manages alone
     × (submitted_words (0 ∷ []) 0 (sys 7) ≡ 2176 ∷ [])
 unfolding has without with_also manager lock_word submitted route
-joining = (refl, refl, refl, refl, refl, refl, refl, refl, refl, refl, refl)
+joining = (refl, refl, refl, refl, refl, refl, refl, refl, refl, refl, refl, refl, refl)
 
 -- The manager stays as long as others have interest; then the word is empty, but for its epoch.
 leaving :

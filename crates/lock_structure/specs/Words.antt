@@ -1,7 +1,7 @@
 -- The lock words of all entries: where a request goes, and the words after a call.
-use Rattle.std.specs.Prelude.{◌≤◌, ℕ, Bool, cond, not, ◌==◌, List, slice_index, slice_set, Option, Some, None}
+use Rattle.std.specs.Prelude.{◌≤◌, ℕ, cond, ◌==◌, List, slice_index, slice_set, Option, Some, None}
 use Rattle.grs_base.specs.declared.resource.SysId.{SysId}
-use Rattle.grs_wire.specs.LockWords.{manager, manager_number, is_manager, submitted, left_word}
+use Rattle.grs_wire.specs.LockWords.{manager, manager_number, submitted, left_word}
 use Rattle.lock_structure.specs.declared.word.Route.{Route}
 use Rattle.lock_structure.specs.declared.word.Route.TheVariants.{Sole, To}
 
@@ -16,10 +16,6 @@ route_by (Some s) c = cond (s.0 == c.0) Sole (To s)
 
 unfoldable pub route : ℕ → SysId → Route
 route w c = route_by (manager w) c
-
--- whether a request of c changes the word: all but the manager's do
-abbrev pub submit_changes : ℕ → SysId → Bool
-submit_changes w c = not (is_manager (manager w) c)
 
 -- the words after a request of c on an entry
 abbrev pub submitted_words : List ℕ → ℕ → SysId → List ℕ

@@ -3,7 +3,7 @@
 ghost use Rattle.std.specs.Prelude.{◌≡◌, ◌<◌, ◌^◌};
 ghost use Rattle.grs_base.specs.Limits.{most_systems};
 ghost use Rattle.grs_wire.specs.LockWords.{interest, manager, epoch, manager_number, lock_word, is_manager, is_kept, submitted, leave_reply, leave_changes, left_word};
-ghost use Rattle.lock_structure.specs.Words.{route, submit_changes};
+ghost use Rattle.lock_structure.specs.Words.{route};
 
 use grs_base::SysId;
 use grs_wire::Reply;
@@ -76,7 +76,7 @@ fn word_of(mask: u32, manager: Option<SysId>, epoch: u32) -> u32
 }
 
 /// Whether the caller manages the entry.
-fn is_managed_by(word: u32, caller: SysId) -> bool
+pub fn is_managed_by(word: u32, caller: SysId) -> bool
     ensures { result ≡ is_manager (manager word) caller }
 {
     match manager(word) {
@@ -100,13 +100,6 @@ pub fn route_of(word: u32, caller: SysId) -> Route
             }
         }
     }
-}
-
-/// Whether a request of the caller changes the word.
-pub fn submit_changes(word: u32, caller: SysId) -> bool
-    ensures { result ≡ submit_changes word caller }
-{
-    !is_managed_by(word, caller)
 }
 
 /// The word after a request of the caller.

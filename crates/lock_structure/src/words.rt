@@ -1,8 +1,8 @@
 //! The lock words of all entries.
 ghost use Rattle.std.specs.Prelude.{◌≡◌, ◌<◌, length, replicate, slice_set, IfOk};
 ghost use Rattle.grs_base.specs.Limits.{most_systems};
-ghost use Rattle.grs_wire.specs.LockWords.{leave_reply, leave_changes};
-ghost use Rattle.lock_structure.specs.Words.{word_at, route, submit_changes, submitted_words, left_words};
+ghost use Rattle.grs_wire.specs.LockWords.{manager, is_manager, leave_reply, leave_changes};
+ghost use Rattle.lock_structure.specs.Words.{word_at, route, submitted_words, left_words};
 
 use crate::word;
 use crate::word::Route;
@@ -83,12 +83,12 @@ impl Words {
         word::route_of(self.word(entry), caller)
     }
 
-    /// Whether a request of the caller on an entry changes its word.
-    pub fn submit_changes(&self, entry: u32, caller: SysId) -> bool
+    /// Whether the caller manages an entry.
+    pub fn is_managed_by(&self, entry: u32, caller: SysId) -> bool
         requires { entry < length self.now }
-        ensures { result ≡ submit_changes (word_at self.now entry) caller }
+        ensures { result ≡ is_manager (manager (word_at self.now entry)) caller }
     {
-        word::submit_changes(self.word(entry), caller)
+        word::is_managed_by(self.word(entry), caller)
     }
 
     /// The caller submits a request on an entry. It says where the request goes.
