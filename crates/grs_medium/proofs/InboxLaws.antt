@@ -1,10 +1,12 @@
 -- What a change of one box is to the list of all mail.
 use Rattle.std.proofs.Common.{◌≡◌, ℕ, ◌<◌, List, [], length, map, set, get_or, ap, sym, ◌∙◌, subst, arith}
 use Rattle.std.proofs.lemmas.List.{get_or-map, length-map, map-set, set-get_or}
+use Rattle.std.specs.Prelude.{Option}
 use Rattle.std.specs.declared.alloc.Global.{Global}
 use Rattle.std.specs.declared.collections.VecDeque.{VecDeque}
+use Rattle.grs_base.specs.declared.resource.SysId.{SysId}
 use Rattle.grs_wire.specs.declared.medium.Mail.{Mail}
-use Rattle.grs_medium.specs.Inboxes.{inbox_of}
+use Rattle.grs_medium.specs.Inboxes.{InboxesValue, inbox_of}
 
 abbrev Box : Type 0
 Box = VecDeque Mail Global
@@ -13,18 +15,20 @@ Box = VecDeque Mail Global
 abbrev pub mail_in : List Box → List (List Mail)
 mail_in boxes = map (λ (b : Box). b.items) boxes
 
-pub inside-boxes : (boxes : List Box) (mails : List (List Mail)) (i : ℕ) → mail_in boxes ≡ mails → i < length mails → i < length boxes
-inside-boxes boxes mails i same inside = let long : length (mail_in boxes) ≡ length mails = ap length same in omega (arith, length-map boxes (λ (b : Box). b.items))
+-- one box of what is seen as these inboxes
+module _ (boxes : List Box) {ready : Option SysId} {seen : InboxesValue} (view : record { mail = mail_in boxes; ready = ready } ≡ seen) {i : ℕ} where
+  pub inside-boxes : i < length seen.mail → i < length boxes
+  inside-boxes inside = let long : length (mail_in boxes) ≡ length seen.mail = ap (λ (v : InboxesValue). length v.mail) view in omega (arith, length-map boxes (λ (b : Box). b.items))
 
--- one box becomes another, whose mail is made of its own
-pub mail-changed : (g : List Mail → List Mail) (boxes : List Box) (mails : List (List Mail)) (i : ℕ) (old new : Box) → mail_in boxes ≡ mails → i < length boxes → old ≡ get_or boxes i old → new.items ≡ g old.items
-    → mail_in (set boxes i new) ≡ set mails i (g (inbox_of mails i))
-mail-changed g boxes mails i old new same inside read is =
-    subst
-    (λ (ms : List (List Mail)). mail_in (set boxes i new) ≡ set ms i (g (inbox_of ms i)))
-    same
-    (map-set (λ (b : Box). b.items) boxes i new
-    ∙ ap (λ (mail : List Mail). set (mail_in boxes) i mail) (is ∙ ap g (ap (λ (b : Box). b.items) read ∙ sym (get_or-map (λ (b : Box). b.items) boxes i old [] inside))))
+  -- it becomes another, whose mail is made of its own
+  pub mail-changed : (g : List Mail → List Mail) {old : Box} (new : Box) → i < length boxes → old ≡ get_or boxes i old → new.items ≡ g old.items → mail_in (set boxes i new) ≡ set seen.mail i (g (inbox_of seen.mail i))
+  mail-changed g {old} new inside read is =
+      subst
+      (λ (v : InboxesValue). mail_in (set boxes i new) ≡ set v.mail i (g (inbox_of v.mail i)))
+      view
+      (map-set (λ (b : Box). b.items) boxes i new
+      ∙ ap (λ (mail : List Mail). set (mail_in boxes) i mail) (is ∙ ap g (ap (λ (b : Box). b.items) read ∙ sym (get_or-map (λ (b : Box). b.items) boxes i old [] inside))))
 
-pub mail-same : (boxes : List Box) (mails : List (List Mail)) (i : ℕ) (old new : Box) → mail_in boxes ≡ mails → i < length boxes → old ≡ get_or boxes i old → new.items ≡ old.items → mail_in (set boxes i new) ≡ mails
-mail-same boxes mails i old new same inside read is = mail-changed (λ (mail : List Mail). mail) boxes mails i old new same inside read is ∙ set-get_or mails i []
+  -- or one of the same mail
+  pub mail-same : {old : Box} (new : Box) → i < length seen.mail → old ≡ get_or boxes i old → new.items ≡ old.items → mail_in (set boxes i new) ≡ seen.mail
+  mail-same new inside read is = mail-changed (λ (mail : List Mail). mail) new (inside-boxes inside) read is ∙ set-get_or seen.mail i []

@@ -7,13 +7,10 @@ use Rattle.grs_medium.proofs.inboxes.Inboxes.put.Goals as goal
 pub returns : goal.returns
 returns c =
     mail-changed
-    (λ (mail : List Mail). mail ++ c.args.mail ∷ [])
     c.self.inside.boxes.items
-    c.args.self.now.mail
-    c.args.to.0
-    c.index_mut-inbox.result.now
+    c.self.view_is
+    (λ (mail : List Mail). mail ++ c.args.mail ∷ [])
     c.push_back_reserved.new.self
-    (ap (λ (v : InboxesValue). v.mail) c.self.view_is)
     (c.self.invariant c.args.to (ap (λ (v : InboxesValue). v.ready) c.self.view_is ∙ c.requires)).0
     c.index_mut-inbox.ensures.value
     c.push_back_reserved.ensures.items
