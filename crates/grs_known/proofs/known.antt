@@ -8,3 +8,7 @@ pub mod Coming
 pub mod Pasts
 pub mod Reading
 pub mod Fitting
+pub mod Histories
+pub mod Knows
+pub mod Due
+pub mod Following

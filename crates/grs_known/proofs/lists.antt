@@ -7,3 +7,5 @@ pub mod Truths
 pub mod Facts
 pub mod Elements
 pub mod Requests
+pub mod Parts
+pub mod All

@@ -3,13 +3,11 @@ pub mod Laps
 pub mod LapsTold
 pub mod Came
 pub mod KeptPlaces
-pub mod Projections
-pub mod Transfer
+pub mod Behind
+pub mod News
 pub mod Answered
 pub mod OfEvents
-pub mod Tape
-pub mod Views
-pub mod Carried
+pub mod Growing
 pub mod Reading
 pub mod Putting
 pub mod Outcomes
@@ -17,5 +15,4 @@ pub mod Runs
 pub mod Removals
 pub mod Sound
 pub mod Fronts
-pub mod Complex
 pub mod Messages

@@ -1,5 +1,5 @@
 -- One system: what holds of it, and what each word of its events does.
-pub mod Seen
+pub mod Says
 pub mod Asking
 pub mod Ours
 pub mod Telling
@@ -7,14 +7,11 @@ pub mod Did
 pub mod Good
 pub mod Events
 pub mod Meant
-pub mod Parts
 pub mod Turns
 pub mod AtNode
-pub mod OwnEntries
 pub mod Processed
 pub mod Puts
 pub mod Quiet
-pub mod NodeLaws
+pub mod Begun
 pub mod Askers
 pub mod First
-pub mod Replied

@@ -15,7 +15,7 @@ use Rattle.grs_wire.specs.declared.request.Want.{Want}
 use Rattle.grs_wire.specs.declared.request.Want.TheVariants as wants
 use Rattle.grs_wire.proofs.WantLaws.{absent-has}
 use Rattle.task_state.specs.Replies.{is_granted, gives_up}
-use Rattle.grs_known.specs.Items.{RunItem, is_of, removes_system_of, gives_back, took, mine, lists, Made, AllMade, history}
+use Rattle.grs_known.specs.Items.{RunItem, is_of, removes_system_of, gives_back, took, mine, lists, AllMade, history}
 use Rattle.grs_known.specs.Known.{all_but_last, last_of, learned, Still}
 use Rattle.grs_known.specs.Past.{own_elements, own_after, past_of, has_own, Fits, ReplyFits}
 use Rattle.grs_known.proofs.lists.Own.{has_task-own}
@@ -57,13 +57,13 @@ last_mine t (y ∷ ys) x e = go (is_of t y.fixed) refl (mine t ys) refl e (last_
     go false o zs m f more = longer false o (more (ap last_of m ∙ f))
 
 -- ---- how it was made
-made-front : (F xs ys : List RunItem) → AllMade F (xs ++ ys) → AllMade F xs
+pub made-front : (F xs ys : List RunItem) → AllMade F (xs ++ ys) → AllMade F xs
 made-front F [] ys made = tt
 made-front F (x ∷ xs) ys made = (made.0, made-front (F ++ x ∷ []) xs ys made.1)
 
-made-at : (F xs : List RunItem) (x : RunItem) (ys : List RunItem) → AllMade F (xs ++ x ∷ ys) → Made (F ++ xs) x
-made-at F [] x ys made = subst (λ G. Made G x) (sym (append-nil F)) made.0
-made-at F (y ∷ xs) x ys made = subst (λ G. Made G x) (append_assoc F (y ∷ []) xs) (made-at (F ++ y ∷ []) xs x ys made.1)
+pub made-behind : (F xs ys : List RunItem) → AllMade F (xs ++ ys) → AllMade (F ++ xs) ys
+made-behind F [] ys made = subst (λ G. AllMade G ys) (sym (append-nil F)) made
+made-behind F (x ∷ xs) ys made = subst (λ G. AllMade G ys) (append_assoc F (x ∷ []) xs) (made-behind (F ++ x ∷ []) xs ys made.1)
 
 live-front : (t : TaskId) (xs ys : List RunItem) → list_any (λ y. removes_system_of t y.fixed) (xs ++ ys) ≡ false → list_any (λ y. removes_system_of t y.fixed) xs ≡ false
 live-front t [] ys e = refl
@@ -89,7 +89,7 @@ reply_fits t k T x h made live out one right = by_fixed x.fixed refl last.own (s
     made_T = subst (AllMade []) last.is made
 
     at : x.entries ≡ fixed_entries (lists last.before) x.by x.fixed
-    at = made-at [] last.before x last.behind made_T
+    at = (made-behind [] last.before (x ∷ last.behind) made_T).0
 
     learned_is : learned t k T ≡ mine t last.before
     learned_is = ap (λ b. cond b (all_but_last (mine t T)) (mine t T)) is_last.0 ∙ ap all_but_last last.mine_is ∙ all_but_last-push (mine t last.before) x

@@ -27,7 +27,7 @@ all_but_last-push [] x = refl
 all_but_last-push (y ∷ []) x = refl
 all_but_last-push (y ∷ z ∷ xs) x = ap (λ zs. y ∷ zs) (all_but_last-push (z ∷ xs) x)
 
-last_of-is : (xs : List RunItem) (x : RunItem) → last_of xs ≡ Some x → xs ≡ all_but_last xs ++ x ∷ []
+pub last_of-is : (xs : List RunItem) (x : RunItem) → last_of xs ≡ Some x → xs ≡ all_but_last xs ++ x ∷ []
 last_of-is [] x e = cc
 last_of-is (y ∷ []) x e = let same : y ≡ x = cc in ap (λ z. z ∷ []) same
 last_of-is (y ∷ z ∷ xs) x e = ap (λ zs. y ∷ zs) (last_of-is (z ∷ xs) x e)

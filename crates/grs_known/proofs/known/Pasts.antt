@@ -46,7 +46,7 @@ pub elements_are_of_items : ElementsAreOfItems
 elements_are_of_items t T made live = own-behind t [] T (λ r. refl) made live
 
 -- ---- one entry more
-history-append : (xs ys : List RunItem) → history (xs ++ ys) ≡ history xs ++ history ys
+pub history-append : (xs ys : List RunItem) → history (xs ++ ys) ≡ history xs ++ history ys
 history-append [] ys = refl
 history-append (x ∷ xs) ys = ap (λ hs. x.entries ++ hs) (history-append xs ys) ∙ sym (append_assoc x.entries (history xs) (history ys))
 

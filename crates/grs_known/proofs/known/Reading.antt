@@ -1,31 +1,28 @@
 -- What a system in the ring learns by its table is right.
-use Rattle.std.proofs.Common.{◌≡◌, Bool, true, false, cond, ◌&&◌, ◌||◌, List, [], ◌∷◌, ◌++◌, Some, None, refl, ap, sym, ◌∙◌, subst, append_assoc, append-nil}
+use Rattle.std.proofs.Common.{◌≡◌, Bool, true, false, cond, ◌&&◌, List, [], ◌∷◌, ◌++◌, Some, None, refl, ap, sym, ◌∙◌, subst, append_assoc, append-nil}
 use Rattle.std.specs.List.{list_any}
 use Rattle.grs_base.specs.Same.{same_task}
-use Rattle.grs_base.specs.Lists.{owns, standing_of, deq_code, decide_enq}
-use Rattle.grs_base.specs.State.{State, list_of, is_systems}
-use Rattle.grs_base.specs.declared.resource.Elem.{Elem}
+use Rattle.grs_base.specs.Lists.{owns}
+use Rattle.grs_base.specs.State.{list_of, is_systems}
 use Rattle.grs_base.specs.declared.resource.Res.{Res}
 use Rattle.grs_base.specs.declared.resource.TaskId.{TaskId}
 use Rattle.grs_wire.specs.History.{after_fixed, fixed_entries}
-use Rattle.grs_wire.specs.Wants.{answer_to, after_want, res_wanted, became_owners, became_owners_of, new_owners}
-use Rattle.grs_wire.specs.declared.request.Answer.TheVariants.{Coded}
+use Rattle.grs_wire.specs.Wants.{answer_to, res_wanted, new_owners}
 use Rattle.grs_wire.specs.declared.request.Fixed.TheVariants.{Asked}
 use Rattle.grs_wire.specs.declared.request.Req.{Req}
-use Rattle.grs_wire.specs.declared.request.Want.{Want}
-use Rattle.grs_wire.specs.declared.request.Want.TheVariants as wants
-use Rattle.grs_known.specs.Items.{RunItem, is_of, removes_system_of, gives_back, wants_round, mine, rounds, reply_in, lists, AllMade}
+use Rattle.grs_known.specs.Items.{RunItem, is_of, removes_system_of, gives_back, mine, rounds, reply_in, lists, AllMade}
 use Rattle.grs_known.specs.Known.{Known, last_of, outstanding, Still, IsRight, learns_item}
 use Rattle.grs_known.specs.Change.{systems_part}
 use Rattle.grs_known.specs.Reading.{gives_among, all_known, all_but, learns_mine, gained, learns_gained, TableAnswers, OwnersStayOn, ReadingIsRight}
-use Rattle.grs_known.proofs.lists.Facts.{filter-append, filter-cons_kept, some_value}
-use Rattle.grs_known.proofs.lists.Owners.{is_among, became-owns}
+use Rattle.grs_known.proofs.lists.Facts.{filter-append, filter-cons_kept}
+use Rattle.grs_known.proofs.lists.Owners.{is_among, is_among-any, new-owns}
+use Rattle.grs_known.proofs.lists.Parts.{part, answer_to-part, new_owners-part}
 use Rattle.grs_known.proofs.lists.Truths.{or_false}
 use Rattle.grs_known.proofs.known.Control.{owns-other, still-own}
 use Rattle.grs_known.proofs.known.Fronts.{pushed, still-rest}
 use Rattle.grs_known.proofs.known.ItemLaws.{lists-push, replies_are_answers}
 use Rattle.grs_known.proofs.known.Knowing.{last_of-push, right-answer, right-control}
-use Rattle.grs_known.proofs.known.Parts.{list_of-systems, part-want, part-items}
+use Rattle.grs_known.proofs.known.Parts.{part-items}
 
 -- ---- owners stay
 -- behind one item that doesn't give the resource up for the task
@@ -66,43 +63,26 @@ owners_stay_on t r k front rest made live (all_but mid x behind e none own last)
     subst (Still r t (front ++ (mid ++ x ∷ behind))) (sym (outstanding-last t k front mid x behind e own last)) (still-last t r front mid x behind made live none own last h)
 
 -- ---- the table
-table-is : (front : List RunItem) → lists (rounds front) ≡ systems_part (lists front)
+pub table-is : (front : List RunItem) → lists (rounds front) ≡ systems_part (lists front)
 table-is front = part-items [] front
-
-answer-by : (s u : State) (t : TaskId) (w : Want) (r : Res) → res_wanted w ≡ Some r → list_of s r ≡ list_of u r → answer_to s t w ≡ answer_to u t w
-answer-by s u t (wants.Enq q c ret full) r e h = ap (λ (es : List Elem). Coded (decide_enq es t c ret full).code) (subst (λ z. list_of s z ≡ list_of u z) (sym (some_value q r e)) h)
-answer-by s u t (wants.Deq q have) r e h = ap (λ (es : List Elem). Coded (deq_code (standing_of es t) have)) (subst (λ z. list_of s z ≡ list_of u z) (sym (some_value q r e)) h)
-answer-by s u t (wants.Release q) r e h = refl
-answer-by s u t (wants.Look first count f) r e h = cc
 
 pub table_answers : TableAnswers
 table_answers front x q r asked wanted wide made =
-    answer-by (lists (rounds front)) (lists front) q.task q.want r wanted (ap (λ z. list_of z r) (table-is front) ∙ list_of-systems (lists front) r wide)
+    ap (λ z. answer_to z q.task q.want) (table-is front) ∙ answer_to-part is_systems (lists front) q.task q.want r wanted wide
     ∙ sym (replies_are_answers (lists front) q.task q.want)
     ∙ ap reply_in (sym (made ∙ ap (fixed_entries (lists front) x.by) asked))
 
-wide_round : (w : Want) (r : Res) → res_wanted w ≡ Some r → is_systems r ≡ true → wants_round w ≡ true
-wide_round (wants.Enq q c ret full) r e h = ap is_systems (some_value q r e) ∙ h
-wide_round (wants.Deq q have) r e h = ap is_systems (some_value q r e) ∙ h
-wide_round (wants.Release q) r e h = ap is_systems (some_value q r e) ∙ h
-wide_round (wants.Look first count f) r e h = cc
+-- who becomes an owner by the elements on some resources owns by the lists behind the item
+pub owner-behind : (p : Res → Bool) (front : List RunItem) (x : RunItem) (q : Req) (r : Res) (t : TaskId) → x.fixed ≡ Asked q → res_wanted q.want ≡ Some r → p r ≡ true → is_among t (new_owners (part p (lists front)) q.task q.want) ≡ true →
+    owns (list_of (lists (front ++ x ∷ [])) r) t ≡ true
+owner-behind p front x q r t asked wanted own e =
+    ap (λ z. owns (list_of z r) t) (lists-push front x ∙ ap (after_fixed (lists front)) asked)
+    ∙ new-owns (lists front) q.task q.want r t wanted (ap (is_among t) (sym (new_owners-part p (lists front) q.task q.want r wanted own)) ∙ e)
 
--- who becomes an owner by the table owns by the lists behind the item
 gained-owns : (t : TaskId) (front : List RunItem) (x : RunItem) (q : Req) (r : Res) → x.fixed ≡ Asked q → res_wanted q.want ≡ Some r → is_systems r ≡ true → list_any (same_task t) (new_owners (lists (rounds front)) q.task q.want) ≡ true →
     owns (list_of (lists (front ++ x ∷ [])) r) t ≡ true
 gained-owns t front x q r asked wanted wide e =
-    let table : State = lists (rounds front) in
-    let among : list_any (same_task t) (became_owners (list_of table r) (list_of (after_want table q.task q.want) r) q.task) ≡ true = subst (λ o. list_any (same_task t) (became_owners_of table (after_want table q.task q.want) q.task o) ≡ true) wanted e in
-    let after : list_of (after_want table q.task q.want) r ≡ list_of (lists (front ++ x ∷ [])) r =
-    ap (λ z. list_of (after_want z q.task q.want) r) (table-is front)
-    ∙ ap (λ z. list_of z r) (sym (part-want (lists front) q.task q.want (wide_round q.want r wanted wide)))
-    ∙ list_of-systems (after_want (lists front) q.task q.want) r wide
-    ∙ ap (λ z. list_of z r) (sym (lists-push front x ∙ ap (after_fixed (lists front)) asked)) in
-    subst (λ es. owns es t ≡ true) after (became-owns (list_of table r) (list_of (after_want table q.task q.want) r) q.task t (among_any (became_owners (list_of table r) (list_of (after_want table q.task q.want) r) q.task) ∙ among))
-  where
-    among_any : (us : List TaskId) → is_among t us ≡ list_any (same_task t) us
-    among_any [] = refl
-    among_any (u ∷ us) = ap (λ b. same_task t u || b) (among_any us)
+    owner-behind is_systems front x q r t asked wanted wide (is_among-any t (new_owners (systems_part (lists front)) q.task q.want) ∙ ap (λ z. list_any (same_task t) (new_owners z q.task q.want)) (sym (table-is front)) ∙ e)
 
 pub reading_is_right : ReadingIsRight
 reading_is_right t k front x rest q r asked wanted wide made live mine_is keeps right =

@@ -1,43 +1,23 @@
 -- The entries of a task, and of its lines, in a history that grows.
-use Rattle.std.proofs.Common.{◌≡◌, ℕ, Bool, true, false, cond, ◌&&◌, List, [], ◌∷◌, ◌++◌, Option, Some, None, refl, arith}
+use Rattle.std.proofs.Common.{◌≡◌, ℕ, Bool, true, false, cond, List, [], ◌∷◌, ◌++◌, Option, Some, None, refl, arith}
 use Rattle.std.specs.Prelude.{filter, slice_get}
 use Rattle.grs_base.specs.declared.resource.TaskId.{TaskId}
 use Rattle.grs_base.specs.declared.decision.Code.{Code}
 use Rattle.grs_base.specs.declared.decision.Code.TheVariants as codes
 use Rattle.grs_legal.specs.declared.meaning.Meaning.{Meaning}
 use Rattle.grs_wire.specs.declared.history.HistEntry.{HistEntry}
-use Rattle.grs_wire.specs.History.{is_by, code_of}
+use Rattle.grs_wire.specs.History.{code_of}
 use Rattle.grs_legal.specs.Asks.{is_silent}
 use Rattle.grs_legal.specs.Legal.{entries_of, is_of_line, line_entries, end_or, end_among, last_entry}
 use Rattle.grs_known.specs.Told.{asked_at}
-use Rattle.grs_known.proofs.lists.Facts.{filter-push_kept, filter-push_left, slice_get-append}
-
--- another task's entry adds nothing
-pub line_entries-other : (t : TaskId) (hist : List HistEntry) (h : HistEntry) → is_by t h ≡ false → line_entries t (hist ++ h ∷ []) ≡ line_entries t hist
-line_entries-other t hist h apart = filter-push_left (λ g. is_by t g && is_of_line g) hist h (grind (arith, apart))
-
-pub entries_of-other : (t : TaskId) (hist : List HistEntry) (h : HistEntry) → is_by t h ≡ false → entries_of t (hist ++ h ∷ []) ≡ entries_of t hist
-entries_of-other t hist h apart = filter-push_left (is_by t) hist h apart
+use Rattle.grs_known.proofs.lists.Facts.{slice_get-append}
 
 -- the entries of a task's lines are among its entries
 pub line_entries-from : (t : TaskId) (P : List HistEntry) → line_entries t P ≡ filter is_of_line (entries_of t P)
 line_entries-from t [] = refl
 line_entries-from t (h ∷ P) = grind (arith, line_entries-from t P)
 
--- an own entry goes last
-pub line_entries-own : (t : TaskId) (hist : List HistEntry) (h : HistEntry) → is_by t h ≡ true → is_of_line h ≡ true → line_entries t (hist ++ h ∷ []) ≡ line_entries t hist ++ h ∷ []
-line_entries-own t hist h mine asked = filter-push_kept (λ g. is_by t g && is_of_line g) hist h (grind (arith, mine, asked))
-
-pub line_entries-release : (t : TaskId) (hist : List HistEntry) (h : HistEntry) → is_of_line h ≡ false → line_entries t (hist ++ h ∷ []) ≡ line_entries t hist
-line_entries-release t hist h asked = filter-push_left (λ g. is_by t g && is_of_line g) hist h (cases (is_by t h))
-  where
-    cases : (b : Bool) → (b && is_of_line h) ≡ false
-    cases true = asked
-    cases false = refl
-
-pub entries_of-own : (t : TaskId) (hist : List HistEntry) (h : HistEntry) → is_by t h ≡ true → entries_of t (hist ++ h ∷ []) ≡ entries_of t hist ++ h ∷ []
-entries_of-own t hist h mine = filter-push_kept (is_by t) hist h mine
-
+-- one entry goes last
 pub last_entry-push : (xs : List HistEntry) (h : HistEntry) → last_entry (xs ++ h ∷ []) ≡ Some h
 last_entry-push [] h = refl
 last_entry-push (x ∷ []) h = refl

@@ -1,5 +1,5 @@
 -- Facts on lists and options, whatever their items are.
-use Rattle.std.proofs.Common.{◌≡◌, ◌≢◌, ◌<◌, ◌≤◌, ◌+◌, ℕ, zero, suc, Bool, true, false, ◌&&◌, ◌||◌, List, [], ◌∷◌, ◌++◌, length, map, take, drop, cond, Option, Some, None, refl, ap, ◌∙◌, arith, append-nil}
+use Rattle.std.proofs.Common.{◌≡◌, ◌≢◌, ◌<◌, ◌≤◌, ◌+◌, ℕ, zero, suc, Bool, true, false, ◌&&◌, ◌||◌, List, [], ◌∷◌, ◌++◌, length, map, take, drop, Option, Some, None, refl, ap, ◌∙◌, arith, append-nil}
 use Rattle.std.specs.Prelude.{filter, slice_get, get_or, set, is_some}
 use Rattle.std.specs.List.{list_all, list_any}
 use Rattle.std.proofs.lemmas.Bool.{cases_Bool, and_parts}
@@ -111,15 +111,6 @@ filter-cons_kept p x xs h = rw h refl
 
 pub filter-cons_left : {X : Type 0} (p : X → Bool) (x : X) (xs : List X) → p x ≡ false → filter p (x ∷ xs) ≡ filter p xs
 filter-cons_left p x xs h = rw h refl
-
-pub filter-none : {X : Type 0} (p q : X → Bool) (xs : List X) → filter p xs ≡ [] → filter p (filter q xs) ≡ []
-filter-none p q [] e = refl
-filter-none p q (x ∷ xs) e = go (p x) refl (q x) e (filter-none p q xs)
-  where
-    go : (b : Bool) → p x ≡ b → (c : Bool) → cond b (x ∷ filter p xs) (filter p xs) ≡ [] → (filter p xs ≡ [] → filter p (filter q xs) ≡ []) → filter p (cond c (x ∷ filter q xs) (filter q xs)) ≡ []
-    go true f c e ih = absurd (cc)
-    go false f true e ih = rw f (ih e)
-    go false f false e ih = ih e
 
 -- ---- what holds of some, and of all
 pub list_any-push : {X : Type 0} (p : X → Bool) (xs : List X) (x : X) → list_any p (xs ++ x ∷ []) ≡ (list_any p xs || p x)

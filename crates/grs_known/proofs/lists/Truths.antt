@@ -19,10 +19,6 @@ pub and_off : (a b : Bool) → b ≡ false → (a && b) ≡ false
 and_off true b e = e
 and_off false b e = refl
 
-pub and_other : (a b : Bool) → (a && b) ≡ true → b ≡ true
-and_other true b e = e
-and_other false b e = cc
-
 pub or_first : (a b : Bool) → a ≡ true → (a || b) ≡ true
 or_first true b e = refl
 or_first false b e = cc

@@ -1,36 +1,23 @@
--- A task's past, and a history of which it speaks: what the one tells of the other, and how both go on.
-use Rattle.std.proofs.Common.{◌≡◌, ℕ, Bool, true, false, cond, not, ◌&&◌, ◌||◌, List, [], ◌∷◌, ◌++◌, map, length, Option, Some, None, refl, ap, sym, ◌∙◌, subst, arith}
+-- A task's past, and a history of which it speaks: what the one tells of the other.
+use Rattle.std.proofs.Common.{◌≡◌, ℕ, Bool, true, false, cond, not, ◌||◌, List, [], map, length, Option, Some, None, refl, ap, sym, ◌∙◌, subst, arith}
 use Rattle.std.specs.Prelude.{slice_get, is_some, IfSome}
-use Rattle.std.specs.List.{list_any, list_all}
+use Rattle.std.specs.List.{list_all}
 use Rattle.std.proofs.lemmas.Option.{IfSome_then}
-use Rattle.grs_base.specs.Same.{same_res, same_task}
-use Rattle.grs_base.specs.Lists.{owns, has_task, standing_of, can_have, deq_code, decide_enq}
+use Rattle.grs_base.specs.Same.{same_res}
+use Rattle.grs_base.specs.Lists.{owns, has_task}
 use Rattle.grs_base.specs.State.{list_of, queued_by}
-use Rattle.grs_base.specs.declared.resource.Ctl.{Ctl}
 use Rattle.grs_base.specs.declared.resource.Res.{Res}
-use Rattle.grs_base.specs.declared.resource.Ret.{Ret}
 use Rattle.grs_base.specs.declared.resource.TaskId.{TaskId}
 use Rattle.grs_base.specs.declared.decision.Code.TheVariants.{Wait}
-use Rattle.grs_base.proofs.ListLaws.{is_owner-standing}
 use Rattle.grs_base.proofs.SameLaws.{same_res-exact}
 use Rattle.grs_legal.specs.Asks.{Ask, asks_of}
-use Rattle.grs_legal.specs.Legal.{ask_in, IsLegal, entries_of, is_of_line, line_entries, end_among, release_next, or_else, next_ask, passed_behind, passed_lines, lets_pass, last_entry, HasControl}
+use Rattle.grs_legal.specs.Legal.{ask_in, IsLegal, entries_of, end_among, release_next, or_else, next_ask, passed_behind, passed_lines, lets_pass, last_entry, HasControl}
 use Rattle.grs_legal.specs.declared.meaning.Meaning.{Meaning}
 use Rattle.grs_legal.specs.declared.meaning.Meaning.TheVariants as lines
-use Rattle.grs_wire.specs.History.{is_by, code_of, answer_of, reply_of, replay, entries_for}
-use Rattle.grs_wire.specs.Wants.{after_want}
+use Rattle.grs_wire.specs.History.{code_of, answer_of, reply_of, replay}
 use Rattle.grs_wire.specs.declared.history.HistEntry.{HistEntry}
 use Rattle.grs_wire.specs.declared.history.HistEntry.TheVariants.{Enq, Deq, Release, Look, Remove}
-use Rattle.grs_wire.specs.declared.request.Want.{Want}
-use Rattle.grs_wire.proofs.HistoryLaws.{none_twice}
-use Rattle.grs_wire.proofs.WantLaws.{owns-want, absent-has}
-use Rattle.task_state.specs.Replies.{gives_up}
-use Rattle.grs_known.specs.Items.{took, gave, tells}
-use Rattle.grs_known.specs.Past.{has_own, Fits, own_elements, own_told, own_after, Past, after_entry, Speaks}
-use Rattle.grs_known.proofs.lists.Requests.{queued-absent, want-keeps, want-takes, want-tells, granted-deq}
-use Rattle.grs_known.proofs.lists.Elements.{own-want, own-want_other}
-use Rattle.grs_known.proofs.lists.Requests.{queued-absent, gave-tells}
-use Rattle.grs_known.proofs.lists.Entries.{line_entries-other, entries_of-other, line_entries-own, line_entries-release, entries_of-own, last_entry-push}
+use Rattle.grs_known.specs.Past.{has_own, Past, Speaks}
 use Rattle.grs_known.proofs.lists.Facts.{all-kept}
 use Rattle.grs_known.proofs.tasks.Invariant.{may_pass, owns_entry, with_control, IsFree, asks_next, passes_next, IsNext}
 use Rattle.grs_known.proofs.lists.Own.{queued_by-own, has_task-own}
@@ -84,7 +71,6 @@ module _ (limit : ℕ) (t : TaskId) (p : Past) (P : List HistEntry) (s : Speaks 
   pub legal-speaks : (ls : List Meaning) (a : Ask) (h : HistEntry) → IsNext ls p a → answer_of h ≡ reply_of limit (replay limit P) h → ask_in h ≡ Some a → IsLegal limit t ls P h
   legal-speaks ls a h i right asks = record { reply = right; next = next-speaks ls ∙ i.next ∙ sym asks; waited = free-speaks i.free; passed = lines-speaks ls i.passed }
 
-  -- ---- how both go on
   -- the task was told control that it has
   pub speaks-control : (r : Res) → owns (list_of (replay limit P) r) t ≡ true → Speaks limit t (with_control r p) P
   speaks-control r own = record { own = s.own; owns = λ q e. owned q (p.owns q) (s.owns q) e; asked = s.asked; last = s.last }
@@ -92,50 +78,3 @@ module _ (limit : ℕ) (t : TaskId) (p : Past) (P : List HistEntry) (s : Speaks 
       owned : (q : Res) (a : Bool) → (a ≡ true → owns (list_of (replay limit P) q) t ≡ true) → (a || same_res q r) ≡ true → owns (list_of (replay limit P) q) t ≡ true
       owned q true f e = f refl
       owned q false f e = subst (λ z. owns (list_of (replay limit P) z) t ≡ true) (sym (same_res-exact q r e)) own
-
-  -- another task's request leaves its past
-  pub speaks-other : (u : TaskId) (w : Want) (h : HistEntry) → replay limit (P ++ h ∷ []) ≡ after_want (replay limit P) u w → is_by t h ≡ false → same_task t u ≡ false → Speaks limit t p (P ++ h ∷ [])
-  speaks-other u w h after other apart = record {
-    own = ap (λ z. own_elements z t) after ∙ own-want_other (replay limit P) u w t apart ∙ s.own;
-    owns = λ r e. subst (λ z. owns (list_of z r) t ≡ true) (sym after) (owns-want (replay limit P) u w r t apart (s.owns r e));
-    asked = line_entries-other t P h other ∙ s.asked;
-    last = ap last_entry (entries_of-other t P h other) ∙ s.last;
-  }
-
-  -- its own request makes it longer by the entry
-  pub speaks-own : (w : Want) (h : HistEntry) → entries_for (replay limit P) t w ≡ h ∷ [] → replay limit (P ++ h ∷ []) ≡ after_want (replay limit P) t w → is_by t h ≡ true → Speaks limit t (after_entry h p) (P ++ h ∷ [])
-  speaks-own w h entry after mine = record {
-    own = ap (λ z. own_elements z t) after ∙ own-want (replay limit P) t w (none_twice limit P) ∙ ap (own_after (own_elements (replay limit P) t)) entry ∙ ap (own_told h) s.own;
-    owns = λ r e. subst (λ z. owns (list_of z r) t ≡ true) (sym after) (owned r (p.owns r) (took r h) (gave r h) refl refl refl e);
-    asked = asked (is_of_line h) refl;
-    last = ap last_entry (entries_of-own t P h mine) ∙ last_entry-push (entries_of t P) h;
-  }
-    where
-      asked : (b : Bool) → is_of_line h ≡ b → line_entries t (P ++ h ∷ []) ≡ cond b (p.asked ++ h ∷ []) p.asked
-      asked true e = line_entries-own t P h mine e ∙ ap (λ es. es ++ h ∷ []) s.asked
-      asked false e = line_entries-release t P h e ∙ s.asked
-
-      given : (r : Res) → gave r h ≡ true → owns (list_of (after_want (replay limit P) t w) r) t ≡ true
-      given r g = want-tells (replay limit P) t w r (subst (λ hs. list_any (tells r) hs ≡ true) (sym entry) (gave-tells r (h ∷ []) (ap (λ b. b || false) g)))
-
-      kept : (r : Res) → p.owns r ≡ true → took r h ≡ false → (b : Bool) → gives_up r w ≡ b → owns (list_of (after_want (replay limit P) t w) r) t ≡ true
-      kept r o k false e = want-keeps (replay limit P) t w r e (s.owns r o)
-      kept r o k true e = absurd (let f : false ≡ true = sym (ap (λ b. b || false) k) ∙ subst (λ hs. list_any (took r) hs ≡ true) entry (want-takes (replay limit P) t w r e (s.owns r o)) in cc)
-
-      owned : (r : Res) (a b c : Bool) → p.owns r ≡ a → took r h ≡ b → gave r h ≡ c → ((a && not b) || c) ≡ true → owns (list_of (after_want (replay limit P) t w) r) t ≡ true
-      owned r a b true o k g e = given r g
-      owned r true false false o k g e = kept r o k (gives_up r w) refl
-      owned r true true false o k g e = cc
-      owned r false b false o k g e = cc
-
--- ---- what the lists' reply says of the asker's past
-pub fits-enq : (limit : ℕ) (t : TaskId) (p : Past) (P : List HistEntry) → Speaks limit t p P → (r : Res) (c : Ctl) (ret : Ret) (full : Bool) → Fits p (Enq t r c ret (decide_enq (list_of (replay limit P) r) t c ret full).code)
-fits-enq limit t p P s r c ret full h =
-    sym (has-speaks limit t p P s r) ∙ absent-has (list_of (replay limit P) r) t (queued-absent (standing_of (list_of (replay limit P) r) t) ret full (can_have (list_of (replay limit P) r) c) h)
-
-pub fits-deq : (limit : ℕ) (t : TaskId) (p : Past) (P : List HistEntry) → Speaks limit t p P → (r : Res) (have : Bool) → Fits p (Deq t r have (deq_code (standing_of (list_of (replay limit P) r) t) have))
-fits-deq limit t p P s r have h = go (p.owns r) refl
-  where
-    go : (b : Bool) → p.owns r ≡ b → b ≡ false
-    go false e = refl
-    go true e = absurd (let f : false ≡ true = sym h ∙ granted-deq (standing_of (list_of (replay limit P) r) t) have (is_owner-standing (list_of (replay limit P) r) t ∙ s.owns r e) in cc)

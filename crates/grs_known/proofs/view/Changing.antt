@@ -9,7 +9,8 @@ use Rattle.grs_base.specs.declared.resource.Res.{Res}
 use Rattle.grs_base.proofs.SameLaws.{same_res-exact}
 use Rattle.grs_known.specs.Items.{RunItem, lists, lists_from}
 use Rattle.grs_known.specs.Change.{put_at, StarWords, StarStore, Role, Ring, Star, under, least_system, is_manager, manager_of, is_managed, managed_part, store_of, store_shown, view, kept_by, kept_at, systems_part, TurnShowsNothing, TaskShowsNothing, StarShowsItself, SwitchShowsHistory, KeptIsShown}
-use Rattle.grs_known.proofs.known.Parts.{list_of-part, list_of-systems}
+use Rattle.grs_known.proofs.known.Parts.{list_of-systems}
+use Rattle.grs_known.proofs.lists.Parts.{list_of-part}
 
 -- ---- one place of a function
 pub put_both : {A B : Type 0} (f : ℕ → A) (g : ℕ → B) (s u : ℕ) (x : A) (y : B) (P : A → B → Type 0) → (u ≡ s → P x y) → (u ≢ s → P (f u) (g u)) → P (put_at f s x u) (put_at g s y u)

@@ -21,7 +21,7 @@ use Rattle.grs_wire.specs.declared.medium.Act.TheVariants as acts
 use Rattle.grs_wire.specs.declared.medium.Call.{Call as CallOfMedium}
 use Rattle.grs_wire.specs.declared.medium.Mail.{Mail}
 use Rattle.grs_wire.specs.declared.medium.Reply.{Reply}
-use Rattle.grs_wire.specs.declared.medium.Reply.TheVariants.{Turned, NotYours, Already, Sole, Sent, Left, Kept, Purged, NoSuch, InStar, Resting, Over, Stale, Removed}
+use Rattle.grs_wire.specs.declared.medium.Reply.TheVariants.{Turned, NotYours, Already, Left, Kept, Purged, NoSuch, InStar, Resting, Over, Stale, Removed}
 use Rattle.grs_wire.specs.declared.request.Req.{Req}
 use Rattle.rsa_message.specs.Message.{unseen, first_number, turn_reply, is_at}
 

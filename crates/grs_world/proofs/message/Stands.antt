@@ -1,24 +1,33 @@
--- What stands in the message of all requests that were ever put in.
-use Rattle.std.proofs.Common.{ℕ, zero, suc, ◌≡◌, ◌≢◌, ◌+◌, ◌-◌, ◌<◌, ◌≤◌, Bool, true, false, cond, not, eqb, leb, ◌&&◌, List, [], ◌∷◌, ◌++◌, length, drop, map, Some, ap, sym, ◌∙◌, refl, subst, arith, eqb-true, leb-true, leb-false, le-leb}
+-- What stands in the message of all that was ever put in, whatever kind it is.
+use Rattle.std.proofs.Common.{ℕ, zero, suc, ◌≡◌, ◌≢◌, ◌+◌, ◌-◌, ◌<◌, ◌≤◌, Bool, true, false, cond, not, eqb, leb, ◌&&◌, List, [], ◌∷◌, ◌++◌, length, drop, map, Option, Some, None, ap, sym, ◌∙◌, refl, subst, arith, eqb-true, leb-true, leb-false, le-leb}
 use Rattle.std.specs.Prelude.{filter, ◌==◌}
 use Rattle.std.proofs.Math.Seq.{drop-nil}
 use Rattle.std.proofs.lemmas.Bool.{eqb-false, lt-leb}
 use Rattle.grs_base.specs.declared.resource.SysId.{SysId}
 use Rattle.grs_wire.specs.Masks.{has, without, with_also, only, others}
-use Rattle.grs_wire.specs.declared.medium.RingBody.TheVariants.{Request}
+use Rattle.grs_wire.specs.declared.medium.RingBody.{RingBody}
+use Rattle.grs_wire.specs.declared.medium.RingBody.TheVariants.{Request, Remove}
 use Rattle.grs_wire.specs.declared.medium.RingEntry.{RingEntry}
+use Rattle.grs_wire.specs.declared.request.Fixed.{Fixed}
+use Rattle.grs_wire.specs.declared.request.Fixed.TheVariants.{Asked, LocalLook, Purged}
 use Rattle.grs_wire.specs.declared.request.Req.{Req}
 use Rattle.grs_wire.proofs.MaskLaws.{has-without_same, has-without_other, has-zero, has-with_same, has-with_other}
 use Rattle.grs_wire.proofs.WantLaws.{by_test}
 use Rattle.rsa_message.specs.Message.{cleared, left_by, stamped, unseen, first_number}
 use Rattle.grs_known.proofs.lists.Truths.{and_off}
 
--- Stands U k qs es: of the requests qs, the first of which has place k, those that a system has still to
--- process stand in es, in order. U j s says that s has still to process the request at place j.
-pub data Stands (U : ℕ → ℕ → Bool) : ℕ → List Req → List RingEntry → Type 0 where
+-- what was fixed, as an entry of the message
+abbrev pub body_of : Fixed → Option RingBody
+body_of (Asked q) = Some (Request q)
+body_of (LocalLook t f) = None
+body_of (Purged target) = Some (Remove target)
+
+-- Stands U k qs es: of what went with the message, the first of which has place k, that which a system has still to
+-- process stands in es, in order. U j s says that s has still to process what has place j.
+pub data Stands (U : ℕ → ℕ → Bool) : ℕ → List Fixed → List RingEntry → Type 0 where
   none : {k : ℕ} → Stands U k [] []
-  gone : {k : ℕ} {q : Req} {qs : List Req} {es : List RingEntry} → ((s : ℕ) → U k s ≡ false) → Stands U (suc k) qs es → Stands U k (q ∷ qs) es
-  kept : {k : ℕ} {e : RingEntry} {q : Req} {qs : List Req} {es : List RingEntry} → e.number ≡ suc k → e.body ≡ Request q → ((s : ℕ) → has e.mask s ≡ U k s) → Stands U (suc k) qs es → Stands U k (q ∷ qs) (e ∷ es)
+  gone : {k : ℕ} {q : Fixed} {qs : List Fixed} {es : List RingEntry} → ((s : ℕ) → U k s ≡ false) → Stands U (suc k) qs es → Stands U k (q ∷ qs) es
+  kept : {k : ℕ} {e : RingEntry} {q : Fixed} {qs : List Fixed} {es : List RingEntry} → e.number ≡ suc k → body_of q ≡ Some e.body → ((s : ℕ) → has e.mask s ≡ U k s) → Stands U (suc k) qs es → Stands U k (q ∷ qs) (e ∷ es)
 
 module _ (U V : ℕ → ℕ → Bool) (c : SysId) (n : ℕ) (at_c : (j : ℕ) → j < n → V j c.0 ≡ false) (apart : (j s : ℕ) → j < n → s ≢ c.0 → V j s ≡ U j s) where
   same_mask : (m j : ℕ) → j < n → ((s : ℕ) → has m s ≡ U j s) → (s : ℕ) → has (without m c.0) s ≡ V j s
@@ -42,7 +51,7 @@ module _ (U V : ℕ → ℕ → Bool) (c : SysId) (n : ℕ) (at_c : (j : ℕ) �
   clear es = map (left_by c) (filter (λ e. not (e.mask == only c.0)) es)
 
   -- c leaves all masks
-  Stands-clear : {k : ℕ} {qs : List Req} {es : List RingEntry} → k + length qs ≤ n → Stands U k qs es → Stands V k qs (clear es)
+  Stands-clear : {k : ℕ} {qs : List Fixed} {es : List RingEntry} → k + length qs ≤ n → Stands U k qs es → Stands V k qs (clear es)
   unfolding clear
   Stands-clear l none = none
   Stands-clear l (gone {k = k} h r) = gone (still_none k (omega arith) (λ s ne. h s)) (Stands-clear (omega arith) r)
@@ -54,30 +63,30 @@ module _ (U V : ℕ → ℕ → Bool) (c : SysId) (n : ℕ) (at_c : (j : ℕ) �
       go true t rest = gone (still_none k (omega arith) (alone e.mask k (eqb-true e.mask (only c.0) t) h)) rest
       go false t rest = kept number body (same_mask e.mask k (omega arith) h) rest
 
-  pub Stands-cleared : {k : ℕ} {qs : List Req} {es : List RingEntry} → k + length qs ≤ n → Stands U k qs es → Stands V k qs (cleared c es)
+  pub Stands-cleared : {k : ℕ} {qs : List Fixed} {es : List RingEntry} → k + length qs ≤ n → Stands U k qs es → Stands V k qs (cleared c es)
   unfolding cleared clear
   Stands-cleared l h = Stands-clear l h
 
 -- what is put in behind
-pub Stands-append : {U : ℕ → ℕ → Bool} {k : ℕ} {ps : List Req} {es : List RingEntry} (j : ℕ) (qs : List Req) (fs : List RingEntry) → j ≡ k + length ps → Stands U k ps es → Stands U j qs fs → Stands U k (ps ++ qs) (es ++ fs)
+pub Stands-append : {U : ℕ → ℕ → Bool} {k : ℕ} {ps : List Fixed} {es : List RingEntry} (j : ℕ) (qs : List Fixed) (fs : List RingEntry) → j ≡ k + length ps → Stands U k ps es → Stands U j qs fs → Stands U k (ps ++ qs) (es ++ fs)
 Stands-append {U = U} {k = k} j qs fs e none t = subst (λ i. Stands U i qs fs) (omega arith) t
 Stands-append j qs fs e (gone h r) t = gone h (Stands-append j qs fs (omega arith) r t)
 Stands-append j qs fs e (kept number body h r) t = kept number body h (Stands-append j qs fs (omega arith) r t)
 
-pub Stands-stamped : (U : ℕ → ℕ → Bool) (c : SysId) (mask : ℕ) (k : ℕ) (qs : List Req) → ((j s : ℕ) → k ≤ j → has mask s ≡ U j s) → Stands U k qs (stamped (suc k) c mask qs)
+pub Stands-stamped : (U : ℕ → ℕ → Bool) (c : SysId) (mask : ℕ) (k : ℕ) (qs : List Req) → ((j s : ℕ) → k ≤ j → has mask s ≡ U j s) → Stands U k (map Asked qs) (stamped (suc k) c mask qs)
 unfolding stamped
 Stands-stamped U c mask k [] h = none
 Stands-stamped U c mask k (q ∷ qs) h = kept refl refl (λ s. h k s (omega arith)) (Stands-stamped U c mask (suc k) qs (λ j s l. h j s (omega arith)))
 
--- these entries are these requests
-pub data Bodies : List Req → List RingEntry → Type 0 where
+-- these entries are these
+pub data Bodies : List Fixed → List RingEntry → Type 0 where
   none : Bodies [] []
-  more : {q : Req} {e : RingEntry} {qs : List Req} {es : List RingEntry} → e.body ≡ Request q → Bodies qs es → Bodies (q ∷ qs) (e ∷ es)
+  more : {q : Fixed} {e : RingEntry} {qs : List Fixed} {es : List RingEntry} → body_of q ≡ Some e.body → Bodies qs es → Bodies (q ∷ qs) (e ∷ es)
 
 -- what s has still to process is all that was put in behind what it has seen
-pub unseen-drop : {U : ℕ → ℕ → Bool} {k : ℕ} {qs : List Req} {es : List RingEntry} (s : SysId) (seen : ℕ) → ((j : ℕ) → U j s.0 ≡ leb seen j) → Stands U k qs es → Bodies (drop (seen - k) qs) (unseen s es)
+pub unseen-drop : {U : ℕ → ℕ → Bool} {k : ℕ} {qs : List Fixed} {es : List RingEntry} (s : SysId) (seen : ℕ) → ((j : ℕ) → U j s.0 ≡ leb seen j) → Stands U k qs es → Bodies (drop (seen - k) qs) (unseen s es)
 unfolding unseen
-unseen-drop {k = k} s seen at none = subst (λ (z : List Req). Bodies z []) (sym (drop-nil (seen - k))) none
+unseen-drop {k = k} s seen at none = subst (λ (z : List Fixed). Bodies z []) (sym (drop-nil (seen - k))) none
 unseen-drop {k = k} s seen at (gone {q = q} {qs = qs} {es = es} h r) =
     let l : k < seen = leb-false seen k (sym (at k) ∙ h s.0) in
     let d : seen - k ≡ suc (seen - suc k) = omega arith in
@@ -94,7 +103,7 @@ unseen-drop {k = k} s seen at (kept {e = e} {q = q} {qs = qs} {es = es} number b
     subst (λ i. Bodies (drop i (q ∷ qs)) (unseen s es)) (sym d) ih)
 
 -- the number of the first entry that s has still to process is one above the count of those that it has seen
-pub first_number-seen : {U : ℕ → ℕ → Bool} {k : ℕ} {qs : List Req} {es : List RingEntry} (s : SysId) (seen : ℕ) → ((j : ℕ) → U j s.0 ≡ leb seen j) → k ≤ seen → Stands U k qs es → (number : ℕ) → first_number (unseen s es) ≡ Some number → number ≡ suc seen
+pub first_number-seen : {U : ℕ → ℕ → Bool} {k : ℕ} {qs : List Fixed} {es : List RingEntry} (s : SysId) (seen : ℕ) → ((j : ℕ) → U j s.0 ≡ leb seen j) → k ≤ seen → Stands U k qs es → (number : ℕ) → first_number (unseen s es) ≡ Some number → number ≡ suc seen
 unfolding unseen
 first_number-seen s seen at l none number f = cc
 first_number-seen {k = k} s seen at l (gone h r) number f =

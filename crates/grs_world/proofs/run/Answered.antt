@@ -2,7 +2,6 @@
 use Rattle.std.proofs.Common.{◌≡◌, Bool, true, false, cond, ◌||◌, ℕ, suc, List, [], ◌∷◌, ◌++◌, map, take, drop, refl, ap, sym, ◌∙◌, subst, append-nil, append_assoc}
 use Rattle.std.specs.Prelude.{filter, not, ◌==◌}
 use Rattle.std.specs.List.{list_all, list_any}
-use Rattle.std.proofs.lemmas.List.Folds.{list_any-append}
 use native.Mathlib.Decide.{ℕ_discrete}
 use Rattle.grs_base.specs.Same.{same_task}
 use Rattle.grs_base.specs.declared.resource.SysId.{SysId}
@@ -19,12 +18,11 @@ use Rattle.grs_wire.specs.declared.told.ToldLine.TheVariants as lines
 use Rattle.grs_wire.proofs.MaskLaws.{has-without_same, has-without_other}
 use Rattle.rsa_message.specs.Message.{left_by, cleared, stamped}
 use Rattle.grs_world.specs.Laps.{OnlyLeft, LeftHome, answers}
-use Rattle.grs_world.proofs.system.Askers.{among-front, among-back}
-use Rattle.grs_world.proofs.run.Carried.{all-append}
+use Rattle.grs_world.proofs.system.Askers.{among-front}
 use Rattle.grs_known.proofs.lists.Facts.{all-more, list_any-push, take-drop}
 use Rattle.grs_known.proofs.lists.Owners.{is_among}
-use Rattle.grs_world.proofs.system.Seen.{ToldBy, Says, askers, is_line_of}
-use Rattle.grs_world.proofs.system.Seen as seen
+use Rattle.grs_world.proofs.system.Says.{ToldBy, Clears, askers, is_line_of}
+use Rattle.grs_world.proofs.system.Says as says
 use Rattle.grs_known.proofs.lists.Truths.{no_truth, or_other, or_false}
 
 -- ---- the lines told
@@ -35,49 +33,27 @@ pub record Answered (s : ℕ) (opens : List Req) (T0 T : List ToldLine) : Type 0
   pub ours : list_all (is_line_of s) lines ≡ true
   pub clear : (t : TaskId) → list_any (answers t) lines ≡ true → is_among t (askers opens) ≡ false
 
-pub none_answered : (s : ℕ) (opens : List Req) (T : List ToldLine) → Answered s opens T T
-none_answered s opens T = record { lines = []; is = sym (append-nil T); ours = refl; clear = λ t a. cc }
-
-pub more_answered : (s : ℕ) (opens : List Req) (T0 T1 T2 : List ToldLine) → Answered s opens T0 T1 → Answered s opens T1 T2 → Answered s opens T0 T2
-more_answered s opens T0 T1 T2 m n = record {
-  lines = m.lines ++ n.lines;
-  is = n.is ∙ (ap (λ z. z ++ n.lines) m.is ∙ append_assoc T0 m.lines n.lines);
-  ours = all-append s m.lines n.lines m.ours n.ours;
-  clear = λ t a. go t (list_any (answers t) m.lines) refl (sym (list_any-append (answers t) m.lines n.lines) ∙ a);
-}
+pub answered-by : {deck : Deck} {s : ℕ} {opens : List Req} {P : List HistEntry} {T0 T : List ToldLine} → ToldBy deck s opens P T0 T → Answered s opens T0 T
+answered-by {s = s} {opens = opens} {T0 = T0} says.none = record { lines = []; is = sym (append-nil T0); ours = refl; clear = λ t a. cc }
+answered-by {s = s} {opens = opens} {T0 = T0} (says.more T l told mine agrees clears) =
+    let m = answered-by told in
+    record {
+      lines = m.lines ++ l ∷ [];
+      is = ap (λ ls. ls ++ l ∷ []) m.is ∙ append_assoc T0 m.lines (l ∷ []);
+      ours = all-more (is_line_of s) m.lines l m.ours mine;
+      clear = λ t a. go t m.lines (list_any (answers t) m.lines) refl (m.clear t) (sym (list_any-push (answers t) m.lines l) ∙ a);
+    }
   where
-    go : (t : TaskId) (b : Bool) → list_any (answers t) m.lines ≡ b → (list_any (answers t) m.lines || list_any (answers t) n.lines) ≡ true → is_among t (askers opens) ≡ false
-    go t true is a = m.clear t is
-    go t false is a = n.clear t (or_other (list_any (answers t) m.lines) (list_any (answers t) n.lines) a is)
+    line_clear : (t : TaskId) (k : ToldLine) → Clears opens k → answers t k ≡ true → is_among t (askers opens) ≡ false
+    line_clear t (lines.Coded u k part verb code) clear a = subst (λ (x : TaskId). is_among x (askers opens) ≡ false) (sym (same_task-exact t u a)) clear
+    line_clear t (lines.Shown u k verb code rows) clear a = subst (λ (x : TaskId). is_among x (askers opens) ≡ false) (sym (same_task-exact t u a)) clear
+    line_clear t (lines.Post u k) clear a = cc
+    line_clear t (lines.Ended u code) clear a = cc
+    line_clear t (lines.Desk k said) clear a = cc
 
-pub answered-back : (s : ℕ) (xs ys : List Req) (T0 T : List ToldLine) → Answered s (xs ++ ys) T0 T → Answered s ys T0 T
-answered-back s xs ys T0 T m = record { lines = m.lines; is = m.is; ours = m.ours; clear = λ t a. among-back t xs ys (m.clear t a) }
-
-pub answered-front : (s : ℕ) (xs ys : List Req) (T0 T : List ToldLine) → Answered s (xs ++ ys) T0 T → Answered s xs T0 T
-answered-front s xs ys T0 T m = record { lines = m.lines; is = m.is; ours = m.ours; clear = λ t a. among-front t xs ys (m.clear t a) }
-
-module _ (deck : Deck) (s : ℕ) (opens : List Req) (Q : List HistEntry) where
-  line_clear : (t : TaskId) (T : List ToldLine) (l : ToldLine) → Says deck opens Q T l → answers t l ≡ true → is_among t (askers opens) ≡ false
-  line_clear t T (lines.Coded u k part verb code) says a = subst (λ (x : TaskId). is_among x (askers opens) ≡ false) (sym (same_task-exact t u a)) says.1.clears
-  line_clear t T (lines.Shown u k verb code rows) says a = absurd says
-  line_clear t T (lines.Post u k) says a = cc
-  line_clear t T (lines.Ended u code) says a = cc
-  line_clear t T (lines.Desk k said) says a = cc
-
-  pub answered-by : {T0 T : List ToldLine} → ToldBy deck s opens Q T0 T → Answered s opens T0 T
-  answered-by {T0 = T0} seen.none = none_answered s opens T0
-  answered-by {T0 = T0} (seen.more T l told mine says) =
-      let m = answered-by told in
-      record {
-        lines = m.lines ++ l ∷ [];
-        is = ap (λ ls. ls ++ l ∷ []) m.is ∙ append_assoc T0 m.lines (l ∷ []);
-        ours = all-more (is_line_of s) m.lines l m.ours mine;
-        clear = λ t a. go t m.lines (list_any (answers t) m.lines) refl (m.clear t) (sym (list_any-push (answers t) m.lines l) ∙ a);
-      }
-    where
-      go : (t : TaskId) (ls : List ToldLine) (b : Bool) → list_any (answers t) ls ≡ b → (list_any (answers t) ls ≡ true → is_among t (askers opens) ≡ false) → (list_any (answers t) ls || answers t l) ≡ true → is_among t (askers opens) ≡ false
-      go t ls true is ih a = ih is
-      go t ls false is ih a = line_clear t T l says (or_other (list_any (answers t) ls) (answers t l) a is)
+    go : (t : TaskId) (ls : List ToldLine) (b : Bool) → list_any (answers t) ls ≡ b → (list_any (answers t) ls ≡ true → is_among t (askers opens) ≡ false) → (list_any (answers t) ls || answers t l) ≡ true → is_among t (askers opens) ≡ false
+    go t ls true is ih a = ih is
+    go t ls false is ih a = line_clear t l clears (or_other (list_any (answers t) ls) (answers t l) a is)
 
 -- ---- where the requests of a task stand in the message
 -- An entry is left to the task's own system, if it is a request of that task.

@@ -1,95 +1,63 @@
 -- Requests of a system's outbox are put into the message.
-use Rattle.std.proofs.Common.{◌≡◌, true, false, ℕ, List, [], ◌∷◌, ◌++◌, Option, Some, refl, ap, sym, ◌∙◌, subst, append-nil, append_assoc}
-use Rattle.std.specs.Prelude.{filter, is_some}
-use Rattle.std.specs.List.{list_all}
+use Rattle.std.proofs.Common.{◌≡◌, cond, false, List, [], ◌∷◌, ◌++◌, map, refl, ap, sym, ◌∙◌, subst, append-nil, append_assoc}
 use Rattle.std.proofs.lemmas.Bool.{eq-eqb}
-use Rattle.grs_base.specs.State.{State, is_systems}
-use Rattle.grs_base.specs.declared.resource.Res.{Res}
-use Rattle.grs_base.specs.declared.resource.TaskId.{TaskId}
-use Rattle.grs_legal.specs.Asks.{lines_of}
-use Rattle.grs_legal.specs.Legal.{LegalFrom, MayStand}
-use Rattle.grs_legal.specs.declared.meaning.Meaning.{Meaning}
+use Rattle.grs_base.specs.declared.resource.SysId.{SysId}
 use Rattle.grs_node.specs.Node.{Node}
-use Rattle.grs_wire.specs.History.{replay, entries_for}
-use Rattle.grs_wire.specs.Wants.{res_wanted}
 use Rattle.grs_wire.specs.declared.deck.Deck.{Deck}
-use Rattle.grs_wire.specs.declared.history.HistEntry.{HistEntry}
+use Rattle.grs_wire.specs.declared.request.Fixed.TheVariants.{Asked}
 use Rattle.grs_wire.specs.declared.request.Req.{Req}
-use Rattle.grs_wire.specs.declared.request.Want.{Want}
-use Rattle.grs_wire.specs.declared.request.Want.TheVariants as wants
-use Rattle.grs_world.proofs.run.Carried.{carries-whole}
+use Rattle.grs_known.specs.Items.{RunItem, goes_round, rounds, mine}
+use Rattle.grs_known.proofs.known.Histories.{IsHistory, made_item, asks-behind, AllAsk}
+use Rattle.grs_known.proofs.lists.Facts.{filter-cons_kept, map-append}
 use Rattle.grs_known.proofs.lists.Owners.{is_among}
-use Rattle.grs_world.proofs.system.Replied.{Replied, replied_for, answer-for}
-use Rattle.grs_world.proofs.system.Seen.{NodeLaws, MayPut, askers, stand_apart}
-use Rattle.grs_world.proofs.run.Tape.{Item, entries, requests, for_all, from, IsItem, At, Tape, entries-append, requests-append}
-use Rattle.grs_world.proofs.run.Transfer.{Carries, stands-put, fits-carried}
-use Rattle.grs_world.proofs.run.Views.{waits, waiting, View, view-put}
-use Rattle.grs_known.proofs.lists.Truths.{and_on, or_first}
-use Rattle.grs_known.proofs.lists.Facts.{filter-append, filter-cons_kept}
-use Rattle.grs_known.specs.Items.{CountsIn}
+use Rattle.grs_world.proofs.run.Growing.{fixeds, Grows, same, more, grows-history, grows-rounds, own_requests-append, asks-rounds, idle-asks}
 use Rattle.grs_world.proofs.system.Askers.{apart-before, askers-append}
+use Rattle.grs_world.proofs.system.AtNode.{Seen}
+use Rattle.grs_world.proofs.system.Puts.{MayPut, may_home, may_put, seen-put}
+use Rattle.grs_world.proofs.system.Says.{askers, stand_apart, own_requests}
 
--- each of these requests may be put in
-abbrev pub AllMayPut : Deck → ℕ → List HistEntry → List Req → Type 0
-AllMayPut deck s Q [] = Unit {0}
-AllMayPut deck s Q (q ∷ qs) = MayPut deck s Q q × AllMayPut deck s Q qs
+module _ (deck : Deck) (c : SysId) (P before later : List RunItem) (right : IsHistory deck P) (whole : rounds P ≡ before ++ later) (n : Node) where
+  -- What is put in: each request is an item at the end.
+  pub record PutIn (qs : List Req) : Type 0 where
+    pub items : List RunItem
+    pub new : List RunItem
+    pub grows : Grows deck c P (map Asked qs) items new
+    pub seen : Seen deck c.0 items before (later ++ new) (own_requests c.0 later) n
+    pub asked : own_requests c.0 new ≡ qs
+    pub is : fixeds new ≡ map Asked qs
 
-pub all_may : (deck : Deck) (Seen : ℕ → List HistEntry → List Req → Node → Type 0) → NodeLaws deck Seen → (s : ℕ) (Q : List HistEntry) (out : List Req) (n : Node) → Seen s Q out n → (before qs behind : List Req) → n.outbox ≡ before ++ (qs ++ behind) → AllMayPut deck s Q qs
-all_may deck Seen laws s Q out n seen before [] behind e = tt
-all_may deck Seen laws s Q out n seen before (q ∷ qs) behind e =
-    (laws.may_put s Q out n before q (qs ++ behind) seen e, all_may deck Seen laws s Q out n seen (before ++ q ∷ []) qs behind (e ∙ sym (append_assoc before (q ∷ []) (qs ++ behind))))
+  put_next : (qs : List Req) (q : Req) (rest : List Req) → n.outbox ≡ qs ++ q ∷ rest → PutIn qs → PutIn (qs ++ q ∷ [])
+  put_next qs q rest box p =
+      let out = own_requests c.0 later in
+      let right' : IsHistory deck p.items = grows-history right p.grows in
+      let home : q.task.system.0 ≡ c.0 = may_home deck c.0 p.items before (later ++ p.new) out n p.seen qs q rest box in
+      let due : own_requests c.0 (later ++ p.new) ≡ out ++ qs = own_requests-append c.0 later p.new ∙ ap (λ z. out ++ z) p.asked in
+      let asks : AllAsk deck (later ++ p.new) = asks-behind deck before (later ++ p.new) (subst (AllAsk deck) (grows-rounds p.grows ∙ ap (λ z. z ++ p.new) whole ∙ append_assoc before later p.new) (asks-rounds deck p.items right'.asks)) in
+      let alone : is_among q.task (askers (out ++ qs)) ≡ false =
+      apart-before (askers (out ++ qs)) q.task (askers rest) (ap stand_apart (sym (askers-append (out ++ qs) (q ∷ rest)) ∙ ap askers (append_assoc out qs (q ∷ rest) ∙ ap (λ z. out ++ z) (sym box))) ∙ p.seen.apart) in
+      let idle : mine q.task (later ++ p.new) ≡ [] = idle-asks deck c.0 q.task home (later ++ p.new) asks (ap (λ z. is_among q.task (askers z)) due ∙ alone) in
+      let m : MayPut deck p.items q = may_put deck c.0 p.items before (later ++ p.new) out n p.seen qs q rest box right' idle in
+      let x : RunItem = made_item c p.items (Asked q) in
+      let one : rounds (x ∷ []) ≡ x ∷ [] = filter-cons_kept (λ z. goes_round z.fixed) x [] m.round in
+      record {
+        items = p.items ++ x ∷ [];
+        new = p.new ++ rounds (x ∷ []);
+        grows = subst (λ fs. Grows deck c P fs (p.items ++ x ∷ []) (p.new ++ rounds (x ∷ []))) (sym (map-append Asked qs (q ∷ []))) (more (map Asked qs) p.items p.new q p.grows home (m.follow c));
+        seen = subst (λ zs. Seen deck c.0 (p.items ++ x ∷ []) before zs out n) (append_assoc later p.new (rounds (x ∷ []))) (seen-put deck c.0 p.items before (later ++ p.new) out n p.seen qs q rest box right' idle c (m.follow c) m.round);
+        asked = own_requests-append c.0 p.new (rounds (x ∷ [])) ∙ ap (λ z. z ++ own_requests c.0 (rounds (x ∷ []))) p.asked ∙ ap (λ zs. qs ++ own_requests c.0 zs) one ∙ ap (λ b. qs ++ (cond b (q ∷ []) [] ++ [])) (eq-eqb q.task.system.0 c.0 home);
+        is = map-append (λ (z : RunItem). z.fixed) p.new (rounds (x ∷ [])) ∙ ap (λ z. z ++ fixeds (rounds (x ∷ []))) p.is ∙ ap (λ zs. map Asked qs ++ fixeds zs) one ∙ sym (map-append Asked qs (q ∷ []));
+      }
 
--- a request for a resource has one entry
-one_entry : (s : State) (t : TaskId) (w : Want) (r : Res) → res_wanted w ≡ Some r → (h : HistEntry) × (entries_for s t w ≡ h ∷ [])
-one_entry s t (wants.Enq q c ret full) r e = (_, refl)
-one_entry s t (wants.Deq q have) r e = (_, refl)
-one_entry s t (wants.Release q) r e = (_, refl)
-one_entry s t (wants.Look first count f) r e = absurd (cc)
+  put_more : (qs ps rest : List Req) → n.outbox ≡ qs ++ (ps ++ rest) → PutIn qs → PutIn (qs ++ ps)
+  put_more qs [] rest box p = subst PutIn (sym (append-nil qs)) p
+  put_more qs (q ∷ ps) rest box p = subst PutIn (append_assoc qs (q ∷ []) ps) (put_more (qs ++ q ∷ []) ps rest (box ∙ sym (append_assoc qs (q ∷ []) (ps ++ rest))) (put_next qs q (ps ++ rest) box p))
 
--- What is put in: each request with the entry that the history gives it.
-pub record PutIn (deck : Deck) (s : ℕ) (front rest Q : List Item) (qs : List Req) : Type 0 where
-  pub items : List Item
-  pub is : requests items ≡ qs
-  pub all : waiting s items ≡ items
-  pub systems : filter for_all items ≡ items
-  pub ours : list_all (from s) items ≡ true
-  pub tape : Tape deck (entries (front ++ rest)) items
-  pub legal : LegalFrom deck (entries (front ++ rest)) (entries items)
-  pub view : View deck s front (rest ++ items) Q
-
-some_there : (o : Option (List Meaning)) (ls : List Meaning) → o ≡ Some ls → is_some o ≡ true
-some_there o ls e = rw e refl
-
-pub put-all : (deck : Deck) (s : ℕ) (front Q : List Item) (qs : List Req) (rest : List Item) → View deck s front rest Q → Replied deck.limit (entries (front ++ rest)) → AllMayPut deck s (entries Q) qs → stand_apart (askers (requests (waiting s rest) ++ qs)) ≡ true → PutIn deck s front rest Q qs
-put-all deck s front Q [] rest v here may apart = record { items = []; is = refl; all = refl; systems = refl; ours = refl; tape = tt; legal = tt; view = subst (λ xs. View deck s front xs Q) (sym (append-nil rest)) v }
-put-all deck s front Q (q ∷ qs) rest v here may apart =
-    let P = entries (front ++ rest) in
-    let m : MayPut deck s (entries Q) q = may.0 in
-    let one = one_entry (replay deck.limit P) q.task q.want m.res m.of_res in
-    let x : Item = record { req = q; res = m.res; entry = one.0 } in
-    let made : entries_for (replay deck.limit P) q.task q.want ≡ one.0 ∷ [] = one.1 in
-    let item : IsItem deck x = record { lists = replay deck.limit P; made = made; wanted = m.of_res; known = some_there (lines_of deck q.task) m.lines m.of_deck; place = or_first (is_systems m.res) _ m.systems } in
-    let alone : is_among q.task (askers (requests (waiting s rest))) ≡ false =
-    apart-before (askers (requests (waiting s rest))) q.task (askers qs) (subst (λ ts. stand_apart ts ≡ true) (askers-append (requests (waiting s rest)) (q ∷ qs)) apart) in
-    let carries : Carries deck.limit q.task P (entries Q) = carries-whole deck s front rest Q v here q.task m.home alone in
-    let full : CountsIn deck.limit (replay deck.limit P) q.task q.want = fits-carried deck.limit q.task P (entries Q) q.want here v.replied carries.mine m.fits in
-    let at : At deck P x = record { made = made; full = full; is = item } in
-    let stands : MayStand deck P one.0 = stands-put deck s P (entries Q) q (replay deck.limit P) one.0 carries m made (answer-for deck.limit (replay deck.limit P) q.task q.want one.0 full made) in
-    let mine : from s x ≡ true = eq-eqb q.task.system.0 s m.home in
-    let w : waits s x ≡ true = and_on (for_all x) (from s x) m.systems mine in
-    let grown : entries (front ++ (rest ++ x ∷ [])) ≡ P ++ one.0 ∷ [] = ap entries (sym (append_assoc front rest (x ∷ []))) ∙ entries-append (front ++ rest) (x ∷ []) in
-    let wait_grown : requests (waiting s (rest ++ x ∷ [])) ≡ requests (waiting s rest) ++ q ∷ [] =
-    ap requests (filter-append (waits s) rest (x ∷ []) ∙ ap (λ z. waiting s rest ++ z) (filter-cons_kept (waits s) x [] w)) ∙ requests-append (waiting s rest) (x ∷ []) in
-    let on = put-all deck s front Q qs (rest ++ x ∷ []) (view-put deck s front rest Q x item v m.systems alone)
-    (subst (Replied deck.limit) (sym grown) (replied_for deck.limit P q.task q.want one.0 here full made)) may.1
-    (subst (λ z. stand_apart (askers z) ≡ true) (sym (ap (λ z. z ++ qs) wait_grown ∙ append_assoc (requests (waiting s rest)) (q ∷ []) qs)) apart) in
-    record {
-      items = x ∷ on.items;
-      is = ap (λ z. q ∷ z) on.is;
-      all = filter-cons_kept (waits s) x on.items w ∙ ap (λ z. x ∷ z) on.all;
-      systems = filter-cons_kept for_all x on.items m.systems ∙ ap (λ z. x ∷ z) on.systems;
-      ours = and_on (from s x) _ mine on.ours;
-      tape = (at, subst (λ z. Tape deck z on.items) grown on.tape);
-      legal = (stands, subst (λ z. LegalFrom deck z (entries on.items)) grown on.legal);
-      view = subst (λ xs. View deck s front xs Q) (append_assoc rest (x ∷ []) on.items) on.view;
-    }
+  pub put-all : Seen deck c.0 P before later (own_requests c.0 later) n → (qs rest : List Req) → n.outbox ≡ qs ++ rest → PutIn qs
+  put-all seen qs rest box = put_more [] qs rest box (record {
+    items = P;
+    new = [];
+    grows = same;
+    seen = subst (λ zs. Seen deck c.0 P before zs (own_requests c.0 later) n) (sym (append-nil later)) seen;
+    asked = refl;
+    is = refl;
+  })

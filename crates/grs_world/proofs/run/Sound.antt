@@ -1,5 +1,5 @@
 -- Every run is sound.
-use Rattle.std.proofs.Common.{◌≡◌, ◌<◌, ◌+◌, ◌-◌, cond, Bool, true, false, ◌&&◌, ℕ, zero, suc, List, [], ◌∷◌, ◌++◌, length, take, Option, Some, None, refl, ap, sym, ◌∙◌, subst, arith, append-nil, append_assoc, length-append}
+use Rattle.std.proofs.Common.{◌≡◌, ◌<◌, ◌+◌, ◌-◌, cond, Bool, true, false, ◌&&◌, ℕ, zero, suc, List, [], ◌∷◌, ◌++◌, length, map, take, Option, Some, None, refl, ap, sym, ◌∙◌, subst, arith, append-nil, append_assoc, length-append}
 use Rattle.std.specs.Prelude.{slice_get, ◌==◌}
 use Rattle.grs_base.specs.declared.resource.SysId.{SysId}
 use Rattle.grs_base.specs.declared.resource.TaskId.{TaskId}
@@ -14,31 +14,33 @@ use Rattle.grs_wire.specs.declared.deck.SystemDef.{SystemDef}
 use Rattle.grs_wire.specs.declared.deck.Event.{Event}
 use Rattle.grs_wire.specs.declared.deck.Choice.{Choice}
 use Rattle.grs_wire.specs.declared.deck.Choice.TheVariants as choices
-use Rattle.grs_wire.specs.declared.history.HistEntry.{HistEntry}
 use Rattle.grs_wire.specs.declared.medium.Act.TheVariants as acts
 use Rattle.grs_wire.specs.declared.medium.Call.{Call as CallOfMedium}
 use Rattle.grs_wire.specs.declared.medium.Reply.{Reply}
 use Rattle.grs_wire.specs.declared.medium.Reply.TheVariants as replies
+use Rattle.grs_wire.specs.declared.request.Fixed.TheVariants.{Asked}
 use Rattle.grs_wire.specs.declared.request.Req.{Req}
 use Rattle.grs_wire.proofs.WantLaws.{by_test}
 use Rattle.rsa_message.specs.Message.{Message, is_at, unseen, turn_reply, turned, turned_open, turned_closed, rest_after_turn, opened, never_opened}
+use Rattle.grs_known.specs.Items.{RunItem, rounds, items}
+use Rattle.grs_known.proofs.known.ItemLaws.{items_are_history}
+use Rattle.grs_known.proofs.lists.Facts.{take-taken}
 use Rattle.grs_world.specs.Agree.{Sound}
-use Rattle.grs_world.specs.World.{World, Turnout, idle, carry_out, chosen, placed, counted, happens_at, happens, run, first_nodes, first_world}
-use Rattle.grs_world.proofs.run.Messages.{message-same, message-turned, given-rest}
+use Rattle.grs_world.specs.World.{World, Turnout, idle, carry_out, chosen, placed, counted, happens_at, happens, run, hist, first_nodes, first_world}
+use Rattle.grs_world.proofs.message.Stands.{none, has-others}
+use Rattle.grs_world.proofs.run.Messages.{message-same, message-turned, given-later}
 use Rattle.grs_world.proofs.run.OfEvents.{told_of_events}
 use Rattle.grs_world.proofs.run.Outcomes.{Outcome, quiet_outcome, still_outcome, turn_outcome}
 use Rattle.grs_world.proofs.run.Removals.{none_purged}
-use Rattle.grs_world.proofs.system.Replied.{Replied, replied_none}
 use Rattle.grs_world.proofs.run.Runs.{GoodWorld, GoodMessage, push, run-push, seen_at, message_log, updated, by-later, agree-longer}
-use Rattle.grs_world.proofs.system.Seen.{NodeLaws}
-use Rattle.grs_world.proofs.message.Stands.{none, has-others}
-use Rattle.grs_world.proofs.run.Tape.{entries, requests, Tape, replied-tape}
-use Rattle.grs_world.proofs.run.Views.{View, waiting}
-use Rattle.grs_known.proofs.lists.Facts.{take-taken}
+use Rattle.grs_world.proofs.system.AtNode.{Seen}
+use Rattle.grs_world.proofs.system.Begun.{first_seen}
 use Rattle.grs_world.proofs.system.First.{first_told}
+use Rattle.grs_world.proofs.system.Quiet.{quiet}
+use Rattle.grs_world.proofs.system.Says.{own_requests}
 
 -- ---- one event
-module _ (deck : Deck) (Seen : ℕ → List HistEntry → List Req → Node → Type 0) (laws : NodeLaws deck Seen) (es : List Event) (e : Event) (g : GoodWorld deck Seen es (run deck es)) where
+module _ (deck : Deck) (es : List Event) (e : Event) (g : GoodWorld deck es (run deck es)) where
   abbrev c : SysId
   c = e.system
 
@@ -46,54 +48,49 @@ module _ (deck : Deck) (Seen : ℕ → List HistEntry → List Req → Node → 
   w = run deck es
 
   abbrev Good : World → Type 0
-  Good x = GoodWorld deck Seen (es ++ e ∷ []) x
+  Good x = GoodWorld deck (es ++ e ∷ []) x
 
   -- an event that is only counted
   good_counted : Good (counted (run deck es))
   good_counted = record {
-    T = g.T;
-    front = g.front;
-    rest = g.rest;
-    Q = g.Q;
-    hist_is = g.hist_is;
-    lists = g.lists;
-    tape = g.tape;
-    legal = g.legal;
+    history = g.history;
+    told = record {
+      counted = ap (λ k. k + 1) g.told.counted ∙ sym (length-append es (e ∷ []));
+      by_now = by-later (length es) (length (es ++ e ∷ [])) (omega (arith, length-append es (e ∷ []))) w.told g.told.by_now;
+      agree = agree-longer deck es e [] w.told g.told.by_now g.told.agree;
+      lines = g.told.lines;
+    };
+    before = g.before;
+    later = g.later;
     whole = g.whole;
-    view = g.view;
-    seen = g.seen;
-    same_lines = g.same_lines;
-    alive = g.alive;
     message = g.message;
-    counted = ap (λ k. k + 1) g.counted ∙ sym (length-append es (e ∷ []));
-    by_now = by-later (length es) (length (es ++ e ∷ [])) (omega (arith, length-append es (e ∷ []))) w.told g.by_now;
-    agree = agree-longer deck es e [] w.told g.by_now g.agree;
+    systems = g.systems;
   }
 
   module _ (n : Node) (at : slice_get (run deck es).nodes e.system.0 ≡ Some n) where
     abbrev s : ℕ
     s = e.system.0
 
-    right : Replied deck.limit (entries (g.front e.system.0 ++ g.rest e.system.0))
-    right = subst (λ xs. Replied deck.limit (entries xs)) (sym (g.whole s)) (replied-tape deck [] g.T (replied_none deck.limit) g.tape)
+    abbrev P : List RunItem
+    P = items (run deck es).fixed
 
-    tape : Tape deck [] (g.front e.system.0 ++ g.rest e.system.0)
-    tape = subst (Tape deck []) (sym (g.whole s)) g.tape
+    seen : Seen deck e.system.0 P (g.before e.system.0) (g.later e.system.0) (own_requests e.system.0 (g.later e.system.0)) n
+    seen = (g.systems s n at).1
 
     -- the world after this came of the event
     abbrev Leads : Turnout → Type 0
     Leads o = happens deck (run deck es) e ≡ placed (run deck es) e.system n o → Good (placed (run deck es) e.system n o)
 
     -- nothing was put into the message
-    quiet_push : (m : MediumState) (st : Step) → m.message ≡ (run deck es).medium.message → live m ≡ live (run deck es).medium → Outcome deck Seen e.system.0 (g.front e.system.0) (g.rest e.system.0) n (g.front e.system.0) [] st → Leads (record { medium = m; step = st })
-    quiet_push m st same same_live o is = push deck Seen es e g n at m (g.front s) [] st is same_live (message-same w.medium m (message_log g.T) g.front s same same_live g.message) o
+    quiet_push : (m : MediumState) (st : Step) → m.message ≡ (run deck es).medium.message → live m ≡ live (run deck es).medium → Outcome deck e.system P n (g.before e.system.0) (g.later e.system.0) [] st → Leads (record { medium = m; step = st })
+    quiet_push m st same alive o is = push deck es e g n at m (g.before s) (g.later s) [] st o is alive (message-same w.medium m (message_log P) g.before s same alive g.message)
 
     -- the system is left as good as it was
-    same_push : (m : MediumState) (k : Node) → m.message ≡ (run deck es).medium.message → live m ≡ live (run deck es).medium → k.tasks.told ≡ n.tasks.told → Seen e.system.0 (entries (g.Q e.system.0)) (requests (waiting e.system.0 (g.rest e.system.0))) k → Leads (record { medium = m; step = record { node = k; fixed = [] } })
-    same_push m k same same_live told seen = quiet_push m (record { node = k; fixed = [] }) same same_live (still_outcome deck Seen s (g.front s) (g.rest s) (g.Q s) n (g.view s) right k told seen)
+    same_push : (m : MediumState) (k : Node) → m.message ≡ (run deck es).medium.message → live m ≡ live (run deck es).medium → k.tasks.told ≡ n.tasks.told → Seen deck e.system.0 P (g.before e.system.0) (g.later e.system.0) (own_requests e.system.0 (g.later e.system.0)) k → Leads (record { medium = m; step = record { node = k; fixed = [] } })
+    same_push m k same alive told seen = quiet_push m (record { node = k; fixed = [] }) same alive (still_outcome deck e.system P (g.before s) (g.later s) g.history (g.whole s) n k told seen)
 
     idle_push : (m : MediumState) → m.message ≡ (run deck es).medium.message → live m ≡ live (run deck es).medium → Leads (record { medium = m; step = record { node = n; fixed = [] } })
-    idle_push m same same_live = same_push m n same same_live refl (g.seen s n at)
+    idle_push m same alive = same_push m n same alive refl seen
 
     good_idle : Leads (idle (run deck es).medium n)
     good_idle = idle_push w.medium refl refl
@@ -109,7 +106,7 @@ module _ (deck : Deck) (Seen : ℕ → List HistEntry → List Req → Node → 
         (λ r. good_idle)
         (λ r. by_test (LeadsBy choice) (call.known == w.medium.removed) (row w.medium c call.act) (replies.Stale w.medium.removed, w.medium)
         (λ k. here)
-        (λ k. same_push w.medium (record n { known = w.medium.removed }) refl refl refl (laws.known s (entries (g.Q s)) (requests (waiting s (g.rest s))) n w.medium.removed (g.seen s n at))))
+        (λ k. same_push w.medium (record n { known = w.medium.removed }) refl refl refl (record { good = seen.good; held = seen.held; shared = seen.shared; homes = seen.homes; apart = seen.apart })))
 
     good_rest : LeadsBy choices.Rest (row (run deck es).medium e.system acts.Rest)
     unfolding row rest_row finish finish_call
@@ -129,11 +126,11 @@ module _ (deck : Deck) (Seen : ℕ → List HistEntry → List Req → Node → 
     unfolding after_turn
     good_open is_open is =
         let m = after_turn (turned_open w.medium.message c out (live w.medium) w.medium.rest) in
-        let given = given-rest w.medium c g.front (g.rest s) g.T (g.whole s) (g.alive s n at) g.message in
-        let o = turn_outcome deck Seen s (g.front s) (g.rest s) (g.Q s) n (g.view s) right laws tape (length out) (g.seen s n at) (unseen c w.medium.message.entries) given in
-        push deck Seen es e g n at m (g.front s ++ g.rest s) (take (length out) n.outbox) _ is refl
-        (subst (λ qs. GoodMessage m (message_log g.T ++ qs) (seen_at (updated g.front s (g.front s ++ g.rest s)))) (sym (take-taken most_additions n.outbox))
-        (message-turned w.medium m c out w.medium.rest g.front g.rest (g.front s ++ g.rest s) g.T g.whole (g.whole s) is_open refl refl g.message)) o
+        let given = given-later w.medium c g.before (g.later s) P (g.whole s) (g.systems s n at).0 g.message in
+        let o = turn_outcome deck c P (g.before s) (g.later s) g.history (g.whole s) n (length out) seen (unseen c w.medium.message.entries) given in
+        push deck es e g n at m (rounds P) _ (map Asked (take (length out) n.outbox)) _ o is refl
+        (subst (λ qs. GoodMessage m (message_log P ++ map Asked qs) (seen_at (updated g.before s (rounds P)))) (sym (take-taken most_additions n.outbox))
+        (message-turned w.medium m c out w.medium.rest g.before g.later P g.whole is_open refl refl g.message))
 
     good_turn : LeadsBy choices.Turn (row (run deck es).medium e.system (acts.Turn (take most_additions n.outbox)))
     unfolding row turn_row turn_reply turned finish finish_call flags after_turn
@@ -156,7 +153,7 @@ module _ (deck : Deck) (Seen : ℕ → List HistEntry → List Req → Node → 
     good_task : (t : TaskId) → may_go deck n t ≡ true → Leads (record { medium = (run deck es).medium; step = finish deck n (choices.Task t) None })
     unfolding finish
     good_task t m = quiet_push w.medium (finish_quiet deck n (choices.Task t)) refl refl
-        (quiet_outcome deck Seen s (g.front s) (g.rest s) (g.Q s) n (g.view s) right (finish_quiet deck n (choices.Task t)) (g.seen s n at) (laws.quiet s (entries (g.Q s)) (requests (waiting s (g.rest s))) n t (g.seen s n at) m))
+        (quiet_outcome deck c P (g.before s) (g.later s) g.history (g.whole s) n (finish_quiet deck n (choices.Task t)) (quiet deck s c P (g.before s) (g.later s) (own_requests s (g.later s)) n t g.history seen m))
 
     -- each choice
     good_choice : (choice : Choice) → Leads (chosen deck (run deck es).medium e.system n choice)
@@ -219,63 +216,41 @@ first_message deck = go deck.star
     go true = record { stands = none; next = refl; no_turn = λ e. refl }
     go false = record { stands = none; next = refl; no_turn = λ e. cc }
 
-first_view : (deck : Deck) (s : ℕ) → View deck s [] [] []
-first_view deck s = record {
-  systems = refl;
-  others = λ u ne. refl;
-  own = refl;
-  tasks = λ t e. refl;
-  blocked = tt;
-  tape = tt;
-  replied = replied_none deck.limit;
-  items = tt;
-  front_items = tt;
-  rest_items = tt;
-}
-
-pub first_good : (deck : Deck) (Seen : ℕ → List HistEntry → List Req → Node → Type 0) → NodeLaws deck Seen → GoodWorld deck Seen [] (first_world deck)
+pub first_good : (deck : Deck) → GoodWorld deck [] (first_world deck)
 unfolding first_world
-first_good deck Seen laws = record {
-  T = [];
-  front = λ u. [];
-  rest = λ u. [];
-  Q = λ u. [];
-  hist_is = refl;
-  lists = refl;
-  tape = tt;
-  legal = tt;
+first_good deck = record {
+  history = record { made = tt; count = tt; asks = tt; legal = tt };
+  told = record { counted = refl; by_now = tt; agree = tt; lines = λ s n h. ap (λ (m : Node). m.tasks.told) (first_is deck s n h) ∙ first_told deck s };
+  before = λ u. [];
+  later = λ u. [];
   whole = λ u. refl;
-  view = first_view deck;
-  seen = λ s n h. subst (λ (m : Node). Seen s [] [] m) (sym (first_is deck s n h)) (laws.first s);
-  same_lines = λ s n h. ap (λ (m : Node). m.tasks.told) (first_is deck s n h) ∙ first_told deck s;
-  alive = λ s n h. subst (λ l. has l s ≡ true) (sym (first_live deck)) (has-others (length deck.systems) s (first_at deck 0 deck.systems s n h).1);
   message = first_message deck;
-  counted = refl;
-  by_now = tt;
-  agree = tt;
+  systems = λ s n h. (
+    subst (λ l. has l s ≡ true) (sym (first_live deck)) (has-others (length deck.systems) s (first_at deck 0 deck.systems s n h).1),
+    subst (λ (m : Node). Seen deck s [] [] [] [] m) (sym (first_is deck s n h)) (first_seen deck s),
+  );
 }
 
 -- ---- every list of events
-good_run_from : (deck : Deck) (Seen : ℕ → List HistEntry → List Req → Node → Type 0) → NodeLaws deck Seen → (done es : List Event) → GoodWorld deck Seen done (run deck done) → GoodWorld deck Seen (done ++ es) (run deck (done ++ es))
-good_run_from deck Seen laws done [] g = subst (λ xs. GoodWorld deck Seen xs (run deck xs)) (sym (append-nil done)) g
-good_run_from deck Seen laws done (e ∷ es) g =
-    subst (λ xs. GoodWorld deck Seen xs (run deck xs)) (append_assoc done (e ∷ []) es)
-    (good_run_from deck Seen laws (done ++ e ∷ []) es (subst (λ (w : World). GoodWorld deck Seen (done ++ e ∷ []) w) (sym (run-push deck done (first_world deck) e)) (good_happens deck Seen laws done e g)))
+good_run_from : (deck : Deck) (done es : List Event) → GoodWorld deck done (run deck done) → GoodWorld deck (done ++ es) (run deck (done ++ es))
+good_run_from deck done [] g = subst (λ xs. GoodWorld deck xs (run deck xs)) (sym (append-nil done)) g
+good_run_from deck done (e ∷ es) g =
+    subst (λ xs. GoodWorld deck xs (run deck xs)) (append_assoc done (e ∷ []) es)
+    (good_run_from deck (done ++ e ∷ []) es (subst (λ (w : World). GoodWorld deck (done ++ e ∷ []) w) (sym (run-push deck done (first_world deck) e)) (good_happens deck done e g)))
 
-pub good_run : (deck : Deck) (Seen : ℕ → List HistEntry → List Req → Node → Type 0) → NodeLaws deck Seen → (es : List Event) → GoodWorld deck Seen es (run deck es)
-good_run deck Seen laws es = good_run_from deck Seen laws [] es (first_good deck Seen laws)
+pub good_run : (deck : Deck) (es : List Event) → GoodWorld deck es (run deck es)
+good_run deck es = good_run_from deck [] es (first_good deck)
 
 -- every run of every deck is sound
-pub sound : (deck : Deck) (Seen : ℕ → List HistEntry → List Req → Node → Type 0) → NodeLaws deck Seen → (es : List Event) → Sound deck es
-sound deck Seen laws es =
-    let g = good_run deck Seen laws es in
-    record {
-      legal = subst (Legal deck) (sym g.hist_is) g.legal;
-      agree = record {
-        lines = g.agree;
-        events = told_of_events deck es;
-        removals = λ e s target h.
-            let now = good_run deck Seen laws (take e es) in
-            absurd (none_purged s target deck (run deck (take e es)).fixed (subst (Legal deck) (sym now.hist_is) now.legal) (length (run deck (take (e - 1) es)).fixed) h);
-      };
-    }
+pub runs_sound : (deck : Deck) (es : List Event) → Sound deck es
+runs_sound deck es = record {
+  legal = legal_at es;
+  agree = record {
+    lines = (good_run deck es).told.agree;
+    events = told_of_events deck es;
+    removals = λ e s target h. absurd (none_purged s target deck (run deck (take e es)).fixed (legal_at (take e es)) (length (run deck (take (e - 1) es)).fixed) h);
+  };
+}
+  where
+    legal_at : (us : List Event) → Legal deck (hist deck us)
+    legal_at us = subst (Legal deck) (items_are_history (run deck us).fixed).0 (good_run deck us).history.legal

@@ -1,17 +1,19 @@
 -- A task whose request is outstanding is seen as one that hasn't asked yet.
-use Rattle.std.proofs.Common.{◌≡◌, ◌<◌, ◌-◌, ℕ, Bool, true, false, not, ◌&&◌, ◌||◌, List, [], ◌∷◌, map, length, Option, Some, None, refl, ap, sym, ◌∙◌, arith}
+use Rattle.std.proofs.Common.{◌≡◌, ◌<◌, ◌-◌, ℕ, Bool, true, false, not, ◌||◌, List, [], ◌∷◌, map, length, Option, Some, None, refl, ap, sym, ◌∙◌, subst, arith}
 use Rattle.std.specs.Prelude.{slice_get, nat_le}
 use Rattle.std.specs.List.{list_all}
 use Rattle.std.proofs.lemmas.Bool.{cases_Bool}
-use Rattle.grs_base.specs.Same.{same_task}
+use Rattle.grs_base.specs.Same.{same_res, same_task}
 use Rattle.grs_base.specs.State.{is_systems}
 use Rattle.grs_base.specs.declared.resource.Res.{Res}
 use Rattle.grs_base.specs.declared.resource.TaskId.{TaskId}
+use Rattle.grs_base.proofs.SameLaws.{same_res-exact}
 use Rattle.grs_legal.specs.declared.meaning.Meaning.{Meaning}
 use Rattle.grs_legal.specs.declared.meaning.Meaning.TheVariants as lines
 use Rattle.grs_wire.specs.declared.request.Req.{Req}
 use Rattle.grs_wire.specs.declared.request.Want.{Want}
 use Rattle.grs_wire.specs.declared.request.Want.TheVariants.{Enq, Deq, Release, Look}
+use Rattle.grs_wire.specs.declared.told.ToldLine.{ToldLine}
 use Rattle.ring_mode.specs.Ring.{is_sent}
 use Rattle.task_state.specs.declared.state.Asked.{Asked}
 use Rattle.task_state.specs.declared.state.Rec.{Rec}
@@ -22,8 +24,12 @@ use Rattle.task_state.specs.View.{on_record}
 use Rattle.task_state.specs.Replies.{gives_up, is_leaving, is_held, phase_asking}
 use Rattle.task_state.proofs.ViewLaws.{length-on_record}
 use Rattle.grs_known.proofs.lists.Owners.{is_among}
-use Rattle.grs_known.proofs.tasks.Invariant.{is_unsent}
-use Rattle.grs_world.proofs.system.Seen.{askers, none_leaves}
+use Rattle.grs_known.proofs.tasks.Invariant.{IsTask, is_unsent}
+use Rattle.grs_known.specs.Items.{RunItem}
+use Rattle.grs_known.specs.Past.{Past, may_leave}
+use Rattle.grs_known.proofs.known.Knows.{IsOutstanding, stays-asked}
+use Rattle.grs_known.proofs.lists.Truths.{false_by, no_truth}
+use Rattle.grs_world.proofs.system.Says.{askers}
 
 -- the line at which a task is seen that has asked this at line n
 abbrev pub line_asked : Want → ℕ → ℕ
@@ -119,11 +125,30 @@ unheld limit ls t x h e = go x.outstanding h e
     go None k f = refl
     go (Some a) k f = let g : false ≡ true = sym (asks a.req.want x.code) ∙ f in absurd (cc)
 
+-- what waits for the message is for a resource of the whole complex, so it leaves others
+pub stays-open : (limit : ℕ) (ls : List Meaning) (t : TaskId) (x : TaskState) (r : Res) (i : Option RunItem) → IsOpen limit ls t x → IsOutstanding x.outstanding i → is_systems r ≡ false → may_leave r i ≡ false
+stays-open limit ls t x r i h out narrow = stays-asked r x.outstanding i out (go x.outstanding h)
+  where
+    apart : (q : Res) → is_systems q ≡ true → same_res r q ≡ false
+    apart q wide = false_by (same_res r q) (λ e. no_truth (is_systems q) wide (subst (λ z. is_systems z ≡ false) (same_res-exact r q e) narrow))
+
+    by_want : (n : ℕ) (xs : List Rec) (w : Want) (unit : Option ℕ) → IsAskedFor limit ls n xs w unit → gives_up r w ≡ false
+    by_want n xs (Enq q c ret full) unit k = refl
+    by_want n xs (Deq q have) unit k = apart q k.2
+    by_want n xs (Release q) unit k = apart q k.1
+    by_want n xs (Look first count f) unit k = refl
+
+    go : (o : Option Asked) → IsOpenBy limit ls t x o → is_leaving r o ≡ false
+    go None k = refl
+    go (Some a) k = by_want x.line x.records a.req.want a.unit k.2
+
 pub unasked-none : (x : TaskState) → x.outstanding ≡ None → unasked x ≡ x
 unasked-none x e = ap (λ o. unasked_by o x) e
 
--- the requests of a complex that are open at a system: those that were sent, and all
+-- What is open at a system: the items of the message that it has still to process, and the requests of its tasks, those
+-- that were sent, and all.
 pub record Opens : Type 0 where
+  pub later : List RunItem
   pub out : List Req
   pub all : List Req
 
@@ -145,18 +170,6 @@ asked-none t (q ∷ qs) h = go (same_task t q.task) refl (asked-none t qs h.1)
     go true e more = absurd (h.0 e)
     go false e more = more
 
-pub asked-leaves : (t : TaskId) (r : Res) (o : Option Asked) (qs : List Req) → IsAskedBy t o qs → is_leaving r o ≡ false → none_leaves t r qs ≡ true
-asked-leaves t r o [] h e = refl
-asked-leaves t r o (q ∷ qs) h e = go (same_task t q.task) refl (asked-leaves t r o qs h.1 e)
-  where
-    stays : (z : Option Asked) → IsReq q z → is_leaving r z ≡ false → gives_up r q.want ≡ false
-    stays None i f = absurd i
-    stays (Some a) i f = ap (λ (y : Req). gives_up r y.want) (sym i) ∙ f
-
-    go : (b : Bool) → same_task t q.task ≡ b → none_leaves t r qs ≡ true → (not (b && gives_up r q.want) && none_leaves t r qs) ≡ true
-    go true f more = ap (λ z. not z && none_leaves t r qs) (stays o (h.0 f) e) ∙ more
-    go false f more = more
-
 pub asked-absent : (t : TaskId) (o : Option Asked) (qs : List Req) → is_among t (askers qs) ≡ false → IsAskedBy t o qs
 asked-absent t o [] h = tt
 asked-absent t o (q ∷ qs) h = (λ e. absurd (grind (arith, h, e)), asked-absent t o qs (grind (arith, h, cases_Bool (same_task t q.task))))
@@ -172,3 +185,18 @@ sent-kept t p p' (q ∷ qs) k h = grind (arith, h, k, sent-kept t p p' qs k, cas
 pub sent-absent : (t : TaskId) (p : Phase) (qs : List Req) → is_among t (askers qs) ≡ false → are_sent t p qs ≡ true
 sent-absent t p [] h = refl
 sent-absent t p (q ∷ qs) h = grind (arith, h, sent-absent t p qs, cases_Bool (same_task t q.task))
+
+-- the same task, whatever its outstanding request
+pub task-open : (ls : List Meaning) (p : Past) (T : List ToldLine) (leaving : Res → Bool) (t : TaskId) (x : TaskState) (o : Option Asked) → IsTask ls p T leaving t x → IsTask ls p T leaving t (record x { outstanding = o })
+task-open ls p T leaving t x o k = record {
+  keys = k.keys;
+  owned = k.owned;
+  distinct = k.distinct;
+  within = k.within;
+  count = k.count;
+  records = k.records;
+  codes = k.codes;
+  posts = k.posts;
+  phase = k.phase;
+  emptied = k.emptied;
+}

@@ -1,117 +1,102 @@
--- A system of a complex after it has processed a history.
-use Rattle.std.proofs.Common.{◌≡◌, ◌≢◌, ℕ, Bool, true, false, not, ◌||◌, List, [], ◌∷◌, ◌++◌, Some, refl, ap, sym, ◌∙◌}
-use Rattle.std.specs.Prelude.{is_some, ◌==◌}
+-- A system in the ring, where the run has these items: its tasks, its own lists and its table.
+use Rattle.std.proofs.Common.{◌≡◌, ◌≢◌, ℕ, Bool, true, false, cond, List, [], ◌∷◌, ◌++◌, Some, refl, ap, sym, ◌∙◌, append-nil}
+use Rattle.std.specs.Prelude.{◌==◌}
 use Rattle.std.specs.List.{list_all}
-use Rattle.std.proofs.lemmas.Bool.{and_parts, eqb-true, eq-eqb}
+use Rattle.std.proofs.lemmas.Bool.{eqb-true}
 use Rattle.grs_base.specs.Same.{same_task}
 use Rattle.grs_base.specs.State.{State, is_systems}
 use Rattle.grs_base.specs.declared.resource.Res.{Res}
 use Rattle.grs_base.specs.declared.resource.Res.TheVariants as resources
+use Rattle.grs_base.specs.declared.resource.SysId.{SysId}
 use Rattle.grs_base.specs.declared.resource.TaskId.{TaskId}
-use Rattle.grs_legal.specs.Asks.{lines_of}
+use Rattle.grs_base.proofs.SameLaws.{same_task-exact}
 use Rattle.grs_legal.specs.declared.meaning.Meaning.{Meaning}
-use Rattle.grs_node.specs.Node.{Node}
-use Rattle.grs_wire.specs.History.{replay, is_by, entries_for, step}
+use Rattle.grs_node.specs.Node.{Node, Step}
+use Rattle.grs_wire.specs.History.{after_fixed}
 use Rattle.grs_wire.specs.Wants.{after_want, res_wanted}
 use Rattle.grs_wire.specs.declared.deck.Deck.{Deck}
-use Rattle.grs_wire.specs.declared.history.HistEntry.{HistEntry}
-use Rattle.grs_wire.specs.declared.history.HistEntry.TheVariants as entries
+use Rattle.grs_wire.specs.declared.request.Fixed.TheVariants as fixing
 use Rattle.grs_wire.specs.declared.request.Req.{Req}
-use Rattle.grs_wire.specs.declared.request.Want.{Want}
-use Rattle.grs_wire.specs.declared.request.Want.TheVariants.{Enq, Deq, Release, Look}
-use Rattle.task_state.specs.View.{TasksView, is_task}
-use Rattle.task_state.proofs.ViewLaws.{is_task-system}
-use Rattle.grs_known.specs.Items.{CountsIn}
-use Rattle.grs_world.proofs.system.Seen.{part, is_res_of, is_home_at, askers, stand_apart, own-one_system}
+use Rattle.task_state.specs.View.{TasksView}
+use Rattle.grs_known.specs.Items.{RunItem, is_of, goes_round, rounds, mine, lists, history}
+use Rattle.grs_known.proofs.known.Histories.{IsAsk, MayFollow, made_item, stays-ask}
+use Rattle.grs_known.proofs.known.ItemLaws.{lists-push}
+use Rattle.grs_known.proofs.lists.Facts.{filter-append, filter-cons_left}
+use Rattle.grs_known.proofs.lists.Parts.{part, is_res_of, own-one_system, after_want-part, part-want_other}
+use Rattle.grs_known.proofs.lists.Truths.{false_by, or_other}
 use Rattle.grs_world.proofs.system.Asking.{Opens}
-use Rattle.grs_world.proofs.system.Ours.{IsOurs}
-use Rattle.grs_world.proofs.system.Good.{IsGood, may_have}
-use Rattle.grs_world.proofs.system.Meant.{is_own}
-use Rattle.grs_world.proofs.system.Parts.{after_want-part, part-want_other}
+use Rattle.grs_world.proofs.system.Good.{IsGood, here-kept, here-other}
+use Rattle.grs_world.proofs.system.Ours.{IsOurs, Holds}
+use Rattle.grs_world.proofs.system.Says.{is_home_at, askers, stand_apart, ToldBy}
 
--- the requests that are open at a system: those that were sent, and those that wait
-abbrev pub opens_of : List Req → Node → Opens
-opens_of out n = record { out = out; all = out ++ n.outbox }
+-- what is open at a system: its unseen items, its requests that were sent, and those that wait
+abbrev pub opens_of : List RunItem → List Req → Node → Opens
+opens_of later out n = record { later = later; out = out; all = out ++ n.outbox }
 
--- System s has processed the history Q; `out` are its requests that were sent and that it hasn't processed.
-pub record Seen (deck : Deck) (s : ℕ) (Q : List HistEntry) (out : List Req) (n : Node) : Type 0 where
-  pub good : IsGood deck s (opens_of out n) Q n.tasks
-  pub held : n.held ≡ part (is_res_of s) (replay deck.limit Q)
-  pub shared : n.shared ≡ part is_systems (replay deck.limit Q)
+-- System s has processed these of the items that went with the message, and has still to process those behind them; `out`
+-- are its requests among the latter.
+pub record Seen (deck : Deck) (s : ℕ) (P before later : List RunItem) (out : List Req) (n : Node) : Type 0 where
+  pub good : IsGood deck s (opens_of later out n) P n.tasks
+  -- its own lists are the history's, and its table is what it has processed
+  pub held : n.held ≡ part (is_res_of s) (lists P)
+  pub shared : n.shared ≡ lists before
   -- the open requests are of tasks of the system, each of another one
   pub homes : list_all (λ q. is_home_at deck s q.task) (out ++ n.outbox) ≡ true
   pub apart : stand_apart (askers (out ++ n.outbox)) ≡ true
 
--- a resource of the whole complex is none of one system alone
-pub systems-other : (s : ℕ) (r : Res) → is_systems r ≡ true → is_res_of s r ≡ false
-systems-other s (resources.Step n j q r) h = cc
-systems-other s (resources.System n q r) h = cc
-systems-other s (resources.Systems q r) h = refl
+-- What a Task event of a system comes to: nothing is fixed, or an item that doesn't go with the message.
+pub data QuietStep (deck : Deck) (s : ℕ) (c : SysId) (P before later : List RunItem) (out : List Req) (n : Node) (step : Step) : Type 0 where
+  keeps : step.fixed ≡ [] → Seen deck s P before later out step.node → ToldBy deck s (out ++ step.node.outbox) (history P) n.tasks.told step.node.tasks.told → QuietStep deck s c P before later out n step
+  fixes : (q : Req) → step.fixed ≡ fixing.Asked q ∷ [] → (q.task.system.0 == s) ≡ true → goes_round (fixing.Asked q) ≡ false → MayFollow deck P (made_item c P (fixing.Asked q)) →
+      Seen deck s (P ++ made_item c P (fixing.Asked q) ∷ []) before later out step.node →
+      ToldBy deck s (out ++ step.node.outbox) (history (P ++ made_item c P (fixing.Asked q) ∷ [])) n.tasks.told step.node.tasks.told → QuietStep deck s c P before later out n step
 
--- what is one of a system's resources and not of the whole complex is of it alone
-pub own-alone : (s : ℕ) (r : Res) → is_own s r ≡ true → is_systems r ≡ false → is_res_of s r ≡ true
-own-alone s r h e = go (is_systems r) e h
+-- ---- the store
+pub after-asked : (P : List RunItem) (x : RunItem) (q : Req) → x.fixed ≡ fixing.Asked q → lists (P ++ x ∷ []) ≡ after_want (lists P) q.task q.want
+after-asked P x q asked = lists-push P x ∙ ap (after_fixed (lists P)) asked
+
+-- the part of some resources behind a request for one of them, and for another one
+module _ (p : Res → Bool) (P : List RunItem) (x : RunItem) (q : Req) (r : Res) (asked : x.fixed ≡ fixing.Asked q) (wanted : res_wanted q.want ≡ Some r) (s : State) (is : s ≡ part p (lists P)) where
+  pub part-same : p r ≡ true → after_want s q.task q.want ≡ part p (lists (P ++ x ∷ []))
+  part-same own = ap (λ z. after_want z q.task q.want) is ∙ after_want-part p (lists P) q.task q.want r wanted own ∙ ap (part p) (sym (after-asked P x q asked))
+
+  pub part-other : p r ≡ false → s ≡ part p (lists (P ++ x ∷ []))
+  part-other other = is ∙ sym (part-want_other p (lists P) q.task q.want r wanted other) ∙ ap (part p) (sym (after-asked P x q asked))
+
+-- ---- another system's item
+two_homes : (s u : ℕ) (r : Res) → is_res_of s r ≡ true → is_res_of u r ≡ true → u ≡ s
+two_homes s u (resources.Step n j q r) h k = sym (eqb-true n.0 u k) ∙ eqb-true n.0 s h
+two_homes s u (resources.System n q r) h k = sym (eqb-true n.0 u k) ∙ eqb-true n.0 s h
+two_homes s u (resources.Systems q r) h k = cc
+
+away-res : (deck : Deck) (s : ℕ) (x : RunItem) (a : IsAsk deck x) → a.req.task.system.0 ≢ s → is_res_of s a.res ≡ false
+away-res deck s x a ne = false_by (is_res_of s a.res) (λ own. absurd (ne (two_homes s a.req.task.system.0 a.res own (or_other (is_systems a.res) _ a.place (own-one_system s a.res own)))))
+
+pub not-ours : (deck : Deck) (s : ℕ) (v : TasksView) (x : RunItem) (a : IsAsk deck x) → a.req.task.system.0 ≢ s → (u : TaskId) (ls : List Meaning) → IsOurs deck s v u ls → is_of u x.fixed ≡ false
+not-ours deck s v x a ne u ls o = ap (is_of u) a.asked ∙ false_by (same_task u a.req.task) (λ e. absurd (ne (ap (λ (z : TaskId). z.system.0) (sym (same_task-exact u a.req.task e)) ∙ o.home)))
+
+pub mine-left : (u : TaskId) (later : List RunItem) (x : RunItem) → is_of u x.fixed ≡ false → mine u (later ++ rounds (x ∷ [])) ≡ mine u later
+mine-left u later x apart = filter-append (λ y. is_of u y.fixed) later (rounds (x ∷ [])) ∙ ap (λ ys. mine u later ++ ys) (none (goes_round x.fixed)) ∙ append-nil (mine u later)
   where
-    go : (b : Bool) → b ≡ false → (b || is_res_of s r) ≡ true → is_res_of s r ≡ true
-    go true f g = cc
-    go false f g = g
+    none : (b : Bool) → mine u (cond b (x ∷ []) []) ≡ []
+    none true = filter-cons_left (λ y. is_of u y.fixed) x [] apart
+    none false = refl
 
-pub own-systems : (s : ℕ) (r : Res) → is_systems r ≡ true → is_own s r ≡ true
-own-systems s r h = ap (λ b. b || is_res_of s r) h
+-- leaves the system, which has still to process it if it went with the message
+module _ (deck : Deck) (s : ℕ) (P before later : List RunItem) (out : List Req) (n : Node) (x : RunItem) (a : IsAsk deck x) (seen : Seen deck s P before later out n) where
+  pub seen-more : is_res_of s a.res ≡ false → Holds deck s (opens_of (later ++ rounds (x ∷ [])) out n) (P ++ x ∷ []) n.tasks → Seen deck s (P ++ x ∷ []) before (later ++ rounds (x ∷ [])) out n
+  seen-more other tasks = record {
+    good = record { tasks = tasks; here = seen.good.here; system = seen.good.system };
+    held = part-other (is_res_of s) P x a.req a.res a.asked a.wanted n.held seen.held other;
+    shared = seen.shared;
+    homes = seen.homes;
+    apart = seen.apart;
+  }
 
--- a task of the deck and of the system may have elements on its resources
-pub may_own : (deck : Deck) (s : ℕ) (v : TasksView) (r : Res) (t : TaskId) (ls : List Meaning) → IsOurs deck s v t ls → is_own s r ≡ true → may_have deck s r t ≡ true
-may_own deck s v r t ls o h = let some : is_some (lines_of deck t) ≡ true = ap is_some o.lines in rw (some, h) (or_true (not (t.system.0 == s)))
-  where
-    or_true : (b : Bool) → (b || true) ≡ true
-    or_true true = refl
-    or_true false = refl
-
-pub own-may : (deck : Deck) (s : ℕ) (v : TasksView) (r : Res) (t : TaskId) (ls : List Meaning) → IsOurs deck s v t ls → may_have deck s r t ≡ true → is_own s r ≡ true
-own-may deck s v r t ls o h = go (t.system.0 == s) (eq-eqb _ _ o.home) (and_parts _ _ h).1
-  where
-    go : (b : Bool) → b ≡ true → (not b || is_own s r) ≡ true → is_own s r ≡ true
-    go true e f = f
-    go false e f = cc
-
-pub away-eqb : (a b : ℕ) → a ≢ b → (a == b) ≡ false
-away-eqb a b apart = go (a == b) refl
-  where
-    go : (c : Bool) → (a == b) ≡ c → c ≡ false
-    go true e = absurd (apart (eqb-true a b e))
-    go false e = refl
-
-pub away-may : (deck : Deck) (s : ℕ) (r : Res) (t : TaskId) → is_some (lines_of deck t) ≡ true → t.system.0 ≢ s → may_have deck s r t ≡ true
-away-may deck s r t some apart = let e : (t.system.0 == s) ≡ false = away-eqb _ _ apart in rw (some, e) refl
-
-pub away-task : (v : TasksView) (t : TaskId) (s : ℕ) → v.system ≡ s → t.system.0 ≢ s → is_task v t ≡ false
-away-task v t s system apart = go (is_task v t) refl
-  where
-    go : (c : Bool) → is_task v t ≡ c → c ≡ false
-    go true e = absurd (apart (sym (is_task-system v t e) ∙ system))
-    go false e = refl
-
-pub first_same : (a b : HistEntry) → a ∷ [] ≡ b ∷ [] → a ≡ b
-first_same a b f = cc
-
--- a request's entry leads to the lists behind the request
-pub entry-after : (limit : ℕ) (s : State) (t : TaskId) (w : Want) (r : Res) (h : HistEntry) → res_wanted w ≡ Some r → CountsIn limit s t w → entries_for s t w ≡ h ∷ [] → (step limit s h ≡ after_want s t w) × ((u : TaskId) → is_by u h ≡ same_task u t)
-entry-after limit s t (Enq q c ret full) r h is fits e =
-    let same : h ≡ entries.Enq t q c ret _ = sym (first_same _ _ e) in (ap (step limit s) same ∙ ap (λ b. after_want s t (Enq q c ret b)) (sym fits), λ u. ap (is_by u) same)
-entry-after limit s t (Deq q have) r h is fits e = let same : h ≡ entries.Deq t q have _ = sym (first_same _ _ e) in (ap (step limit s) same, λ u. ap (is_by u) same)
-entry-after limit s t (Release q) r h is fits e = let same : h ≡ entries.Release t q = sym (first_same _ _ e) in (ap (step limit s) same, λ u. ap (is_by u) same)
-entry-after limit s t (Look first count f) r h is fits e = absurd (cc)
-
--- the lists of a system after a request for a resource of it alone, or of the whole complex
-module _ (deck : Deck) (s : ℕ) (Q : List HistEntry) (out : List Req) (n : Node) (seen : Seen deck s Q out n) (t : TaskId) (w : Want) (r : Res) (is : res_wanted w ≡ Some r) (h : HistEntry) (after : replay deck.limit (Q ++ h ∷ []) ≡ after_want (replay deck.limit Q) t w) where
-  pub held-alone : is_res_of s r ≡ true → after_want n.held t w ≡ part (is_res_of s) (replay deck.limit (Q ++ h ∷ []))
-  held-alone mine = ap (λ z. after_want z t w) seen.held ∙ after_want-part (is_res_of s) (replay deck.limit Q) t w r is mine ∙ ap (part (is_res_of s)) (sym after)
-
-  pub shared-alone : is_res_of s r ≡ true → n.shared ≡ part is_systems (replay deck.limit (Q ++ h ∷ []))
-  shared-alone mine = seen.shared ∙ sym (part-want_other is_systems (replay deck.limit Q) t w r is (own-one_system s r mine)) ∙ ap (part is_systems) (sym after)
-
-  pub held-shared : is_systems r ≡ true → n.held ≡ part (is_res_of s) (replay deck.limit (Q ++ h ∷ []))
-  held-shared all = seen.held ∙ sym (part-want_other (is_res_of s) (replay deck.limit Q) t w r is (systems-other s r all)) ∙ ap (part (is_res_of s)) (sym after)
-
-  pub shared-shared : is_systems r ≡ true → after_want n.shared t w ≡ part is_systems (replay deck.limit (Q ++ h ∷ []))
-  shared-shared all = ap (λ z. after_want z t w) seen.shared ∙ after_want-part is_systems (replay deck.limit Q) t w r is all ∙ ap (part is_systems) (sym after)
+  pub seen-other : a.req.task.system.0 ≢ s → Seen deck s (P ++ x ∷ []) before (later ++ rounds (x ∷ [])) out n
+  seen-other ne = seen-more (away-res deck s x a ne) (record {
+    each = λ u ls o.
+        let apart : is_of u x.fixed ≡ false = not-ours deck s n.tasks x a ne u ls o in
+        here-kept deck (opens_of later out n) (opens_of (later ++ rounds (x ∷ [])) out n) (P ++ x ∷ []) n.tasks.told n.tasks.told u ls _ (mine-left u later x apart) (λ k. k) (λ k. k) (λ p leaving y j. j)
+        (here-other deck (opens_of later out n) P x n.tasks.told u ls _ apart (stays-ask deck u x a) (seen.good.tasks.each u ls o));
+  })

@@ -17,7 +17,7 @@ use Rattle.grs_legal.specs.declared.meaning.Meaning.{Meaning}
 use Rattle.grs_legal.specs.declared.meaning.Meaning.TheVariants as lines
 use Rattle.grs_wire.specs.declared.deck.Deck.{Deck}
 use Rattle.scope_resolve.specs.Resolve.{res_in}
-use Rattle.grs_world.proofs.system.Seen.{is_res_of}
+use Rattle.grs_known.proofs.lists.Parts.{is_res_of}
 use Rattle.grs_node.proofs.Places.{slice_get-map}
 
 -- whether a system's tasks ask for a resource

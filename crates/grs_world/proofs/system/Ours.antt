@@ -19,7 +19,11 @@ use Rattle.grs_known.specs.Told.{AgreesOf, LineAgrees}
 use Rattle.grs_known.proofs.tasks.Invariant.{IsTask}
 use Rattle.grs_world.proofs.system.Asking.{unasked, IsOpen, Opens, IsAskedBy, are_sent}
 use Rattle.task_state.specs.Replies.{is_leaving}
-use Rattle.grs_known.specs.Past.{Past, Speaks}
+use Rattle.grs_known.specs.Items.{RunItem, mine}
+use Rattle.grs_known.specs.Known.{Known, outstanding}
+use Rattle.grs_known.specs.Past.{past_of}
+use Rattle.grs_known.proofs.known.Due.{one}
+use Rattle.grs_known.proofs.known.Knows.{Knows}
 
 -- a task of the deck that is of this system
 pub record IsOurs (deck : Deck) (s : ℕ) (v : TasksView) (t : TaskId) (ls : List Meaning) : Type 0 where
@@ -27,17 +31,19 @@ pub record IsOurs (deck : Deck) (s : ℕ) (v : TasksView) (t : TaskId) (ls : Lis
   pub home : t.system.0 ≡ s
   pub here : is_task v t ≡ true
 
--- What holds of a task of the system after the history P: it stands as it should by a past that speaks of P.
-pub record IsHere (deck : Deck) (os : Opens) (P : List HistEntry) (T : List ToldLine) (t : TaskId) (ls : List Meaning) (x : TaskState) : Type 0 where
-  pub past : Past
-  pub speaks : Speaks deck.limit t past P
-  pub task : IsTask ls past T (λ r. is_leaving r x.outstanding) t (unasked x)
+-- What holds of a task of the system, where the run has these items: what is known of it is right, its system has still
+-- to process just its outstanding item, and it stands as it should by its past.
+pub record IsHere (deck : Deck) (os : Opens) (P : List RunItem) (T : List ToldLine) (t : TaskId) (ls : List Meaning) (x : TaskState) : Type 0 where
+  pub known : Known
+  pub knows : Knows P t x.outstanding known
+  pub due : mine t os.later ≡ one (outstanding t known P)
+  pub task : IsTask ls (past_of t known P) T (λ r. is_leaving r x.outstanding) t (unasked x)
   pub opened : IsOpen deck.limit ls t x
   pub asked : IsAskedBy t x.outstanding os.all
   pub sent : are_sent t x.phase os.out ≡ true
 
 -- What holds of all tasks of the system.
-pub record Holds (deck : Deck) (s : ℕ) (os : Opens) (P : List HistEntry) (v : TasksView) : Type 0 where
+pub record Holds (deck : Deck) (s : ℕ) (os : Opens) (P : List RunItem) (v : TasksView) : Type 0 where
   pub each : (t : TaskId) (ls : List Meaning) → IsOurs deck s v t ls → IsHere deck os P v.told t ls (state_of v t)
 
 -- Tasks that differ in one task and in what was told.
@@ -87,7 +93,7 @@ ours-before : (deck : Deck) (s : ℕ) (v w : TasksView) (t u : TaskId) (ls : Lis
 ours-before deck s v w t u ls c o = record { lines = o.lines; home = o.home; here = sym (c.here u) ∙ o.here }
 
 -- what holds after one task changed
-pub holds-changed : (deck : Deck) (s : ℕ) (os os' : Opens) (P Q : List HistEntry) (v w : TasksView) (t : TaskId) (ms : List Meaning) →
+pub holds-changed : (deck : Deck) (s : ℕ) (os os' : Opens) (P Q : List RunItem) (v w : TasksView) (t : TaskId) (ms : List Meaning) →
     Holds deck s os P v → IsChanged v w t → IsOurs deck s v t ms →
     ((u : TaskId) (ls : List Meaning) → IsOurs deck s v u ls → same_task u t ≡ false → IsHere deck os P v.told u ls (state_of v u) → IsHere deck os' Q w.told u ls (state_of v u)) →
     IsHere deck os' Q w.told t ms (state_of w t) →

@@ -1,45 +1,83 @@
--- A system after it has processed an entry of the message, or learned of one of another system.
-use Rattle.std.proofs.Common.{◌≡◌, ◌≢◌, ℕ, Bool, true, false, cond, not, ◌&&◌, ◌||◌, List, [], ◌∷◌, ◌++◌, Option, Some, None, refl, ap, sym, ◌∙◌, subst}
+-- A system processes an item of the message by its table.
+use Rattle.std.proofs.Common.{◌≡◌, ◌≢◌, ◌-◌, ℕ, suc, Bool, true, false, cond, not, ◌&&◌, ◌||◌, List, [], ◌∷◌, ◌++◌, Option, Some, None, refl, ap, sym, ◌∙◌, subst, arith}
 use Rattle.std.specs.Prelude.{is_some, ◌==◌}
 use Rattle.std.specs.List.{list_all}
-use Rattle.std.proofs.lemmas.Bool.{and_parts, eqb-true, eq-eqb}
-use Rattle.grs_base.specs.Same.{same_task}
-use Rattle.grs_base.specs.State.{State, list_of, is_full, is_systems}
+use Rattle.std.proofs.lemmas.Bool.{and_parts, eqb-true, eqb-false}
+use Rattle.grs_base.specs.Same.{same_res, same_task}
+use Rattle.grs_base.specs.State.{is_systems, enq_code, deq_reply}
+use Rattle.grs_base.specs.declared.resource.Ctl.{Ctl}
+use Rattle.grs_base.specs.declared.resource.Ctl.TheVariants as ctls
+use Rattle.grs_base.specs.declared.resource.Ret.{Ret}
+use Rattle.grs_base.specs.declared.resource.Ret.TheVariants as rets
 use Rattle.grs_base.specs.declared.resource.Res.{Res}
 use Rattle.grs_base.specs.declared.resource.TaskId.{TaskId}
-use Rattle.grs_base.proofs.SameLaws.{same_task-itself}
+use Rattle.grs_base.proofs.SameLaws.{same_res-itself, same_task-itself}
 use Rattle.grs_legal.specs.Asks.{lines_of}
 use Rattle.grs_legal.specs.declared.meaning.Meaning.{Meaning}
+use Rattle.grs_legal.specs.declared.meaning.Meaning.TheVariants as lines
 use Rattle.grs_node.specs.Node.{Node}
-use Rattle.grs_wire.specs.History.{replay, is_by, entries_for}
-use Rattle.grs_wire.specs.Wants.{answer_to, after_want, res_wanted, became_owners, became_owners_of, new_owners}
+use Rattle.grs_wire.specs.Wants.{answer_to, after_want, res_wanted, new_owners}
 use Rattle.grs_wire.specs.declared.deck.Deck.{Deck}
 use Rattle.grs_wire.specs.declared.history.HistEntry.{HistEntry}
 use Rattle.grs_wire.specs.declared.history.HistEntry.TheVariants as entries
 use Rattle.grs_wire.specs.declared.request.Answer.{Answer}
+use Rattle.grs_wire.specs.declared.request.Fixed.TheVariants as fixing
 use Rattle.grs_wire.specs.declared.request.Req.{Req}
 use Rattle.grs_wire.specs.declared.request.Want.{Want}
-use Rattle.grs_wire.specs.declared.request.Want.TheVariants.{Enq, Deq, Release}
-use Rattle.ring_mode.specs.Ring.{process, answer_own, is_asked, is_sent, same_want}
-use Rattle.task_state.specs.Replies.{replied, recalled, settled, settled_any, tell_new, tell_all, phase_asking, gives_up, is_leaving}
-use Rattle.task_state.specs.View.{TasksView, is_task, state_of}
+use Rattle.grs_wire.specs.declared.request.Want.TheVariants.{Enq, Deq, Release, Look}
+use Rattle.ring_mode.specs.Ring.{Side, process, answer_own, is_asked, is_sent, same_want, same_ctl, same_ret, same_bool}
+use Rattle.task_state.specs.Replies.{replied, recalled, settled, settled_any, tell_new, phase_asking, gives_up, is_leaving}
+use Rattle.task_state.specs.View.{TasksView, is_task, state_of, code_in}
+use Rattle.task_state.proofs.ViewLaws.{is_task-system}
 use Rattle.task_state.specs.declared.state.Asked.{Asked}
+use Rattle.task_state.specs.declared.state.Phase.TheVariants as phases
 use Rattle.task_state.specs.declared.state.TaskState.{TaskState}
+use Rattle.grs_known.specs.Items.{RunItem, is_of, rounds, mine, lists, history}
+use Rattle.grs_known.specs.Known.{outstanding}
+use Rattle.grs_known.specs.Past.{Past, past_of}
+use Rattle.grs_known.proofs.known.Due.{one-some, ReadBy, read_by}
+use Rattle.grs_known.proofs.known.Histories.{IsHistory, IsAsk}
+use Rattle.grs_known.proofs.known.Knows.{entry-learned}
+use Rattle.grs_known.proofs.lists.Facts.{filter-cons_kept, filter-cons_left, some_of}
 use Rattle.grs_known.proofs.lists.Owners.{is_among}
+use Rattle.grs_known.proofs.lists.Truths.{false_by, not_true}
 use Rattle.grs_known.proofs.tasks.Invariant.{IsTask}
-use Rattle.grs_world.proofs.system.Seen.{part, is_res_of, is_home_at, askers, stand_apart, IsOthers, is_elsewhere, after_read, Reads, ToldBy, none}
-use Rattle.grs_world.proofs.system.Asking.{line_asked, unasked_by, IsAskedFor, IsOpenBy, IsReq, are_sent}
-use Rattle.grs_world.proofs.system.Ours.{IsOurs, IsHere}
-use Rattle.grs_world.proofs.system.Good.{may_have, IsGood}
-use Rattle.grs_world.proofs.system.Events.{Settles, Moves, settles, elems-want, before-others_asker}
-use Rattle.grs_world.proofs.system.Meant.{is_own}
-use Rattle.grs_world.proofs.system.Parts.{answer_to-part, new_owners-part, part-want_other}
-use Rattle.grs_world.proofs.system.AtNode.{opens_of, Seen, away-may, away-task, entry-after, held-shared, shared-shared}
-use Rattle.grs_world.proofs.system.OwnEntries.{task-open, same_want-itself, OwnRead, own_read}
-use Rattle.grs_known.proofs.lists.Truths.{not_true}
-use Rattle.grs_world.proofs.system.Replied.{replay-push}
-use Rattle.grs_known.proofs.lists.Facts.{some_of}
 use Rattle.grs_world.proofs.system.Askers.{among-front}
+use Rattle.grs_world.proofs.system.Asking.{line_asked, unasked_by, IsAskedFor, IsOpenBy, IsReq, Opens, are_sent, task-open}
+use Rattle.grs_world.proofs.system.AtNode.{opens_of, Seen, after-asked, not-ours}
+use Rattle.grs_world.proofs.system.Did.{Did, did-none, did-phase, did-outstanding}
+use Rattle.grs_world.proofs.system.Events.{Settles, Decides, settles, enq-settles, deq-settles, release-settles}
+use Rattle.grs_world.proofs.system.Good.{IsGood, here-kept}
+use Rattle.grs_world.proofs.system.Ours.{IsOurs, IsHere}
+use Rattle.grs_world.proofs.system.Says.{is_home_at, askers, stand_apart, own_asked, ToldBy, none}
+
+-- a request is told by itself
+same_ctl-itself : (c : Ctl) → same_ctl c c ≡ true
+same_ctl-itself ctls.E = refl
+same_ctl-itself ctls.S = refl
+
+same_ret-itself : (x : Ret) → same_ret x x ≡ true
+same_ret-itself rets.RetNone = refl
+same_ret-itself rets.RetUse = refl
+same_ret-itself rets.RetHave = refl
+same_ret-itself rets.RetTest = refl
+same_ret-itself rets.RetChng = refl
+same_ret-itself rets.RetEcb = refl
+
+same_bool-itself : (b : Bool) → same_bool b b ≡ true
+same_bool-itself true = refl
+same_bool-itself false = refl
+
+pub same_want-itself : (w : Want) (r : Res) → res_wanted w ≡ Some r → same_want w w ≡ true
+same_want-itself (Enq q c ret full) r e = rw (same_res-itself q, same_ctl-itself c, same_ret-itself ret, same_bool-itself full) refl
+same_want-itself (Deq q have) r e = rw (same_res-itself q, same_bool-itself have) refl
+same_want-itself (Release q) r e = same_res-itself q
+same_want-itself (Look first count f) r e = absurd (cc)
+
+-- ---- what the node does
+-- a system's node after it has processed an entry of the message
+abbrev pub after_read : Node → Req → Node
+after_read n q = let side : Side = process (record { tasks = n.tasks; shared = n.shared }) q in record n { tasks = side.tasks; shared = side.shared }
 
 read-tasks : (n : Node) (q : Req) → (after_read n q).tasks ≡ tell_new (answer_own n.tasks q (answer_to n.shared q.task q.want)) (res_wanted q.want) (new_owners n.shared q.task q.want)
 unfolding process
@@ -64,148 +102,161 @@ answers-none : (v : TasksView) (q : Req) (answer : Answer) → is_task v q.task 
 unfolding answer_own
 answers-none v q answer away = ap (λ b. cond (b && (is_sent (state_of v q.task).phase && is_asked q.want (state_of v q.task).outstanding)) (settled_any v q.task answer (state_of v q.task).outstanding) v) away
 
--- a system after an entry, given its tasks
-module _ (deck : Deck) (s : ℕ) (Q : List HistEntry) (out0 out : List Req) (n : Node) (seen : Seen deck s Q out0 n) (q : Req) (h : HistEntry) (r : Res) (is : res_wanted q.want ≡ Some r) (all : is_systems r ≡ true) (after : replay deck.limit (Q ++ h ∷ []) ≡ after_want (replay deck.limit Q) q.task q.want)
-    (homes : list_all (λ z. is_home_at deck s z.task) (out ++ n.outbox) ≡ true) (apart : stand_apart (askers (out ++ n.outbox)) ≡ true) where
-  reads-by : (w : TasksView) → (after_read n q).tasks ≡ w → Settles deck s (opens_of out n) (Q ++ h ∷ []) n.tasks.told w → Reads deck (Seen deck) s Q out n q h
-  reads-by w e settled = record {
-    seen = record {
-      good = subst (λ v. IsGood deck s (opens_of out n) (Q ++ h ∷ []) v) (sym e) settled.good;
-      held = held-shared deck s Q out0 n seen q.task q.want r is h after all;
-      shared = read-shared n q ∙ shared-shared deck s Q out0 n seen q.task q.want r is h after all;
-      homes = homes;
-      apart = apart;
-    };
-    told = subst (λ (v : TasksView). ToldBy deck s (out ++ n.outbox) (Q ++ h ∷ []) n.tasks.told v.told) (sym e) settled.told;
-  }
+-- ---- the first of the items that are due
+-- A request of the message was processed.
+pub record Reads (deck : Deck) (s : ℕ) (P before : List RunItem) (x : RunItem) (later : List RunItem) (out : List Req) (n : Node) (q : Req) : Type 0 where
+  pub seen : Seen deck s P (before ++ x ∷ []) later out (after_read n q)
+  pub told : ToldBy deck s (out ++ n.outbox) (history P) n.tasks.told (after_read n q).tasks.told
 
-  -- the lists of the system answer as all do
-  answer-is : answer_to n.shared q.task q.want ≡ answer_to (replay deck.limit Q) q.task q.want
-  answer-is = ap (λ z. answer_to z q.task q.want) seen.shared ∙ answer_to-part is_systems (replay deck.limit Q) q.task q.want r is all
-
-  owners-are : new_owners n.shared q.task q.want ≡ new_owners (replay deck.limit Q) q.task q.want
-  owners-are = ap (λ z. new_owners z q.task q.want) seen.shared ∙ new_owners-part is_systems (replay deck.limit Q) q.task q.want r is all
-
--- the first of the own requests in the message
-pub read_own : (deck : Deck) (s : ℕ) (Q : List HistEntry) (out : List Req) (n : Node) (q : Req) (h : HistEntry) → Seen deck s Q (q ∷ out) n → entries_for (replay deck.limit Q) q.task q.want ≡ h ∷ [] → Reads deck (Seen deck) s Q out n q h
-read_own deck s Q out n q h seen e = by_open (state_of v t).outstanding refl (here.asked.0 (same_task-itself t))
-  where
-    t : TaskId
-    t = q.task
-
-    v : TasksView
+module _ (deck : Deck) (s : ℕ) (P before : List RunItem) (right : IsHistory deck P) (x : RunItem) (later : List RunItem) (whole : rounds P ≡ before ++ x ∷ later) (n : Node) where
+  -- it is of a task of the system
+  module _ (out : List Req) (t : TaskId) (ls : List Meaning) (ours : IsOurs deck s n.tasks t ls) (own : is_of t x.fixed ≡ true) (q0 : Req) (asker : q0.task ≡ t) (seen : Seen deck s P before (x ∷ later) (q0 ∷ out) n) (others : (u : TaskId) → is_of u x.fixed ≡ same_task u t) where
+    abbrev v : TasksView
     v = n.tasks
 
-    home : is_home_at deck s q.task ≡ true
-    home = (and_parts (is_home_at deck s q.task) (list_all (λ z. is_home_at deck s z.task) (out ++ n.outbox)) seen.homes).0
+    abbrev os : Opens
+    os = opens_of (x ∷ later) (q0 ∷ out) n
 
-    ls : List Meaning
-    ls = (some_of (lines_of deck q.task) (and_parts (q.task.system.0 == s) (is_some (lines_of deck q.task)) home).1).0
+    abbrev os' : Opens
+    os' = opens_of later out n
 
-    ours : IsOurs deck s n.tasks q.task ls
-    ours = record { lines = (some_of (lines_of deck q.task) (and_parts (q.task.system.0 == s) (is_some (lines_of deck q.task)) home).1).1; home = eqb-true q.task.system.0 s (and_parts (q.task.system.0 == s) (is_some (lines_of deck q.task)) home).0; here = seen.good.here q.task home }
+    abbrev here : IsHere deck os P n.tasks.told t ls (state_of n.tasks t)
+    here = seen.good.tasks.each t ls ours
 
-    here : IsHere deck (opens_of (q ∷ out) n) Q n.tasks.told q.task ls (state_of n.tasks q.task)
-    here = seen.good.tasks.each q.task ls ours
+    abbrev p : Past
+    p = past_of t here.known P
 
-    away : is_among q.task (askers (out ++ n.outbox)) ≡ false
-    away = not_true (is_among q.task (askers (out ++ n.outbox))) (and_parts (not (is_among q.task (askers (out ++ n.outbox)))) (stand_apart (askers (out ++ n.outbox))) seen.apart).0
+    -- the task's outstanding item is this one
+    is_due : (outstanding t here.known P ≡ Some x) × (mine t later ≡ [])
+    is_due = one-some (outstanding t here.known P) x (mine t later) (sym (filter-cons_kept (λ y. is_of t y.fixed) x later own) ∙ here.due)
 
-    moves : Moves q.task (opens_of (q ∷ out) n) (opens_of out n)
-    moves = record { away = away; away_out = among-front q.task out n.outbox away; asked = λ u o apart k. k.1; sent = λ u p apart k. (and_parts (not (same_task u q.task) || is_sent p) (are_sent u p out) k).1 }
+    away : is_among t (askers (out ++ n.outbox)) ≡ false
+    away = subst (λ u. is_among u (askers (out ++ n.outbox)) ≡ false) asker (not_true _ (and_parts _ _ seen.apart).0)
 
-    sent : is_sent (state_of n.tasks q.task).phase ≡ true
-    sent = by_same (and_parts (not (same_task q.task q.task) || is_sent (state_of n.tasks q.task).phase) (are_sent q.task (state_of n.tasks q.task).phase out) here.sent).0
-      where
-        by_same : (not (same_task q.task q.task) || is_sent (state_of n.tasks q.task).phase) ≡ true → is_sent (state_of n.tasks q.task).phase ≡ true
-        by_same k = ap (λ b. not b || is_sent (state_of n.tasks q.task).phase) (sym (same_task-itself q.task)) ∙ k
+    decides : (q : Req) (r : Res) (b : ReadBy deck P before x later q r) (h : HistEntry) → x.entries ≡ h ∷ [] → Decides deck os os' P P t p h r (new_owners (lists before) q.task q.want)
+    decides q r b h one = record {
+      right = right;
+      learns = entry-learned deck P x t here.known h right here.knows.right is_due.0 one;
+      due = is_due.1;
+      leaves = λ u ms T T' y apart told k. here-kept deck os os' P T T' u ms y (sym (filter-cons_left (λ z. is_of u z.fixed) x later (others u ∙ apart))) (λ a. a.1) (λ a. (and_parts _ _ a).1) told k;
+      away = away;
+      away_out = among-front t out n.outbox away;
+      owners = λ u e. ((b.owners u e).0, λ T ms y k. (b.owners u e).1 k.known k.knows.right k.due);
+    }
 
-    by_open : (o : Option Asked) → (state_of n.tasks q.task).outstanding ≡ o → IsReq q (state_of n.tasks q.task).outstanding → Reads deck (Seen deck) s Q out n q h
-    by_open None f is = absurd (subst (IsReq q) f is)
-    by_open (Some a) f is =
-        let x : TaskState = state_of n.tasks q.task in
-        let rq : a.req ≡ q = subst (IsReq q) f is in
-        let opened : IsOpenBy deck.limit ls q.task x (Some a) = subst (λ o. IsOpenBy deck.limit ls q.task x o) f here.opened in
-        let asked_for : IsAskedFor deck.limit ls x.line x.records q.want a.unit = subst (λ (z : Req). IsAskedFor deck.limit ls x.line x.records z.want a.unit) rq opened.2 in
-        let task1 = subst (λ o. IsTask ls here.past n.tasks.told (λ r. is_leaving r o) q.task (unasked_by o x)) f here.task in
-        let task2 = subst (λ (z : Req). IsTask ls here.past n.tasks.told (λ r. gives_up r z.want) q.task (record x { line = line_asked z.want x.line; phase = phase_asking z.want x.code })) rq task1 in
-        let own : OwnRead deck s (opens_of out n) Q n.tasks q.task q.want a.unit h = own_read deck s (opens_of (q ∷ out) n) (opens_of out n) Q n.tasks seen.good q.task moves ls ours q.want a.unit h here.past here.speaks (task-open ls here.past n.tasks.told _ q.task _ None task2) asked_for e in
-        reads-by deck s Q (q ∷ out) out n seen q h own.res own.of_res own.systems own.after (and_parts _ _ seen.homes).1 (and_parts _ _ seen.apart).1 _
-        (read-tasks n q
-        ∙ ap (λ z. tell_new z (res_wanted q.want) (new_owners n.shared q.task q.want)) (answers-own n.tasks q (answer_to n.shared q.task q.want) a ours.here sent f rq (same_want-itself q.want own.res own.of_res))
-        ∙ ap (λ z. tell_new (replied (recalled n.tasks q.task q.want) q.task q.want a.unit z) (res_wanted q.want) (new_owners n.shared q.task q.want)) (answer-is deck s Q (q ∷ out) out n seen q h own.res own.of_res own.systems own.after (and_parts _ _ seen.homes).1 (and_parts _ _ seen.apart).1)
-        ∙ ap (λ z. tell_new (replied (recalled n.tasks q.task q.want) q.task q.want a.unit (answer_to (replay deck.limit Q) q.task q.want)) (res_wanted q.want) z) (owners-are deck s Q (q ∷ out) out n seen q h own.res own.of_res own.systems own.after (and_parts _ _ seen.homes).1 (and_parts _ _ seen.apart).1))
-        own.settles
+    -- the task with its request taken back
+    recalls : (w : Want) → Did v (recalled v t w) t (record (state_of v t) { phase = phase_asking w (state_of v t).code; code = code_in (phase_asking w (state_of v t).code) (state_of v t).code; outstanding = None }) v.told
+    unfolding recalled
+    recalls w =
+        let y : TaskState = state_of v t in
+        did-outstanding v _ t _ v.told ours.here (did-phase v v t y v.told ours.here (did-none v t) (phase_asking w y.code)) None
 
--- an entry of another system
-pub read_other : (deck : Deck) (s : ℕ) (Q : List HistEntry) (out : List Req) (n : Node) (q : Req) (h : HistEntry) → Seen deck s Q out n → IsOthers deck s Q q → entries_for (replay deck.limit Q) q.task q.want ≡ h ∷ [] → Reads deck (Seen deck) s Q out n q h
-unfolding tell_new
-read_other deck s Q out n q h seen others e =
-    let S : State = replay deck.limit Q in
-    let r : Res = others.res in
-    let both = entry-after deck.limit S q.task q.want r h others.of_res others.fits e in
-    let after : replay deck.limit (Q ++ h ∷ []) ≡ after_want S q.task q.want = replay-push deck.limit Q h ∙ both.0 in
-    let settled : Settles deck s (opens_of out n) (Q ++ h ∷ []) n.tasks.told (tell_all n.tasks r (became_owners (list_of S r) (list_of (after_want S q.task q.want) r) q.task)) =
-    settles deck s (opens_of out n) (opens_of out n) Q n.tasks seen.good q.task q.want r h after (λ z f. away-may deck s z q.task others.of_deck others.apart) n.tasks (λ u. refl) refl
-    (before-others_asker deck s (opens_of out n) Q n.tasks seen.good q.task others.apart q.want h both.1 after) n.tasks.told none in
-    reads-by deck s Q out out n seen q h r others.of_res others.systems after seen.homes seen.apart _
-    (read-tasks n q
-    ∙ ap (λ z. tell_new z (res_wanted q.want) (new_owners n.shared q.task q.want)) (answers-none n.tasks q (answer_to n.shared q.task q.want) (away-task n.tasks q.task s seen.good.system others.apart))
-    ∙ ap (λ z. tell_new n.tasks (res_wanted q.want) z) (owners-are deck s Q out out n seen q h r others.of_res others.systems after seen.homes seen.apart)
-    ∙ ap (λ z. tell_new n.tasks z (became_owners_of S (after_want S q.task q.want) q.task z)) others.of_res)
-    settled
+    -- it asks and its request is decided, in one
+    own_read : (w : Want) (unit : Option ℕ) → x.fixed ≡ fixing.Asked (record { task = t; want = w }) →
+        IsTask ls p v.told (λ r. gives_up r w) t (record (state_of v t) { line = line_asked w (state_of v t).line; phase = phase_asking w (state_of v t).code; outstanding = None }) →
+        IsAskedFor deck.limit ls (state_of v t).line (state_of v t).records w unit → Settles deck s os' P v.told (tell_new (replied (recalled v t w) t w unit (answer_to (lists before) t w)) (res_wanted w) (new_owners (lists before) t w))
+    own_read (Enq r c ret full) unit asked k a =
+        let y : TaskState = state_of v t in
+        let w : Want = Enq r c ret full in
+        let b = read_by deck P before x later (record { task = t; want = w }) r right whole asked refl a.2 in
+        let back : suc (y.line - 1) ≡ y.line = omega (arith, a.0) in
+        let did0 = subst (λ m. Did v (recalled v t w) t (record { line = m; phase = phases.Ready; code = y.code; records = y.records; outstanding = None; rows = y.rows }) v.told) (sym back) (recalls w) in
+        subst (λ z. Settles deck s os' P v.told (tell_new (replied (recalled v t w) t w unit z) (Some r) (new_owners (lists before) t w))) (sym b.answer)
+        (enq-settles deck s os os' P P v seen.good t ls ours p r _ (y.line - 1) y.code y.records y.rows (recalled v t w) did0 (lines.Enq r c ret unit) (enq_code b.at r t c ret full) c unit ret full
+        (decides (record { task = t; want = w }) r b (entries.Enq t r c ret (enq_code b.at r t c ret full)) b.made) (record { before = k; at = a.1; asks = refl }))
+    own_read (Deq r have) unit asked k a =
+        let y : TaskState = state_of v t in
+        let w : Want = Deq r have in
+        let b = read_by deck P before x later (record { task = t; want = w }) r right whole asked refl a.2 in
+        let back : suc (y.line - 1) ≡ y.line = omega (arith, a.0) in
+        let did0 = subst (λ m. Did v (recalled v t w) t (record { line = m; phase = phases.Ready; code = y.code; records = y.records; outstanding = None; rows = y.rows }) v.told) (sym back) (recalls w) in
+        subst (λ z. Settles deck s os' P v.told (tell_new (replied (recalled v t w) t w unit z) (Some r) (new_owners (lists before) t w))) (sym b.answer)
+        (deq-settles deck s os os' P P v seen.good t ls ours p r _ (y.line - 1) y.code y.records y.rows (recalled v t w) did0 (lines.Deq r have) (deq_reply b.at r t have) have (λ z. same_res z r) (λ z apart. apart)
+        (decides (record { task = t; want = w }) r b (entries.Deq t r have (deq_reply b.at r t have)) b.made) (record { before = k; at = a.1; asks = refl }) unit)
+    own_read (Release r) unit asked k a =
+        let y : TaskState = state_of v t in
+        let w : Want = Release r in
+        let b = read_by deck P before x later (record { task = t; want = w }) r right whole asked refl a.1 in
+        release-settles deck s os os' P P v seen.good t ls ours p r _ y.line y.code y.code y.records y.rows (recalled v t w) (recalls w) refl (λ z. same_res z r) (λ z apart. apart) k
+        (decides (record { task = t; want = w }) r b (entries.Release t r) b.made) unit
+    own_read (Look first count f) unit asked k a = absurd a
 
--- what another system decides by its own lists
-module _ (deck : Deck) (s : ℕ) (Q : List HistEntry) (out : List Req) (n : Node) (seen : Seen deck s Q out n) (t : TaskId) (w : Want) (r : Res) (is : res_wanted w ≡ Some r) (h : HistEntry) (mine : (u : TaskId) → is_by u h ≡ same_task u t)
-    (after : replay deck.limit (Q ++ h ∷ []) ≡ after_want (replay deck.limit Q) t w) (some : is_some (lines_of deck t) ≡ true) (away : t.system.0 ≢ s) (alone : is_own s r ≡ false) where
-  no_systems : is_systems r ≡ false
-  no_systems = go (is_systems r) alone
+  -- the system afterwards, given its tasks
+  module _ (a : IsAsk deck x) (out0 out : List Req) (seen : Seen deck s P before (x ∷ later) out0 n) (homes : list_all (λ q. is_home_at deck s q.task) (out ++ n.outbox) ≡ true) (apart : stand_apart (askers (out ++ n.outbox)) ≡ true) where
+    reads-by : (w : TasksView) → tell_new (answer_own n.tasks a.req (answer_to (lists before) a.req.task a.req.want)) (res_wanted a.req.want) (new_owners (lists before) a.req.task a.req.want) ≡ w → Settles deck s (opens_of later out n) P n.tasks.told w → Reads deck s P before x later out n a.req
+    reads-by w e settled =
+        let q : Req = a.req in
+        let is : (after_read n q).tasks ≡ w = read-tasks n q ∙ ap (λ z. tell_new (answer_own n.tasks q (answer_to z q.task q.want)) (res_wanted q.want) (new_owners z q.task q.want)) seen.shared ∙ e in
+        record {
+          seen = record {
+            good = subst (λ v. IsGood deck s (opens_of later out n) P v) (sym is) settled.good;
+            held = seen.held;
+            shared = read-shared n q ∙ ap (λ z. after_want z q.task q.want) seen.shared ∙ sym (after-asked before x q a.asked);
+            homes = homes;
+            apart = apart;
+          };
+          told = subst (λ (v : TasksView). ToldBy deck s (out ++ n.outbox) (history P) n.tasks.told v.told) (sym is) settled.told;
+        }
+
+  -- one of its own
+  read-own : (out : List Req) (a : IsAsk deck x) → Seen deck s P before (x ∷ later) (a.req ∷ out) n → Reads deck s P before x later out n a.req
+  read-own out a seen = by_open (state_of n.tasks t).outstanding refl (here_is.asked.0 (same_task-itself t))
     where
-      go : (b : Bool) → (b || is_res_of s r) ≡ false → b ≡ false
-      go true f = cc
-      go false f = refl
+      t : TaskId
+      t = a.req.task
 
-  no_res : is_res_of s r ≡ false
-  no_res = go (is_systems r) alone
+      home : is_home_at deck s a.req.task ≡ true
+      home = (and_parts (is_home_at deck s a.req.task) (list_all (λ z. is_home_at deck s z.task) (out ++ n.outbox)) seen.homes).0
+
+      both : ((a.req.task.system.0 == s) ≡ true) × (is_some (lines_of deck a.req.task) ≡ true)
+      both = and_parts (a.req.task.system.0 == s) (is_some (lines_of deck a.req.task)) home
+
+      ls : List Meaning
+      ls = (some_of (lines_of deck a.req.task) both.1).0
+
+      ours : IsOurs deck s n.tasks a.req.task ls
+      ours = record { lines = (some_of (lines_of deck a.req.task) both.1).1; home = eqb-true a.req.task.system.0 s both.0; here = seen.good.here a.req.task home }
+
+      here_is : IsHere deck (opens_of (x ∷ later) (a.req ∷ out) n) P n.tasks.told a.req.task ls (state_of n.tasks a.req.task)
+      here_is = seen.good.tasks.each a.req.task ls ours
+
+      sent : is_sent (state_of n.tasks a.req.task).phase ≡ true
+      sent = ap (λ b. not b || is_sent (state_of n.tasks a.req.task).phase) (sym (same_task-itself a.req.task)) ∙ (and_parts (not (same_task a.req.task a.req.task) || is_sent (state_of n.tasks a.req.task).phase) (are_sent a.req.task (state_of n.tasks a.req.task).phase out) here_is.sent).0
+
+      by_open : (o : Option Asked) → (state_of n.tasks a.req.task).outstanding ≡ o → IsReq a.req (state_of n.tasks a.req.task).outstanding → Reads deck s P before x later out n a.req
+      by_open None f is = absurd (subst (IsReq a.req) f is)
+      by_open (Some b) f is =
+          let q : Req = a.req in
+          let y : TaskState = state_of n.tasks q.task in
+          let k = seen.good.tasks.each q.task ls ours in
+          let own_past : Past = past_of q.task k.known P in
+          let rq : b.req ≡ q = subst (IsReq q) f is in
+          let opened : IsOpenBy deck.limit ls q.task y (Some b) = subst (λ o. IsOpenBy deck.limit ls q.task y o) f here_is.opened in
+          let asked_for : IsAskedFor deck.limit ls y.line y.records q.want b.unit = subst (λ (z : Req). IsAskedFor deck.limit ls y.line y.records z.want b.unit) rq opened.2 in
+          let task1 = subst (λ o. IsTask ls own_past n.tasks.told (λ r. is_leaving r o) q.task (unasked_by o y)) f k.task in
+          let task2 = subst (λ (z : Req). IsTask ls own_past n.tasks.told (λ r. gives_up r z.want) q.task (record y { line = line_asked z.want y.line; phase = phase_asking z.want y.code })) rq task1 in
+          reads-by a (q ∷ out) out seen (and_parts _ _ seen.homes).1 (and_parts _ _ seen.apart).1 _
+          (ap (λ z. tell_new z (res_wanted q.want) (new_owners (lists before) q.task q.want)) (answers-own n.tasks q (answer_to (lists before) q.task q.want) b ours.here sent f rq (same_want-itself q.want a.res a.wanted)))
+          (own_read out q.task ls ours (ap (is_of q.task) a.asked ∙ same_task-itself q.task) q refl seen (λ u. ap (is_of u) a.asked) q.want b.unit a.asked (task-open ls own_past n.tasks.told _ q.task _ None task2) asked_for)
+
+  -- one of another system
+  read-other : (out : List Req) (a : IsAsk deck x) → is_systems a.res ≡ true → a.req.task.system.0 ≢ s → Seen deck s P before (x ∷ later) out n → Reads deck s P before x later out n a.req
+  unfolding tell_new
+  read-other out a wide ne seen =
+      let q : Req = a.req in
+      let b = read_by deck P before x later q a.res right whole a.asked a.wanted wide in
+      reads-by a out out seen seen.homes seen.apart _
+      (ap (λ z. tell_new z (res_wanted q.want) (new_owners (lists before) q.task q.want)) (answers-none n.tasks q (answer_to (lists before) q.task q.want) (false_by (is_task n.tasks q.task) (λ e. absurd (ne (sym (is_task-system n.tasks q.task e) ∙ seen.good.system)))))
+      ∙ ap (λ o. tell_new n.tasks o (new_owners (lists before) q.task q.want)) a.wanted)
+      (settles deck s (opens_of later out n) P right n.tasks.told n.tasks (record {
+        tasks = record { each = λ u ls o. here-kept deck (opens_of (x ∷ later) out n) (opens_of later out n) P n.tasks.told n.tasks.told u ls _ (sym (filter-cons_left (λ z. is_of u z.fixed) x later (not-ours deck s n.tasks x a ne u ls o))) (λ k. k) (λ k. k) (λ p leaving y j. j) (seen.good.tasks.each u ls o) };
+        here = seen.good.here;
+        system = seen.good.system;
+      }) none a.res (new_owners (lists before) q.task q.want) (λ u e. ((b.owners u e).0, λ T ls y k. (b.owners u e).1 k.known k.knows.right k.due)))
+
+  pub read : (out : List Req) (a : IsAsk deck x) → is_systems a.res ≡ true → Seen deck s P before (x ∷ later) (own_asked s (fixing.Asked a.req) ++ out) n → Reads deck s P before x later out n a.req
+  read out a wide = go (a.req.task.system.0 == s) refl
     where
-      go : (b : Bool) → (b || is_res_of s r) ≡ false → is_res_of s r ≡ false
-      go true f = cc
-      go false f = f
-
-  pub stays-elsewhere : Seen deck s (Q ++ h ∷ []) out n
-  stays-elsewhere = record {
-    good = record {
-      tasks = before-others_asker deck s (opens_of out n) Q n.tasks seen.good t away w h mine after;
-      elems = subst (λ z. list_all (λ x. may_have deck s x.0 x.1.task) z ≡ true) (sym after) (elems-want (may_have deck s) (replay deck.limit Q) t w (λ z f. away-may deck s z t some away) seen.good.elems);
-      here = seen.good.here;
-      system = seen.good.system;
-    };
-    held = seen.held ∙ sym (part-want_other (is_res_of s) (replay deck.limit Q) t w r is no_res) ∙ ap (part (is_res_of s)) (sym after);
-    shared = seen.shared ∙ sym (part-want_other is_systems (replay deck.limit Q) t w r is no_systems) ∙ ap (part is_systems) (sym after);
-    homes = seen.homes;
-    apart = seen.apart;
-  }
-
--- the parts of what is elsewhere
-elsewhere-parts : (a b c d : Bool) → (not a && (b && (not c && not d))) ≡ true → (a ≡ false) × (b ≡ true) × ((c || d) ≡ false)
-elsewhere-parts true b c d h = cc
-elsewhere-parts false false c d h = cc
-elsewhere-parts false true true d h = cc
-elsewhere-parts false true false true h = cc
-elsewhere-parts false true false false h = (refl, refl, refl)
-
-apart-by : (a b : ℕ) → (a == b) ≡ false → a ≢ b
-apart-by a b e same = let f : true ≡ false = sym (eq-eqb a b same) ∙ e in cc
-
-pub elsewhere : (deck : Deck) (s : ℕ) (Q : List HistEntry) (out : List Req) (n : Node) (h : HistEntry) → Seen deck s Q out n → is_elsewhere deck s h ≡ true → Seen deck s (Q ++ h ∷ []) out n
-elsewhere deck s Q out n (entries.Enq t r c ret code) seen e =
-    let a = elsewhere-parts _ _ _ _ e in
-    stays-elsewhere deck s Q out n seen t (Enq r c ret (is_full deck.limit (replay deck.limit Q) t)) r refl (entries.Enq t r c ret code) (λ u. refl) (replay-push deck.limit Q (entries.Enq t r c ret code)) a.1 (apart-by _ _ a.0) a.2
-elsewhere deck s Q out n (entries.Deq t r have code) seen e =
-    let a = elsewhere-parts _ _ _ _ e in
-    stays-elsewhere deck s Q out n seen t (Deq r have) r refl (entries.Deq t r have code) (λ u. refl) (replay-push deck.limit Q (entries.Deq t r have code)) a.1 (apart-by _ _ a.0) a.2
-elsewhere deck s Q out n (entries.Release t r) seen e =
-    let a = elsewhere-parts _ _ _ _ e in
-    stays-elsewhere deck s Q out n seen t (Release r) r refl (entries.Release t r) (λ u. refl) (replay-push deck.limit Q (entries.Release t r)) a.1 (apart-by _ _ a.0) a.2
-elsewhere deck s Q out n (entries.Look t place f rows) seen e = cc
-elsewhere deck s Q out n (entries.Remove by target) seen e = cc
+      go : (b : Bool) → (a.req.task.system.0 == s) ≡ b → Seen deck s P before (x ∷ later) (cond b (a.req ∷ []) [] ++ out) n → Reads deck s P before x later out n a.req
+      go true e seen = read-own out a seen
+      go false e seen = read-other out a wide (eqb-false _ _ e) seen

@@ -2,29 +2,31 @@
 use Rattle.std.proofs.Common.{◌≡◌, ℕ, suc, Bool, true, false, cond, not, ◌&&◌, ◌||◌, List, [], ◌∷◌, ◌++◌, map, length, Option, Some, None, refl, ap, sym, ◌∙◌, subst, arith, append_assoc}
 use Rattle.std.specs.Prelude.{slice_get, is_some, nat_le}
 use Rattle.std.specs.List.{list_all, list_any}
-use Rattle.std.proofs.lemmas.Bool.{and_parts, cases_Bool}
+use Rattle.std.proofs.lemmas.Bool.{and_parts, cases_Bool, eq-eqb}
 use Rattle.grs_base.specs.Same.{same_res, same_task}
-use Rattle.grs_base.specs.Lists.{standing_of, decide_enq, deq_code}
+use Rattle.grs_base.specs.Lists.{owns}
 use Rattle.grs_base.specs.declared.resource.Row.{Row}
-use Rattle.grs_base.specs.State.{State, list_of, is_full, is_systems}
-use Rattle.grs_base.specs.declared.resource.Ctl.{Ctl}
+use Rattle.grs_base.specs.State.{list_of, is_full, is_systems, enq_code, deq_reply}
 use Rattle.grs_base.specs.declared.resource.Res.{Res}
-use Rattle.grs_base.specs.declared.resource.Ret.{Ret}
+use Rattle.grs_base.specs.declared.resource.SysId.{SysId}
 use Rattle.grs_base.specs.declared.resource.TaskId.{TaskId}
 use Rattle.grs_base.specs.declared.decision.Code.{Code}
 use Rattle.grs_base.specs.declared.decision.Code.TheVariants.{C00, C08}
-use Rattle.grs_base.proofs.SameLaws.{same_res-exact, same_res-itself}
-use Rattle.grs_legal.specs.Asks.{AsksEnq, AsksDeq, asks_in, lines_of}
+use Rattle.grs_base.proofs.SameLaws.{same_res-exact, same_res-itself, same_task-itself}
+use Rattle.grs_legal.specs.Asks.{AsksEnq, AsksDeq, AsksRelease, asks_in, lines_of}
 use Rattle.grs_legal.specs.Legal.{line_entries}
 use Rattle.grs_legal.specs.declared.meaning.Meaning.{Meaning}
 use Rattle.grs_legal.specs.declared.meaning.Meaning.TheVariants as lines
 use Rattle.grs_node.specs.Node.{Node, only, with_tasks, decide, post, ask, wait, has_most, take_line, end_step, ready_step, phase_step, task_step, goes_on, may_go, finish_quiet}
 use Rattle.grs_wire.specs.History.{replay, entries_for}
-use Rattle.grs_wire.specs.Wants.{answer_to, after_want, res_wanted, new_owners}
+use Rattle.grs_wire.specs.Wants.{answer_to, res_wanted, new_owners}
 use Rattle.grs_wire.specs.declared.deck.Deck.{Deck}
 use Rattle.grs_wire.specs.declared.deck.Choice.TheVariants as choices
 use Rattle.grs_wire.specs.declared.history.HistEntry.{HistEntry}
 use Rattle.grs_wire.specs.declared.history.HistEntry.TheVariants as entries
+use Rattle.grs_wire.specs.declared.request.Answer.{Answer}
+use Rattle.grs_wire.specs.declared.request.Answer.TheVariants as answers
+use Rattle.grs_wire.specs.declared.request.Fixed.TheVariants as fixing
 use Rattle.grs_wire.specs.declared.request.Req.{Req}
 use Rattle.grs_wire.specs.declared.request.Want.{Want}
 use Rattle.grs_wire.specs.declared.request.Want.TheVariants.{Enq, Deq, Release}
@@ -39,32 +41,36 @@ use Rattle.task_state.specs.declared.state.Phase.{Phase}
 use Rattle.task_state.specs.declared.state.Phase.TheVariants as phases
 use Rattle.task_state.specs.declared.state.Rec.{Rec}
 use Rattle.task_state.specs.declared.state.TaskState.{TaskState}
+use Rattle.grs_known.specs.Items.{RunItem, lists, history}
+use Rattle.grs_known.specs.Known.{outstanding}
+use Rattle.grs_known.specs.Past.{has_own, Past, past_of, Speaks}
 use Rattle.grs_known.specs.Told.{LineAgrees, TellsWait, tells_control}
+use Rattle.grs_known.proofs.known.Due.{one}
+use Rattle.grs_known.proofs.known.Following.{has-known, is_full-known, may_follow}
+use Rattle.grs_known.proofs.known.Histories.{IsHistory, MayFollow, made_item, follows, wants-round, has-may, owns-may}
+use Rattle.grs_known.proofs.known.Knows.{IsOutstanding, known-all, knows-closed, speaks-known, owns-still, entry-decided}
+use Rattle.grs_known.proofs.known.Reading.{owner-behind}
+use Rattle.grs_known.proofs.lists.Facts.{all-more}
 use Rattle.grs_known.proofs.lists.Owners.{is_among}
-use Rattle.grs_known.specs.Past.{has_own, Past, Speaks}
+use Rattle.grs_known.proofs.lists.Parts.{is_res_of, own-one_system, answer_to-part}
+use Rattle.grs_known.proofs.lists.Truths.{or_first, or_second, or_other}
+use Rattle.grs_known.proofs.tasks.Asked.{Asks, next-asked}
 use Rattle.grs_known.proofs.tasks.Invariant.{IsRec, may_pass, IsTask, has_res, is_unsent}
+use Rattle.grs_known.proofs.tasks.Keys.{has_res-own}
 use Rattle.grs_known.proofs.tasks.Others.{task-leaving, task-told}
 use Rattle.grs_known.proofs.tasks.Records.{found, not_found}
-use Rattle.grs_known.proofs.tasks.Keys.{has_res-own}
 use Rattle.grs_known.proofs.tasks.Speaking.{has-speaks}
-use Rattle.grs_known.proofs.tasks.Asked.{Asks}
-use Rattle.grs_world.proofs.system.Seen.{is_res_of, is_home_at, askers, stand_apart, QuietStep, keeps, fixes, ToldBy, none, more, StandsBy}
-use Rattle.grs_world.proofs.system.Asking.{line_asked, unasked, IsAtLines, IsAskedFor, IsOpenBy, Opens, IsReq, IsAskedBy, asked-none, sent-absent, held-none}
-use Rattle.grs_world.proofs.system.Ours.{IsOurs, IsHere, ours-line, agrees-ours}
-use Rattle.grs_world.proofs.system.Did.{Did, did-none, did-line, did-phase, did-outstanding, did-telling}
-use Rattle.grs_known.proofs.tasks.Steps.{task-skipped, task-waited, task-held, task-ending, task-ended}
-use Rattle.grs_world.proofs.system.Good.{may_have, IsGood, has_task-home, home-ours, ours-home}
-use Rattle.grs_world.proofs.system.Events.{Settles, Moves, task-closed, is_full-speaks, enq_stands, enq_settles, deq_stands, deq_settles}
-use Rattle.grs_world.proofs.system.Meant.{is_own, lines_own}
-use Rattle.grs_world.proofs.system.Parts.{answer_to-part, new_owners-part}
-use Rattle.grs_world.proofs.system.Turns.{quiet_settles, release_stands, release_settles, state-is, plain-task}
-use Rattle.grs_world.proofs.system.AtNode.{opens_of, Seen, own-alone, own-may, may_own, held-alone, shared-alone}
-use Rattle.grs_world.proofs.system.OwnEntries.{task-open}
-use Rattle.grs_known.proofs.lists.Truths.{or_first, or_second}
-use Rattle.grs_world.proofs.system.Replied.{replay-push}
-use Rattle.grs_known.proofs.lists.Facts.{all-more}
-use Rattle.grs_known.specs.Items.{CountsIn}
+use Rattle.grs_known.proofs.tasks.Steps.{task-skipped, task-waited, task-held, task-ending, next-ending, task-ended}
 use Rattle.grs_world.proofs.system.Askers.{among-front, apart-push}
+use Rattle.grs_world.proofs.system.Asking.{line_asked, unasked, IsAtLines, IsAskedFor, IsOpenBy, Opens, IsReq, IsAskedBy, asked-none, sent-absent, held-none, stays-open, task-open}
+use Rattle.grs_world.proofs.system.AtNode.{opens_of, Seen, QuietStep, keeps, fixes, part-same}
+use Rattle.grs_world.proofs.system.Did.{Did, did-none, did-line, did-phase, did-outstanding, did-telling}
+use Rattle.grs_world.proofs.system.Events.{Settles, Decides, task-closed, enq-settles, deq-settles, release-settles}
+use Rattle.grs_world.proofs.system.Good.{IsGood, Untold, here-kept, here-other, home-ours, ours-home}
+use Rattle.grs_world.proofs.system.Meant.{is_own, lines_own}
+use Rattle.grs_world.proofs.system.Ours.{IsOurs, IsHere, ours-line, agrees-ours}
+use Rattle.grs_world.proofs.system.Says.{is_home_at, askers, stand_apart, ToldBy, none, more}
+use Rattle.grs_world.proofs.system.Turns.{quiet_settles, state-is, plain-task}
 
 -- one request more behind the open ones
 asked-push_own : (t : TaskId) (o : Option Asked) (qs : List Req) (q : Req) → is_among t (askers qs) ≡ false → IsReq q o → IsAskedBy t o (qs ++ q ∷ [])
@@ -75,18 +81,27 @@ asked-push_other : (u : TaskId) (o : Option Asked) (qs : List Req) (q : Req) →
 asked-push_other u o [] q apart h = (λ e. absurd (let f : false ≡ true = sym apart ∙ e in cc), tt)
 asked-push_other u o (x ∷ qs) q apart h = (h.0, asked-push_other u o qs q apart h.1)
 
-module _ (deck : Deck) (s : ℕ) (Q : List HistEntry) (out : List Req) (n : Node) (seen : Seen deck s Q out n) where
+module _ (deck : Deck) (s : ℕ) (c : SysId) (P before later : List RunItem) (right : IsHistory deck P) (out : List Req) (n : Node) (seen : Seen deck s P before later out n) where
+  abbrev os : Opens
+  os = opens_of later out n
+
   -- a step that changes the tasks alone, and fixes nothing
-  by_tasks : (v : TasksView) → Settles deck s (opens_of out n) Q n.tasks.told v → QuietStep deck (Seen deck) s Q out n (only (with_tasks n v))
+  by_tasks : (v : TasksView) → Settles deck s os P n.tasks.told v → QuietStep deck s c P before later out n (only (with_tasks n v))
   by_tasks v z = keeps refl (record { good = z.good; held = seen.held; shared = seen.shared; homes = seen.homes; apart = seen.apart }) z.told
 
   module _ (t : TaskId) (ls : List Meaning) (ours : IsOurs deck s n.tasks t ls) (closed : (state_of n.tasks t).outstanding ≡ None) where
-    here : IsHere deck (opens_of out n) Q n.tasks.told t ls (state_of n.tasks t)
+    here : IsHere deck os P n.tasks.told t ls (state_of n.tasks t)
     here = seen.good.tasks.each t ls ours
 
-    -- its past
+    -- its past, which is that of the history
     abbrev p : Past
-    p = here.past
+    p = past_of t here.known P
+
+    none_open : outstanding t here.known P ≡ None
+    none_open = knows-closed P t (state_of n.tasks t).outstanding here.known closed here.knows
+
+    speaks : Speaks deck.limit t p (history P)
+    speaks = speaks-known deck P t here.known right here.knows.right none_open
 
     unasked_here : IsAskedBy t None (out ++ n.outbox)
     unasked_here = subst (λ o. IsAskedBy t o (out ++ n.outbox)) closed here.asked
@@ -97,35 +112,52 @@ module _ (deck : Deck) (s : ℕ) (Q : List HistEntry) (out : List Req) (n : Node
     free_out : is_among t (askers out) ≡ false
     free_out = among-front t out n.outbox free
 
-    moves : Moves t (opens_of out n) (opens_of out n)
-    moves = record { away = free; away_out = free_out; asked = λ u o apart k. k; sent = λ u p apart k. k }
-
     -- a request that the system decides by the lists of its own resources
-    decided : (v0 : TasksView) (w : Want) (unit : Option ℕ) (r : Res) (h : HistEntry) → res_wanted w ≡ Some r → is_res_of s r ≡ true → CountsIn deck.limit (replay deck.limit Q) t w → entries_for (replay deck.limit Q) t w ≡ h ∷ [] →
-        replay deck.limit (Q ++ h ∷ []) ≡ after_want (replay deck.limit Q) t w → StandsBy deck t Q h →
-        Settles deck s (opens_of out n) (Q ++ h ∷ []) n.tasks.told (tell_new (replied v0 t w unit (answer_to (replay deck.limit Q) t w)) (res_wanted w) (new_owners (replay deck.limit Q) t w)) →
-        QuietStep deck (Seen deck) s Q out n (decide (with_tasks n v0) t w unit)
-    unfolding decide
-    decided v0 w unit r h is mine fits e after stands z =
-        let S : State = replay deck.limit Q in
-        let answers : answer_to n.held t w ≡ answer_to S t w = ap (λ y. answer_to y t w) seen.held ∙ answer_to-part (is_res_of s) S t w r is mine in
-        let owners : new_owners n.held t w ≡ new_owners S t w = ap (λ y. new_owners y t w) seen.held ∙ new_owners-part (is_res_of s) S t w r is mine in
-        let tasks : tell_new (replied v0 t w unit (answer_to n.held t w)) (res_wanted w) (new_owners n.held t w) ≡ tell_new (replied v0 t w unit (answer_to S t w)) (res_wanted w) (new_owners S t w) =
-        ap (λ y. tell_new (replied v0 t w unit y) (res_wanted w) (new_owners n.held t w)) answers ∙ ap (λ y. tell_new (replied v0 t w unit (answer_to S t w)) (res_wanted w) y) owners in
-        fixes t w r h refl (ours-home deck s n.tasks t ls ours) free refl is mine fits e stands
-        (record {
-          good = subst (λ v. IsGood deck s (opens_of out n) (Q ++ h ∷ []) v) (sym tasks) z.good;
-          held = held-alone deck s Q out n seen t w r is h after mine;
-          shared = shared-alone deck s Q out n seen t w r is h after mine;
-          homes = seen.homes;
-          apart = seen.apart;
-        })
-        (subst (λ (v : TasksView). ToldBy deck s (out ++ n.outbox) (Q ++ h ∷ []) n.tasks.told v.told) (sym tasks) z.told)
+    module _ (w : Want) (r : Res) (wanted : res_wanted w ≡ Some r) (own : is_res_of s r ≡ true) (h : HistEntry) (entry : entries_for (lists P) t w ≡ h ∷ []) where
+      abbrev q : Req
+      q = record { task = t; want = w }
+
+      abbrev x : RunItem
+      x = made_item c P (fixing.Asked q)
+
+      decides : MayFollow deck P x → Decides deck os os P (P ++ x ∷ []) t p h r (new_owners n.held t w)
+      decides m = record {
+        right = follows deck P x right m;
+        learns = entry-decided deck P x t here.known h (follows deck P x right m) (same_task-itself t) refl here.knows.right (known-all P t here.known here.knows.right none_open) entry;
+        due = here.due ∙ ap one none_open;
+        leaves = λ u ls T T' y apart told k. here-kept deck os os (P ++ x ∷ []) T T' u ls y refl (λ a. a) (λ a. a) told (here-other deck os P x T u ls y apart refl k);
+        away = free;
+        away_out = free_out;
+        owners = λ u e.
+            let owned : owns (list_of (lists (P ++ x ∷ [])) r) u ≡ true = owner-behind (is_res_of s) P x q r u refl wanted own (ap (λ z. is_among u (new_owners z t w)) (sym seen.held) ∙ e) in
+            let all : IsHistory deck (P ++ x ∷ []) = follows deck P x right m in
+            ((and_parts _ _ (owns-may deck (P ++ x ∷ []) r u all.asks owned)).0, λ T ls y k. owns-still r u (P ++ x ∷ []) _ (stays-open deck.limit ls u y r _ k.opened k.knows.request (own-one_system s r own)) owned);
+      }
+
+      -- the code that the entry tells
+      decided : (v0 : TasksView) (unit : Option ℕ) (answer : Answer) → answer_to (lists P) t w ≡ answer → (m : MayFollow deck P x) →
+          (Decides deck os os P (P ++ x ∷ []) t p h r (new_owners n.held t w) → Settles deck s os (P ++ x ∷ []) n.tasks.told (tell_new (replied v0 t w unit answer) (Some r) (new_owners n.held t w))) →
+          QuietStep deck s c P before later out n (decide (with_tasks n v0) t w unit)
+      unfolding decide
+      decided v0 unit answer told_is m settled =
+          let z = settled (decides m) in
+          let tasks : tell_new (replied v0 t w unit (answer_to n.held t w)) (res_wanted w) (new_owners n.held t w) ≡ tell_new (replied v0 t w unit answer) (Some r) (new_owners n.held t w) =
+          ap (λ y. tell_new (replied v0 t w unit y) (res_wanted w) (new_owners n.held t w)) (ap (λ y. answer_to y t w) seen.held ∙ answer_to-part (is_res_of s) (lists P) t w r wanted own ∙ told_is)
+          ∙ ap (λ y. tell_new (replied v0 t w unit answer) y (new_owners n.held t w)) wanted in
+          fixes q refl (eq-eqb _ _ ours.home) (wants-round w r wanted ∙ own-one_system s r own) m
+          (record {
+            good = subst (λ v. IsGood deck s os (P ++ x ∷ []) v) (sym tasks) z.good;
+            held = part-same (is_res_of s) P x q r refl wanted n.held seen.held own;
+            shared = seen.shared;
+            homes = seen.homes;
+            apart = seen.apart;
+          })
+          (subst (λ (v : TasksView). ToldBy deck s (out ++ n.outbox) (history (P ++ x ∷ [])) n.tasks.told v.told) (sym tasks) z.told)
 
     -- a request that waits to be put into the message
     posted : (v1 : TasksView) (w : Want) (unit : Option ℕ) (x : TaskState) → Did n.tasks v1 t x n.tasks.told →
         IsTask ls p n.tasks.told (λ q. false) t (record x { line = line_asked w x.line; phase = phase_asking w x.code }) →
-        IsAskedFor deck.limit ls x.line x.records w unit → QuietStep deck (Seen deck) s Q out n (post (with_tasks n v1) t w unit)
+        IsAskedFor deck.limit ls x.line x.records w unit → QuietStep deck s c P before later out n (post (with_tasks n v1) t w unit)
     unfolding post
     posted v1 w unit x did k asked =
         let q : Req = record { task = t; want = w } in
@@ -134,19 +166,20 @@ module _ (deck : Deck) (s : ℕ) (Q : List HistEntry) (out : List Req) (n : Node
         let did2 = did-outstanding n.tasks (with_phase v1 t phases.ToSend) t _ n.tasks.told ours.here did1 (Some a) in
         let z : TaskState = record { line = x.line; phase = phases.ToSend; code = x.code; records = x.records; outstanding = Some a; rows = x.rows } in
         let pushed : (out ++ n.outbox) ++ q ∷ [] ≡ out ++ (n.outbox ++ q ∷ []) = append_assoc out n.outbox (q ∷ []) in
-        let os' : Opens = record { out = out; all = out ++ (n.outbox ++ q ∷ []) } in
+        let os' : Opens = record { later = later; out = out; all = out ++ (n.outbox ++ q ∷ []) } in
         let task : IsTask ls p n.tasks.told (λ r. is_leaving r (Some a)) t (unasked z) =
         task-leaving ls p n.tasks.told (λ r. is_leaving r (Some a)) t (unasked z) (task-open ls p n.tasks.told (λ q. false) t (record x { line = line_asked w x.line; phase = phase_asking w x.code }) (Some a) k) in
-        let settled = quiet_settles deck s (opens_of out n) os' Q n.tasks seen.good t ls ours (with_outstanding (with_phase v1 t phases.ToSend) t (Some a)) z n.tasks.told did2
+        let settled = quiet_settles deck s os os' P n.tasks seen.good t ls ours (with_outstanding (with_phase v1 t phases.ToSend) t (Some a)) z n.tasks.told did2
         (record {
-          past = p;
-          speaks = here.speaks;
+          known = here.known;
+          knows = record { right = here.knows.right; request = subst (IsOutstanding (Some a)) (sym none_open) tt };
+          due = here.due;
           task = task;
           opened = (refl, refl, asked);
           asked = subst (λ qs. IsAskedBy t (Some a) qs) pushed (asked-push_own t (Some a) (out ++ n.outbox) q free refl);
           sent = sent-absent t phases.ToSend out free_out;
         })
-        (λ u o apart j. subst (λ qs. IsAskedBy u o qs) pushed (asked-push_other u o (out ++ n.outbox) q apart j)) (λ u p apart j. j) (λ u ms p leaving y apart j. j) none in
+        (λ u o apart j. subst (λ qs. IsAskedBy u o qs) pushed (asked-push_other u o (out ++ n.outbox) q apart j)) (λ u ph apart j. j) refl (λ u ms apart z leaving y j. j) none in
         keeps refl
         (record {
           good = settled.good;
@@ -158,10 +191,11 @@ module _ (deck : Deck) (s : ℕ) (Q : List HistEntry) (out : List Req) (n : Node
         settled.told
 
     -- what makes the task one of ours after a step that leaves its open requests
-    still_here : (T : List ToldLine) (x : TaskState) → x.outstanding ≡ None → IsAtLines x.phase x.code → IsTask ls p T (λ q. false) t x → IsHere deck (opens_of out n) Q T t ls x
+    still_here : (T : List ToldLine) (x : TaskState) → x.outstanding ≡ None → IsAtLines x.phase x.code → IsTask ls p T (λ q. false) t x → IsHere deck os P T t ls x
     still_here T x o at k = record {
-      past = p;
-      speaks = here.speaks;
+      known = here.known;
+      knows = record { right = here.knows.right; request = subst (IsOutstanding x.outstanding) (sym none_open) tt };
+      due = here.due;
       task = task-closed ls p T t x o k;
       opened = subst (λ z. IsOpenBy deck.limit ls t x z) (sym o) at;
       asked = subst (λ z. IsAskedBy t z (out ++ n.outbox)) (sym o) unasked_here;
@@ -170,26 +204,31 @@ module _ (deck : Deck) (s : ℕ) (Q : List HistEntry) (out : List Req) (n : Node
 
     -- a step that changes the task alone, and tells no more than lines to it
     by_task : (v : TasksView) (x : TaskState) (T : List ToldLine) → Did n.tasks v t x T → x.outstanding ≡ None → IsAtLines x.phase x.code → IsTask ls p T (λ q. false) t x →
-        ((u : TaskId) (ms : List Meaning) (q : Past) (leaving : Res → Bool) (y : TaskState) → same_task u t ≡ false → IsTask ms q n.tasks.told leaving u y → IsTask ms q T leaving u y) →
-        ToldBy deck s (out ++ n.outbox) Q n.tasks.told T → QuietStep deck (Seen deck) s Q out n (only (with_tasks n v))
-    by_task v x T did o at k told agreed = by_tasks v (quiet_settles deck s (opens_of out n) (opens_of out n) Q n.tasks seen.good t ls ours v x T did (still_here T x o at k) (λ u z apart j. j) (λ u p apart j. j) told agreed)
+        ((u : TaskId) (ms : List Meaning) → same_task u t ≡ false → Untold n.tasks.told T u ms) →
+        ToldBy deck s (out ++ n.outbox) (history P) n.tasks.told T → QuietStep deck s c P before later out n (only (with_tasks n v))
+    by_task v x T did o at k told agreed = by_tasks v (quiet_settles deck s os os P n.tasks seen.good t ls ours v x T did (still_here T x o at k) (λ u z apart j. j) (λ u ph apart j. j) refl told agreed)
+
+    place : (r : Res) → is_own s r ≡ true → is_own t.system.0 r ≡ true
+    place r h = subst (λ z. is_own z r ≡ true) (sym ours.home) h
 
     own-of : (r : Res) → is_own t.system.0 r ≡ true → is_own s r ≡ true
     own-of r h = subst (λ z. is_own z r ≡ true) ours.home h
 
     -- an ending task, by its parts
-    module _ (v : TasksView) (m c code : ℕ) (xs : List Rec) (ws : List Row) (did : Did n.tasks v t (record { line = m; phase = phases.Ending c; code = code; records = xs; outstanding = None; rows = ws }) n.tasks.told) (coded : code ≡ c)
-        (k : IsTask ls p n.tasks.told (λ q. false) t (record { line = m; phase = phases.Ending c; code = code; records = xs; outstanding = None; rows = ws })) where
+    module _ (v : TasksView) (m d code : ℕ) (xs : List Rec) (ws : List Row) (did : Did n.tasks v t (record { line = m; phase = phases.Ending d; code = code; records = xs; outstanding = None; rows = ws }) n.tasks.told) (coded : code ≡ d)
+        (k : IsTask ls p n.tasks.told (λ q. false) t (record { line = m; phase = phases.Ending d; code = code; records = xs; outstanding = None; rows = ws })) where
       -- it releases the first resource on record
-      released : (y : Rec) (ys : List Rec) → xs ≡ y ∷ ys → QuietStep deck (Seen deck) s Q out n (ask (with_tasks n v) t (Release y.res) None)
+      released : (y : Rec) (ys : List Rec) → xs ≡ y ∷ ys → QuietStep deck s c P before later out n (ask (with_tasks n v) t (Release y.res) None)
       unfolding ask
-      released y ys e = by_test (QuietStep deck (Seen deck) s Q out n) (is_systems y.res) _ _
-          (λ all. posted v (Release y.res) None (record { line = m; phase = phases.Ending c; code = code; records = xs; outstanding = None; rows = ws }) did
+      released y ys e = by_test (QuietStep deck s c P before later out n) (is_systems y.res) _ _
+          (λ all. posted v (Release y.res) None (record { line = m; phase = phases.Ending d; code = code; records = xs; outstanding = None; rows = ws }) did
           (subst (λ z. IsTask ls p n.tasks.told (λ q. false) t (record { line = m; phase = phases.Ending z; code = code; records = xs; outstanding = None; rows = ws })) (sym coded) k)
           (first, all))
-          (λ alone. decided v (Release y.res) None y.res (entries.Release t y.res) refl (own-alone s y.res (own-may deck s n.tasks y.res t ls ours proper) alone) tt refl (replay-push deck.limit Q (entries.Release t y.res))
-          ((release_stands deck s (opens_of out n) (opens_of out n) Q n.tasks seen.good t moves ls ours m c code xs ws v did coded y.res proper p here.speaks (λ q. false) (λ q apart. refl) k first))
-          (release_settles deck s (opens_of out n) (opens_of out n) Q n.tasks seen.good t moves ls ours m c code xs ws v did coded y.res proper p here.speaks (λ q. false) (λ q apart. refl) k None))
+          (λ alone.
+          let own : is_res_of s y.res ≡ true = or_other (is_systems y.res) (is_res_of s y.res) proper alone in
+          decided (Release y.res) y.res refl own (entries.Release t y.res) refl v None (answers.Coded C00) refl
+          (may_follow deck P right t p speaks ls ours.lines c (Release y.res) y.res refl (place y.res proper) tt (AsksRelease y.res) refl (next-ending ls p n.tasks.told (λ q. false) t m d code xs None ws k y.res first))
+          (λ z. release-settles deck s os os P _ n.tasks seen.good t ls ours p y.res _ m d code xs ws v did coded (λ q. false) (λ q apart. refl) k z None))
         where
           first : slice_get (map (λ (z : Rec). z.res) xs) 0 ≡ Some y.res
           first = ap (λ zs. slice_get (map (λ (z : Rec). z.res) zs) 0) e
@@ -197,23 +236,23 @@ module _ (deck : Deck) (s : ℕ) (Q : List HistEntry) (out : List Req) (n : Node
           there : has_res y.res xs ≡ true
           there = ap (has_res y.res) e ∙ ap (λ b. b || has_res y.res ys) (same_res-itself y.res)
 
-          proper : may_have deck s y.res t ≡ true
-          proper = has_task-home (may_have deck s) (replay deck.limit Q) y.res t seen.good.elems (has-speaks deck.limit t p Q here.speaks y.res ∙ sym (has_res-own y.res xs p.own k.keys) ∙ there)
+          proper : is_own s y.res ≡ true
+          proper = own-of y.res (and_parts (is_some (lines_of deck t)) (is_own t.system.0 y.res) (has-may deck P y.res t right.asks (has-known deck P right t p speaks y.res ∙ sym (has_res-own y.res xs p.own k.keys) ∙ there))).1
 
       -- it has ended
-      ended : xs ≡ [] → QuietStep deck (Seen deck) s Q out n (only (with_tasks n (telling (with_phase v t phases.Ended) (Ended t c))))
+      ended : xs ≡ [] → QuietStep deck s c P before later out n (only (with_tasks n (telling (with_phase v t phases.Ended) (Ended t d))))
       ended e =
-          let none_left = subst (λ zs. IsTask ls p n.tasks.told (λ q. false) t (record { line = m; phase = phases.Ending c; code = code; records = zs; outstanding = None; rows = ws })) e k in
-          let done = task-ended ls p n.tasks.told (λ q. false) t m c code None ws none_left in
-          let did1 = did-telling n.tasks (with_phase v t phases.Ended) t (record { line = m; phase = phases.Ended; code = code; records = xs; outstanding = None; rows = ws }) n.tasks.told (Ended t c)
-          (did-phase n.tasks v t (record { line = m; phase = phases.Ending c; code = code; records = xs; outstanding = None; rows = ws }) n.tasks.told ours.here did phases.Ended) in
-          by_task (telling (with_phase v t phases.Ended) (Ended t c)) _ _ did1 refl tt
-          (subst (λ zs. IsTask ls p (n.tasks.told ++ Ended t c ∷ []) (λ q. false) t (record { line = m; phase = phases.Ended; code = code; records = zs; outstanding = None; rows = ws })) (sym e) done.0)
-          (λ u ms q leaving y apart j. task-told ms q n.tasks.told leaving u y (Ended t c) apart j)
-          (more n.tasks.told (Ended t c) none (ours-line deck s n.tasks t ls ours) (record { past = p; speaks = here.speaks; agrees = λ H z. agrees-ours deck t ls H n.tasks.told (Ended t c) ours.lines (done.1 deck.limit H z); clears = free }))
+          let none_left = subst (λ zs. IsTask ls p n.tasks.told (λ q. false) t (record { line = m; phase = phases.Ending d; code = code; records = zs; outstanding = None; rows = ws })) e k in
+          let done = task-ended ls p n.tasks.told (λ q. false) t m d code None ws none_left in
+          let did1 = did-telling n.tasks (with_phase v t phases.Ended) t (record { line = m; phase = phases.Ended; code = code; records = xs; outstanding = None; rows = ws }) n.tasks.told (Ended t d)
+          (did-phase n.tasks v t (record { line = m; phase = phases.Ending d; code = code; records = xs; outstanding = None; rows = ws }) n.tasks.told ours.here did phases.Ended) in
+          by_task (telling (with_phase v t phases.Ended) (Ended t d)) _ _ did1 refl tt
+          (subst (λ zs. IsTask ls p (n.tasks.told ++ Ended t d ∷ []) (λ q. false) t (record { line = m; phase = phases.Ended; code = code; records = zs; outstanding = None; rows = ws })) (sym e) done.0)
+          (λ u ms apart q leaving y j. task-told ms q n.tasks.told leaving u y (Ended t d) apart j)
+          (more n.tasks.told (Ended t d) none (ours-line deck s n.tasks t ls ours) (agrees-ours deck t ls (history P) n.tasks.told (Ended t d) ours.lines (done.1 deck.limit (history P) speaks)) tt)
 
       -- a step of its end
-      end_outcome : (zs : List Rec) → xs ≡ zs → QuietStep deck (Seen deck) s Q out n (end_step (with_tasks n v) t c zs)
+      end_outcome : (zs : List Rec) → xs ≡ zs → QuietStep deck s c P before later out n (end_step (with_tasks n v) t d zs)
       unfolding end_step
       end_outcome [] e = ended e
       end_outcome (y ∷ ys) e = released y ys e
@@ -235,7 +274,7 @@ module _ (deck : Deck) (s : ℕ) (Q : List HistEntry) (out : List Req) (n : Node
 
       -- a request for a resource of the whole complex waits
       kept : (w : Want) (unit : Option ℕ) → line_asked w (suc (state_of n.tasks t).line) ≡ (state_of n.tasks t).line → phase_asking w (state_of n.tasks t).code ≡ phases.Ready →
-          IsAskedFor deck.limit ls (suc (state_of n.tasks t).line) (state_of n.tasks t).records w unit → QuietStep deck (Seen deck) s Q out n (post (with_tasks n (with_line n.tasks t)) t w unit)
+          IsAskedFor deck.limit ls (suc (state_of n.tasks t).line) (state_of n.tasks t).records w unit → QuietStep deck s c P before later out n (post (with_tasks n (with_line n.tasks t)) t w unit)
       kept w unit line phase asked =
           let x : TaskState = state_of n.tasks t in
           posted (with_line n.tasks t) w unit (record { line = suc x.line; phase = phases.Ready; code = x.code; records = x.records; outstanding = None; rows = x.rows }) taken
@@ -244,46 +283,46 @@ module _ (deck : Deck) (s : ℕ) (Q : List HistEntry) (out : List Req) (n : Node
           asked
 
       -- a line that asks nothing and is passed
-      skipped : (l : Meaning) → slice_get ls (state_of n.tasks t).line ≡ Some l → asks_in l ≡ [] → may_pass p l ≡ true → QuietStep deck (Seen deck) s Q out n (only (with_tasks n (with_line n.tasks t)))
+      skipped : (l : Meaning) → slice_get ls (state_of n.tasks t).line ≡ Some l → asks_in l ≡ [] → may_pass p l ≡ true → QuietStep deck s c P before later out n (only (with_tasks n (with_line n.tasks t)))
       skipped l at asks lets =
           let x : TaskState = state_of n.tasks t in
           by_task (with_line n.tasks t) _ _ taken refl tt
           (task-skipped ls p n.tasks.told (λ q. false) t x.line x.code x.records None x.rows l is_ready at asks lets)
-          (λ u ms q leaving y apart j. j) none
+          (λ u ms apart q leaving y j. j) none
 
       -- a WAIT line told by its code
-      waited : (l : Meaning) → slice_get ls (state_of n.tasks t).line ≡ Some l → asks_in l ≡ [] → (c : Code) → may_pass p l ≡ true →
-          ((H : List HistEntry) → Speaks deck.limit t p H → TellsWait t ls (line_entries t H) n.tasks.told (replay deck.limit H) c (Some l)) →
-          (w : TasksView) → w ≡ telling (with_line n.tasks t) (Coded t (suc (state_of n.tasks t).line) 0 verbs.Wait c) →
-          QuietStep deck (Seen deck) s Q out n (only (with_tasks n w))
-      waited l at asks c lets tells w is =
+      waited : (l : Meaning) → slice_get ls (state_of n.tasks t).line ≡ Some l → asks_in l ≡ [] → (d : Code) → may_pass p l ≡ true →
+          TellsWait t ls (line_entries t (history P)) n.tasks.told (replay deck.limit (history P)) d (Some l) →
+          (w : TasksView) → w ≡ telling (with_line n.tasks t) (Coded t (suc (state_of n.tasks t).line) 0 verbs.Wait d) →
+          QuietStep deck s c P before later out n (only (with_tasks n w))
+      waited l at asks d lets tells w is =
           let x : TaskState = state_of n.tasks t in
           let T : List ToldLine = n.tasks.told in
-          let told_line : ToldLine = Coded t (suc x.line) 0 verbs.Wait c in
+          let told_line : ToldLine = Coded t (suc x.line) 0 verbs.Wait d in
           let did1 = did-telling n.tasks (with_line n.tasks t) t (record { line = suc x.line; phase = phases.Ready; code = x.code; records = x.records; outstanding = None; rows = x.rows }) T told_line taken in
-          let agrees : (H : List HistEntry) → Speaks deck.limit t p H → LineAgrees deck.limit ls H T told_line = λ H z. (omega arith, subst (TellsWait t ls (line_entries t H) T (replay deck.limit H) c) (sym (ap (slice_get ls) (omega (arith)) ∙ at)) (tells H z), is_ready.codes, is_ready.phase.going.no_end) in
-          subst (λ z. QuietStep deck (Seen deck) s Q out n (only (with_tasks n z))) (sym is)
+          let agrees : LineAgrees deck.limit ls (history P) T told_line = (omega arith, subst (TellsWait t ls (line_entries t (history P)) T (replay deck.limit (history P)) d) (sym (ap (slice_get ls) (omega (arith)) ∙ at)) tells, is_ready.codes, is_ready.phase.going.no_end) in
+          subst (λ z. QuietStep deck s c P before later out n (only (with_tasks n z))) (sym is)
           (by_task (telling (with_line n.tasks t) told_line) _ _ did1 refl tt
-          (task-waited ls p T (λ q. false) t x.line x.code x.records None x.rows l is_ready at asks c lets)
-          (λ u ms q leaving y apart j. task-told ms q T leaving u y told_line apart j)
-          (more T told_line none (ours-line deck s n.tasks t ls ours) (refl, record { past = p; speaks = here.speaks; agrees = λ H z. agrees-ours deck t ls H T told_line ours.lines (agrees H z); clears = free })))
+          (task-waited ls p T (λ q. false) t x.line x.code x.records None x.rows l is_ready at asks d lets)
+          (λ u ms apart q leaving y j. task-told ms q T leaving u y told_line apart j)
+          (more T told_line none (ours-line deck s n.tasks t ls ours) (refl, agrees-ours deck t ls (history P) T told_line ours.lines agrees) free))
 
       -- a WAIT line
       wait_outcome : (q : Res) → slice_get ls (state_of n.tasks t).line ≡ Some (lines.Wait q) →
-          QuietStep deck (Seen deck) s Q out n (only (with_tasks n (wait (with_line n.tasks t) t q (record_of (state_of (with_line n.tasks t) t).records q))))
+          QuietStep deck s c P before later out n (only (with_tasks n (wait (with_line n.tasks t) t q (record_of (state_of (with_line n.tasks t) t).records q))))
       unfolding wait tell_code
       wait_outcome q at = by_record (record_of (state_of (with_line n.tasks t) t).records q) (sym (ap (λ (y : TaskState). record_of y.records q) taken.state))
         where
           line_is : (state_of (with_line n.tasks t) t).line ≡ suc (state_of n.tasks t).line
           line_is = ap (λ (y : TaskState). y.line) taken.state
 
-          tells_line : (c : Code) → telling (with_line n.tasks t) (Coded t (state_of (with_line n.tasks t) t).line 0 verbs.Wait c) ≡ telling (with_line n.tasks t) (Coded t (suc (state_of n.tasks t).line) 0 verbs.Wait c)
-          tells_line c = ap (λ m. telling (with_line n.tasks t) (Coded t m 0 verbs.Wait c)) line_is
+          tells_line : (d : Code) → telling (with_line n.tasks t) (Coded t (state_of (with_line n.tasks t) t).line 0 verbs.Wait d) ≡ telling (with_line n.tasks t) (Coded t (suc (state_of n.tasks t).line) 0 verbs.Wait d)
+          tells_line d = ap (λ m. telling (with_line n.tasks t) (Coded t m 0 verbs.Wait d)) line_is
 
-          by_record : (o : Option Rec) → record_of (state_of n.tasks t).records q ≡ o → QuietStep deck (Seen deck) s Q out n (only (with_tasks n (wait (with_line n.tasks t) t q o)))
+          by_record : (o : Option Rec) → record_of (state_of n.tasks t).records q ≡ o → QuietStep deck s c P before later out n (only (with_tasks n (wait (with_line n.tasks t) t q o)))
           by_record None e =
               let absent : has_own q p.own ≡ false = sym (has_res-own q (state_of n.tasks t).records p.own is_ready.keys) ∙ not_found (state_of n.tasks t).records q e in
-              waited (lines.Wait q) at refl C08 (or_second (p.owns q) _ (ap not absent)) (λ H z. has-speaks deck.limit t p H z q ∙ absent) _ (tells_line C08)
+              waited (lines.Wait q) at refl C08 (or_second (p.owns q) _ (ap not absent)) (has-speaks deck.limit t p (history P) speaks q ∙ absent) _ (tells_line C08)
           by_record (Some y) e = by_told y.told refl
             where
               f : IsRec ls p.asked n.tasks.told p.owns (λ z. false) t (state_of n.tasks t).line phases.Ready y × (same_res q y.res ≡ true)
@@ -292,90 +331,80 @@ module _ (deck : Deck) (s : ℕ) (Q : List HistEntry) (out : List Req) (n : Node
               same : y.res ≡ q
               same = sym (same_res-exact q y.res f.1)
 
-              by_told : (b : Bool) → y.told ≡ b → QuietStep deck (Seen deck) s Q out n (only (with_tasks n (cond b (tell_code (with_line n.tasks t) t verbs.Wait C00) (with_phase (with_line n.tasks t) t (phases.HeldLine q)))))
+              by_told : (b : Bool) → y.told ≡ b → QuietStep deck s c P before later out n (only (with_tasks n (cond b (tell_code (with_line n.tasks t) t verbs.Wait C00) (with_phase (with_line n.tasks t) t (phases.HeldLine q)))))
               by_told true g =
                   let own : p.owns q ≡ true = subst (λ z. p.owns z ≡ true) same (sym f.0.known ∙ g) in
                   let told : list_any (tells_control t ls p.asked q) n.tasks.told ≡ true = subst (λ z. list_any (tells_control t ls p.asked z) n.tasks.told ≡ true) same (f.0.control (sym f.0.known ∙ g) refl) in
-                  waited (lines.Wait q) at refl C00 (or_first (p.owns q) _ own) (λ H z. (z.owns q own, subst (λ E. list_any (tells_control t ls E q) n.tasks.told ≡ true) (sym z.asked) told)) _ (tells_line C00)
+                  waited (lines.Wait q) at refl C00 (or_first (p.owns q) _ own) (speaks.owns q own, subst (λ E. list_any (tells_control t ls E q) n.tasks.told ≡ true) (sym speaks.asked) told) _ (tells_line C00)
               by_told false g =
                   let x : TaskState = state_of n.tasks t in
                   let did1 = did-phase n.tasks (with_line n.tasks t) t (record { line = suc x.line; phase = phases.Ready; code = x.code; records = x.records; outstanding = None; rows = x.rows }) n.tasks.told ours.here taken (phases.HeldLine q) in
                   by_task (with_phase (with_line n.tasks t) t (phases.HeldLine q)) _ _ did1 refl tt
                   (task-held ls p n.tasks.told (λ q. false) t x.line x.code x.records None x.rows (lines.Wait q) is_ready at refl q refl)
-                  (λ u ms z leaving w apart j. j) none
+                  (λ u ms apart z leaving w j. j) none
 
       -- any line
-      line_outcome : (l : Meaning) → slice_get ls (state_of n.tasks t).line ≡ Some l → QuietStep deck (Seen deck) s Q out n (take_line deck.limit (with_tasks n (with_line n.tasks t)) t l)
+      line_outcome : (l : Meaning) → slice_get ls (state_of n.tasks t).line ≡ Some l → QuietStep deck s c P before later out n (take_line deck.limit (with_tasks n (with_line n.tasks t)) t l)
       unfolding take_line ask
-      line_outcome (lines.Enq r c ret unit) at =
+      line_outcome (lines.Enq r ctl ret unit) at =
           let x : TaskState = state_of n.tasks t in
-          let S : State = replay deck.limit Q in
           let full : Bool = has_most deck.limit (with_line n.tasks t) t in
-          let full_is : full ≡ is_full deck.limit S t = most-is ∙ is_full-speaks deck.limit t p Q x.records here.speaks is_ready.keys in
-          let own : is_own s r ≡ true = own-of r (lines_own deck t ls x.line (lines.Enq r c ret unit) ours.lines at) in
-          by_test (QuietStep deck (Seen deck) s Q out n) (is_systems r) _ _
-          (λ all. kept (Enq r c ret full) unit (omega arith) refl (omega arith, ap (slice_get ls) (omega arith) ∙ at, all, most-is))
+          let full_is : full ≡ is_full deck.limit (lists P) t = most-is ∙ is_full-known deck P right t p speaks x.records is_ready.keys in
+          let proper : is_own s r ≡ true = own-of r (lines_own deck t ls x.line (lines.Enq r ctl ret unit) ours.lines at) in
+          by_test (QuietStep deck s c P before later out n) (is_systems r) _ _
+          (λ all. kept (Enq r ctl ret full) unit (omega arith) refl (omega arith, ap (slice_get ls) (omega arith) ∙ at, all, most-is))
           (λ alone.
-          let proper : may_have deck s r t ≡ true = may_own deck s n.tasks r t ls ours own in
-          let k : Asks ls p n.tasks.told (λ q. false) t x.line x.code x.records None x.rows (lines.Enq r c ret unit) (AsksEnq r c ret) = record { before = is_ready; at = at; asks = refl } in
-          let h : HistEntry = enq_entry_of r c ret full in
-          decided (with_line n.tasks t) (Enq r c ret full) unit r h refl (own-alone s r own alone) full_is refl
-          (replay-push deck.limit Q h ∙ ap (λ b. after_want S t (Enq r c ret b)) (sym full_is))
-          ((enq_stands deck s (opens_of out n) (opens_of out n) Q n.tasks seen.good t moves ls ours x.line x.code x.records x.rows (with_line n.tasks t) taken (lines.Enq r c ret unit) r proper p here.speaks c unit ret full full_is k))
-          (enq_settles deck s (opens_of out n) (opens_of out n) Q n.tasks seen.good t moves ls ours x.line x.code x.records x.rows (with_line n.tasks t) taken (lines.Enq r c ret unit) r proper p here.speaks c unit ret full full_is k))
-        where
-          enq_entry_of : Res → Ctl → Ret → Bool → HistEntry
-          enq_entry_of q d e b = entries.Enq t q d e (decide_enq (list_of (replay deck.limit Q) q) t d e b).code
+          let k : Asks ls p n.tasks.told (λ q. false) t x.line x.code x.records None x.rows (lines.Enq r ctl ret unit) (AsksEnq r ctl ret) = record { before = is_ready; at = at; asks = refl } in
+          decided (Enq r ctl ret full) r refl (or_other (is_systems r) (is_res_of s r) proper alone) (entries.Enq t r ctl ret (enq_code (lists P) r t ctl ret full)) refl (with_line n.tasks t) unit (answers.Coded (enq_code (lists P) r t ctl ret full)) refl
+          (may_follow deck P right t p speaks ls ours.lines c (Enq r ctl ret full) r refl (place r proper) full_is (AsksEnq r ctl ret) refl (next-asked ls p n.tasks.told (λ q. false) t x.line x.code x.records None x.rows (lines.Enq r ctl ret unit) (AsksEnq r ctl ret) k))
+          (λ z. enq-settles deck s os os P _ n.tasks seen.good t ls ours p r _ x.line x.code x.records x.rows (with_line n.tasks t) taken (lines.Enq r ctl ret unit) (enq_code (lists P) r t ctl ret full) ctl unit ret full z k))
       line_outcome (lines.Deq r have) at =
           let x : TaskState = state_of n.tasks t in
-          let S : State = replay deck.limit Q in
-          let own : is_own s r ≡ true = own-of r (lines_own deck t ls x.line (lines.Deq r have) ours.lines at) in
-          by_test (QuietStep deck (Seen deck) s Q out n) (is_systems r) _ _
+          let proper : is_own s r ≡ true = own-of r (lines_own deck t ls x.line (lines.Deq r have) ours.lines at) in
+          by_test (QuietStep deck s c P before later out n) (is_systems r) _ _
           (λ all. kept (Deq r have) None (omega arith) refl (omega arith, ap (slice_get ls) (omega arith) ∙ at, all))
           (λ alone.
-          let proper : may_have deck s r t ≡ true = may_own deck s n.tasks r t ls ours own in
           let k : Asks ls p n.tasks.told (λ q. false) t x.line x.code x.records None x.rows (lines.Deq r have) (AsksDeq r have) = record { before = is_ready; at = at; asks = refl } in
-          let h : HistEntry = entries.Deq t r have (deq_code (standing_of (list_of S r) t) have) in
-          decided (with_line n.tasks t) (Deq r have) None r h refl (own-alone s r own alone) tt refl (replay-push deck.limit Q h)
-          ((deq_stands deck s (opens_of out n) (opens_of out n) Q n.tasks seen.good t moves ls ours x.line x.code x.records x.rows (with_line n.tasks t) taken (lines.Deq r have) r proper p here.speaks have (λ q. false) (λ q apart. refl) k))
-          (deq_settles deck s (opens_of out n) (opens_of out n) Q n.tasks seen.good t moves ls ours x.line x.code x.records x.rows (with_line n.tasks t) taken (lines.Deq r have) r proper p here.speaks have (λ q. false) (λ q apart. refl) k None))
+          decided (Deq r have) r refl (or_other (is_systems r) (is_res_of s r) proper alone) (entries.Deq t r have (deq_reply (lists P) r t have)) refl (with_line n.tasks t) None (answers.Coded (deq_reply (lists P) r t have)) refl
+          (may_follow deck P right t p speaks ls ours.lines c (Deq r have) r refl (place r proper) tt (AsksDeq r have) refl (next-asked ls p n.tasks.told (λ q. false) t x.line x.code x.records None x.rows (lines.Deq r have) (AsksDeq r have) k))
+          (λ z. deq-settles deck s os os P _ n.tasks seen.good t ls ours p r _ x.line x.code x.records x.rows (with_line n.tasks t) taken (lines.Deq r have) (deq_reply (lists P) r t have) have (λ q. false) (λ q apart. refl) z k None))
       line_outcome (lines.Wait r) at = wait_outcome r at
       line_outcome lines.Nothing at = skipped lines.Nothing at refl refl
 
       -- the next line, or the end
-      ready_outcome : QuietStep deck (Seen deck) s Q out n (ready_step deck.limit n t (slice_get ls (state_of n.tasks t).line))
+      ready_outcome : QuietStep deck s c P before later out n (ready_step deck.limit n t (slice_get ls (state_of n.tasks t).line))
       unfolding ready_step
       ready_outcome = by_line (slice_get ls (state_of n.tasks t).line) refl
         where
-          by_line : (o : Option Meaning) → slice_get ls (state_of n.tasks t).line ≡ o → QuietStep deck (Seen deck) s Q out n (ready_step deck.limit n t o)
+          by_line : (o : Option Meaning) → slice_get ls (state_of n.tasks t).line ≡ o → QuietStep deck s c P before later out n (ready_step deck.limit n t o)
           by_line (Some l) e = line_outcome l e
           by_line None e =
               let x : TaskState = state_of n.tasks t in
               let did1 = did-phase n.tasks n.tasks t (record x { phase = phases.Ready; outstanding = None }) n.tasks.told ours.here begun (phases.Ending 0) in
               let k = task-ending ls p n.tasks.told (λ q. false) t x.line x.code x.records None x.rows is_ready e in
-              subst (λ zs. QuietStep deck (Seen deck) s Q out n (end_step (with_tasks n (with_phase n.tasks t (phases.Ending 0))) t 0 zs)) (sym (ap (λ (y : TaskState). y.records) did1.state))
+              subst (λ zs. QuietStep deck s c P before later out n (end_step (with_tasks n (with_phase n.tasks t (phases.Ending 0))) t 0 zs)) (sym (ap (λ (y : TaskState). y.records) did1.state))
               (end_outcome (with_phase n.tasks t (phases.Ending 0)) x.line 0 0 x.records x.rows did1 refl k x.records refl)
 
     -- an ending task
-    ending_outcome : (c : ℕ) → (state_of n.tasks t).phase ≡ phases.Ending c → QuietStep deck (Seen deck) s Q out n (end_step n t c (state_of n.tasks t).records)
-    ending_outcome c e =
+    ending_outcome : (d : ℕ) → (state_of n.tasks t).phase ≡ phases.Ending d → QuietStep deck s c P before later out n (end_step n t d (state_of n.tasks t).records)
+    ending_outcome d e =
         let x : TaskState = state_of n.tasks t in
-        let k = plain-task ls p n.tasks.told t x (phases.Ending c) e closed here.task in
-        let did = subst (λ y. Did n.tasks n.tasks t y n.tasks.told) (state-is x (phases.Ending c) e closed) (did-none n.tasks t) in
-        let coded : x.code ≡ c = subst (λ ph. IsAtLines ph x.code) e (subst (λ o. IsOpenBy deck.limit ls t x o) closed here.opened) in
-        end_outcome n.tasks x.line c x.code x.records x.rows did coded k x.records refl
+        let k = plain-task ls p n.tasks.told t x (phases.Ending d) e closed here.task in
+        let did = subst (λ y. Did n.tasks n.tasks t y n.tasks.told) (state-is x (phases.Ending d) e closed) (did-none n.tasks t) in
+        let coded : x.code ≡ d = subst (λ ph. IsAtLines ph x.code) e (subst (λ o. IsOpenBy deck.limit ls t x o) closed here.opened) in
+        end_outcome n.tasks x.line d x.code x.records x.rows did coded k x.records refl
 
   -- whatever the phase
-  phase_outcome : (t : TaskId) (ls : List Meaning) → IsOurs deck s n.tasks t ls → goes_on (state_of n.tasks t).phase ≡ true → QuietStep deck (Seen deck) s Q out n (phase_step deck.limit n t ls (state_of n.tasks t).phase)
+  phase_outcome : (t : TaskId) (ls : List Meaning) → IsOurs deck s n.tasks t ls → goes_on (state_of n.tasks t).phase ≡ true → QuietStep deck s c P before later out n (phase_step deck.limit n t ls (state_of n.tasks t).phase)
   unfolding phase_step
   phase_outcome t ls ours goes = by_phase (state_of n.tasks t).phase refl goes
     where
       closed : (ph : Phase) → (state_of n.tasks t).phase ≡ ph → is_unsent ph ≡ false → (state_of n.tasks t).outstanding ≡ None
       closed ph e f = held-none deck.limit ls t (state_of n.tasks t) (seen.good.tasks.each t ls ours).opened (ap is_unsent e ∙ f)
 
-      by_phase : (ph : Phase) → (state_of n.tasks t).phase ≡ ph → goes_on ph ≡ true → QuietStep deck (Seen deck) s Q out n (phase_step deck.limit n t ls ph)
+      by_phase : (ph : Phase) → (state_of n.tasks t).phase ≡ ph → goes_on ph ≡ true → QuietStep deck s c P before later out n (phase_step deck.limit n t ls ph)
       by_phase phases.Ready e g = ready_outcome t ls ours (closed phases.Ready e refl) e
-      by_phase (phases.Ending c) e g = ending_outcome t ls ours (closed (phases.Ending c) e refl) c e
+      by_phase (phases.Ending d) e g = ending_outcome t ls ours (closed (phases.Ending d) e refl) d e
       by_phase phases.ToSend e g = cc
       by_phase phases.Sent e g = cc
       by_phase phases.HeldAnswer e g = cc
@@ -383,10 +412,10 @@ module _ (deck : Deck) (s : ℕ) (Q : List HistEntry) (out : List Req) (n : Node
       by_phase phases.Ended e g = cc
 
 -- a task goes on
-pub quiet : (deck : Deck) (s : ℕ) (Q : List HistEntry) (out : List Req) (n : Node) (t : TaskId) → Seen deck s Q out n → may_go deck n t ≡ true → QuietStep deck (Seen deck) s Q out n (finish_quiet deck n (choices.Task t))
+pub quiet : (deck : Deck) (s : ℕ) (c : SysId) (P before later : List RunItem) (out : List Req) (n : Node) (t : TaskId) → IsHistory deck P → Seen deck s P before later out n → may_go deck n t ≡ true → QuietStep deck s c P before later out n (finish_quiet deck n (choices.Task t))
 unfolding may_go finish_quiet
-quiet deck s Q out n t seen goes =
+quiet deck s c P before later out n t right seen goes =
     let here = and_parts (is_task n.tasks t) (is_some (lines_of deck t) && goes_on (state_of n.tasks t).phase) goes in
     let both = and_parts (is_some (lines_of deck t)) (goes_on (state_of n.tasks t).phase) here.1 in
     let mine = home-ours deck s n.tasks t seen.good.system both.0 here.0 in
-    subst (λ o. QuietStep deck (Seen deck) s Q out n (task_step deck.limit n t o)) (sym mine.ours.lines) (phase_outcome deck s Q out n seen t mine.lines mine.ours both.1)
+    subst (λ o. QuietStep deck s c P before later out n (task_step deck.limit n t o)) (sym mine.ours.lines) (phase_outcome deck s c P before later right out n seen t mine.lines mine.ours both.1)

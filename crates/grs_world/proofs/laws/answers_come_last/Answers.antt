@@ -1,11 +1,9 @@
-use Rattle.grs_world.proofs.system.AtNode.{Seen}
 use Rattle.grs_world.proofs.run.Laps.{processed_last}
 use Rattle.grs_world.proofs.run.LapsTold.{answered_last}
-use Rattle.grs_world.proofs.system.NodeLaws.{node_laws}
 use Rattle.grs_world.proofs.laws.answers_come_last.Goals as goal
 
 pub returns-clause-given : goal.returns-clause-given
 returns-clause-given c = processed_last
 
 pub returns-clause-told : goal.returns-clause-told
-returns-clause-told c = λ deck es e. answered_last deck (Seen deck) (node_laws deck) es e
+returns-clause-told c = answered_last

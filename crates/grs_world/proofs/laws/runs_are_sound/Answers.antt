@@ -1,4 +1,4 @@
-use Rattle.grs_world.proofs.run.Complex.{runs_sound}
+use Rattle.grs_world.proofs.run.Sound.{runs_sound}
 use Rattle.grs_world.proofs.laws.runs_are_sound.Goals as goal
 
 pub returns : goal.returns

@@ -1,5 +1,5 @@
--- The laws of the systems of a complex.
-use Rattle.std.proofs.Common.{◌≡◌, ℕ, zero, suc, true, false, List, [], length, Some, None, refl, ap, sym, ◌∙◌, subst, arith, get_or}
+-- A system of the complex before its first event.
+use Rattle.std.proofs.Common.{◌≡◌, ℕ, zero, suc, true, false, List, [], length, Some, refl, ap, sym, ◌∙◌, subst, arith, get_or}
 use Rattle.std.specs.Prelude.{slice_get, ◌==◌, nat_lt}
 use Rattle.std.specs.List.{list_all}
 use Rattle.std.proofs.lemmas.Bool.{and_parts, eqb-true, eq-eqb, lt-ltb}
@@ -10,15 +10,12 @@ use Rattle.grs_wire.specs.declared.deck.Deck.{Deck}
 use Rattle.grs_wire.specs.declared.request.Req.{Req}
 use Rattle.task_state.specs.View.{is_task, state_of, new_task, new_tasks}
 use Rattle.grs_node.specs.Node.{first_node}
-use Rattle.grs_world.proofs.system.Seen.{is_home_at, askers, stand_apart, NodeLaws}
-use Rattle.grs_world.proofs.system.Ours.{IsHere, script_at}
-use Rattle.grs_world.proofs.system.Good.{IsGood}
-use Rattle.grs_world.proofs.system.AtNode.{Seen}
-use Rattle.grs_world.proofs.system.Processed.{read_own, read_other, elsewhere}
-use Rattle.grs_world.proofs.system.Puts.{put, put_told, may_put}
-use Rattle.grs_world.proofs.system.Quiet.{quiet}
 use Rattle.grs_known.proofs.lists.Facts.{slice_get-within, some_of}
+use Rattle.grs_world.proofs.system.AtNode.{Seen}
 use Rattle.grs_world.proofs.system.First.{first_told}
+use Rattle.grs_world.proofs.system.Good.{IsGood}
+use Rattle.grs_world.proofs.system.Ours.{IsHere, script_at}
+use Rattle.grs_world.proofs.system.Says.{is_home_at, askers, stand_apart}
 
 new_tasks-blank : (n i : ℕ) → get_or (new_tasks n) i new_task ≡ new_task
 new_tasks-blank zero i = grind (arith)
@@ -60,10 +57,11 @@ first_here deck s t h =
     let system : (s == t.system.0) ≡ true = eq-eqb _ _ (sym is_system) in
     rw (system, within) refl
 
-new_here : (deck : Deck) (t : TaskId) (ls : List Meaning) → IsHere deck (record { out = []; all = [] }) [] [] t ls new_task
+new_here : (deck : Deck) (t : TaskId) (ls : List Meaning) → IsHere deck (record { later = []; out = []; all = [] }) [] [] t ls new_task
 new_here deck t ls = record {
-  past = record { own = []; owns = λ r. false; asked = []; last = None };
-  speaks = record { own = refl; owns = λ r e. cc; asked = refl; last = refl };
+  known = record { behind = false; owns = λ r. false };
+  knows = record { right = record { waits = λ e. absurd (cc); owned = λ r e. absurd (cc); given = tt }; request = tt };
+  due = refl;
   task = record {
     keys = refl;
     owned = λ r e. cc;
@@ -81,42 +79,22 @@ new_here deck t ls = record {
   sent = refl;
 }
 
-first_good : (deck : Deck) (s : ℕ) → IsGood deck s (record { out = []; all = [] }) [] (first_node deck s).tasks
+first_good : (deck : Deck) (s : ℕ) → IsGood deck s (record { later = []; out = []; all = [] }) [] (first_node deck s).tasks
 first_good deck s = record {
   tasks = record {
-    each = λ t ls o. subst (λ T. IsHere deck (record { out = []; all = [] }) [] T t ls (state_of (first_node deck s).tasks t)) (sym (first_told deck s))
-        (subst (λ x. IsHere deck (record { out = []; all = [] }) [] [] t ls x) (sym (first_state deck s t)) (new_here deck t ls));
+    each = λ t ls o. subst (λ T. IsHere deck (record { later = []; out = []; all = [] }) [] T t ls (state_of (first_node deck s).tasks t)) (sym (first_told deck s))
+        (subst (λ x. IsHere deck (record { later = []; out = []; all = [] }) [] [] t ls x) (sym (first_state deck s t)) (new_here deck t ls));
   };
-  elems = refl;
   here = first_here deck s;
   system = first_system deck s;
 }
 
 -- a system at the start
-pub first : (deck : Deck) (s : ℕ) → Seen deck s [] [] (first_node deck s)
-first deck s = record {
-  good = subst (λ qs. IsGood deck s (record { out = []; all = qs }) [] (first_node deck s).tasks) (sym (first_outbox deck s)) (first_good deck s);
+pub first_seen : (deck : Deck) (s : ℕ) → Seen deck s [] [] [] [] (first_node deck s)
+first_seen deck s = record {
+  good = subst (λ qs. IsGood deck s (record { later = []; out = []; all = qs }) [] (first_node deck s).tasks) (sym (first_outbox deck s)) (first_good deck s);
   held = first_held deck s;
   shared = first_shared deck s;
   homes = ap (list_all (λ (q : Req). is_home_at deck s q.task)) (first_outbox deck s);
   apart = ap (λ qs. stand_apart (askers qs)) (first_outbox deck s);
-}
-
--- What the run of a complex has to know of its systems.
-pub node_laws : (deck : Deck) → NodeLaws deck (Seen deck)
-node_laws deck = record {
-  first = first deck;
-  held = λ s Q out n seen. seen.held;
-  shared = λ s Q out n seen. seen.shared;
-  system = λ s Q out n seen. seen.good.system;
-  home = λ s Q out n seen. seen.homes;
-  apart = λ s Q out n seen. seen.apart;
-  quiet = λ s Q out n t seen goes. quiet deck s Q out n t seen goes;
-  read_own = λ s Q out n q h seen e. read_own deck s Q out n q h seen e;
-  read_other = λ s Q out n q h seen others e. read_other deck s Q out n q h seen others e;
-  elsewhere = λ s Q out n h seen e. elsewhere deck s Q out n h seen e;
-  may_put = λ s Q out n before q behind seen e. may_put deck s Q out n before q behind seen e;
-  put = λ s Q out n k seen. put deck s Q out n k seen;
-  put_told = put_told;
-  known = λ s Q out n set seen. record { good = seen.good; held = seen.held; shared = seen.shared; homes = seen.homes; apart = seen.apart };
 }

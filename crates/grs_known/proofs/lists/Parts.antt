@@ -1,11 +1,13 @@
 -- The elements on some of the resources decide as all do.
-use Rattle.std.proofs.Common.{◌≡◌, Bool, true, false, cond, [], ◌∷◌, Some, refl, ap, sym, ◌∙◌, arith}
+use Rattle.std.proofs.Common.{◌≡◌, ℕ, Bool, true, false, cond, [], ◌∷◌, Some, refl, ap, sym, ◌∙◌, arith}
+use Rattle.std.specs.Prelude.{filter, ◌==◌}
 use Rattle.std.proofs.lemmas.Bool.{cases_Bool}
 use Rattle.grs_base.specs.Same.{same_res, same_task}
 use Rattle.grs_base.specs.Lists.{decide_enq, deq_code, is_owner, standing_of}
-use Rattle.grs_base.specs.State.{State, list_of, is_at, without, with_exclusive, after_effect}
+use Rattle.grs_base.specs.State.{State, list_of, is_systems, is_at, without, with_exclusive, after_effect}
 use Rattle.grs_base.specs.declared.resource.Ctl.{Ctl}
 use Rattle.grs_base.specs.declared.resource.Res.{Res}
+use Rattle.grs_base.specs.declared.resource.Res.TheVariants as resources
 use Rattle.grs_base.specs.declared.resource.TaskId.{TaskId}
 use Rattle.grs_base.specs.declared.decision.Effect.{Effect}
 use Rattle.grs_base.specs.declared.decision.Effect.TheVariants.{Nothing, Append, MakeExclusive}
@@ -14,8 +16,28 @@ use Rattle.grs_wire.specs.Wants.{answer_to, after_want, res_wanted, new_owners, 
 use Rattle.grs_wire.specs.declared.request.Answer.TheVariants.{Coded}
 use Rattle.grs_wire.specs.declared.request.Want.{Want}
 use Rattle.grs_wire.specs.declared.request.Want.TheVariants.{Enq, Deq, Release, Look}
-use Rattle.grs_world.proofs.system.Seen.{part}
 use Rattle.grs_known.proofs.lists.Facts.{filter-push_kept, filter-push_left}
+
+-- the elements on resources that pass
+abbrev pub part : (Res → Bool) → State → State
+part p s = filter (λ h. p h.0) s
+
+-- whether a resource is a Step or System resource of this system
+abbrev pub is_res_of : ℕ → Res → Bool
+is_res_of s (resources.Step n j q r) = n.0 == s
+is_res_of s (resources.System n q r) = n.0 == s
+is_res_of s (resources.Systems q r) = false
+
+pub own-one_system : (s : ℕ) (r : Res) → is_res_of s r ≡ true → is_systems r ≡ false
+own-one_system s (resources.Step n j q r) h = refl
+own-one_system s (resources.System n q r) h = refl
+own-one_system s (resources.Systems q r) h = cc
+
+-- a resource of the whole complex is none of one system alone
+pub systems-other : (s : ℕ) (r : Res) → is_systems r ≡ true → is_res_of s r ≡ false
+systems-other s (resources.Step n j q r) h = cc
+systems-other s (resources.System n q r) h = cc
+systems-other s (resources.Systems q r) h = refl
 
 pub list_of-part : (p : Res → Bool) (s : State) (r : Res) → p r ≡ true → list_of (part p s) r ≡ list_of s r
 list_of-part p [] r h = refl
