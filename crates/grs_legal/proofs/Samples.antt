@@ -1,0 +1,99 @@
+-- Worked histories, by which the definition is checked: entries that may stand where they stand, and entries that may not.
+use Rattle.std.proofs.Common.{◌≡◌, ℕ, Bool, true, false, List, [], ◌∷◌, ◌++◌, Option, Some, None, refl}
+use Rattle.grs_base.specs.declared.decision.Code.{Code}
+use Rattle.grs_base.specs.declared.decision.Code.TheVariants.{C00, C04, C08, Wait, End}
+use Rattle.grs_base.specs.declared.resource.Ctl.{Ctl}
+use Rattle.grs_base.specs.declared.resource.Ctl.TheVariants.{E, S}
+use Rattle.grs_base.specs.declared.resource.Res.{Res}
+use Rattle.grs_base.specs.declared.resource.Res.TheVariants as kinds
+use Rattle.grs_base.specs.declared.resource.Ret.{Ret}
+use Rattle.grs_base.specs.declared.resource.Ret.TheVariants.{RetNone, RetEcb}
+use Rattle.grs_base.specs.declared.resource.TaskId.{TaskId}
+use Rattle.grs_wire.specs.declared.history.HistEntry.{HistEntry}
+use Rattle.grs_wire.specs.declared.history.HistEntry.TheVariants.{Enq, Deq, Release}
+use Rattle.grs_wire.specs.declared.request.Answer.TheVariants.{Coded}
+use Rattle.grs_legal.specs.Asks.{AsksEnq, AsksDeq, AsksRelease}
+use Rattle.grs_legal.specs.Legal.{IsLegal}
+use Rattle.grs_legal.specs.declared.meaning.Meaning.{Meaning}
+use Rattle.grs_legal.specs.declared.meaning.Meaning.TheVariants as lines
+
+abbrev task_of : ℕ → TaskId
+task_of n = record { system = record { 0 = 0 }; job = 0; task = n }
+
+-- the resource (A, r) of the system
+abbrev res : ℕ → Res
+res r = kinds.System (record { 0 = 0 }) (65 ∷ []) (r ∷ [])
+
+-- the entries by which a task asks for it exclusively and gives it back
+abbrev enq : ℕ → Ret → Code → HistEntry
+enq n ret code = Enq (task_of n) (res 66) E ret code
+
+abbrev deq : ℕ → Code → HistEntry
+deq n code = Deq (task_of n) (res 66) false code
+
+-- the lines of a task that asks for the resource and gives it back, and of one that asks by ECB, waits for the post, and
+-- gives it back
+abbrev asks_and_gives : List Meaning
+asks_and_gives = lines.Enq (res 66) E RetNone None ∷ lines.Deq (res 66) false ∷ []
+
+abbrev posted_and_gives : List Meaning
+posted_and_gives = lines.Enq (res 66) E RetEcb None ∷ lines.Wait (res 66) ∷ lines.Deq (res 66) false ∷ []
+
+-- ---- one task alone
+first : IsLegal 9 (task_of 0) asks_and_gives [] (enq 0 RetNone C00)
+first = record { reply = refl; next = refl; waited = tt; passed = refl }
+
+second : IsLegal 9 (task_of 0) asks_and_gives (enq 0 RetNone C00 ∷ []) (deq 0 C00)
+second = record { reply = refl; next = refl; waited = λ e. absurd (cc); passed = refl }
+
+-- a line asks once, in its place, and by what stands in it
+asks_twice : IsLegal 9 (task_of 0) asks_and_gives (enq 0 RetNone C00 ∷ []) (enq 0 RetNone (End 138)) → ⊥
+asks_twice l = let e : Some (AsksDeq (res 66) false) ≡ Some (AsksEnq (res 66) E RetNone) = l.next in absurd (cc)
+
+out_of_order : IsLegal 9 (task_of 0) asks_and_gives [] (deq 0 (End 130)) → ⊥
+out_of_order l = let e : Some (AsksEnq (res 66) E RetNone) ≡ Some (AsksDeq (res 66) false) = l.next in absurd (cc)
+
+other_ret : IsLegal 9 (task_of 0) asks_and_gives [] (enq 0 RetEcb C00) → ⊥
+other_ret l = let e : Some (AsksEnq (res 66) E RetNone) ≡ Some (AsksEnq (res 66) E RetEcb) = l.next in absurd (cc)
+
+-- the reply is that of the lists
+wrong_reply : IsLegal 9 (task_of 0) asks_and_gives [] (enq 0 RetNone Wait) → ⊥
+wrong_reply l = let e : Coded Wait ≡ Coded C00 = l.reply in absurd (cc)
+
+-- behind its last line a task gives back what it has, and nothing else; behind a DEQ nothing is left
+abbrev keeps : List Meaning
+keeps = lines.Enq (res 66) E RetNone None ∷ []
+
+releases : IsLegal 9 (task_of 0) keeps (enq 0 RetNone C00 ∷ []) (Release (task_of 0) (res 66))
+releases = record { reply = refl; next = refl; waited = λ e. absurd (cc); passed = refl }
+
+releases_before : IsLegal 9 (task_of 0) asks_and_gives (enq 0 RetNone C00 ∷ []) (Release (task_of 0) (res 66)) → ⊥
+releases_before l = let e : Some (AsksDeq (res 66) false) ≡ Some (AsksRelease (res 66)) = l.next in absurd (cc)
+
+releases_nothing : IsLegal 9 (task_of 0) asks_and_gives (enq 0 RetNone C00 ∷ deq 0 C00 ∷ []) (Release (task_of 0) (res 66)) → ⊥
+releases_nothing l = let e : None ≡ Some (AsksRelease (res 66)) = l.next in absurd (cc)
+
+-- an end code is the last of a task's lines
+goes_on_ended : IsLegal 9 (task_of 0) (lines.Deq (res 66) false ∷ lines.Enq (res 66) E RetNone None ∷ []) (deq 0 (End 130) ∷ []) (enq 0 RetNone C00) → ⊥
+goes_on_ended l = let e : None ≡ Some (AsksEnq (res 66) E RetNone) = l.next in absurd (cc)
+
+-- ---- behind another's
+-- A task whose last entry waited may ask on once it owns, and not before.
+abbrev waiting : List HistEntry
+waiting = enq 0 RetNone C00 ∷ enq 1 RetNone Wait ∷ []
+
+goes_on_waiting : IsLegal 9 (task_of 1) asks_and_gives waiting (deq 1 (End 530)) → ⊥
+goes_on_waiting l = let e : false ≡ true = l.waited refl in absurd (cc)
+
+goes_on_owning : IsLegal 9 (task_of 1) asks_and_gives (waiting ++ deq 0 C00 ∷ []) (deq 1 C00)
+goes_on_owning = record { reply = refl; next = refl; waited = λ e. refl; passed = refl }
+
+-- A WAIT line is passed once its task owns, and not before.
+abbrev queued : List HistEntry
+queued = enq 0 RetNone C00 ∷ enq 1 RetEcb C04 ∷ []
+
+passes_early : IsLegal 9 (task_of 1) posted_and_gives queued (deq 1 (End 530)) → ⊥
+passes_early l = let e : false ≡ true = l.passed in absurd (cc)
+
+passes_owning : IsLegal 9 (task_of 1) posted_and_gives (queued ++ deq 0 C00 ∷ []) (deq 1 C00)
+passes_owning = record { reply = refl; next = refl; waited = λ e. absurd (cc); passed = refl }
