@@ -29,7 +29,7 @@ plain-exclusive : (r : Res) (t : TaskId) (xs : List Ranked) → plain (made_excl
 plain-exclusive r t [] = refl
 plain-exclusive r t (x ∷ xs) = grind (arith, plain-exclusive r t xs)
 
-plain-taken : (r : Res) (t : TaskId) (xs : List Ranked) → plain (taken_out r t xs) ≡ without same_res (plain xs) r t
+pub plain-taken : (r : Res) (t : TaskId) (xs : List Ranked) → plain (taken_out r t xs) ≡ without same_res (plain xs) r t
 plain-taken r t [] = refl
 plain-taken r t (x ∷ xs) = grind (arith, plain-taken r t xs)
 

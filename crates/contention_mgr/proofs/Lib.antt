@@ -5,4 +5,6 @@ pub mod UntoldLemmas
 pub mod LoadLemmas
 pub mod SlotLemmas
 pub mod LawProofs
+pub mod OwnLemmas
+pub mod ManagerLaws
 pub mod Samples

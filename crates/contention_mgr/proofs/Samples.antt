@@ -11,7 +11,7 @@ use Rattle.grs_base.specs.declared.resource.Res.{Res}
 use Rattle.grs_base.specs.declared.resource.Res.TheVariants.{Step, System, Systems}
 use Rattle.grs_base.specs.declared.resource.Ret.TheVariants.{RetNone, RetUse, RetChng, RetEcb}
 use Rattle.grs_base.specs.declared.resource.TaskId.{TaskId}
-use Rattle.grs_wire.specs.Wants.{answer_to}
+use Rattle.grs_wire.specs.Wants.{answer_to, after_want}
 use Rattle.grs_wire.specs.declared.request.Answer.{Answer}
 use Rattle.grs_wire.specs.declared.request.Answer.TheVariants.{Coded}
 use Rattle.grs_wire.specs.declared.request.Req.{Req}
@@ -19,6 +19,7 @@ use Rattle.grs_wire.specs.declared.request.Want.{Want}
 use Rattle.grs_wire.specs.declared.request.Want.TheVariants.{Enq, Deq, Release, Look}
 use Rattle.contention_mgr.specs.Manager.{Ranked, Managed, plain, no_elements, settled, rank_given, with_mark, first_untold, any_untold_in, owner_of, entry_of_res, entry_wanted, managed_for, items_of, after_request, rank_for, ManagerView}
 use Rattle.contention_mgr.specs.Loads.{RankedRow, loaded, IsLoadable}
+use Rattle.contention_mgr.specs.Laws.{UntoldOwn, untold_at, gains}
 
 -- a task of a system, by its place
 abbrev task : ℕ → ℕ → TaskId
@@ -198,3 +199,30 @@ none_of_others = refl
 
 any_is_untold : any_untold_in 0 (after no_elements later).items ≡ true
 any_is_untold = refl
+
+-- ---- each who is still to be told owns, and is of another system than the manager's
+untold_own : UntoldOwn 0 (after three (asks 0 0 (Deq pq false) ∷ []))
+untold_own = record { own = refl; elsewhere = refl }
+
+-- so not where it waits, nor where it is of the manager's own system
+refuses_waiter : UntoldOwn 0 (record { next = 4; items = kept pq 2 0 E 2 false ∷ kept pq 1 0 E 3 true ∷ [] }) → ⊥
+refuses_waiter h = let never = h.own in cc
+
+refuses_own_system : UntoldOwn 0 (record { next = 2; items = kept pq 0 0 E 1 true ∷ [] }) → ⊥
+refuses_own_system h = let never = h.elsewhere in cc
+
+-- two tasks own where one gave up control; that of another system gained by it, and is still to be told
+abbrev queued : Managed
+queued = after no_elements waiters
+
+abbrev freed : Managed
+freed = after queued (asks 1 0 (Release pq) ∷ [])
+
+abbrev gained : ℕ → ℕ → Bool
+gained s n = gains 0 (plain queued.items) (after_want (plain queued.items) (task 1 0) (Release pq)) (task 1 0) pq (task s n)
+
+gains_at_others : (gained 2 0 ≡ true) × (gained 0 0 ≡ false) × (gained 1 0 ≡ false) × (gained 1 1 ≡ false)
+gains_at_others = (refl, refl, refl, refl)
+
+untold_at_others : (untold_at freed.items pq (task 2 0) ≡ true) × (untold_at freed.items pq (task 0 0) ≡ false) × (untold_at freed.items pq (task 1 0) ≡ false) × (untold_at freed.items pq (task 1 1) ≡ false)
+untold_at_others = (refl, refl, refl, refl)

@@ -24,7 +24,7 @@ use Rattle.contention_mgr.specs.declared.marks.Mark.{Mark}
 use Rattle.contention_mgr.specs.declared.marks.Spot.{Spot}
 use Rattle.contention_mgr.proofs.ItemLemmas.{Marking, holds-list}
 
-by_cases : {P : Type 0} (b : Bool) → (b ≡ true → P) → (b ≡ false → P) → P
+pub by_cases : {P : Type 0} (b : Bool) → (b ≡ true → P) → (b ≡ false → P) → P
 by_cases true yes_it no_it = yes_it refl
 by_cases false yes_it no_it = no_it refl
 

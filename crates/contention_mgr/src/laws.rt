@@ -1,5 +1,5 @@
 //! Laws of what a manager keeps: each function's contract is one, and there is nothing to run.
-ghost use Rattle.contention_mgr.specs.Laws.{ListsFollow, TellingKeepsLists, RanksBegin, LoadedRanksRise, RanksRise, TellingKeepsRanks, FirstIsAny, FirstIsUntold, OthersStay};
+ghost use Rattle.contention_mgr.specs.Laws.{ListsFollow, TellingKeepsLists, RanksBegin, LoadedRanksRise, RanksRise, TellingKeepsRanks, FirstIsAny, FirstIsUntold, UntoldOwnBegins, LoadedUntoldOwn, UntoldStayOwners, TellingKeepsUntoldOwn, FirstUntoldOwns, UntoldFollow, GainersAreUntold, TellingTells, LoadedAreTold, OthersStay, WellKeptBegins, EntriesAreWellKept, RequestsKeepWell, TellingKeepsWell};
 
 /// The plain lists of an entry after a request are what the request makes of them.
 pub fn lists_follow()
@@ -41,7 +41,73 @@ pub fn first_is_untold()
     ensures { FirstIsUntold }
 {}
 
+/// Where nothing stands in the lists of an entry, nobody is still to be told.
+pub fn untold_own_begins()
+    ensures { UntoldOwnBegins }
+{}
+
+/// Where an entry is loaded, each who is still to be told owns, and is of another system: nobody is.
+pub fn loaded_untold_own()
+    ensures { LoadedUntoldOwn }
+{}
+
+/// Where each who is still to be told owns by the plain lists and is of another system, so it is behind each request.
+pub fn untold_stay_owners()
+    ensures { UntoldStayOwners }
+{}
+
+/// So it is once an owner was told.
+pub fn telling_keeps_untold_own()
+    ensures { TellingKeepsUntoldOwn }
+{}
+
+/// Then the owner to be told first owns by the plain lists.
+pub fn first_untold_owns()
+    ensures { FirstUntoldOwns }
+{}
+
+/// A request makes those who gain control by it at other systems still to be told, and leaves whether others are.
+pub fn untold_follow()
+    ensures { UntoldFollow }
+{}
+
+/// Who gains control at another system by another's request is still to be told.
+pub fn gainers_are_untold()
+    ensures { GainersAreUntold }
+{}
+
+/// Once an owner was told, it is no longer to be told, and all others are as they were.
+pub fn telling_tells()
+    ensures { TellingTells }
+{}
+
+/// Of an entry that is loaded nobody is still to be told.
+pub fn loaded_are_told()
+    ensures { LoadedAreTold }
+{}
+
 /// A request leaves what is kept of other entries than its own.
 pub fn others_stay()
     ensures { OthersStay }
+{}
+
+/// A manager that manages nothing keeps its entries well: ranks rise, and each who is still to be told owns and is of another
+/// system.
+pub fn well_kept_begins()
+    ensures { WellKeptBegins }
+{}
+
+/// So it does where an entry is begun, given up or loaded.
+pub fn entries_are_well_kept()
+    ensures { EntriesAreWellKept }
+{}
+
+/// So it does behind each request.
+pub fn requests_keep_well()
+    ensures { RequestsKeepWell }
+{}
+
+/// So it does once an owner was told.
+pub fn telling_keeps_well()
+    ensures { TellingKeepsWell }
 {}
