@@ -352,7 +352,7 @@ carry_out words store = (words, record { manages = store.manages; lists = deq_st
 followed : AreStores one_entry with_next (star_event_of_all (view one_entry behind_one) 1 carry_out)
 unfolding view
 followed = manager_follows one_entry (take 3 run) (view one_entry behind_one) 1 carry_out (at 3 (deq 1)) (record { task = task_of 1; want = wants.Deq file false }) file refl refl refl
-    (record { manager = refl; interested = refl; manages = refl; interest = refl; lists = refl }) stores_shown
+    (record { manager = refl; interested = refl; manages = refl; interest = refl; lists = λ r. refl }) stores_shown
 
 followed_by : list_of ((star_event_of_all (view one_entry behind_one) 1 carry_out).stores 1).lists file ≡ []
 unfolding view

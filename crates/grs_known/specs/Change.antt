@@ -161,14 +161,14 @@ pub record AreStores (slot : Res → ℕ) (T : List RunItem) (v : Changed) : Typ
   pub roles : (s e : ℕ) → v.live s ≡ true → (v.stores s).manages e ≡ is_manager s (v.words.manager e)
   pub interests : (s e : ℕ) → v.live s ≡ true → (v.stores s).interest e ≡ v.words.interested e s
 
--- An event of star mode carries a request out at its system, as far as lists and roles go: it does to the system's lists
--- what the request does, and leaves managers, interest and roles. What it takes from those held, or sends, is any.
+-- An event of star mode carries a request out at its system, as far as lists and roles go: each list of the system becomes
+-- what the request makes of it, and managers, interest and roles stay. What it takes from those held, or sends, is any.
 pub record CarriesOut (q : Req) (words after : StarWords) (store then : StarStore) : Type 0 where
   pub manager : after.manager ≡ words.manager
   pub interested : after.interested ≡ words.interested
   pub manages : then.manages ≡ store.manages
   pub interest : then.interest ≡ store.interest
-  pub lists : then.lists ≡ after_want store.lists q.task q.want
+  pub lists : (r : Res) → list_of then.lists r ≡ list_of (after_want store.lists q.task q.want) r
 
 -- the elements on resources of the whole complex
 abbrev pub systems_part : State → State

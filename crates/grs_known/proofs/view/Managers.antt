@@ -77,7 +77,7 @@ manager_follows slot T v m act x q r asked wants at c a =
     let manager : (e : ℕ) → (act v.words (v.stores m)).0.manager e ≡ v.words.manager e = λ e. ap (λ (f : ℕ → Option ℕ). f e) c.manager in
     record {
       managed = λ s p l wide e. put_one v.stores m s (act v.words (v.stores m)).1 (λ (z : StarStore). list_of z.lists p ≡ list_of (lists (T ++ x ∷ [])) p)
-          (λ same. ap (λ z. list_of z p) c.lists
+          (λ same. c.lists p
           ∙ same_behind r (λ z. after_want z q.task q.want) edits p (v.stores m).lists (lists T) (subst (λ u. list_of (v.stores u).lists p ≡ list_of (lists T) p) same (a.managed s p l wide (sym (manager (slot p)) ∙ e)))
           ∙ ap (λ z. list_of z p) (sym behind))
           (λ other. a.managed s p l wide (sym (manager (slot p)) ∙ e)
