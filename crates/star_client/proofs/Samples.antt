@@ -1,0 +1,139 @@
+-- What mail does to a task, on examples: each is what the rules of the service give by hand.
+use Rattle.std.proofs.Common.{◌≡◌, ◌+◌, ◌^◌, true, false, List, [], ◌∷◌, Option, Some, None, refl, codes}
+use Rattle.grs_base.specs.declared.decision.Code.TheVariants.{C00, C04, C08, C18, Wait, End}
+use Rattle.grs_base.specs.declared.look.Filter.TheVariants.{All}
+use Rattle.grs_base.specs.declared.resource.Ctl.TheVariants.{E}
+use Rattle.grs_base.specs.declared.resource.Res.{Res}
+use Rattle.grs_base.specs.declared.resource.Res.TheVariants.{Systems}
+use Rattle.grs_base.specs.declared.resource.Ret.TheVariants.{RetNone, RetUse, RetChng, RetEcb}
+use Rattle.grs_base.specs.declared.resource.TaskId.{TaskId}
+use Rattle.grs_wire.specs.declared.medium.Mail.TheVariants.{Request, Answered, Granted}
+use Rattle.grs_wire.specs.declared.request.Answer.TheVariants.{Coded, Rows}
+use Rattle.grs_wire.specs.declared.request.Want.{Want}
+use Rattle.grs_wire.specs.declared.request.Want.TheVariants.{Enq, Deq, Release, Look}
+use Rattle.grs_wire.specs.declared.told.ToldLine.TheVariants as told
+use Rattle.grs_wire.specs.declared.told.Verb.TheVariants as verbs
+use Rattle.star_client.specs.Client.{can_get, settled_ranked, after_mail}
+use Rattle.task_state.specs.Replies.{tell_code, record_enq, answered, replied, tell_line, tell_untold, tell_control, recalled, settled}
+use Rattle.task_state.specs.View.{TasksView, state_of, with_state, with_phase, with_outstanding, with_record, with_told, with_rank, telling}
+use Rattle.task_state.specs.declared.state.Asked.{Asked}
+use Rattle.task_state.specs.declared.state.Phase.{Phase}
+use Rattle.task_state.specs.declared.state.Phase.TheVariants as phases
+use Rattle.task_state.specs.declared.state.Rec.{Rec}
+
+-- ---- which answers a request can get
+abbrev res : Res
+res = Systems (codes "A") (codes "B")
+
+a_wait : can_get (Enq res E RetNone false) (Coded Wait) ≡ true
+a_wait = refl
+
+no_wait : can_get (Enq res E RetUse false) (Coded Wait) ≡ false
+no_wait = refl
+
+none_full : can_get (Enq res E RetNone true) (Coded C00) ≡ false
+none_full = refl
+
+full : can_get (Enq res E RetEcb true) (Coded C18) ≡ true
+full = refl
+
+too_many : (can_get (Enq res E RetNone true) (Coded (End 538)) ≡ true) × (can_get (Enq res E RetNone false) (Coded (End 538)) ≡ false)
+too_many = (refl, refl)
+
+no_such_end : can_get (Enq res E RetNone false) (Coded (End 530)) ≡ false
+no_such_end = refl
+
+changed : (can_get (Enq res E RetChng false) (Coded C04) ≡ true) × (can_get (Enq res E RetChng false) (Coded C18) ≡ false)
+changed = (refl, refl)
+
+given_up : (can_get (Deq res false) (Coded (End 130)) ≡ true) × (can_get (Deq res false) (Coded C08) ≡ false) × (can_get (Deq res true) (Coded C08) ≡ true)
+given_up = (refl, refl, refl)
+
+released : (can_get (Release res) (Coded C00) ≡ true) × (can_get (Release res) (Coded C04) ≡ false)
+released = (refl, refl)
+
+shown : (can_get (Look 0 4 All) (Rows []) ≡ true) × (can_get (Look 0 4 All) (Coded C00) ≡ false) × (can_get (Release res) (Rows []) ≡ false)
+shown = (refl, refl, refl)
+
+-- ---- one task of system 0, which has asked for (A,B) by its first line
+abbrev task : TaskId
+task = record { system = record { 0 = 0 }; job = 0; task = 0 }
+
+abbrev asks : Option Want → Option Asked
+asks None = None
+asks (Some w) = Some (record { req = record { task = task; want = w }; unit = None })
+
+abbrev having : List Rec → Phase → Option Want → TasksView
+having recs phase want = record { system = 0; tasks = record { line = 1; phase = phase; code = 0; records = recs; outstanding = asks want; rows = [] } ∷ []; told = [] }
+
+abbrev asking : Phase → TasksView
+asking phase = having [] phase (Some (Enq res E RetNone false))
+
+-- ---- answers
+-- the record gets the rank, and the task is told
+answer : after_mail (asking phases.Sent) (Answered task (Coded C00) 7)
+    ≡ record (having (record { res = res; ctl = E; rank = 7; told = true; unit = None; line = 1 } ∷ []) phases.Ready None) { told = told.Coded task 1 0 verbs.Enq C00 ∷ [] }
+unfolding state_of with_state with_phase with_outstanding with_record with_rank telling tell_code record_enq answered replied recalled settled settled_ranked after_mail
+answer = refl
+
+-- one that waits is told nothing yet
+waiting : after_mail (asking phases.Sent) (Answered task (Coded Wait) 7)
+    ≡ having (record { res = res; ctl = E; rank = 7; told = false; unit = None; line = 1 } ∷ []) phases.HeldAnswer None
+unfolding state_of with_state with_phase with_outstanding with_record with_rank telling tell_code record_enq answered replied recalled settled settled_ranked after_mail
+waiting = refl
+
+-- the last rank is one, and there is none behind it
+last_rank : after_mail (asking phases.Sent) (Answered task (Coded Wait) (2 ^ 57))
+    ≡ having (record { res = res; ctl = E; rank = 2 ^ 57; told = false; unit = None; line = 1 } ∷ []) phases.HeldAnswer None
+unfolding state_of with_state with_phase with_outstanding with_record with_rank telling tell_code record_enq answered replied recalled settled settled_ranked after_mail
+last_rank = refl
+
+past_the_last : after_mail (asking phases.Sent) (Answered task (Coded C00) (2 ^ 57 + 1)) ≡ asking phases.Sent
+unfolding state_of after_mail
+past_the_last = refl
+
+-- a task whose request wasn't sent awaits no answer
+not_sent : after_mail (asking phases.ToSend) (Answered task (Coded C00) 7) ≡ asking phases.ToSend
+unfolding state_of after_mail
+not_sent = refl
+
+-- nor one that the request can't get
+other_answer : after_mail (asking phases.Sent) (Answered task (Coded C04) 7) ≡ asking phases.Sent
+unfolding state_of after_mail
+other_answer = refl
+
+-- a task that isn't there
+no_task : after_mail (asking phases.Sent) (Answered (record { system = record { 0 = 0 }; job = 0; task = 1 }) (Coded C00) 7) ≡ asking phases.Sent
+unfolding state_of after_mail
+no_task = refl
+
+-- a request is nothing to the tasks
+request : after_mail (asking phases.Sent) (Request 4 (record { 0 = 1 }) (record { task = task; want = Release res })) ≡ asking phases.Sent
+unfolding after_mail
+request = refl
+
+-- ---- control
+abbrev untold : Rec
+untold = record { res = res; ctl = E; rank = 7; told = false; unit = None; line = 1 }
+
+abbrev told_rec : Rec
+told_rec = record { res = res; ctl = E; rank = 7; told = true; unit = None; line = 1 }
+
+-- a task that waits by its answer goes on
+granted : after_mail (having (untold ∷ []) phases.HeldAnswer None) (Granted task res) ≡ record (having (told_rec ∷ []) phases.Ready None) { told = told.Coded task 1 0 verbs.Enq C00 ∷ [] }
+unfolding state_of with_state with_phase with_told telling tell_line tell_untold tell_control after_mail
+granted = refl
+
+-- one that was told already, or has no record, is told nothing
+told_before : after_mail (having (told_rec ∷ []) phases.Ready None) (Granted task res) ≡ having (told_rec ∷ []) phases.Ready None
+unfolding state_of tell_untold tell_control after_mail
+told_before = refl
+
+no_record : after_mail (having [] phases.Ready None) (Granted task res) ≡ having [] phases.Ready None
+unfolding state_of tell_untold tell_control after_mail
+no_record = refl
+
+-- a task that is about to give the resource up isn't told either: its record counts as told
+leaving : after_mail (having (untold ∷ []) phases.Sent (Some (Deq res false))) (Granted task res) ≡ having (told_rec ∷ []) phases.Sent (Some (Deq res false))
+unfolding state_of with_state with_told tell_untold tell_control after_mail
+leaving = refl

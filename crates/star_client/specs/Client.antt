@@ -1,0 +1,107 @@
+-- What the mail of star mode does to the tasks of a system: the answer to a task's request, and control that a task got.
+use Rattle.std.specs.Prelude.{ℕ, ◌^◌, Bool, true, false, ◌&&◌, ◌==◌, nat_le, cond, map, List, [], ◌∷◌, Option, Some, None, is_none}
+use Rattle.std.specs.List.{list_any, flat_map}
+use Rattle.grs_base.specs.Lists.{enq_decision, deq_code}
+use Rattle.grs_base.specs.declared.decision.Code.{Code}
+use Rattle.grs_base.specs.declared.decision.Code.TheVariants.{C00, C04, C08, C14, C18, Wait, End}
+use Rattle.grs_base.specs.declared.decision.Standing.{Standing}
+use Rattle.grs_base.specs.declared.decision.Standing.TheVariants.{Exclusive, OnlyShared, AmongShared, Waits, Absent}
+use Rattle.grs_base.specs.declared.resource.Res.{Res}
+use Rattle.grs_base.specs.declared.resource.Ret.{Ret}
+use Rattle.grs_base.specs.declared.resource.TaskId.{TaskId}
+use Rattle.grs_wire.specs.Wants.{res_wanted}
+use Rattle.grs_wire.specs.declared.medium.Mail.{Mail}
+use Rattle.grs_wire.specs.declared.medium.Mail.TheVariants.{Request, Answered, Granted}
+use Rattle.grs_wire.specs.declared.request.Answer.{Answer}
+use Rattle.grs_wire.specs.declared.request.Answer.TheVariants.{Coded, Rows}
+use Rattle.grs_wire.specs.declared.request.Want.{Want}
+use Rattle.grs_wire.specs.declared.request.Want.TheVariants.{Enq, Deq, Release, Look}
+use Rattle.task_state.specs.declared.state.Asked.{Asked}
+use Rattle.task_state.specs.declared.state.Phase.{Phase}
+use Rattle.task_state.specs.declared.state.Phase.TheVariants.{Sent}
+use Rattle.task_state.specs.Replies.{settled, tell_control}
+use Rattle.task_state.specs.View.{TasksView, is_task, state_of, record_of, with_rank}
+
+-- ---- which answers a request can get
+
+abbrev pub standings : List Standing
+standings = Exclusive ∷ OnlyShared ∷ AmongShared ∷ Waits ∷ Absent ∷ []
+
+-- the codes that the tables of ENQ and DEQ have for a request, whatever stands in the list
+abbrev pub enq_codes : Ret → Bool → List Code
+enq_codes ret full = flat_map (λ s. (enq_decision s ret full true).code ∷ (enq_decision s ret full false).code ∷ []) standings
+
+abbrev pub deq_codes : Bool → List Code
+deq_codes have = map (λ s. deq_code s have) standings
+
+abbrev pub same_code : Code → Code → Bool
+same_code C00 C00 = true
+same_code C04 C04 = true
+same_code C08 C08 = true
+same_code C14 C14 = true
+same_code C18 C18 = true
+same_code Wait Wait = true
+same_code (End n) (End m) = n == m
+same_code c d = false
+
+abbrev pub is_code_of : List Code → Code → Bool
+is_code_of cs c = list_any (same_code c) cs
+
+-- whether a request can get this answer
+abbrev pub can_get : Want → Answer → Bool
+can_get (Enq r c ret full) (Coded code) = is_code_of (enq_codes ret full) code
+can_get (Deq r have) (Coded code) = is_code_of (deq_codes have) code
+can_get (Release r) (Coded code) = same_code code C00
+can_get (Look first count f) (Rows rows) = true
+can_get w a = false
+
+-- ---- an answer with a rank
+
+-- the resource of the record that an answer may make: that of which its task has none
+abbrev pub unrecorded : TasksView → TaskId → Option Res → Option Res
+unrecorded v t None = None
+unrecorded v t (Some r) = cond (is_none (record_of (state_of v t).records r)) (Some r) None
+
+abbrev pub with_rank_of : TasksView → TaskId → Option Res → ℕ → TasksView
+with_rank_of v t None rank = v
+with_rank_of v t (Some r) rank = with_rank v t r rank
+
+-- a task whose outstanding request was answered; a record that this makes has this rank
+unfoldable pub settled_ranked : TasksView → TaskId → Asked → Answer → ℕ → TasksView
+settled_ranked v t a answer rank = with_rank_of (settled v t a answer) t (unrecorded v t (res_wanted a.req.want)) rank
+
+-- the same where a task has one
+abbrev pub settled_any_ranked : TasksView → TaskId → Answer → ℕ → Option Asked → TasksView
+settled_any_ranked v t answer rank None = v
+settled_any_ranked v t answer rank (Some a) = settled_ranked v t a answer rank
+
+-- ---- mail
+
+-- the greatest rank that an element can have
+abbrev pub last_rank : ℕ
+last_rank = 2 ^ 57
+
+-- whether a task's request has been sent and isn't answered yet
+abbrev pub is_sent : Phase → Bool
+is_sent Sent = true
+is_sent _ = false
+
+-- whether an answer is one that the outstanding request of a task can get
+abbrev pub is_awaited : Answer → Option Asked → Bool
+is_awaited answer None = false
+is_awaited answer (Some a) = can_get a.req.want answer
+
+-- whether a task of this system has sent its request, and it isn't answered yet
+abbrev pub has_sent : TasksView → TaskId → Bool
+has_sent v t = is_task v t && is_sent (state_of v t).phase
+
+-- Whether the answer to a task's request has an effect: the task has sent one that can get this answer, and the rank is
+-- one that there can be.
+abbrev pub is_heard : TasksView → TaskId → Answer → ℕ → Bool
+is_heard v t answer rank = has_sent v t && (nat_le rank last_rank && is_awaited answer (state_of v t).outstanding)
+
+-- The tasks after a mail. A request is for their system as a manager, and nothing to them.
+unfoldable pub after_mail : TasksView → Mail → TasksView
+after_mail v (Request entry from q) = v
+after_mail v (Answered t answer rank) = cond (is_heard v t answer rank) (settled_any_ranked v t answer rank (state_of v t).outstanding) v
+after_mail v (Granted t r) = tell_control v r t

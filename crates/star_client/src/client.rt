@@ -1,0 +1,105 @@
+//! The tasks of a system after a mail, and after the system itself, as a manager, has answered one of them.
+ghost use Rattle.std.specs.Prelude.{◌≡◌, true, length, IfOk, OnOk};
+ghost use Rattle.std.specs.Option.{option_copied};
+ghost use Rattle.grs_wire.specs.Wants.{res_wanted};
+ghost use Rattle.star_client.specs.Client as client;
+ghost use Rattle.task_state.specs.View.{is_task, state_of};
+
+use super::answers::can_get;
+use grs_base::{NoMemory, Res, TaskId};
+use grs_wire::{Answer, Mail, Want};
+use std::alloc::Global;
+use task_state::{Asked, Phase, Tasks, settled, tell_new};
+
+/// The greatest rank that an element can have.
+const LAST_RANK: u64 = 1 << 57;
+
+/// The resource of a request, if it is for one and the task has no record of it.
+fn unrecorded(
+    alloc: Global,
+    tasks: &Tasks,
+    task: TaskId,
+    want: &Want,
+) -> Result<Option<Res>, NoMemory>
+    requires { is_task tasks.now task ≡ true }
+    ensures { IfOk result (λ res. res ≡ client.unrecorded tasks.now task (res_wanted want.now)) }
+{
+    match want {
+        Want::Enq { res, .. } | Want::Deq { res, .. } | Want::Release { res } => {
+            if tasks.record(task, res).is_none() {
+                Ok(Some(res.copy(alloc)?))
+            } else {
+                Ok(None)
+            }
+        }
+        Want::Look { .. } => Ok(None),
+    }
+}
+
+/// Answers the request of a task that isn't answered yet, if it has one; a record that this makes has this rank.
+#[tactic(auto, using(task_state::proofs::Keeps::keeps), unfolding(crate::specs::Client::settled_ranked, task_state::specs::Replies::settled_any))]
+pub fn settled_ranked(
+    alloc: Global,
+    tasks: &mut Tasks,
+    task: TaskId,
+    answer: &Answer,
+    rank: u64,
+) -> Result<(), NoMemory>
+    requires { is_task tasks.old task ≡ true }
+    ensures step { OnOk result (tasks.new ≡ client.settled_any_ranked tasks.old task answer.now rank (state_of tasks.old task).outstanding) }
+    ensures system { tasks.new.system ≡ tasks.old.system }
+    ensures count { length tasks.new.tasks ≡ length tasks.old.tasks }
+{
+    let Some(asked) = tasks.asked(task) else {
+        return Ok(());
+    };
+    let res = unrecorded(alloc, tasks, task, &asked.req.want)?;
+    settled(alloc, tasks, task, answer)?;
+    if let Some(res) = res {
+        tasks.set_rank(task, &res, rank);
+    }
+    Ok(())
+}
+
+/// Whether an answer is one that the outstanding request of a task can get.
+fn is_awaited(answer: &Answer, asked: Option<&Asked>) -> bool
+    ensures { result ≡ client.is_awaited answer.now (option_copied asked.entry) }
+{
+    match asked {
+        None => false,
+        Some(asked) => can_get(&asked.req.want, answer),
+    }
+}
+
+/// Whether the answer to a task's request has an effect: the task has sent one that can get this answer, and the rank is
+/// one that there can be.
+fn is_heard(tasks: &Tasks, task: TaskId, answer: &Answer, rank: u64) -> bool
+    ensures { result ≡ client.is_heard tasks.now task answer.now rank }
+{
+    tasks.has(task)
+        && matches!(tasks.phase(task), Phase::Sent)
+        && rank <= LAST_RANK
+        && is_awaited(answer, tasks.asked(task))
+}
+
+/// A mail reaches its task: the answer to a request that it has sent, or control that it got. What no task here awaits has
+/// no effect. A request is for the system as a manager, and nothing to its tasks. After NoMemory the system is to be given
+/// up.
+#[tactic(auto, using(task_state::proofs::Keeps::keeps), unfolding(crate::specs::Client::after_mail, task_state::specs::Replies::tell_new, task_state::specs::Replies::tell_all))]
+pub fn on_mail(alloc: Global, tasks: &mut Tasks, mail: Mail) -> Result<(), NoMemory>
+    ensures step { OnOk result (tasks.new ≡ client.after_mail tasks.old mail) }
+    ensures system { tasks.new.system ≡ tasks.old.system }
+    ensures count { length tasks.new.tasks ≡ length tasks.old.tasks }
+{
+    match mail {
+        Mail::Request { .. } => Ok(()),
+        Mail::Answered { task, answer, rank } => {
+            if is_heard(tasks, task, &answer, rank) {
+                settled_ranked(alloc, tasks, task, &answer, rank)
+            } else {
+                Ok(())
+            }
+        }
+        Mail::Granted { task, res } => tell_new(tasks, Some(&res), &[task]),
+    }
+}
