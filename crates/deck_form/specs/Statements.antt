@@ -1,5 +1,5 @@
 -- The statements of lines: each line is one, but that an RNLDEF before SCHEDULE may go over several.
-use Rattle.std.specs.Prelude.{Bool, true, false, List, [], ◌∷◌, codes, Option, Some, None, if◌then◌else◌}
+use Rattle.std.specs.Prelude.{Bool, true, false, List, [], ◌∷◌, codes, if◌then◌else◌}
 use Rattle.std.specs.Str.{bytes_eq}
 use Rattle.deck_scan.specs.declared.token.Token.{Token}
 use Rattle.deck_scan.specs.declared.token.Token.TheVariants.{Word}
@@ -26,12 +26,7 @@ statements (l ∷ ls) = statements_from l ls
 
 -- ---- as they are read one by one
 
--- The lines to come, where one may have been read ahead.
-abbrev pub line_first : Option TokenLine → List TokenLine → List TokenLine
-line_first None ls = ls
-line_first (Some l) ls = l ∷ ls
-
--- The statements to come of lines, of which one may have been read ahead, behind SCHEDULE or not.
-unfoldable pub still : Bool → Option TokenLine → List TokenLine → List TokenLine
-still true ahead ls = line_first ahead ls
-still false ahead ls = statements (line_first ahead ls)
+-- The statements to come of lines, behind SCHEDULE or not.
+unfoldable pub still : Bool → List TokenLine → List TokenLine
+still true ls = ls
+still false ls = statements ls

@@ -1,14 +1,13 @@
 //! Which lines make a statement. Each line is one, but that an RNLDEF may go over several.
-ghost use Rattle.std.specs.Prelude.{◌≡◌, ◌∷◌, false, IfOk};
+ghost use Rattle.std.specs.Prelude.{◌≡◌, IfOk};
 ghost use Rattle.deck_scan.specs.Rows.{Next};
-ghost use Rattle.deck_form.specs.Statements.{is_schedule, statements_from, statements, line_first, still};
+ghost use Rattle.deck_form.specs.Statements.{is_schedule, statements};
 
 use deck_scan::{Lines, Token, TokenLine};
 use grs_base::NoMemory;
-use rnl_syntax::{begins_rnldef, goes_on, with_line};
+use rnl_syntax::gather;
 use std::alloc::Global;
 use std::marker::Model;
-use std::mem;
 
 fn is_schedule(ts: &[Token<'_>]) -> bool
     ensures { result ≡ is_schedule ts.now }
@@ -19,49 +18,11 @@ fn is_schedule(ts: &[Token<'_>]) -> bool
     }
 }
 
-/// The first line to come: the one that was read ahead, or the next.
-fn first_line<'t>(
-    alloc: Global,
-    ahead: Option<TokenLine<'t>>,
-    lines: &mut Lines<'t>,
-) -> Result<Option<TokenLine<'t>>, NoMemory>
-    ensures { IfOk result (λ l. Next l (line_first ahead.entry lines.old) lines.new) }
-{
-    match ahead {
-        Some(line) => Ok(Some(line)),
-        None => lines.next(alloc),
-    }
-}
-
-/// The statement that begins with this line, and the line that was read behind it, if one was.
-fn gather<'t>(
-    alloc: Global,
-    first: TokenLine<'t>,
-    lines: &mut Lines<'t>,
-) -> Result<(TokenLine<'t>, Option<TokenLine<'t>>), NoMemory>
-    requires { is_schedule first.tokens ≡ false }
-    ensures { IfOk result (λ x. statements_from first.entry lines.old ≡ x.0 ∷ still false x.1 lines.new) }
-{
-    let mut statement = first;
-    while begins_rnldef(statement.tokens.as_slice()) {
-        let Some(line) = lines.next(alloc)? else {
-            return Ok((statement, None));
-        };
-        if !goes_on(&statement, &line) {
-            return Ok((statement, Some(line)));
-        }
-        statement = with_line(statement, line)?;
-    }
-    Ok((statement, None))
-}
-
 /// The statements of lines in order, each as one line with the number of its first. One is gathered when it is asked
 /// for. Contracts see those that are still to come.
 #[derive(Drop)]
 pub struct Statements<'t> {
     lines: Lines<'t>,
-    /// A line that was read behind the last statement.
-    ahead: Option<TokenLine<'t>>,
     /// Whether SCHEDULE was among the statements.
     scheduled: bool,
 }
@@ -73,7 +34,7 @@ impl<'t> Model for Statements<'t> {
 
     ghost Value = { List LineValue };
 
-    ghost view = { λ a. still a.scheduled a.ahead a.lines };
+    ghost view = { λ a. still a.scheduled a.lines };
 }
 
 impl<'t> Statements<'t> {
@@ -84,7 +45,6 @@ impl<'t> Statements<'t> {
     {
         Statements {
             lines,
-            ahead: None,
             scheduled: false,
         }
     }
@@ -93,8 +53,7 @@ impl<'t> Statements<'t> {
     pub fn next(&mut self, alloc: Global) -> Result<Option<TokenLine<'t>>, NoMemory>
         ensures { IfOk result (λ statement. Next statement self.old self.new) }
     {
-        let ahead = mem::replace(&mut self.ahead, None);
-        let Some(first) = first_line(alloc, ahead, &mut self.lines)? else {
+        let Some(first) = self.lines.next(alloc)? else {
             return Ok(None);
         };
         if self.scheduled {
@@ -104,8 +63,6 @@ impl<'t> Statements<'t> {
             self.scheduled = true;
             return Ok(Some(first));
         }
-        let (statement, ahead) = gather(alloc, first, &mut self.lines)?;
-        self.ahead = ahead;
-        Ok(Some(statement))
+        Ok(Some(gather(alloc, first, &mut self.lines)?))
     }
 }

@@ -69,7 +69,7 @@ module _ (ls : List TokenLine) where
 
 -- ---- nothing stands open
 
-read_said : (r : Scan) (text : List ℕ) → (ok : list_all is_in_comment (without_cr text) ≡ true) → at_end (scan_from (state InBlank [] r) text) ≡ (next_line (past_all (found_pieces (without_cr text) ok).0 (place_of r))).lines
+pub read_said : (r : Scan) (text : List ℕ) → (ok : list_all is_in_comment (without_cr text) ≡ true) → at_end (scan_from (state InBlank [] r) text) ≡ (next_line (past_all (found_pieces (without_cr text) ok).0 (place_of r))).lines
 read_said r text ok =
     let k = found_pieces (without_cr text) ok in
     ap at_end (cr_passed text (state InBlank [] r)) ∙ ap (λ (t : List ℕ). at_end (scan_from (state InBlank [] r) t)) k.1 ∙ all_run Blank k.0 r (blank_first (spelled k.0)) k.2
@@ -82,7 +82,7 @@ by_place r s text ok same = read_said r text ok ∙ ap (λ (p : Place). (next_li
 abbrev pub fresh : ℕ → ℕ → ℕ → List TokenLine → Scan
 fresh line begun high ls = record { line = line; begun = begun; high = high; mode = InBlank; part = []; tokens = []; near = false; joined = false; lines = ls }
 
-abbrev fresh_place : ℕ → List TokenLine → Place
+abbrev pub fresh_place : ℕ → List TokenLine → Place
 fresh_place line ls = record { line = line; tokens = []; near = false; joined = false; lines = ls }
 
 pub apart_ahead : (line begun high : ℕ) (ls : List TokenLine) (text : List ℕ) → list_all is_in_comment (without_cr text) ≡ true

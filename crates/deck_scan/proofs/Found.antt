@@ -9,7 +9,7 @@ use Rattle.deck_scan.specs.declared.token.Token.TheVariants.{Open, Close, Comma,
 use Rattle.deck_scan.specs.Bytes.{begins, is_word}
 use Rattle.deck_scan.specs.Pieces.{Piece, Plain, Quoted, Hexed, Sign, Blank, Comment, LineEnd, LoneSlash, StrayByte, OpenQuote, OpenHexed, OpenComment, sign, spelled, has_no_end, is_in_comment, is_between_quotes, is_sign, is_piece, followed_by, are_pieces}
 
-by_test : {A : Type 0} (x : Bool) → (x ≡ true → A) → (x ≡ false → A) → A
+pub by_test : {A : Type 0} (x : Bool) → (x ≡ true → A) → (x ≡ false → A) → A
 by_test true p q = p refl
 by_test false p q = q refl
 

@@ -15,3 +15,4 @@ pub mod Counted
 pub mod Ahead
 pub mod Rows
 pub mod Pieces
+pub mod FirstWord

@@ -13,6 +13,7 @@ use Rattle.deck_scan.specs.Bytes.{begins, is_word}
 use Rattle.deck_scan.specs.Pieces.{Piece, Plain, Quoted, Hexed, Sign, Blank, Comment, LoneSlash, StrayByte, OpenQuote, OpenHexed, spelling, has_no_end, is_in_comment, is_between_quotes, is_mark, is_nonempty, is_piece, may_follow, followed_by, hex_token, Place, over, apart, past}
 use Rattle.deck_scan.specs.Rows.{row_with, after_mark, is_single, starts, is_no_quote, is_doubled, closes_name, IsSplit, Unquotes, Takes, ClosesComment, place}
 use Rattle.deck_scan.proofs.Said.{not_true, test_not, word_10}
+use Rattle.deck_scan.proofs.Found.{by_test}
 
 -- ---- a text cut before the first byte of another kind
 
@@ -63,7 +64,7 @@ module _ (p : ℕ → Bool) where
 pub all_parts : (p : ℕ → Bool) (text front back : List ℕ) → text ≡ front ++ back → list_all p text ≡ true → (list_all p front ≡ true) × (list_all p back ≡ true)
 all_parts p text front back is h = and_parts (list_all p front) (list_all p back) (sym (list_all-append p front back) ∙ subst (λ (t : List ℕ). list_all p t ≡ true) is h)
 
-nil_of : {A : Type 0} (xs : List A) → length xs ≡ 0 → xs ≡ []
+pub nil_of : {A : Type 0} (xs : List A) → length xs ≡ 0 → xs ≡ []
 nil_of [] h = refl
 nil_of (x ∷ xs) h = absurd (omega (arith, h))
 
@@ -262,10 +263,6 @@ hexed_front text word [] s x q = absurd cc
 hexed_front text word (b ∷ bs) s x q = s.parts ∙ ap (λ (t : List ℕ). t ++ b ∷ bs) x ∙ ap (λ (c : ℕ). 88 ∷ c ∷ bs) (eqb-true b 39 q)
 
 -- ---- blanks, signs and slashes
-
-by_test : {A : Type 0} (x : Bool) → (x ≡ true → A) → (x ≡ false → A) → A
-by_test true p q = p refl
-by_test false p q = q refl
 
 -- a piece of one byte
 single : (piece : Piece) (n b : ℕ) (text tail : List ℕ) (old new after : Row) → eqb b n ≡ true → text ≡ b ∷ tail → is_piece piece ≡ true → spelling piece ≡ n ∷ []

@@ -48,7 +48,7 @@ pub readable_nil : readable [] ≡ []
 unfolding readable
 readable_nil = refl
 
-readable_ok : (text : List ℕ) → list_all is_in_comment (without_cr (readable text)) ≡ true
+pub readable_ok : (text : List ℕ) → list_all is_in_comment (without_cr (readable text)) ≡ true
 readable_ok text = allowed_holds (readable text) 1 (readable_allowed text 1)
 
 -- ---- along the pieces of a line
@@ -247,7 +247,7 @@ row_inside line begun text ok no_end = record {
         ∙ open_ends text (at_row line (Some begun)) line ok no_end
 
 -- behind the end of the comment all is as if none had stood open
-comment_done : (line begun : ℕ) (c rest : List ℕ) → list_all is_printable c ≡ true → has_no_end c ≡ true → to_come line (Some begun) (c ++ 42 ∷ 47 ∷ rest) ≡ to_come line None rest
+pub comment_done : (line begun : ℕ) (c rest : List ℕ) → list_all is_printable c ≡ true → has_no_end c ≡ true → to_come line (Some begun) (c ++ 42 ∷ 47 ∷ rest) ≡ to_come line None rest
 unfolding to_come
 comment_done line begun c rest ok no_end =
     let run = comment_run false c (42 ∷ 47 ∷ readable rest) (at_row line (Some begun)) (refl, no_end) (printable_inside c ok) in

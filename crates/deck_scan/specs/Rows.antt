@@ -3,13 +3,13 @@ use Rattle.std.specs.Prelude.{◌≡◌, ◌⊎◌, ℕ, Bool, true, false, not,
 use Rattle.std.specs.List.{list_all}
 use Rattle.grs_base.specs.Printed.{is_printable, quotes_doubled}
 use Rattle.deck_scan.specs.declared.token.Token.{Token}
-use Rattle.deck_scan.specs.declared.token.Token.TheVariants.{Open, Close, Comma, Equals, Stray}
+use Rattle.deck_scan.specs.declared.token.Token.TheVariants.{Word, Open, Close, Comma, Equals, Stray}
 use Rattle.deck_scan.specs.declared.token.TokenLine.{TokenLine}
 use Rattle.deck_scan.specs.declared.scan.Scan.{Scan}
 use Rattle.deck_scan.specs.declared.scan.Mode.TheVariants.{InBlank, InComment}
 use Rattle.deck_scan.specs.declared.row.Row.{Row}
 use Rattle.deck_scan.specs.declared.cursor.Cursor.{Cursor}
-use Rattle.deck_scan.specs.Bytes.{begins}
+use Rattle.deck_scan.specs.Bytes.{begins, is_allowed}
 use Rattle.deck_scan.specs.AnyBytes.{readable}
 use Rattle.deck_scan.specs.Pieces.{Piece, spelling, has_no_end, is_piece, may_follow, followed_by, lines_with, Place, past}
 use Rattle.deck_scan.specs.Scan.{end_line, scan_from, finish_in}
@@ -37,6 +37,20 @@ coming c = to_come c.line c.begun c.rest.now
 abbrev pub Next : Option TokenLine → List TokenLine → List TokenLine → Type 0
 Next (Some l) before after = before ≡ l ∷ after
 Next None before after = (before ≡ []) × (after ≡ [])
+
+-- The word that a token is, if it is one.
+abbrev pub word_in : Token → Option (List ℕ)
+word_in (Word w) = Some w
+word_in _ = None
+
+abbrev pub front_word : List Token → Option (List ℕ)
+front_word [] = None
+front_word (t ∷ ts) = word_in t
+
+-- The word with which lines begin, if they begin with one.
+abbrev pub first_word : List TokenLine → Option (List ℕ)
+first_word [] = None
+first_word (l ∷ ls) = front_word l.tokens
 
 -- ---- what is read of one line
 
@@ -134,3 +148,25 @@ EndsLine text rest = (text ≡ 10 ∷ rest) ⊎ (text ≡ 13 ∷ 10 ∷ rest)
 abbrev pub begins_end : List ℕ → Bool
 begins_end [] = false
 begins_end (b ∷ bs) = b == 10 || (b == 13 && begins 10 bs)
+
+-- ---- what stands between tokens
+
+-- A blank, the end of a line or the begin of a comment stands here.
+abbrev pub begins_gap : List ℕ → Bool
+begins_gap [] = false
+begins_gap (b ∷ bs) = b == 32 || (b == 10 || ((b == 13 && begins 10 bs) || (b == 47 && begins 42 bs)))
+
+-- Nothing stands here, or a byte that a deck may not have.
+abbrev pub ends_text : List ℕ → Bool
+ends_text [] = true
+ends_text (b ∷ bs) = not (is_allowed b bs)
+
+-- Where no comment stands open, no gap stands here; where one does, the text ends in it.
+abbrev pub is_at_token : Option ℕ → List ℕ → Bool
+is_at_token None text = not (begins_gap text)
+is_at_token (Some begun) text = ends_text text
+
+-- A part of a gap was gone over: the same lines are to come.
+pub record GoesOver (from to : Cursor) : Type 0 where
+  pub same : coming to ≡ coming from
+  pub shorter : length to.rest.now < length from.rest.now

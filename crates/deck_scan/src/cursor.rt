@@ -1,5 +1,6 @@
 //! Goes through a text line by line. A line is read when it is asked for, and nothing behind it is looked at; only for
-//! bytes that no deck may have is the whole text gone over first.
+//! bytes that no deck may have is the whole text gone over first. With which word the next line begins can be asked
+//! without reading it.
 ghost use Rattle.std.specs.Prelude.{◌≡◌, ◌<◌, ◌+◌, ◌^◌, ◌++◌, ℕ, [], length, true, false, OnErr, IfOk, IfSome, IfNone};
 ghost use Rattle.std.specs.List.{list_all};
 ghost use Rattle.grs_base.specs.Printed.{is_printable};
@@ -8,9 +9,10 @@ ghost use Rattle.deck_scan.specs.Pieces.{SpellsLines};
 ghost use Rattle.deck_scan.specs.Scan.{lines_of};
 ghost use Rattle.deck_scan.specs.Gives.{Gives};
 ghost use Rattle.deck_scan.specs.Reading.{lines_or_fault, Answers};
-ghost use Rattle.deck_scan.specs.Rows.{EndsLine, begins_end, starts, IsRow, IsLast, Passes, Next, to_come};
+ghost use Rattle.deck_scan.specs.Rows.{EndsLine, begins_end, starts, IsRow, IsLast, Passes, Next, to_come, first_word};
 
 use crate::bytes::{bad_line, begins, split_printable};
+use crate::gaps::{next_token, word_at_front};
 use crate::miss::refused;
 use crate::row::{Row, read_row};
 use crate::token::{Part, Token, TokenLine};
@@ -254,5 +256,19 @@ impl<'t> Lines<'t> {
         at.begun = None;
         self.at = at;
         Ok(last)
+    }
+
+    /// The word with which the next line begins; none where it begins with another token, or no line is to come.
+    /// Nothing is taken, and no byte behind that word is looked at but the one that ends it. Of
+    /// ` /* local */ RNLDEF RNL(CON)` it is `RNLDEF`, at the time of 19 bytes.
+    ///
+    /// It is `NoMemory` where 4,294,967,293 lines or more stand before.
+    pub fn next_word(&mut self) -> Result<Option<Part<'t>>, NoMemory>
+        ensures word { IfOk result (λ word. word ≡ first_word self.old) }
+        ensures same { self.new ≡ self.old }
+    {
+        let at = next_token(self.at)?;
+        self.at = at;
+        Ok(word_at_front(at))
     }
 }

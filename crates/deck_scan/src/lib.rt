@@ -6,6 +6,7 @@
 mod bytes;
 mod closes;
 mod cursor;
+mod gaps;
 mod given;
 mod laws;
 mod lengths;

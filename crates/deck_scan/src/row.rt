@@ -56,7 +56,7 @@ fn is_single(b: u8) -> bool
 }
 
 /// Whether this word and what stands behind it are X and a quote.
-fn begins_hexed(word: &[u8], behind: &[u8]) -> bool
+pub(crate) fn begins_hexed(word: &[u8], behind: &[u8]) -> bool
     ensures { result ≡ (bytes_eq word.now (88 ∷ []) && begins 39 behind.now) }
 {
     word == b"X".as_slice() && begins(b'\'', behind)

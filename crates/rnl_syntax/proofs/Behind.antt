@@ -4,8 +4,7 @@ use Rattle.deck_scan.specs.declared.token.Token.{Token}
 use Rattle.deck_scan.specs.declared.token.Token.TheVariants.{Word, Name, Open, Close, Comma, Equals, Stray, Unclosed}
 use Rattle.deck_scan.specs.declared.token.TokenLine.{TokenLine}
 use Rattle.deck_scan.specs.Pieces.{Piece, Plain, Quoted, Hexed, Sign, Blank, Comment, LineEnd, LoneSlash, StrayByte, OpenQuote, OpenHexed, OpenComment, hex_token, Place, with_token, apart, next_line, over, over_open, past, past_all, first_place, lines_said}
-use Rattle.rnl_syntax.specs.Lines.{begins_operand}
-use Rattle.rnl_syntax.specs.Laws.{begins_operands}
+use Rattle.rnl_syntax.specs.Lines.{begins_operand, begins_operands}
 
 -- the tokens of each line
 abbrev rows : List TokenLine → List (List Token)

@@ -16,10 +16,9 @@ use Rattle.deck_scan.proofs.Said.{at_end}
 use Rattle.deck_scan.proofs.Counted.{closes-append, count, count-put, count-put_word, text_closes, scan-append, begin_close, word_not, hex_not}
 use Rattle.rnl_syntax.specs.declared.operands.Operands.{Operands}
 use Rattle.rnl_syntax.specs.declared.operands.Rnldef.{Rnldef}
-use Rattle.rnl_syntax.specs.Lines.{goes_on, with_line}
+use Rattle.rnl_syntax.specs.Lines.{goes_on, with_line, first_from}
 use Rattle.rnl_syntax.specs.Operands.{no_operands}
 use Rattle.rnl_syntax.specs.Spelled.{Operand, WithRnl, WithType, WithQname, WithRname, operand, IsFree, set, IsRnldef}
-use Rattle.rnl_syntax.specs.Reading.{first_from}
 use Rattle.rnl_syntax.proofs.Closed.{is_close, line_closes, last_closes-append, line_closes-snoc}
 
 -- ---- the last parenthesis

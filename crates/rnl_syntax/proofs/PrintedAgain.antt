@@ -31,11 +31,11 @@ use Rattle.rnl_syntax.proofs.Readable.{printable_read, end_read}
 use Rattle.deck_scan.proofs.Names.{piece-spelling, piece-is, printed-printable, qname_nonempty, rname_nonempty}
 use Rattle.deck_scan.proofs.Print.{printable-before, printable-kept, piece_on, name_followed, name_past, name_names}
 use Rattle.rnl_syntax.specs.declared.operands.Rnldef.{Rnldef}
-use Rattle.rnl_syntax.specs.Lines.{is_open}
+use Rattle.rnl_syntax.specs.Lines.{is_open, first_from, begins_operands}
 use Rattle.rnl_syntax.specs.Spelled.{which_word, form_word, WithRnl, WithType, WithQname, WithRname, IsRnldef}
 use Rattle.rnl_syntax.specs.Printed.{printed_rname, printed_rnldef}
-use Rattle.rnl_syntax.specs.Reading.{first_from, MakesEntry, ends_closed, SpellsEntry}
-use Rattle.rnl_syntax.specs.Laws.{begins_operands, IsLineEnd, IsNextLine, MayFollow}
+use Rattle.rnl_syntax.specs.Reading.{MakesEntry, ends_closed, SpellsEntry}
+use Rattle.rnl_syntax.specs.Laws.{IsLineEnd, IsNextLine, MayFollow}
 use Rattle.rnl_syntax.proofs.Behind.{lines_behind}
 
 -- ---- the pieces of a printed entry

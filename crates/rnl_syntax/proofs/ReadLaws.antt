@@ -23,10 +23,10 @@ use Rattle.deck_scan.proofs.Taking.{same_bytes}
 use Rattle.deck_scan.proofs.Texts.{bind_ok}
 use Rattle.rnl_syntax.specs.declared.operands.Operands.{Operands}
 use Rattle.rnl_syntax.specs.declared.operands.Rnldef.{Rnldef}
-use Rattle.rnl_syntax.specs.Lines.{goes_on, with_line, is_rnldef_word}
+use Rattle.rnl_syntax.specs.Lines.{goes_on, with_line, is_rnldef_word, first_from}
 use Rattle.rnl_syntax.specs.Operands.{no_operands, rnldef_at, has_bad_name, entry_of}
 use Rattle.rnl_syntax.specs.Spelled.{Operand, WithRnl, WithType, WithQname, WithRname, operand, IsFree, set, IsRnldef}
-use Rattle.rnl_syntax.specs.Reading.{first_from, first_statement, by_word, by_first, rnldef_on, sized, entry_on, reading, MakesEntry, SpellsEntry, IsStatement, Found}
+use Rattle.rnl_syntax.specs.Reading.{first_statement, by_word, by_first, rnldef_on, sized, entry_on, reading, MakesEntry, SpellsEntry, IsStatement, Found}
 use Rattle.rnl_syntax.proofs.Taken.{rnldef_taken}
 use Rattle.rnl_syntax.proofs.Again.{rnldef_again}
 use Rattle.rnl_syntax.proofs.Closed.{is_close, last_closes, line_closes, last_closes-append}

@@ -8,13 +8,14 @@ use Rattle.grs_base.specs.declared.rnl.RnlEntry.{RnlEntry}
 use Rattle.grs_base.specs.declared.rnl.Which.TheVariants.{Incl, Excl, Con}
 use Rattle.grs_base.specs.declared.rnl.Form.TheVariants.{Specific, Generic, Pattern}
 use Rattle.deck_scan.specs.declared.token.Token.TheVariants.{Word, Name, Open, Close}
+use Rattle.rnl_syntax.specs.Lines.{first_from}
 use Rattle.rnl_syntax.specs.Operands.{which_of, form_of, value_of, operand_at, whole, rnldef_at}
 use Rattle.deck_scan.specs.Bytes.{is_word, is_hex, digit, is_allowed, bad_line}
 use Rattle.deck_scan.specs.Scan.{put, put_word, put_open, end_line, break_off, begin_word, begin, step_in, step, scan_from, finish_in, lines_of}
 use Rattle.deck_scan.specs.AnyBytes.{readable}
 use Rattle.deck_scan.specs.Closes.{all_closes}
 use Rattle.rnl_syntax.specs.Printed.{printed_rnldef}
-use Rattle.rnl_syntax.specs.Reading.{first_from, rnldef_on, reading}
+use Rattle.rnl_syntax.specs.Reading.{rnldef_on, reading}
 
 -- an entry of each form, with and without an rname
 printed_entries :

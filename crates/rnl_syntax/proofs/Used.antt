@@ -14,7 +14,8 @@ use Rattle.deck_scan.specs.Pieces.{SpellsLines}
 use Rattle.deck_scan.proofs.AnyLemmas.{readable_all}
 use Rattle.rnl_syntax.proofs.Readable.{closed_allowed}
 use Rattle.deck_scan.proofs.Pieced.{spelled_is}
-use Rattle.rnl_syntax.specs.Reading.{first_from, first_statement, MakesEntry, reading, ends_closed, operand_count, SpellsEntry}
+use Rattle.rnl_syntax.specs.Lines.{first_from}
+use Rattle.rnl_syntax.specs.Reading.{first_statement, MakesEntry, reading, ends_closed, operand_count, SpellsEntry}
 use Rattle.rnl_syntax.specs.Laws.{AreStatement}
 use Rattle.rnl_syntax.proofs.Closed.{ends_closed-snoc, line_closes}
 use Rattle.rnl_syntax.proofs.ReadLaws.{MadeFront, makes_front, reading_makes, same_used}

@@ -1,16 +1,11 @@
 -- What may follow the printed form of an entry so that it is read again, and which bytes are its statement alone.
-use Rattle.std.specs.Prelude.{◌≡◌, ℕ, Bool, true, false, ◌⊎◌, List, [], ◌∷◌, ◌++◌, Some, take}
+use Rattle.std.specs.Prelude.{◌≡◌, ℕ, true, false, ◌⊎◌, List, [], ◌∷◌, ◌++◌, Some, take}
 use Rattle.std.specs.List.{flat_map}
 use Rattle.deck_scan.specs.declared.token.TokenLine.{TokenLine}
 use Rattle.deck_scan.specs.AnyBytes.{readable}
 use Rattle.deck_scan.specs.Pieces.{SpellsLines}
-use Rattle.rnl_syntax.specs.Lines.{begins_operand}
+use Rattle.rnl_syntax.specs.Lines.{begins_operands}
 use Rattle.rnl_syntax.specs.Reading.{first_statement, ends_closed}
-
--- The first token of a text with these lines is RNL, TYPE, QNAME or RNAME.
-abbrev pub begins_operands : List TokenLine → Bool
-begins_operands [] = false
-begins_operands (l ∷ ls) = begins_operand l.tokens
 
 -- LF, or CR and LF.
 abbrev pub IsLineEnd : List ℕ → Type 0

@@ -16,16 +16,11 @@ use Rattle.deck_scan.specs.Pieces.{SpellsLines}
 use Rattle.deck_scan.specs.AnyBytes.{readable}
 use Rattle.deck_scan.specs.Scan.{lines_of}
 use Rattle.rnl_syntax.specs.declared.operands.Rnldef.{Rnldef}
-use Rattle.rnl_syntax.specs.Lines.{is_rnldef_word, goes_on, with_line}
+use Rattle.rnl_syntax.specs.Lines.{is_rnldef_word, first_from}
 use Rattle.rnl_syntax.specs.Operands.{rnldef_at, has_bad_name, entry_of}
 use Rattle.rnl_syntax.specs.Spelled.{IsRnldef}
 
 -- ---- the first statement
-
--- The first statement of lines, where it is so far this one.
-unfoldable pub first_from : TokenLine → List TokenLine → TokenLine
-first_from s [] = s
-first_from s (l ∷ ls) = if goes_on s l then first_from (with_line s l) ls else s
 
 -- The first statement of lines: the first line, with those that an RNLDEF goes on over.
 abbrev pub first_statement : List TokenLine → Option TokenLine

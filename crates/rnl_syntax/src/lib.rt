@@ -9,7 +9,7 @@ mod print;
 mod read;
 
 pub use laws::{one_entry, printed_entries, spelled_tokens, used_bytes};
-pub use lines::{begins_rnldef, goes_on, is_rnldef_word, with_line};
+pub use lines::{gather, is_rnldef_word};
 pub use operands::{Operands, Rnldef, entry_of, has_bad_name, rnldef_at};
 pub use print::print_rnldef;
 pub use read::read_rnldef;

@@ -2,35 +2,13 @@
 ghost use Rattle.std.specs.Prelude.{◌≡◌, Ok, IfOk, ℕ};
 ghost use Rattle.grs_base.specs.declared.rnl.RnlEntry.{RnlEntry as EntryValue};
 ghost use Rattle.deck_scan.specs.Gives.{Gives, IsOkUnlessMemory};
-ghost use Rattle.rnl_syntax.specs.Reading.{first_from, first_statement, by_word, rnldef_on, sized, entry_on, reading, operand_count, SpellsEntry, Answers, Found};
+ghost use Rattle.rnl_syntax.specs.Reading.{first_statement, by_word, rnldef_on, sized, entry_on, reading, operand_count, SpellsEntry, Answers, Found};
 
-use crate::lines::{begins_rnldef, goes_on, is_rnldef_word, with_line};
+use crate::lines::{gather, is_rnldef_word};
 use crate::operands::{Rnldef, entry_of, has_bad_name, rnldef_at};
 use deck_scan::{Lines, Token, TokenLine, bytes_to_close, or_bad, refused};
 use grs_base::{Kind, NoMemory, ReadError, RnlEntry};
 use std::alloc::Global;
-
-/// The statement that begins with a line, with those that it goes on over. Of what stands behind it at most the next
-/// line is read.
-fn gather<'t>(
-    alloc: Global,
-    first: TokenLine<'t>,
-    lines: &mut Lines<'t>,
-) -> Result<TokenLine<'t>, NoMemory>
-    ensures { IfOk result (λ s. s ≡ first_from first.entry lines.old) }
-{
-    let mut statement = first;
-    while begins_rnldef(statement.tokens.as_slice()) {
-        let Some(line) = lines.next(alloc)? else {
-            return Ok(statement);
-        };
-        if !goes_on(&statement, &line) {
-            return Ok(statement);
-        }
-        statement = with_line(statement, line)?;
-    }
-    Ok(statement)
-}
 
 /// The first statement of lines.
 fn first_statement<'t>(
@@ -130,9 +108,9 @@ fn read_front(alloc: Global, text: &[u8]) -> Result<(RnlEntry, usize), ReadError
 }
 
 /// The entry that the RNLDEF at the front of a text makes, and how many bytes it uses: up to the closing
-/// parenthesis of its last operand. The statement goes on over lines as in a deck; of what follows it one line
-/// is read at most, and its first token alone decides anything, so a caller reads the next statement from there
-/// on. Of
+/// parenthesis of its last operand. The statement goes on over lines as in a deck; of what follows it no more
+/// than the first token is looked at, which decides whether it goes on. So a caller reads the next statement from
+/// there on, and statement after statement costs no more than the text. Of
 ///
 ///     RNLDEF TYPE(GENERIC) QNAME(SYSDSN)
 ///            RNL(EXCL)
