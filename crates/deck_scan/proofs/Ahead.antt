@@ -4,10 +4,8 @@ use Rattle.std.specs.List.{list_all}
 use Rattle.deck_scan.specs.declared.token.Token.{Token}
 use Rattle.deck_scan.specs.declared.token.Token.TheVariants.{Open, Unclosed}
 use Rattle.deck_scan.specs.declared.token.TokenLine.{TokenLine}
-use Rattle.deck_scan.specs.declared.scan.Scan.{Scan}
-use Rattle.deck_scan.specs.declared.scan.Mode.TheVariants.{InBlank, InComment}
 use Rattle.deck_scan.specs.Pieces.{Piece, Plain, Quoted, Hexed, Sign, Blank, Comment, LineEnd, LoneSlash, StrayByte, OpenQuote, OpenHexed, OpenComment, spelled, is_in_comment, are_pieces, lines_with, Place, with_token, with_sign, apart, next_line, over, past, past_all, without_cr}
-use Rattle.deck_scan.specs.Scan.{scan_from}
+use Rattle.deck_scan.specs.Scan.{Scan, InBlank, InComment, scan_from}
 use Rattle.deck_scan.specs.Rows.{at_row}
 use Rattle.deck_scan.proofs.Said.{state, place_of, at_end, star_after, comment_run, comment_close, ends_there, unclosed, over_from, all_run}
 use Rattle.deck_scan.proofs.Found.{found_pieces, Comments, found_comment}

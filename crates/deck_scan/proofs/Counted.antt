@@ -7,13 +7,10 @@ use Rattle.std.proofs.lemmas.List.{take-append-le, take-append-drop}
 use Rattle.deck_scan.specs.declared.token.Token.{Token}
 use Rattle.deck_scan.specs.declared.token.Token.TheVariants.{Word, Name, Open, Close, Comma, Equals, Stray, Unclosed}
 use Rattle.deck_scan.specs.declared.token.TokenLine.{TokenLine}
-use Rattle.deck_scan.specs.declared.scan.Scan.{Scan}
-use Rattle.deck_scan.specs.declared.scan.Mode.{Mode}
-use Rattle.deck_scan.specs.declared.scan.Mode.TheVariants.{InBlank, AfterSlash, InWord, InQuote, AfterQuote, InHex, InHexLow, InBadHex, InComment, AfterStar}
 use Rattle.deck_scan.specs.Bytes.{is_word, is_hex}
 use Rattle.deck_scan.specs.Pieces.{lines_with}
-use Rattle.deck_scan.specs.Scan.{put, put_word, put_open, end_line, break_off, begin_word, begin, step_in, step, scan_from, finish_in, start, lines_of}
-use Rattle.deck_scan.specs.Closes.{closes, all_closes, weight, is_blank, is_closing, HaveCloses}
+use Rattle.deck_scan.specs.Scan.{Scan, Mode, InBlank, AfterSlash, InWord, InQuote, AfterQuote, InHex, InHexLow, InBadHex, InComment, AfterStar, put, put_word, put_open, end_line, break_off, begin_word, begin, step_in, step, scan_from, finish_in, start, lines_of}
+use Rattle.deck_scan.specs.Closes.{closes, all_closes, weight}
 
 -- ---- how many closing parentheses tokens and lines have
 
@@ -170,9 +167,15 @@ begin_mode : (s : Scan) → (begin s 41).mode ≡ InBlank
 unfolding begin put
 begin_mode s = refl
 
+-- no token stands open
+abbrev pub is_quiet : Mode → Bool
+is_quiet InBlank = true
+is_quiet AfterQuote = true
+is_quiet _ = false
+
 -- so many as the mode behind it says
-abbrev Closed : Scan → Scan → Type 0
-Closed s x = count x ≡ cond (is_blank x.mode) (suc (count s)) (count s)
+abbrev pub Closed : Scan → Scan → Type 0
+Closed s x = count x ≡ cond (is_quiet x.mode) (suc (count s)) (count s)
 
 begun_close : (s r : Scan) → count r ≡ count s → Closed s (begin r 41)
 begun_close s r e = rw (begin_mode r) (begin_close r ∙ ap suc e)
@@ -237,99 +240,17 @@ module _ (s : Scan) (b : ℕ) (other : eqb b 41 ≡ false) where
   in-same InComment = either (eqb b 42) _ _ refl (either (eqb b 10) _ _ (end_line-same s refl) refl)
   in-same AfterStar = either (eqb b 47) _ _ refl (either (eqb b 42) _ _ refl (either (eqb b 10) _ _ (end_line-same (record s { mode = InComment }) refl) refl))
 
-another : (s : Scan) (b : ℕ) → eqb b 41 ≡ false → count (step s b) ≡ count s
+pub another : (s : Scan) (b : ℕ) → eqb b 41 ≡ false → count (step s b) ≡ count s
 unfolding step
 another s b other = either s b other (eqb b 13) _ _ refl (in-same s b other s.mode)
 
-closing : (s : Scan) → Closed s (step s 41)
+pub closing : (s : Scan) → Closed s (step s 41)
 unfolding step
 closing s = in_closed s.mode s refl
 
--- A byte takes one where it is a closing parenthesis and nothing stands open behind it, else none.
-pub step-closes : (s : Scan) (b : ℕ) → count (step s b) ≡ cond (is_closing b (step s b).mode) (suc (count s)) (count s)
-step-closes s b = go (eqb b 41) refl
-  where
-    go : (x : Bool) → eqb b 41 ≡ x → count (step s b) ≡ cond (x && is_blank (step s b).mode) (suc (count s)) (count s)
-    go true e = let is : b ≡ 41 = eqb-true b 41 e in rw is (closing s)
-    go false e = another s b e
-
--- ---- the bytes up to a closing parenthesis
-
-ne_pos : (n : ℕ) → (n ≡ 0 → ⊥) → 0 < n
-ne_pos zero h = absurd (h refl)
-ne_pos (suc n) h = omega arith
-
--- Some bytes of a text are scanned, and so many closing parentheses are left of those sought.
-pub record Sought (text : List ℕ) (n : ℕ) (scan : Scan) (left : ℕ) (rest : List ℕ) : Type 0 where
-  pub front : List ℕ
-  pub parts : text ≡ front ++ rest
-  pub scanned : scan ≡ scan_from start front
-  pub sum : left + count scan ≡ n
-  pub fewest : (k : ℕ) → k < length front → all_closes (lines_of (take k front)) < n
-
-pub sought_none : (text : List ℕ) (n : ℕ) → Sought text n start n text
-unfolding scan_from
-sought_none text n = record { front = []; parts = refl; scanned = refl; sum = omega arith; fewest = λ k lt. absurd (omega (arith, lt)) }
-
--- a front has no more
+-- the first bytes have no more
 pub few_closes : (text : List ℕ) (k : ℕ) → all_closes (lines_of (take k text)) ≤ all_closes (lines_of text)
 few_closes text k =
     let h = front_closes (take k text) (drop k text) in
     let e : all_closes (lines_of (take k text ++ drop k text)) ≡ all_closes (lines_of text) = ap (λ (t : List ℕ). all_closes (lines_of t)) (take-append-drop k text) in
     omega (arith, h, e)
-
-pub sought_more : (text : List ℕ) (n : ℕ) (scan new : Scan) (left : ℕ) (rest : List ℕ) (b : ℕ) (tail : List ℕ) (closes : Bool) → rest ≡ b ∷ tail → new ≡ step scan b → (left ≡ 0 → ⊥)
-    → is_closing b new.mode ≡ closes → Sought text n scan left rest → Sought text n new (cond closes (left - 1) left) tail
-unfolding scan_from
-sought_more text n scan new left rest b tail closes is made more counts h = record {
-  front = h.front ++ b ∷ [];
-  parts = h.parts ∙ ap (λ (t : List ℕ). h.front ++ t) is ∙ sym (append_assoc h.front (b ∷ []) tail);
-  scanned = made ∙ ap (λ (s : Scan). step s b) h.scanned ∙ sym (scan-append start h.front (b ∷ []));
-  sum = total closes (ap count made ∙ step-closes scan b ∙ ap (λ (s : Scan). cond (is_closing b s.mode) (suc (count scan)) (count scan)) (sym made) ∙ ap (λ (c : Bool). cond c (suc (count scan)) (count scan)) counts);
-  fewest = λ k lt. shorter k (omega (arith, lt, length-append h.front (b ∷ [])));
-}
-  where
-    some : 0 < left
-    some = ne_pos left more
-
-    total : (c : Bool) → count new ≡ cond c (suc (count scan)) (count scan) → cond c (left - 1) left + count new ≡ n
-    total true q = let s = h.sum in omega (arith, q, s, some)
-    total false q = let s = h.sum in omega (arith, q, s)
-
-    shorter : (k : ℕ) → k ≤ length h.front → all_closes (lines_of (take k (h.front ++ b ∷ []))) < n
-    shorter k within =
-        let cut : all_closes (lines_of (take k (h.front ++ b ∷ []))) ≡ all_closes (lines_of (take k h.front)) = ap (λ (t : List ℕ). all_closes (lines_of t)) (take-append-le k h.front (b ∷ []) within) in
-        let few = few_closes h.front k in
-        let all = text_closes h.front in
-        let so_far : count scan ≡ count (scan_from start h.front) = ap count h.scanned in
-        let s = h.sum in
-        omega (arith, cut, few, all, so_far, s, some)
-
--- they are found before the text ends
-pub sought_all : (text : List ℕ) (n : ℕ) (scan : Scan) (left : ℕ) (rest : List ℕ) → length rest ≡ 0 → n ≤ all_closes (lines_of text) → (left ≡ 0 → ⊥) → Sought text n scan left rest → ⊥
-sought_all text n scan left (b ∷ bs) none enough more h = absurd (omega (arith, none))
-sought_all text n scan left [] none enough more h =
-    let some : 0 < left = ne_pos left more in
-    let whole : all_closes (lines_of text) ≡ all_closes (lines_of h.front) = ap (λ (t : List ℕ). all_closes (lines_of t)) (h.parts ∙ append-nil h.front) in
-    let all = text_closes h.front in
-    let so_far : count scan ≡ count (scan_from start h.front) = ap count h.scanned in
-    let s = h.sum in
-    omega (arith, enough, some, whole, all, so_far, s)
-
-pub sought_within : (text : List ℕ) (n : ℕ) (scan : Scan) (left : ℕ) (rest : List ℕ) → Sought text n scan left rest → length rest ≤ length text
-sought_within text n scan left rest h = let e = ap length h.parts in omega (arith, e, length-append h.front rest)
-
-pub sought_found : (text : List ℕ) (n : ℕ) (scan : Scan) (left : ℕ) (rest : List ℕ) → left ≡ 0 → Sought text n scan left rest → HaveCloses text n (length text - length rest)
-sought_found text n scan left rest none h =
-    let e = ap length h.parts in
-    let used : length text - length rest ≡ length h.front = omega (arith, e, length-append h.front rest) in
-    let cut : take (length h.front) text ≡ h.front = ap (take (length h.front)) h.parts ∙ take-append_seam h.front rest in
-    let all = text_closes h.front in
-    let so_far : count scan ≡ count (scan_from start h.front) = ap count h.scanned in
-    let whole : all_closes (lines_of (take (length h.front) text)) ≡ all_closes (lines_of h.front) = ap (λ (t : List ℕ). all_closes (lines_of t)) cut in
-    let s = h.sum in
-    subst (HaveCloses text n) (sym used) (record {
-      within = omega (arith, e, length-append h.front rest);
-      has = omega (arith, all, so_far, whole, s, none);
-      fewest = λ k lt. subst (λ (t : List ℕ). all_closes (lines_of t) < n) (sym (ap (take k) h.parts ∙ take-append-le k h.front rest (omega (arith, lt)))) (h.fewest k lt);
-    })

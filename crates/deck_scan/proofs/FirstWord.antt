@@ -13,9 +13,7 @@ use Rattle.deck_scan.specs.declared.cursor.Cursor.{Cursor}
 use Rattle.deck_scan.specs.Bytes.{begins, is_word, is_allowed}
 use Rattle.deck_scan.specs.AnyBytes.{wrong_byte, readable}
 use Rattle.deck_scan.specs.Pieces.{Piece, Plain, Quoted, Hexed, Sign, Blank, Comment, LineEnd, LoneSlash, StrayByte, OpenQuote, OpenHexed, OpenComment, sign, spelled, is_mark, is_nonempty, is_piece, followed_by, are_pieces, is_hexed, unhex, hex_token, lines_with, Place, next_line, over, over_open, past, past_all, without_cr}
-use Rattle.deck_scan.specs.declared.scan.Scan.{Scan}
-use Rattle.deck_scan.specs.declared.scan.Mode.TheVariants.{InComment, AfterStar}
-use Rattle.deck_scan.specs.Scan.{put, step, step_in, begin, begin_word, end_line, finish_in, scan_from}
+use Rattle.deck_scan.specs.Scan.{Scan, InComment, AfterStar, put, step, step_in, begin, begin_word, end_line, finish_in, scan_from}
 use Rattle.deck_scan.specs.Rows.{at_row, to_come, coming, word_in, front_word, first_word, IsSplit, starts, begins_gap, ends_text, is_at_token, GoesOver}
 use Rattle.deck_scan.proofs.Said.{state, at_end, not_true, test_not, word_13}
 use Rattle.deck_scan.proofs.Found.{by_test, found_pieces}

@@ -1,4 +1,3 @@
-pub mod ScanLemmas
 pub mod Said
 pub mod Found
 pub mod Pieced
@@ -12,6 +11,7 @@ pub mod Taking
 pub mod Again
 pub mod AnyLemmas
 pub mod Counted
+pub mod Opened
 pub mod Ahead
 pub mod Rows
 pub mod Pieces

@@ -9,9 +9,8 @@ use Rattle.grs_base.specs.declared.fault.Kind.TheVariants.{TooLong}
 use Rattle.grs_base.specs.declared.fault.ReadError.{ReadError}
 use Rattle.grs_base.specs.declared.fault.ReadError.TheVariants as read_errors
 use Rattle.deck_scan.specs.declared.token.TokenLine.{TokenLine}
-use Rattle.deck_scan.specs.declared.scan.Scan.{Scan}
 use Rattle.deck_scan.specs.Bytes.{begins, is_allowed, bad_line}
-use Rattle.deck_scan.specs.Scan.{step, scan_from, start, lines_of}
+use Rattle.deck_scan.specs.Scan.{Scan, step, scan_from, start, lines_of}
 use Rattle.deck_scan.specs.Pieces.{Blank, is_in_comment, followed_by, spelled, without_cr, SpellsLines}
 use Rattle.deck_scan.specs.Gives.{Gives}
 use Rattle.deck_scan.specs.Reading.{most_text_bytes, bad_byte, byte_fault, Answers, unless_fault, lines_or_fault}

@@ -7,14 +7,12 @@ use Rattle.std.proofs.lemmas.List.Folds.{list_all-append}
 use Rattle.grs_base.specs.Printed.{is_printable}
 use Rattle.deck_scan.specs.declared.token.Token.TheVariants.{Unclosed}
 use Rattle.deck_scan.specs.declared.token.TokenLine.{TokenLine}
-use Rattle.deck_scan.specs.declared.scan.Scan.{Scan}
-use Rattle.deck_scan.specs.declared.scan.Mode.TheVariants.{InBlank, InComment}
 use Rattle.deck_scan.specs.declared.row.Row.{Row}
 use Rattle.deck_scan.specs.declared.cursor.Cursor.{Cursor}
 use Rattle.deck_scan.specs.Bytes.{begins, is_allowed}
 use Rattle.deck_scan.specs.AnyBytes.{wrong_byte, readable}
 use Rattle.deck_scan.specs.Pieces.{Piece, Plain, Quoted, Hexed, Sign, Blank, Comment, LineEnd, LoneSlash, StrayByte, OpenQuote, OpenHexed, OpenComment, spelling, has_no_end, is_in_comment, is_nonempty, is_piece, may_follow, followed_by, lines_with, Place, next_line, past, without_cr}
-use Rattle.deck_scan.specs.Scan.{put, step, step_in, begin, end_line, finish_in, scan_from}
+use Rattle.deck_scan.specs.Scan.{Scan, InBlank, InComment, put, step, step_in, begin, end_line, finish_in, scan_from}
 use Rattle.deck_scan.specs.Rows.{at_row, to_come, place, no_row, Takes, IsRow, IsLast, Passes, Next, IsSplit, ClosesComment, EndsLine, begins_end, starts}
 use Rattle.deck_scan.proofs.Said.{state, place_of, at_end, sits, settle, enters, piece_run, comment_mode, star_after, comment_run, comment_close, comment_begin, commented, ends_there, unclosed, over_from}
 use Rattle.deck_scan.proofs.Pieced.{blank_first, allowed_holds}

@@ -8,11 +8,8 @@ use Rattle.grs_base.specs.Printed.{is_printable, quotes_doubled}
 use Rattle.deck_scan.specs.declared.token.Token.{Token}
 use Rattle.deck_scan.specs.declared.token.Token.TheVariants.{Word, Name, Open, Close, Comma, Equals, Stray, Unclosed}
 use Rattle.deck_scan.specs.declared.token.TokenLine.{TokenLine}
-use Rattle.deck_scan.specs.declared.scan.Scan.{Scan}
-use Rattle.deck_scan.specs.declared.scan.Mode.{Mode}
-use Rattle.deck_scan.specs.declared.scan.Mode.TheVariants.{InBlank, AfterSlash, InWord, InQuote, AfterQuote, InHex, InHexLow, InBadHex, InComment, AfterStar}
 use Rattle.deck_scan.specs.Bytes.{begins, is_word, is_hex, digit}
-use Rattle.deck_scan.specs.Scan.{put, put_word, put_open, end_line, break_off, begin_word, begin, step_in, step, scan_from, finish_in, is_x}
+use Rattle.deck_scan.specs.Scan.{Scan, Mode, InBlank, AfterSlash, InWord, InQuote, AfterQuote, InHex, InHexLow, InBadHex, InComment, AfterStar, put, put_word, put_open, end_line, break_off, begin_word, begin, step_in, step, scan_from, finish_in, is_x}
 use Rattle.deck_scan.specs.Pieces.{Piece, Plain, Quoted, Hexed, Sign, Blank, Comment, LineEnd, LoneSlash, StrayByte, OpenQuote, OpenHexed, OpenComment, spelling, spelled, has_no_end, is_in_comment, is_between_quotes, is_sign, is_mark, is_piece, may_follow, followed_by, are_pieces, is_hexed, unhex, hex_token, Place, next_line, apart, with_token, over, past, past_all}
 
 -- ---- tests

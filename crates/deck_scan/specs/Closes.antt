@@ -1,10 +1,11 @@
 -- How many closing parentheses a text has: those that are tokens, and stand in no name and in no comment.
-use Rattle.std.specs.Prelude.{◌≤◌, ◌<◌, ◌+◌, ◌==◌, ◌&&◌, ℕ, Bool, true, false, List, [], ◌∷◌, length, take}
+use Rattle.std.specs.Prelude.{◌≤◌, ◌<◌, ◌+◌, ◌==◌, ◌&&◌, ◌||◌, ℕ, Bool, true, false, List, [], ◌∷◌, length, take, if◌then◌else◌}
 use Rattle.deck_scan.specs.declared.token.Token.{Token}
 use Rattle.deck_scan.specs.declared.token.Token.TheVariants.{Close}
 use Rattle.deck_scan.specs.declared.token.TokenLine.{TokenLine}
-use Rattle.deck_scan.specs.declared.scan.Mode.{Mode}
-use Rattle.deck_scan.specs.declared.scan.Mode.TheVariants.{InBlank}
+use Rattle.deck_scan.specs.declared.closes.Open.{Open}
+use Rattle.deck_scan.specs.declared.closes.Open.TheVariants.{Nothing, Slash, X, Word, Quoted, Hexed, Comment, Star}
+use Rattle.deck_scan.specs.Bytes.{is_word}
 use Rattle.deck_scan.specs.Scan.{lines_of}
 
 abbrev pub weight : Token → ℕ
@@ -28,10 +29,34 @@ pub record HaveCloses (text : List ℕ) (n used : ℕ) : Type 0 where
 
 -- ---- as the reader finds them
 
-abbrev pub is_blank : Mode → Bool
-is_blank InBlank = true
-is_blank _ = false
+-- What a byte opens where nothing stands open.
+unfoldable pub begun : ℕ → Open
+begun b = if b == 39 then Quoted else if b == 47 then Slash else if b == 88 then X else if is_word b then Word else Nothing
+
+abbrev pub in_word : ℕ → Open
+in_word b = if is_word b then Word else begun b
+
+abbrev pub in_name : Open → ℕ → Open
+in_name o b = if b == 39 || b == 10 then Nothing else o
+
+-- What stands open behind a byte, by what stood open.
+abbrev pub opened_in : Open → ℕ → Open
+opened_in Nothing b = begun b
+opened_in Slash b = if b == 42 then Comment else begun b
+opened_in X b = if b == 39 then Hexed else in_word b
+opened_in Word b = in_word b
+opened_in Quoted b = in_name Quoted b
+opened_in Hexed b = in_name Hexed b
+opened_in Comment b = if b == 42 then Star else Comment
+opened_in Star b = if b == 47 then Nothing else if b == 42 then Star else Comment
+
+abbrev pub opened : Open → ℕ → Open
+opened o b = if b == 13 then o else opened_in o b
+
+abbrev pub is_nothing : Open → Bool
+is_nothing Nothing = true
+is_nothing _ = false
 
 -- Behind this byte so much stands open: it is a closing parenthesis, and part of nothing that stands open.
-abbrev pub is_closing : ℕ → Mode → Bool
-is_closing b m = b == 41 && is_blank m
+abbrev pub is_closing : ℕ → Open → Bool
+is_closing b o = b == 41 && is_nothing o

@@ -5,14 +5,12 @@ use Rattle.grs_base.specs.Printed.{is_printable, quotes_doubled}
 use Rattle.deck_scan.specs.declared.token.Token.{Token}
 use Rattle.deck_scan.specs.declared.token.Token.TheVariants.{Word, Open, Close, Comma, Equals, Stray}
 use Rattle.deck_scan.specs.declared.token.TokenLine.{TokenLine}
-use Rattle.deck_scan.specs.declared.scan.Scan.{Scan}
-use Rattle.deck_scan.specs.declared.scan.Mode.TheVariants.{InBlank, InComment}
 use Rattle.deck_scan.specs.declared.row.Row.{Row}
 use Rattle.deck_scan.specs.declared.cursor.Cursor.{Cursor}
 use Rattle.deck_scan.specs.Bytes.{begins, is_allowed}
 use Rattle.deck_scan.specs.AnyBytes.{readable}
 use Rattle.deck_scan.specs.Pieces.{Piece, spelling, has_no_end, is_piece, may_follow, followed_by, lines_with, Place, past}
-use Rattle.deck_scan.specs.Scan.{end_line, scan_from, finish_in}
+use Rattle.deck_scan.specs.Scan.{Scan, InBlank, InComment, end_line, scan_from, finish_in}
 
 -- ---- which lines are to come
 

@@ -4,11 +4,37 @@ use Rattle.std.specs.Str.{bytes_eq}
 use Rattle.deck_scan.specs.declared.token.Token.TheVariants.{Word, Name, Open, Close, Comma, Equals, Stray, Unclosed}
 use Rattle.deck_scan.specs.declared.token.Token.{Token}
 use Rattle.deck_scan.specs.declared.token.TokenLine.{TokenLine}
-use Rattle.deck_scan.specs.declared.scan.Scan.{Scan}
-use Rattle.deck_scan.specs.declared.scan.Mode.{Mode}
-use Rattle.deck_scan.specs.declared.scan.Mode.TheVariants.{InBlank, AfterSlash, InWord, InQuote, AfterQuote, InHex, InHexLow, InBadHex, InComment, AfterStar}
 use Rattle.deck_scan.specs.Bytes.{is_word, is_hex, digit}
 use Rattle.deck_scan.specs.Pieces.{lines_with}
+
+-- What stands open between two bytes: nothing; a slash, which begins a comment or is stray; a word; a quoted name, or a
+-- quote in it, which ends it or is the first of two; a hexadecimal name, of which the digits so far are pairs, or one
+-- stands behind these, or one is wrong; a comment, or a star in it, which a slash would end.
+pub data Mode : Type 0 where
+  InBlank : Mode
+  AfterSlash : Mode
+  InWord : Mode
+  InQuote : Mode
+  AfterQuote : Mode
+  InHex : Mode
+  InHexLow : Mode
+  InBadHex : Mode
+  InComment : Mode
+  AfterStar : Mode
+
+-- What has been read: the number of the line, from 1; the line on which the last comment began; the first of two
+-- hexadecimal digits; what stands open, and the bytes of its token; the tokens of this line; whether these are one
+-- word, and nothing stood behind it yet; whether a token stood directly behind the line's first word; the lines before.
+pub record Scan : Type 0 where
+  pub line : ℕ
+  pub begun : ℕ
+  pub high : ℕ
+  pub mode : Mode
+  pub part : List ℕ
+  pub tokens : List Token
+  pub near : Bool
+  pub joined : Bool
+  pub lines : List TokenLine
 
 -- The token ends what stood open. Directly behind the first word it joins it.
 unfoldable pub put : Token → Scan → Scan

@@ -13,7 +13,6 @@ mod lengths;
 mod miss;
 mod next;
 mod row;
-mod scan;
 mod token;
 
 pub use closes::bytes_to_close;

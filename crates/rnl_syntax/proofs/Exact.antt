@@ -6,11 +6,8 @@ use Rattle.std.specs.List.{flat_map}
 use Rattle.deck_scan.specs.declared.token.Token.{Token}
 use Rattle.deck_scan.specs.declared.token.Token.TheVariants.{Word, Name, Stray, Unclosed}
 use Rattle.deck_scan.specs.declared.token.TokenLine.{TokenLine}
-use Rattle.deck_scan.specs.declared.scan.Scan.{Scan}
-use Rattle.deck_scan.specs.declared.scan.Mode.{Mode}
-use Rattle.deck_scan.specs.declared.scan.Mode.TheVariants.{InBlank, AfterSlash, InWord, InQuote, AfterQuote, InHex, InHexLow, InBadHex, InComment, AfterStar}
 use Rattle.deck_scan.specs.Next.{Names, Sets}
-use Rattle.deck_scan.specs.Scan.{put, put_word, end_line, step_in, step, scan_from, finish_in, start, lines_of}
+use Rattle.deck_scan.specs.Scan.{Scan, Mode, InBlank, AfterSlash, InWord, InQuote, AfterQuote, InHex, InHexLow, InBadHex, InComment, AfterStar, put, put_word, end_line, step_in, step, scan_from, finish_in, start, lines_of}
 use Rattle.deck_scan.specs.Closes.{weight, closes, all_closes}
 use Rattle.deck_scan.proofs.Said.{at_end}
 use Rattle.deck_scan.proofs.Counted.{closes-append, count, count-put, count-put_word, text_closes, scan-append, begin_close, word_not, hex_not}

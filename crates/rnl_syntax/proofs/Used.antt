@@ -1,5 +1,5 @@
 -- The bytes that an RNLDEF uses are its own: a shorter front has fewer closing parentheses.
-use Rattle.std.proofs.Common.{◌≡◌, ℕ, ◌+◌, ◌<◌, ◌≤◌, Bool, true, false, cond, ltb, List, [], ◌∷◌, ◌++◌, length, take, drop, Option, Some, None, Result, Ok, Err, IfOk, refl, sym, ap, subst, ◌∙◌, arith, append_assoc, length-append}
+use Rattle.std.proofs.Common.{◌≡◌, ℕ, ◌+◌, ◌<◌, ◌≤◌, Bool, true, false, cond, ltb, List, [], ◌∷◌, ◌++◌, length, take, drop, Option, Some, None, Ok, refl, sym, ap, subst, ◌∙◌, arith, append_assoc, length-append}
 use Rattle.std.specs.Prelude.{is_none}
 use Rattle.std.specs.List.{flat_map}
 use Rattle.std.proofs.Math.Seq.{take-append_seam}
@@ -139,7 +139,7 @@ less_closes : (init : List ℕ) → line_closes (lines_of (init ++ 41 ∷ [])) �
 less_closes init last n within = let few = few_closes init n in let end = last_close init last in omega (arith, few, end)
 
 -- The fewest bytes that have so many are the statement.
-used_by : (text : List ℕ) (e : RnlEntry) (used : ℕ) → reading text ≡ Ok e → HaveCloses text (operand_count e) used → SpellsEntry text e used
+pub used_by : (text : List ℕ) (e : RnlEntry) (used : ℕ) → reading text ≡ Ok e → HaveCloses text (operand_count e) used → SpellsEntry text e used
 used_by text e used read h = go (ltb used (length whole)) (ltb (length whole) used) refl refl
   where
     o : Own text e (reading_makes text e read)
@@ -178,7 +178,3 @@ used_by text e used read h = go (ltb used (length whole)) (ltb (length whole) us
         let over = ltb-false (length whole) used q in
         let same : length whole ≡ used = omega (arith, under, over) in
         subst (SpellsEntry text e) same o.spells
-
-pub used_by_all : {E : Type 0} (text : List ℕ) (e : RnlEntry) (r : Result ℕ E) → reading text ≡ Ok e → IfOk r (λ used. HaveCloses text (operand_count e) used) → IfOk r (λ used. SpellsEntry text e used)
-used_by_all text e (Ok used) read h = used_by text e used read h
-used_by_all text e (Err x) read h = tt

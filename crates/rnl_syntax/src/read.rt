@@ -91,11 +91,11 @@ fn operand_count(entry: &RnlEntry) -> usize
 
 /// How many bytes the statement of an entry uses in the text that makes it. Each operand ends with a closing
 /// parenthesis, and no other one is part of the statement or stands before it.
-fn bytes_used(alloc: Global, text: &[u8], entry: &RnlEntry) -> Result<usize, NoMemory>
+fn bytes_used(text: &[u8], entry: &RnlEntry) -> usize
     requires { reading text.now ≡ Ok entry.now }
-    ensures { IfOk result (λ used. SpellsEntry text.now entry.now used) }
+    ensures { SpellsEntry text.now entry.now result }
 {
-    bytes_to_close(alloc, text, operand_count(entry))
+    bytes_to_close(text, operand_count(entry))
 }
 
 /// What is read of a text, and how many bytes of it.
@@ -103,7 +103,7 @@ fn read_front(alloc: Global, text: &[u8]) -> Result<(RnlEntry, usize), ReadError
     ensures { Found result text.now }
 {
     let entry = read_entry(alloc, text)?;
-    let used = bytes_used(alloc, text, &entry)?;
+    let used = bytes_used(text, &entry);
     Ok((entry, used))
 }
 
