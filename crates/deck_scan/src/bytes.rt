@@ -1,5 +1,5 @@
 //! Kinds of bytes: of plain names, of hexadecimal digits, and those that a deck may have.
-ghost use Rattle.std.specs.Prelude.{◌≡◌, ◌<◌, ◌≤◌, ◌+◌, ◌^◌, ◌==◌, ◌&&◌, not, length, position, IfSome, if◌then◌else◌};
+ghost use Rattle.std.specs.Prelude.{◌≡◌, ℕ, Bool, ◌<◌, ◌≤◌, ◌+◌, ◌^◌, ◌==◌, ◌&&◌, not, length, position, IfSome, if◌then◌else◌};
 ghost use Rattle.std.specs.List.{list_all};
 ghost use Rattle.grs_base.specs.Printed.{is_printable};
 ghost use Rattle.deck_scan.specs.Bytes.{begins, is_word, is_hex, digit, is_allowed, bad_line};
@@ -65,6 +65,17 @@ pub fn begins_pair(first: u8, second: u8, b: u8, behind: &[u8]) -> bool
     b == first && begins(second, behind)
 }
 
+/// A text cut at a place, or behind all of it.
+fn cut<'t>(text: &'t [u8], at: Option<usize>) -> (&'t [u8], &'t [u8])
+    requires { IfSome at (λ i. i ≤ length text.now) }
+    ensures { (p : ℕ → Bool) → at ≡ position (λ b. not (p b)) text.now → IsSplit p text.now result.0.now result.1.now }
+{
+    match at {
+        Some(i) => text.split_at(i),
+        None => (text, &[]),
+    }
+}
+
 fn end_of_word(text: &[u8]) -> Option<usize>
     ensures at { result ≡ position (λ b. not (is_word b)) text.now }
     ensures within { IfSome result (λ i. i ≤ length text.now) }
@@ -76,10 +87,7 @@ fn end_of_word(text: &[u8]) -> Option<usize>
 pub fn split_word<'t>(text: &'t [u8]) -> (&'t [u8], &'t [u8])
     ensures { IsSplit is_word text.now result.0.now result.1.now }
 {
-    match end_of_word(text) {
-        Some(i) => text.split_at(i),
-        None => (text, &[]),
-    }
+    cut(text, end_of_word(text))
 }
 
 fn quote_of(text: &[u8]) -> Option<usize>
@@ -93,10 +101,7 @@ fn quote_of(text: &[u8]) -> Option<usize>
 pub fn split_at_quote<'t>(text: &'t [u8]) -> (&'t [u8], &'t [u8])
     ensures { IsSplit is_no_quote text.now result.0.now result.1.now }
 {
-    match quote_of(text) {
-        Some(i) => text.split_at(i),
-        None => (text, &[]),
-    }
+    cut(text, quote_of(text))
 }
 
 fn end_of_printable(text: &[u8]) -> Option<usize>
@@ -110,10 +115,7 @@ fn end_of_printable(text: &[u8]) -> Option<usize>
 pub fn split_printable<'t>(text: &'t [u8]) -> (&'t [u8], &'t [u8])
     ensures { IsSplit is_printable text.now result.0.now result.1.now }
 {
-    match end_of_printable(text) {
-        Some(i) => text.split_at(i),
-        None => (text, &[]),
-    }
+    cut(text, end_of_printable(text))
 }
 
 /// Whether all bytes are printable or end a line. It goes over all, which takes less time than to stop at the first.

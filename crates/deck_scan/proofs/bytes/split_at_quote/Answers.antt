@@ -1,10 +1,5 @@
-use Rattle.std.proofs.Common.{sym}
 use Rattle.deck_scan.specs.Rows.{is_no_quote}
-use Rattle.deck_scan.proofs.Pieces.{split_some, split_none}
 use Rattle.deck_scan.proofs.bytes.split_at_quote.Goals as goal
 
-pub returns-in-Some : goal.returns-in-Some
-returns-in-Some c = rw (c.split_at.ensures.front, c.split_at.ensures.back) (split_some is_no_quote c.args.text.now c.in-Some.i (sym c.in-Some.ensures.at))
-
-pub returns-in-None : goal.returns-in-None
-returns-in-None c = split_none is_no_quote c.args.text.now (sym c.in-None.ensures.at)
+pub returns : goal.returns
+returns c = c.cut.ensures is_no_quote c.quote_of.ensures.at
