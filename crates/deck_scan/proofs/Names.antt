@@ -15,13 +15,17 @@ use Rattle.deck_scan.proofs.Said.{test_not}
 
 -- ---- digits
 
-digit-hex : (n : ℕ) → n < 16 → is_hex (hex_digit n) ≡ true
+pub digit-hex : (n : ℕ) → n < 16 → is_hex (hex_digit n) ≡ true
 unfolding is_hex
 digit-hex n h = grind (arith, nat_tests)
 
-digit-hex_digit : (n : ℕ) → n < 16 → digit (hex_digit n) ≡ n
+pub digit-hex_digit : (n : ℕ) → n < 16 → digit (hex_digit n) ≡ n
 unfolding digit
 digit-hex_digit n h = grind (arith, nat_tests)
+
+pub digit-small : (b : ℕ) → digit b < 16
+unfolding digit
+digit-small b = grind (arith, nat_tests)
 
 digit-between : (n : ℕ) → n < 16 → is_between_quotes (hex_digit n) ≡ true
 digit-between n h = grind (arith, nat_tests)

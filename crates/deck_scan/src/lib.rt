@@ -15,6 +15,7 @@ mod next;
 mod row;
 mod token;
 
+pub use bytes::{digit_of, is_hex_byte};
 pub use closes::bytes_to_close;
 pub use cursor::{Lines, MOST_TEXT_BYTES};
 pub use given::GivenName;

@@ -2,14 +2,15 @@
 use Rattle.std.proofs.Common.{◌≡◌, ◌∙◌, ℕ, ◌+◌, ◌*◌, ◌-◌, ◌<◌, ◌≤◌, Bool, true, false, cond, eqb, leb, ltb, List, [], ◌∷◌, length, Option, Some, None, refl, sym, subst, arith}
 use Rattle.std.specs.Prelude.{unwrap_or}
 use Rattle.std.specs.List.{list_all, flat_map}
-use Rattle.std.proofs.lemmas.Bool.{and_parts, and_from, leb-true}
+use Rattle.std.proofs.lemmas.Bool.{and_parts, and_from}
 use Rattle.std.proofs.lemmas.List.Folds.{list_all-append}
 use Rattle.grs_base.specs.Names.{before_rest, trim_blanks, are_bytes}
-use Rattle.grs_base.specs.Printed.{is_between}
 use Rattle.grs_base.specs.Lines.{IsMaybeUnit}
 use Rattle.deck_scan.specs.declared.token.Token.{Token}
 use Rattle.deck_scan.specs.Next.{◌>>=◌, Sets}
 use Rattle.deck_scan.proofs.Taking.{bind_some, guard_some}
+use Rattle.deck_scan.specs.Bytes.{is_hex, digit}
+use Rattle.deck_scan.proofs.Names.{digit-small}
 use Rattle.job_syntax.specs.declared.options.Opts.{Opts}
 use Rattle.job_syntax.specs.declared.ask.Ask.{Ask}
 use Rattle.job_syntax.specs.Unit.{hex_of, hex_at, unit_of}
@@ -49,17 +50,12 @@ ask_bytes front ts a h all =
 
 -- ---- units
 
-between_most : (low high b : ℕ) → is_between low high b ≡ true → b ≤ high
-between_most low high b h = leb-true b high (and_parts (leb low b) (leb b high) h).1
-
 hex_below : (b x : ℕ) → hex_of b ≡ Some x → x < 16
-hex_below b x h = go (is_between 48 57 b) (is_between 65 70 b) (is_between 97 102 b) refl refl refl h
+hex_below b x h = go (is_hex b) h
   where
-    go : (p q r : Bool) → is_between 48 57 b ≡ p → is_between 65 70 b ≡ q → is_between 97 102 b ≡ r → cond p (Some (b - 48)) (cond q (Some (b - 65 + 10)) (cond r (Some (b - 97 + 10)) None)) ≡ Some x → x < 16
-    go true q r e f g k = let is : b - 48 ≡ x = cc in omega (arith, is, between_most 48 57 b e)
-    go false true r e f g k = let is : b - 65 + 10 ≡ x = cc in omega (arith, is, between_most 65 70 b f)
-    go false false true e f g k = let is : b - 97 + 10 ≡ x = cc in omega (arith, is, between_most 97 102 b g)
-    go false false false e f g k = absurd cc
+    go : (p : Bool) → cond p (Some (digit b)) None ≡ Some x → x < 16
+    go true k = let is : digit b ≡ x = cc in let small = digit-small b in omega (arith, is, small)
+    go false k = absurd cc
 
 digit_below : (w : List ℕ) (y : ℕ × List ℕ) → hex_at w ≡ Some y → y.0 < 16
 digit_below [] y h = absurd cc

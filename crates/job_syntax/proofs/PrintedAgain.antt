@@ -26,7 +26,7 @@ use Rattle.deck_scan.specs.Next.{Sets}
 use Rattle.deck_scan.specs.Pieces.{Plain, is_piece, is_nonempty, SpellsLines}
 use Rattle.deck_scan.specs.AnyBytes.{readable}
 use Rattle.deck_scan.proofs.AnyLemmas.{any_text}
-use Rattle.deck_scan.proofs.Names.{qname_nonempty, rname_nonempty}
+use Rattle.deck_scan.proofs.Names.{digit-hex, digit-hex_digit, qname_nonempty, rname_nonempty}
 use Rattle.deck_scan.proofs.Print.{name_names}
 use Rattle.deck_scan.proofs.Bits.{Bit, Of, Called, Mark, text_of, tokens_of, is_bit, starts_apart, are_bits, line_of_bits, bits_line, size}
 use Rattle.job_syntax.specs.declared.options.Opts.{Opts}
@@ -44,7 +44,7 @@ use Rattle.job_syntax.specs.Reading.{SpellsLine}
 -- ---- units
 
 hex_again : (n : ℕ) → n < 16 → hex_of (hex_digit n) ≡ Some n
-hex_again n h = grind (arith, nat_tests)
+hex_again n h = rw (digit-hex n h, digit-hex_digit n h) refl
 
 pub unit_again : (n : ℕ) → n < 65536 → unit_of (unit_digits n) ≡ Some n
 unfolding unit_of

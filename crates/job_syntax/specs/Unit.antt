@@ -1,15 +1,11 @@
 -- Units of devices, as four hexadecimal digits.
 use Rattle.std.specs.Prelude.{ℕ, ◌==◌, ◌+◌, ◌-◌, ◌*◌, List, [], ◌∷◌, length, Option, Some, None, if◌then◌else◌}
-use Rattle.grs_base.specs.Printed.{is_between}
+use Rattle.deck_scan.specs.Bytes.{is_hex, digit}
 use Rattle.deck_scan.specs.Next.{◌>>=◌}
 
 -- The value of a hexadecimal digit of either case.
 abbrev pub hex_of : ℕ → Option ℕ
-hex_of b =
-    if is_between 48 57 b then Some (b - 48)
-    else if is_between 65 70 b then Some (b - 65 + 10)
-    else if is_between 97 102 b then Some (b - 97 + 10)
-    else None
+hex_of b = if is_hex b then Some (digit b) else None
 
 abbrev pub hex_at : List ℕ → Option (ℕ × List ℕ)
 hex_at [] = None

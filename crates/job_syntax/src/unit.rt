@@ -3,18 +3,17 @@ ghost use Rattle.std.specs.Prelude.{◌<◌, IfOk};
 ghost use Rattle.deck_scan.specs.Next.{Reads};
 ghost use Rattle.job_syntax.specs.Unit.{hex_of, hex_at, unit_of};
 
-use deck_scan::Miss;
+use deck_scan::{Miss, digit_of, is_hex_byte};
 
 /// The value of a hexadecimal digit of either case.
 fn hex_of(b: u8) -> Result<u8, Miss>
     ensures value { Reads (λ x. x) result (hex_of b) }
     ensures small { IfOk result (λ x. x < 16) }
 {
-    match b {
-        b'0'..=b'9' => Ok(b - b'0'),
-        b'A'..=b'F' => Ok(b - b'A' + 10),
-        b'a'..=b'f' => Ok(b - b'a' + 10),
-        _ => Err(Miss),
+    if is_hex_byte(b) {
+        Ok(digit_of(b))
+    } else {
+        Err(Miss)
     }
 }
 
