@@ -1,12 +1,12 @@
 -- What is read is spelled, and what is spelled is read.
 use Rattle.std.proofs.Common.{◌≡◌, ℕ, ◌<◌, ◌≤◌, Bool, true, false, cond, not, eqb, leb, List, [], ◌∷◌, length, Option, Some, None, Result, Ok, Err, refl, sym, ap, subst, ◌∙◌, arith}
 use Rattle.std.specs.Prelude.{◌||◌, is_some, is_none}
-use Rattle.std.proofs.lemmas.Bool.{ltb-false, le-ltb, lt-leb, eqb-false, eqb-true, ne_eqb, leb-true, le-leb, leb-false, and_parts, or_parts}
+use Rattle.std.proofs.lemmas.Bool.{ltb-false, le-ltb, lt-leb, eqb-false, eqb-true, ne_eqb, leb-false, and_parts, or_parts}
 use Rattle.grs_base.specs.declared.fault.DeckFault.{DeckFault}
 use Rattle.grs_base.specs.declared.fault.Kind.TheVariants.{NoSystem}
 use Rattle.grs_base.specs.declared.fault.ReadError.{ReadError}
 use Rattle.grs_base.specs.declared.fault.ReadError.TheVariants as read_errors
-use Rattle.grs_base.specs.Names.{trim_blanks, is_qname, is_rname}
+use Rattle.grs_base.specs.Names.{is_qname, is_rname}
 use Rattle.grs_wire.specs.declared.deck.Deck.{Deck}
 use Rattle.grs_wire.specs.Decks.{task_count}
 use Rattle.deck_scan.specs.declared.token.TokenLine.{TokenLine}
@@ -32,7 +32,7 @@ use Rattle.grs_deck.specs.Places.{jobs_now, tasks_now, system_place, job_place, 
 use Rattle.grs_deck.specs.Judge.{is_too_long, list_of, has_long_name, has_bad_name, is_repeated, is_misplaced, is_full, is_unknown, verdict}
 use Rattle.grs_deck.specs.Grow.{grow}
 use Rattle.grs_deck.specs.Reading.{judge, judge_all, no_draft, ended, reading, fault, fault_of}
-use Rattle.grs_deck.specs.Spells.{IsShort, IsShortAct, IsQname, IsRname, IsMaybeQname, IsMaybeRname, AreNames, IsSized, IsNew, IsPlaced, HasRoom, IsKnown, IsRight, Says, SpellsDeck}
+use Rattle.grs_deck.specs.Spells.{IsShort, IsShortAct, MakeNames, HasNames, IsSized, IsNew, IsPlaced, HasRoom, IsKnown, IsRight, Says, SpellsDeck}
 use Rattle.grs_deck.proofs.FitsLaws.{NoFault, tests_of, judged}
 
 -- ---- tests and facts
@@ -76,24 +76,6 @@ passed : (b : Bool) → not b ≡ false → b ≡ true
 passed true h = refl
 passed false h = absurd cc
 
-qname_of : (q : List ℕ) → is_qname q ≡ true → IsQname q
-qname_of q h =
-    let k = and_parts (leb (length q) 8) (leb 1 (length (trim_blanks q))) h in
-    let some = leb-true 1 (length (trim_blanks q)) k.1 in
-    (leb-true (length q) 8 k.0, omega (arith, some))
-
-of_qname : (q : List ℕ) → IsQname q → is_qname q ≡ true
-of_qname q h = let some : 1 ≤ length (trim_blanks q) = omega (arith, h.1) in rw (le-leb (length q) 8 h.0, le-leb 1 (length (trim_blanks q)) some) refl
-
-rname_of : (r : List ℕ) → is_rname r ≡ true → IsRname r
-rname_of r h =
-    let k = and_parts (leb 1 (length r)) (leb (length r) 255) h in
-    let some = leb-true 1 (length r) k.0 in
-    (omega (arith, some), leb-true (length r) 255 k.1)
-
-of_rname : (r : List ℕ) → IsRname r → is_rname r ≡ true
-of_rname r h = let some : 1 ≤ length r = omega (arith, h.0) in rw (le-leb 1 (length r) some, le-leb (length r) 255 h.1) refl
-
 short_act : (a : Act) → has_long_name a ≡ false → IsShortAct a
 short_act (acts.Task j t) h = let k = or_parts (is_too_long j) (is_too_long t) h in (short_of j k.0, short_of t k.1)
 short_act (acts.Send j t) h = let k = or_parts (is_too_long j) (is_too_long t) h in (short_of j k.0, short_of t k.1)
@@ -120,25 +102,17 @@ act_short acts.Rest h = refl
 
 -- ---- a statement that may stand there
 
-both_names : (q r : List ℕ) → are_bad_names q r ≡ false → IsQname q × IsRname r
+both_names : (q r : List ℕ) → are_bad_names q r ≡ false → MakeNames q r
 both_names q r h =
     let k = or_parts (not (is_qname q)) (not (is_rname r)) h in
-    (qname_of q (passed (is_qname q) k.0), rname_of r (passed (is_rname r) k.1))
+    (passed (is_qname q) k.0, passed (is_rname r) k.1)
 
-maybe_qname : (q : Option (List ℕ)) → is_bad_qname q ≡ false → IsMaybeQname q
-maybe_qname None h = tt
-maybe_qname (Some q) h = qname_of q (passed (is_qname q) h)
-
-maybe_rname : (r : Option (List ℕ)) → is_bad_rname r ≡ false → IsMaybeRname r
-maybe_rname None h = tt
-maybe_rname (Some r) h = rname_of r (passed (is_rname r) h)
-
-names_by : (s : Said) → line_has_bad_name s ≡ false → AreNames s
+names_by : (s : Said) → line_has_bad_name s ≡ false → HasNames s
 names_by (said.Enq e) h = both_names e.ask.q e.ask.r h
 names_by (said.Reserve e) h = both_names e.ask.q e.ask.r h
 names_by (said.Deq a) h = both_names a.q a.r h
 names_by (said.Wait a) h = both_names a.q a.r h
-names_by (said.Gqscan s) h = let k = or_parts (is_bad_qname s.names.q) (is_bad_rname s.names.r) h in (maybe_qname s.names.q k.0, maybe_rname s.names.r k.1)
+names_by (said.Gqscan s) h = or_parts (is_bad_qname s.names.q) (is_bad_rname s.names.r) h
 names_by (said.Display shown.Contended) h = tt
 names_by (said.Display (shown.Resource q r)) h = both_names q r h
 
@@ -147,7 +121,7 @@ none_yet [] h = refl
 none_yet (x ∷ xs) h = absurd (omega (arith, h))
 
 pub sized_by : (st : Stmt) → has_bad_name st ≡ false → IsSized st
-sized_by (stmts.Rnldef r) h = let k = or_parts (not (is_qname r.q)) (is_bad_rname r.r) h in (qname_of r.q (passed (is_qname r.q) k.0), maybe_rname r.r k.1)
+sized_by (stmts.Rnldef r) h = let k = or_parts (not (is_qname r.q)) (is_bad_rname r.r) h in (passed (is_qname r.q) k.0, k.1)
 sized_by (stmts.System n) h = short_of n h
 sized_by (stmts.Job n) h = short_of n h
 sized_by (stmts.Task n) h = short_of n h
@@ -187,28 +161,20 @@ right_of d st h =
     let t = tests_of d st h in
     (record { sized = sized_by st t.long; new = new_by d st t.repeated; placed = placed_by d st t.misplaced; room = room_by d st t.full; known = known_by d st t.unknown }, t.unbuilt)
 
-names_fail : (q r : List ℕ) → IsQname q × IsRname r → are_bad_names q r ≡ false
-names_fail q r h = rw (of_qname q h.0, of_rname r h.1) refl
+names_fail : (q r : List ℕ) → MakeNames q r → are_bad_names q r ≡ false
+names_fail q r h = rw (h.0, h.1) refl
 
-qname_fail : (q : Option (List ℕ)) → IsMaybeQname q → is_bad_qname q ≡ false
-qname_fail None h = refl
-qname_fail (Some q) h = rw (of_qname q h) refl
-
-rname_fail : (r : Option (List ℕ)) → IsMaybeRname r → is_bad_rname r ≡ false
-rname_fail None h = refl
-rname_fail (Some r) h = rw (of_rname r h) refl
-
-no_bad : (s : Said) → AreNames s → line_has_bad_name s ≡ false
+no_bad : (s : Said) → HasNames s → line_has_bad_name s ≡ false
 no_bad (said.Enq e) h = names_fail e.ask.q e.ask.r h
 no_bad (said.Reserve e) h = names_fail e.ask.q e.ask.r h
 no_bad (said.Deq a) h = names_fail a.q a.r h
 no_bad (said.Wait a) h = names_fail a.q a.r h
-no_bad (said.Gqscan s) h = both_false (is_bad_qname s.names.q) (is_bad_rname s.names.r) (qname_fail s.names.q h.0) (rname_fail s.names.r h.1)
+no_bad (said.Gqscan s) h = both_false (is_bad_qname s.names.q) (is_bad_rname s.names.r) h.0 h.1
 no_bad (said.Display shown.Contended) h = refl
 no_bad (said.Display (shown.Resource q r)) h = names_fail q r h
 
 pub of_sized : (st : Stmt) → IsSized st → has_bad_name st ≡ false
-of_sized (stmts.Rnldef r) h = rw (of_qname r.q h.0) (rname_fail r.r h.1)
+of_sized (stmts.Rnldef r) h = rw h.0 h.1
 of_sized (stmts.System n) h = of_short n h
 of_sized (stmts.Job n) h = of_short n h
 of_sized (stmts.Task n) h = of_short n h

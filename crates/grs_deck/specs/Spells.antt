@@ -1,10 +1,11 @@
 -- What a text must be to spell a deck, by cases on its statements.
-use Rattle.std.specs.Prelude.{◌≡◌, ℕ, false, ◌<◌, ◌≤◌, List, [], ◌∷◌, length, Option, Some, None}
-use Rattle.grs_base.specs.Names.{trim_blanks}
+use Rattle.std.specs.Prelude.{◌≡◌, ℕ, true, false, ◌<◌, ◌≤◌, List, [], ◌∷◌, length, Option, Some, None}
+use Rattle.grs_base.specs.Names.{is_qname, is_rname}
 use Rattle.grs_wire.specs.declared.deck.Event.{Event}
 use Rattle.grs_wire.specs.declared.deck.Deck.{Deck}
 use Rattle.grs_wire.specs.Decks.{task_count}
 use Rattle.deck_scan.specs.declared.token.TokenLine.{TokenLine}
+use Rattle.deck_scan.specs.Lengths.{is_bad_qname, is_bad_rname}
 use Rattle.deck_scan.specs.Pieces.{SpellsLines}
 use Rattle.deck_scan.specs.Reading.{most_text_bytes}
 use Rattle.job_syntax.specs.declared.display.Shown.{Shown}
@@ -19,7 +20,7 @@ use Rattle.deck_form.specs.Spelled.{Spells}
 use Rattle.deck_form.specs.Statements.{statements}
 use Rattle.deck_form.specs.Unbuilt.{is_unbuilt}
 use Rattle.grs_deck.specs.declared.judge.Draft.{Draft}
-use Rattle.grs_base.specs.Limits.{most_systems, most_qname_bytes, most_rname_bytes, most_entries, most_name_bytes, most_jobs, most_tasks}
+use Rattle.grs_base.specs.Limits.{most_systems, most_entries, most_name_bytes, most_jobs, most_tasks}
 use Rattle.grs_deck.specs.Places.{jobs_now, tasks_now, system_place, job_place, task_place, event_of}
 use Rattle.grs_deck.specs.Judge.{list_of}
 use Rattle.grs_deck.specs.Grow.{grow}
@@ -35,44 +36,36 @@ IsShortAct (acts.Send j t) = IsShort j × IsShort t
 IsShortAct (acts.Purge n) = IsShort n
 IsShortAct _ = Unit {0}
 
--- A qname is not too long as written, and not blanks alone.
-abbrev pub IsQname : List ℕ → Type 0
-IsQname q = (length q ≤ most_qname_bytes) × (0 < length (trim_blanks q))
+-- The bytes make a qname, as they are written, and an rname.
+abbrev pub MakeNames : List ℕ → List ℕ → Type 0
+MakeNames q r = (is_qname q ≡ true) × (is_rname r ≡ true)
 
--- An rname is not empty, and not too long.
-abbrev pub IsRname : List ℕ → Type 0
-IsRname r = (0 < length r) × (length r ≤ most_rname_bytes)
+-- Those that are given do.
+abbrev pub MakeGivenNames : Option (List ℕ) → Option (List ℕ) → Type 0
+MakeGivenNames q r = (is_bad_qname q ≡ false) × (is_bad_rname r ≡ false)
 
-abbrev pub IsMaybeQname : Option (List ℕ) → Type 0
-IsMaybeQname None = Unit {0}
-IsMaybeQname (Some q) = IsQname q
-
-abbrev pub IsMaybeRname : Option (List ℕ) → Type 0
-IsMaybeRname None = Unit {0}
-IsMaybeRname (Some r) = IsRname r
-
-abbrev pub AreShownNames : Shown → Type 0
-AreShownNames shown.Contended = Unit {0}
-AreShownNames (shown.Resource q r) = IsQname q × IsRname r
+abbrev pub HasShownNames : Shown → Type 0
+HasShownNames shown.Contended = Unit {0}
+HasShownNames (shown.Resource q r) = MakeNames q r
 
 -- The names of a task line are right.
-abbrev pub AreNames : Said → Type 0
-AreNames (said.Enq e) = IsQname e.ask.q × IsRname e.ask.r
-AreNames (said.Reserve e) = IsQname e.ask.q × IsRname e.ask.r
-AreNames (said.Deq a) = IsQname a.q × IsRname a.r
-AreNames (said.Wait a) = IsQname a.q × IsRname a.r
-AreNames (said.Gqscan s) = IsMaybeQname s.names.q × IsMaybeRname s.names.r
-AreNames (said.Display s) = AreShownNames s
+abbrev pub HasNames : Said → Type 0
+HasNames (said.Enq e) = MakeNames e.ask.q e.ask.r
+HasNames (said.Reserve e) = MakeNames e.ask.q e.ask.r
+HasNames (said.Deq a) = MakeNames a.q a.r
+HasNames (said.Wait a) = MakeNames a.q a.r
+HasNames (said.Gqscan s) = MakeGivenNames s.names.q s.names.r
+HasNames (said.Display s) = HasShownNames s
 
 -- ---- what a statement must be behind those that made this deck: one fact for each kind of fault
 
 -- Its names have lengths that they may have.
 abbrev pub IsSized : Stmt → Type 0
-IsSized (stmts.Rnldef r) = IsQname r.q × IsMaybeRname r.r
+IsSized (stmts.Rnldef r) = (is_qname r.q ≡ true) × (is_bad_rname r.r ≡ false)
 IsSized (stmts.System n) = IsShort n
 IsSized (stmts.Job n) = IsShort n
 IsSized (stmts.Task n) = IsShort n
-IsSized (stmts.Line s) = AreNames s
+IsSized (stmts.Line s) = HasNames s
 IsSized (stmts.Event s a) = IsShort s × IsShortAct a
 IsSized _ = Unit {0}
 
