@@ -12,6 +12,8 @@ use Rattle.grs_wire.specs.declared.deck.Choice.{Choice}
 use Rattle.grs_wire.specs.declared.deck.Choice.TheVariants as choices
 use Rattle.deck_form.specs.declared.event.Act.{Act}
 use Rattle.deck_form.specs.declared.event.Act.TheVariants as acts
+use Rattle.deck_form.specs.declared.form.Stmt.{Stmt}
+use Rattle.deck_form.specs.declared.form.Stmt.TheVariants as stmts
 use Rattle.deck_scan.specs.Next.{◌>>=◌}
 
 -- What the last item has.
@@ -84,3 +86,8 @@ event_of systems name act = do
   x ← system_at systems name
   c ← choice_of systems x.0 x.1 act
   Some (record { system = x.0; choice = c })
+
+-- The event that a statement is: that of an event line.
+abbrev pub event_in : List SystemDef → Stmt → Option Event
+event_in systems (stmts.Event name act) = event_of systems name act
+event_in systems _ = None

@@ -3,14 +3,14 @@ ghost use Rattle.std.specs.Prelude.{◌≡◌, false, OnOk, IfOk};
 ghost use Rattle.grs_base.specs.NameLists.{AreLists};
 ghost use Rattle.grs_wire.specs.Decks.{Fits};
 ghost use Rattle.grs_deck.specs.Judge.{has_bad_name, is_list_full, is_crowded};
+ghost use Rattle.grs_deck.specs.Places.{event_in};
 ghost use Rattle.grs_deck.specs.Grow.{with_entry, add_job, add_task, add_line, in_jobs, in_tasks, with_setup, grow_deck};
 
 use crate::defaults::{DEFAULT_ENTRIES, DEFAULT_LIMIT};
-use crate::places::event_of;
 use deck_form::{Setup, Stmt};
 use deck_scan::GivenName;
 use grs_base::{Line, List, Lists, NoMemory, RnlEntry, Which};
-use grs_wire::{Deck, JobDef, Name, SystemDef, TaskDef};
+use grs_wire::{Deck, Event, JobDef, Name, SystemDef, TaskDef};
 use job_syntax::line_of;
 use rnl_syntax::entry_of;
 use std::alloc::Global;
@@ -132,12 +132,19 @@ fn kept_name(alloc: Global, name: &GivenName<'_>) -> Result<Name, NoMemory>
     List::from_bytes(alloc, name.bytes())
 }
 
-/// Adds what a statement says whose names have the right lengths. Its names are copied here.
-pub fn grow_deck(deck: &mut Deck, alloc: Global, st: &Stmt<'_>) -> Result<(), NoMemory>
+/// Adds what a statement says whose names have the right lengths, where `event` is the event that it is. Its names are
+/// copied here.
+pub fn grow_deck(
+    deck: &mut Deck,
+    alloc: Global,
+    st: &Stmt<'_>,
+    event: Option<Event>,
+) -> Result<(), NoMemory>
     requires names { has_bad_name st.now ≡ false }
     requires systems { Fits deck.old.systems }
     requires lists { AreLists deck.old.lists }
     requires room { is_crowded deck.old st.now ≡ false }
+    requires event { event ≡ event_in deck.old.systems st.now }
     ensures { OnOk result (deck.new ≡ grow_deck deck.old st.now) }
 {
     match st {
@@ -171,11 +178,9 @@ pub fn grow_deck(deck: &mut Deck, alloc: Global, st: &Stmt<'_>) -> Result<(), No
             push_system_line(&mut deck.systems, line)
         }
         Stmt::Schedule => Ok(()),
-        Stmt::Event { system, act } => {
-            match event_of(deck.systems.as_slice(), system.bytes(), act) {
-                None => Ok(()),
-                Some(event) => deck.events.push(event),
-            }
-        }
+        Stmt::Event { .. } => match event {
+            None => Ok(()),
+            Some(event) => deck.events.push(event),
+        },
     }
 }

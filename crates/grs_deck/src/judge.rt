@@ -1,16 +1,15 @@
 //! What is wrong with a statement, where a deck has been read so far. Each test is one kind of fault.
 ghost use Rattle.std.specs.Prelude.{◌≡◌, is_some};
 ghost use Rattle.grs_wire.specs.Decks.{Fits};
+ghost use Rattle.grs_deck.specs.Places.{event_in};
 ghost use Rattle.grs_deck.specs.Judge.{is_too_long, has_long_name, has_bad_name, is_repeated, is_idle, is_misplaced, is_list_full, is_full, is_unknown, verdict};
 
-use crate::places::{
-    event_of, job_place, jobs_now, system_place, task_count, task_place, tasks_now,
-};
+use crate::places::{job_place, jobs_now, system_place, task_count, task_place, tasks_now};
 use deck_form::{Act, Stmt, is_unbuilt};
 use grs_base::{
     Kind, Lists, MOST_ENTRIES, MOST_JOBS, MOST_NAME_BYTES, MOST_SYSTEMS, MOST_TASKS, Which,
 };
-use grs_wire::{Deck, SystemDef};
+use grs_wire::{Deck, Event, SystemDef};
 
 /// A deck so far.
 #[derive(Drop)]
@@ -127,21 +126,22 @@ fn is_full(draft: &Draft, st: &Stmt<'_>) -> bool
     }
 }
 
-fn is_unknown(draft: &Draft, st: &Stmt<'_>) -> bool
-    requires { Fits draft.now.deck.systems }
-    ensures { result ≡ is_unknown draft.now st.now }
+/// Whether a statement says a name that none gave, where `event` is the event that it is. `_draft` is there for the
+/// contract.
+fn is_unknown(_draft: &Draft, st: &Stmt<'_>, event: Option<Event>) -> bool
+    requires { event ≡ event_in _draft.now.deck.systems st.now }
+    ensures { result ≡ is_unknown _draft.now st.now }
 {
     match st {
-        Stmt::Event { system, act } => {
-            event_of(draft.deck.systems.as_slice(), system.bytes(), act).is_none()
-        }
+        Stmt::Event { .. } => event.is_none(),
         _ => false,
     }
 }
 
-/// The least kind that applies to a statement of the right form.
-pub fn verdict(draft: &Draft, st: &Stmt<'_>) -> Option<Kind>
-    requires { Fits draft.now.deck.systems }
+/// The least kind that applies to a statement of the right form, where `event` is the event that it is.
+pub fn verdict(draft: &Draft, st: &Stmt<'_>, event: Option<Event>) -> Option<Kind>
+    requires systems { Fits draft.now.deck.systems }
+    requires event { event ≡ event_in draft.now.deck.systems st.now }
     ensures { result ≡ verdict draft.now st.now }
 {
     if has_bad_name(st) {
@@ -152,7 +152,7 @@ pub fn verdict(draft: &Draft, st: &Stmt<'_>) -> Option<Kind>
         Some(Kind::OutOfPlace)
     } else if is_full(draft, st) {
         Some(Kind::TooMany)
-    } else if is_unknown(draft, st) {
+    } else if is_unknown(draft, st, event) {
         Some(Kind::UnknownName)
     } else if is_unbuilt(st) {
         Some(Kind::NotBuilt)

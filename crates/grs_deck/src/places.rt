@@ -3,9 +3,9 @@
 ghost use Rattle.std.specs.Prelude.{◌≡◌, ◌<◌, ◌≤◌, length, IfSome};
 ghost use Rattle.grs_base.specs.Limits.{most_tasks};
 ghost use Rattle.grs_wire.specs.Decks.{task_count, IsWithin, Fits};
-ghost use Rattle.grs_deck.specs.Places.{system_place, job_place, task_place, jobs_now, tasks_now, system_at, task_in, choice_of, event_of, seen};
+ghost use Rattle.grs_deck.specs.Places.{system_place, job_place, task_place, jobs_now, tasks_now, system_at, task_in, choice_of, event_of, event_in, seen};
 
-use deck_form::Act;
+use deck_form::{Act, Stmt};
 use grs_base::{SysId, TaskId};
 use grs_wire::{Choice, Event, JobDef, SystemDef, TaskDef};
 
@@ -136,11 +136,22 @@ fn choice_of(systems: &[SystemDef], id: SysId, found: &SystemDef, act: &Act<'_>)
 }
 
 /// The event of an event line, where each name that it says is known.
-pub fn event_of(systems: &[SystemDef], system: &[u8], act: &Act<'_>) -> Option<Event>
+fn event_of(systems: &[SystemDef], system: &[u8], act: &Act<'_>) -> Option<Event>
     requires { Fits systems.now }
     ensures { result ≡ event_of systems.now system.now act.now }
 {
     let (id, found) = system_at(systems, system)?;
     let choice = choice_of(systems, id, found, act)?;
     Some(Event { system: id, choice })
+}
+
+/// The event that a statement is: that of an event line, where each name that it says is known.
+pub fn event_in(systems: &[SystemDef], st: &Stmt<'_>) -> Option<Event>
+    requires { Fits systems.now }
+    ensures { result ≡ event_in systems.now st.now }
+{
+    match st {
+        Stmt::Event { system, act } => event_of(systems, system.bytes(), act),
+        _ => None,
+    }
 }

@@ -8,15 +8,17 @@ ghost use Rattle.grs_wire.specs.declared.deck.Deck.{Deck as DeckValue};
 ghost use Rattle.grs_wire.specs.Decks.{Fits, IsDeck};
 ghost use Rattle.grs_deck.specs.Spells.{SpellsDeck};
 ghost use Rattle.grs_deck.specs.Faults.{Answers};
+ghost use Rattle.grs_deck.specs.Places.{event_in};
 ghost use Rattle.grs_deck.specs.Reading.{judge_statement, judge, judge_all, ended, reading, Took, no_draft};
 
 use crate::defaults::{DEFAULT_ENTRIES, DEFAULT_LIMIT};
 use crate::grow::grow_deck;
 use crate::judge::{Draft, verdict};
+use crate::places::event_in;
 use deck_form::{Statements, Stmt, statement};
 use deck_scan::{Lines, TokenLine, refused};
 use grs_base::{Kind, List, Lists, MOST_LINES, NoMemory, ReadError};
-use grs_wire::Deck;
+use grs_wire::{Deck, Event};
 use std::alloc::Global;
 
 fn is_schedule(st: &Stmt<'_>) -> bool
@@ -38,29 +40,36 @@ fn line_count(st: &Stmt<'_>) -> u32
     }
 }
 
-/// Adds what a statement without a fault says.
-fn grow(draft: &mut Draft, alloc: Global, st: &Stmt<'_>) -> Result<(), NoMemory>
+/// Adds what a statement without a fault says, where `event` is the event that it is.
+fn grow(
+    draft: &mut Draft,
+    alloc: Global,
+    st: &Stmt<'_>,
+    event: Option<Event>,
+) -> Result<(), NoMemory>
     requires right { verdict draft.old st.now ≡ None }
     requires systems { Fits draft.old.deck.systems }
     requires lists { AreLists draft.old.deck.lists }
+    requires event { event ≡ event_in draft.old.deck.systems st.now }
     ensures { OnOk result (draft.new ≡ grow draft.old st.now) }
 {
     draft.begun = true;
     draft.scheduled = draft.scheduled || is_schedule(st);
     draft.room = draft.room.saturating_sub(line_count(st));
-    grow_deck(&mut draft.deck, alloc, st)
+    grow_deck(&mut draft.deck, alloc, st, event)
 }
 
-/// Takes a statement of the right form.
+/// Takes a statement of the right form. The event that it is, if it is one, is looked up once.
 fn take_statement(draft: &mut Draft, alloc: Global, at: u32, st: &Stmt<'_>) -> Result<(), ReadError>
     requires systems { Fits draft.old.deck.systems }
     requires lists { AreLists draft.old.deck.lists }
     ensures { Took result draft.new (judge_statement draft.old at st.now) }
 {
-    match verdict(draft, st) {
+    let event = event_in(draft.deck.systems.as_slice(), st);
+    match verdict(draft, st, event) {
         Some(kind) => Err(refused(at, kind)),
         None => {
-            grow(draft, alloc, st)?;
+            grow(draft, alloc, st, event)?;
             Ok(())
         }
     }
