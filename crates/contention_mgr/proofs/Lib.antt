@@ -5,6 +5,7 @@ pub mod UntoldLemmas
 pub mod LoadLemmas
 pub mod SlotLemmas
 pub mod LawProofs
+pub mod ElementLemmas
 pub mod OwnLemmas
 pub mod ManagerLaws
 pub mod Samples

@@ -3,3 +3,4 @@ pub mod Marks
 pub mod Untold
 pub mod Loads
 pub mod Laws
+pub mod Elements

@@ -1,4 +1,5 @@
 //! Laws of what a manager keeps: each function's contract is one, and there is nothing to run.
+ghost use Rattle.contention_mgr.specs.Elements.{ElementsAreAskers, TellingKeepsElements};
 ghost use Rattle.contention_mgr.specs.Laws.{ListsFollow, TellingKeepsLists, RanksBegin, LoadedRanksRise, RanksRise, TellingKeepsRanks, FirstIsAny, FirstIsUntold, UntoldOwnBegins, LoadedUntoldOwn, UntoldStayOwners, TellingKeepsUntoldOwn, FirstUntoldOwns, UntoldFollow, GainersAreUntold, TellingTells, LoadedAreTold, OthersStay, WellKeptBegins, EntriesAreWellKept, RequestsKeepWell, TellingKeepsWell};
 
 /// The plain lists of an entry after a request are what the request makes of them.
@@ -84,6 +85,16 @@ pub fn telling_tells()
 /// Of an entry that is loaded nobody is still to be told.
 pub fn loaded_are_told()
     ensures { LoadedAreTold }
+{}
+
+/// The elements after a request are of tasks that had one before it, or of the asker.
+pub fn elements_are_askers()
+    ensures { ElementsAreAskers }
+{}
+
+/// Telling an owner adds no element.
+pub fn telling_keeps_elements()
+    ensures { TellingKeepsElements }
 {}
 
 /// A request leaves what is kept of other entries than its own.

@@ -1,5 +1,5 @@
 //! The manager of a system: of each lock entry what it keeps, where it manages it.
-ghost use Rattle.std.specs.Prelude.{◌≡◌, ◌≢◌, ◌<◌, ◌≤◌, ◌+◌, ◌==◌, ℕ, true, false, is_some, length, replicate, slice_set, None, Some, option_map, IfOk, OnOk, OnErr};
+ghost use Rattle.std.specs.Prelude.{◌≡◌, ◌≢◌, ◌<◌, ◌≤◌, ◌+◌, ◌==◌, ℕ, true, false, is_some, length, replicate, slice_set, None, Some, option_map, IfOk, IfSome, OnOk, OnErr};
 ghost use Rattle.std.specs.Option.{option_copied};
 ghost use Rattle.grs_wire.specs.Wants.{answer_to, new_owners};
 ghost use Rattle.contention_mgr.specs.Loads.{IsLoadable, loaded, last_rank};
@@ -49,7 +49,8 @@ fn empty_slots(alloc: Global, entries: u32) -> Result<Vec<Option<Entry>>, NoMemo
 /// The lock entry of a resource.
 fn res_entry(entries: u32, res: &Res) -> Option<u32>
     requires { entries ≢ 0 }
-    ensures { result ≡ entry_of_res entries res.now }
+    ensures entry { result ≡ entry_of_res entries res.now }
+    ensures below { IfSome result (λ entry. entry < entries) }
 {
     match res {
         Res::Systems { q, r } => Some(entry_of(slice_of(q, r), entries)),
@@ -78,7 +79,8 @@ fn are_of(entries: u32, entry: u32, first: u32, count: u32) -> bool
 /// The lock entry of looks at so many slices from this one on.
 fn looks_entry(entries: u32, first: u32, count: u32) -> Option<u32>
     requires { entries ≢ 0 }
-    ensures { result ≡ entry_of_looks entries first count }
+    ensures entry { result ≡ entry_of_looks entries first count }
+    ensures below { IfSome result (λ entry. entry < entries) }
 {
     if count == 0 || first > SLICES || count > SLICES - first {
         return None;
@@ -94,7 +96,8 @@ fn looks_entry(entries: u32, first: u32, count: u32) -> Option<u32>
 /// The lock entry of a request.
 fn wanted_entry(entries: u32, want: &Want) -> Option<u32>
     requires { entries ≢ 0 }
-    ensures { result ≡ entry_wanted entries want.now }
+    ensures entry { result ≡ entry_wanted entries want.now }
+    ensures below { IfSome result (λ entry. entry < entries) }
 {
     match want {
         Want::Enq { res, .. } | Want::Deq { res, .. } | Want::Release { res } => {
@@ -185,6 +188,29 @@ impl Manager {
             slots,
             alloc,
         })
+    }
+
+    /// The system.
+    pub fn system(&self) -> SysId
+        ensures { result ≡ self.now.system }
+    {
+        self.system
+    }
+
+    /// The lock entry of a resource. Only one of the whole complex has one.
+    pub fn entry_of(&self, res: &Res) -> Option<u32>
+        ensures entry { result ≡ entry_of_res (length self.now.entries) res.now }
+        ensures below { IfSome result (λ entry. entry < length self.now.entries) }
+    {
+        res_entry(self.entries, res)
+    }
+
+    /// The lock entry of a request; one for looks has it where there are its slices, one at least, and all are of it.
+    pub fn entry_wanted(&self, want: &Want) -> Option<u32>
+        ensures entry { result ≡ entry_wanted (length self.now.entries) want.now }
+        ensures below { IfSome result (λ entry. entry < length self.now.entries) }
+    {
+        wanted_entry(self.entries, want)
     }
 
     /// Whether an entry is managed.

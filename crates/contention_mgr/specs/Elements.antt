@@ -1,0 +1,22 @@
+-- Whose elements a manager keeps.
+use Rattle.std.specs.Prelude.{◌≡◌, Bool, true, List, Option}
+use Rattle.std.specs.List.{list_all}
+use Rattle.grs_base.specs.declared.resource.Res.{Res}
+use Rattle.grs_base.specs.declared.resource.TaskId.{TaskId}
+use Rattle.grs_wire.specs.declared.request.Want.{Want}
+use Rattle.contention_mgr.specs.Manager.{Ranked, Managed, ManagerView, items_of, after_request, after_telling}
+
+-- whether the task of each element is such a one, of one entry and of all
+abbrev pub elements_of : (TaskId → Bool) → List Ranked → Bool
+elements_of p xs = list_all (λ x. p x.elem.task) xs
+
+abbrev pub all_of : (TaskId → Bool) → List (Option Managed) → Bool
+all_of p entries = list_all (λ o. elements_of p (items_of o)) entries
+
+-- The elements after a request are of tasks that had one before it, or of the asker.
+abbrev pub ElementsAreAskers : Type 0
+ElementsAreAskers = (p : TaskId → Bool) (v : ManagerView) (t : TaskId) (w : Want) → p t ≡ true → all_of p v.entries ≡ true → all_of p (after_request v t w).entries ≡ true
+
+-- Telling an owner adds none.
+abbrev pub TellingKeepsElements : Type 0
+TellingKeepsElements = (p : TaskId → Bool) (v : ManagerView) (t : TaskId) (r : Res) → all_of p v.entries ≡ true → all_of p (after_telling v t r).entries ≡ true
