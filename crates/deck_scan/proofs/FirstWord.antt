@@ -1,5 +1,5 @@
 -- The same lines are to come behind a gap, and a word behind it is the first of the next line.
-use Rattle.std.proofs.Common.{◌≡◌, ℕ, ◌+◌, ◌-◌, ◌<◌, Bool, true, false, cond, not, eqb, List, [], ◌∷◌, ◌++◌, length, drop, Option, Some, None, is_some, refl, sym, ap, subst, ◌∙◌, arith}
+use Rattle.std.proofs.Common.{◌≡◌, ℕ, ◌+◌, ◌<◌, Bool, true, false, cond, not, eqb, List, [], ◌∷◌, ◌++◌, length, drop, Option, Some, None, is_some, refl, sym, ap, subst, ◌∙◌, arith}
 use Rattle.std.specs.Prelude.{◌&&◌, ◌||◌, ◌==◌}
 use Rattle.std.specs.Str.{bytes_eq}
 use Rattle.std.specs.List.{list_all}
@@ -11,16 +11,16 @@ use Rattle.deck_scan.specs.declared.token.Token.TheVariants.{Word, Name, Open, C
 use Rattle.deck_scan.specs.declared.token.TokenLine.{TokenLine}
 use Rattle.deck_scan.specs.declared.cursor.Cursor.{Cursor}
 use Rattle.deck_scan.specs.Bytes.{begins, is_word, is_allowed}
-use Rattle.deck_scan.specs.AnyBytes.{wrong_byte, readable}
+use Rattle.deck_scan.specs.AnyBytes.{readable}
 use Rattle.deck_scan.specs.Pieces.{Piece, Plain, Quoted, Hexed, Sign, Blank, Comment, LineEnd, LoneSlash, StrayByte, OpenQuote, OpenHexed, OpenComment, sign, spelled, is_mark, is_nonempty, is_piece, followed_by, are_pieces, is_hexed, unhex, hex_token, lines_with, Place, next_line, over, over_open, past, past_all, without_cr}
 use Rattle.deck_scan.specs.Scan.{Scan, InComment, AfterStar, put, step, step_in, begin, begin_word, end_line, finish_in, scan_from}
 use Rattle.deck_scan.specs.Rows.{at_row, to_come, coming, word_in, front_word, first_word, IsSplit, starts, begins_gap, ends_text, is_at_token, GoesOver}
-use Rattle.deck_scan.proofs.Said.{state, at_end, not_true, test_not, word_13}
+use Rattle.deck_scan.proofs.Said.{state, at_end, not_true, test_not}
 use Rattle.deck_scan.proofs.Found.{by_test, found_pieces}
 use Rattle.deck_scan.proofs.Names.{printable-no_cr, plain_printable, all_kept}
-use Rattle.deck_scan.proofs.Pieces.{nil_of, rest_is}
+use Rattle.deck_scan.proofs.Pieces.{nil_of}
 use Rattle.deck_scan.proofs.Ahead.{fresh_place, read_said}
-use Rattle.deck_scan.proofs.Rows.{readable_row, readable_ok, pair_front, row_inside, comment_done, none_comes, one_comes}
+use Rattle.deck_scan.proofs.Rows.{readable_row, readable_ok, pair_front, row_inside, comment_done}
 
 -- ---- a byte or two of a gap
 

@@ -1,7 +1,6 @@
 -- What stands open is told without tokens, and so the closing parentheses are counted.
-use Rattle.std.proofs.Common.{◌≡◌, inl, inr, ◌⊎◌, ℕ, zero, suc, ◌+◌, ◌-◌, ◌<◌, ◌≤◌, Bool, true, false, cond, eqb, List, [], ◌∷◌, ◌++◌, length, take, drop, refl, sym, ap, subst, ◌∙◌, arith, append_assoc, append-nil, length-append}
-use Rattle.std.specs.Prelude.{◌&&◌, ◌||◌}
-use Rattle.std.specs.Str.{bytes_eq}
+use Rattle.std.proofs.Common.{◌≡◌, inl, inr, ◌⊎◌, ℕ, zero, suc, ◌+◌, ◌-◌, ◌<◌, ◌≤◌, Bool, true, false, cond, eqb, List, [], ◌∷◌, ◌++◌, length, take, refl, sym, ap, subst, ◌∙◌, arith, append_assoc, append-nil, length-append}
+use Rattle.std.specs.Prelude.{◌&&◌}
 use Rattle.std.proofs.Math.Seq.{take-append_seam}
 use Rattle.std.proofs.lemmas.Bool.{eqb-true}
 use Rattle.std.proofs.lemmas.List.{take-append-le}
@@ -347,6 +346,3 @@ sought_found text n o left rest none h =
       has = omega (arith, all, whole, k, none);
       fewest = λ k lt. subst (λ (t : List ℕ). all_closes (lines_of t) < n) (sym (ap (take k) h.parts ∙ take-append-le k h.front rest (omega (arith, lt)))) (h.fewest k lt);
     })
-
-pub sought_within : (text : List ℕ) (n : ℕ) (o : Open) (left : ℕ) (rest : List ℕ) → Sought text n o left rest → length rest ≤ length text
-sought_within text n o left rest h = let e = ap length h.parts in omega (arith, e, length-append h.front rest)

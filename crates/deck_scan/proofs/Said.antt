@@ -22,7 +22,7 @@ not_true false h = refl
 pub test_not : (p : ℕ → Bool) (b n : ℕ) → p b ≡ true → p n ≡ false → eqb b n ≡ false
 test_not p b n h not_n = ne_eqb b n (λ e. let P : ℕ → Type 0 = λ m. p m ≡ true in let k : p n ≡ true = subst P e h in let z : false ≡ true = sym not_n ∙ k in cc)
 
-pub word_13 : is_word 13 ≡ false
+word_13 : is_word 13 ≡ false
 unfolding is_word
 word_13 = refl
 

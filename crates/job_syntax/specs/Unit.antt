@@ -1,5 +1,5 @@
 -- Units of devices, as four hexadecimal digits.
-use Rattle.std.specs.Prelude.{ℕ, ◌==◌, ◌+◌, ◌-◌, ◌*◌, List, [], ◌∷◌, length, Option, Some, None, if◌then◌else◌}
+use Rattle.std.specs.Prelude.{ℕ, ◌==◌, ◌+◌, ◌*◌, List, [], ◌∷◌, length, Option, Some, None, if◌then◌else◌}
 use Rattle.deck_scan.specs.Bytes.{is_hex, digit}
 use Rattle.deck_scan.specs.Next.{◌>>=◌}
 
