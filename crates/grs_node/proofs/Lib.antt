@@ -1,7 +1,14 @@
+pub mod EitherLaws
 pub mod ScriptCounts
 pub mod Places
 pub mod Kept
 pub mod Deck
 pub mod Entries
 pub mod Finish
+pub mod Flags
+pub mod Calls
+pub mod Keeping
+pub mod Fits
+pub mod InRing
 pub mod Samples
+pub mod StarSamples

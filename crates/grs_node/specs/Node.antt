@@ -16,6 +16,8 @@ use Rattle.grs_wire.specs.declared.deck.Choice.TheVariants as choices
 use Rattle.grs_wire.specs.declared.deck.Deck.{Deck}
 use Rattle.grs_wire.specs.declared.deck.SystemDef.{SystemDef}
 use Rattle.grs_wire.specs.declared.medium.Act.TheVariants as acts
+use Rattle.grs_wire.specs.declared.medium.Mail.{Mail}
+use Rattle.grs_wire.specs.declared.medium.Mail.TheVariants as mails
 use Rattle.grs_wire.specs.declared.medium.Reply.{Reply}
 use Rattle.grs_wire.specs.declared.medium.Reply.TheVariants as replies
 use Rattle.grs_wire.specs.declared.medium.RingBody.{RingBody}
@@ -28,6 +30,9 @@ use Rattle.grs_wire.specs.declared.request.Want.{Want}
 use Rattle.grs_wire.specs.declared.request.Want.TheVariants.{Enq, Deq, Release}
 use Rattle.grs_wire.specs.declared.told.Verb.TheVariants as verbs
 use Rattle.grs_wire.specs.declared.told.ToldLine.TheVariants as told
+use Rattle.grs_node.specs.Star.{StarPart, StarStep, first_part, to_tell, first_held, is_part_pending, send_of, settle_by, tell_by, leave_by, quiet_step, own_step, took_mail, send_step, settle_step, tell_step, leave_step}
+use Rattle.grs_node.specs.declared.star.Need.{Need}
+use Rattle.grs_node.specs.declared.star.Need.TheVariants.{Alone, Asks, Idle}
 use Rattle.grs_node.specs.declared.prepared.Prepared.{Prepared}
 use Rattle.grs_node.specs.declared.prepared.Prepared.TheVariants.{Quiet, Call, Nothing}
 use Rattle.ring_mode.specs.Ring.{Side, side_of, is_for_all, process_entry}
@@ -37,16 +42,21 @@ use Rattle.task_state.specs.declared.state.Phase.{Phase}
 use Rattle.task_state.specs.declared.state.Phase.TheVariants as phases
 use Rattle.task_state.specs.View.{TasksView, new_tasks, is_task, state_of, record_of, with_line, with_phase, with_outstanding, telling}
 
--- A system: its tasks; the lists of its own Step and System resources; its table of the Systems resources; the
--- requests that wait to be put into the message, in order; the set of the systems that it knows to be removed;
--- and how many lines of its desk are done.
+-- A system: its tasks; the lists of its own Step and System resources; in ring mode its table of the Systems resources,
+-- and the requests that wait to be put into the message, in order; in star mode its part there; the set of the systems
+-- that it knows to be removed; and how many lines of its desk are done.
 pub record Node : Type 0 where
   pub tasks : TasksView
   pub held : State
   pub shared : State
   pub outbox : List Req
+  pub star : Option StarPart
   pub known : ℕ
   pub done : ℕ
+
+-- the part in star mode of a system that begins in it
+abbrev pub part_at_first : Deck → ℕ → Option StarPart
+part_at_first deck s = cond deck.star (Some (first_part (record { 0 = s }) deck.entries)) None
 
 -- a system at the start: nothing is queued and no task has begun
 unfoldable pub first_node : Deck → ℕ → Node
@@ -55,6 +65,7 @@ first_node deck s = record {
   held = [];
   shared = [];
   outbox = [];
+  star = part_at_first deck s;
   known = 0;
   done = 0;
 }
@@ -93,16 +104,20 @@ decide n t w unit =
       fixed = fixes.Asked (record { task = t; want = w }) ∷ [];
     }
 
--- a request that waits to be put into the message
+-- the requests that wait to be put into the message, with one more; in star mode none does
+abbrev pub outbox_with : Node → Req → List Req
+outbox_with n q = cond (is_some n.star) n.outbox (n.outbox ++ q ∷ [])
+
+-- a request that waits to be put into the message, or, in star mode, to be sent
 unfoldable pub post : Node → TaskId → Want → Option ℕ → Step
 post n t w unit =
     let q : Req = record { task = t; want = w } in
     only (record n {
       tasks = with_outstanding (with_phase n.tasks t phases.ToSend) t (Some (record { req = q; unit = unit }));
-      outbox = n.outbox ++ q ∷ [];
+      outbox = outbox_with n q;
     })
 
--- a request: decided at once, or, for a resource of the whole complex, kept until it can be put in
+-- a request: decided at once, or, for a resource of the whole complex, kept until it can be put in or sent
 unfoldable pub ask : Node → TaskId → Want → Option ℕ → Step
 ask n t w unit = cond (is_for_all (res_wanted w)) (post n t w unit) (decide n t w unit)
 
@@ -154,27 +169,81 @@ abbrev pub desk_count : Option SystemDef → ℕ
 desk_count None = 0
 desk_count (Some s) = length s.desk
 
--- Whether something is pending: a task that has something to do by itself, a request in the outbox, or a line of
--- the desk.
+-- whether a task in this phase has a request that waits to be put in or sent
+abbrev pub is_to_send : Phase → Bool
+is_to_send phases.ToSend = true
+is_to_send _ = false
+
+-- whether in star mode something is pending: a request that waits to be sent, one that is held, or an owner of another
+-- system who is still to be told
+abbrev pub is_star_pending : TasksView → Option StarPart → Bool
+is_star_pending v None = false
+is_star_pending v (Some p) = list_any (λ x. is_to_send x.phase) v.tasks || is_part_pending p
+
+-- Whether something is pending: a task that has something to do by itself, a request in the outbox, something of star
+-- mode, or a line of the desk.
 unfoldable pub is_pending : Deck → Node → Bool
 is_pending deck n =
     list_any (λ x. goes_on x.phase) n.tasks.tasks
-    || (not (length n.outbox == 0) || nat_lt n.done (desk_count (slice_get deck.systems n.tasks.system)))
+    || (not (length n.outbox == 0) || (is_star_pending n.tasks n.star || nat_lt n.done (desk_count (slice_get deck.systems n.tasks.system))))
+
+-- whether a task is one of the deck
+abbrev pub is_of_deck : Deck → TaskId → Bool
+is_of_deck deck t = is_some (lines_of deck t)
 
 -- a task of this system and of the deck that has something to do
 unfoldable pub may_go : Deck → Node → TaskId → Bool
-may_go deck n t = is_task n.tasks t && (is_some (lines_of deck t) && goes_on (state_of n.tasks t).phase)
+may_go deck n t = is_task n.tasks t && (is_of_deck deck t && goes_on (state_of n.tasks t).phase)
+
+-- a task of this system and of the deck whose request waits to be sent
+unfoldable pub may_send : Deck → Node → TaskId → Bool
+may_send deck n t = is_task n.tasks t && (is_of_deck deck t && is_to_send (state_of n.tasks t).phase)
+
+-- what a Turn asks, which is none in star mode
+abbrev pub turn_call : Node → Option StarPart → Prepared
+turn_call n None = Call (record { known = n.known; act = acts.Turn (take most_additions n.outbox) })
+turn_call n (Some p) = Nothing
+
+-- what an event of star mode comes to by what it needs
+abbrev pub prepared_by : ℕ → Need → Prepared
+prepared_by known Alone = Quiet
+prepared_by known (Asks act) = Call (record { known = known; act = act })
+prepared_by known Idle = Nothing
+
+-- what an event of star mode needs
+abbrev pub star_need : Deck → Node → StarPart → Choice → Need
+star_need deck n p (choices.Send t) = cond (may_send deck n t) (send_of p t (state_of n.tasks t).outstanding) Idle
+star_need deck n p choices.Take = Asks acts.Take
+star_need deck n p choices.Settle = settle_by p (first_held p)
+star_need deck n p (choices.Tell e) = tell_by (to_tell p e)
+star_need deck n p (choices.Leave e) = leave_by p n.tasks e
+star_need deck n p _ = Idle
+
+-- an event of star mode has nothing to do in a ring
+unfoldable pub star_call : Deck → Node → Option StarPart → Choice → Prepared
+star_call deck n None choice = Nothing
+star_call deck n (Some p) choice = prepared_by n.known (star_need deck n p choice)
 
 -- What a choice comes to.
 unfoldable pub prepare : Deck → Node → Choice → Prepared
 prepare deck n (choices.Task t) = cond (may_go deck n t) Quiet Nothing
-prepare deck n choices.Turn = Call (record { known = n.known; act = acts.Turn (take most_additions n.outbox) })
+prepare deck n choices.Turn = turn_call n n.star
 prepare deck n choices.Rest = cond (is_pending deck n) Nothing (Call (record { known = n.known; act = acts.Rest }))
-prepare deck n _ = Nothing
+prepare deck n choice = star_call deck n n.star choice
+
+-- a system with this step of star mode
+abbrev pub with_star : Node → StarStep → Step
+with_star n s = record { node = record n { tasks = s.tasks; star = Some s.part }; fixed = s.fixed }
+
+-- a manager decides the request of its own task that waits to be sent
+abbrev pub send_own : Node → TaskId → Option StarPart → Step
+send_own n t None = only n
+send_own n t (Some p) = with_star n (own_step n.tasks p t (state_of n.tasks t).outstanding)
 
 -- a choice that is done without a call
 unfoldable pub finish_quiet : Deck → Node → Choice → Step
 finish_quiet deck n (choices.Task t) = task_step deck.limit n t (lines_of deck t)
+finish_quiet deck n (choices.Send t) = send_own n t n.star
 finish_quiet deck n _ = only n
 
 -- a system with this part for the ring
@@ -184,10 +253,6 @@ with_side n side = record n { tasks = side.tasks; shared = side.shared }
 -- A system processes that another one is removed. Until removals are built it does nothing.
 abbrev pub process_removal : Node → SysId → Node
 process_removal n target = n
-
--- whether a task is one of the deck
-abbrev pub is_of_deck : Deck → TaskId → Bool
-is_of_deck deck t = is_some (lines_of deck t)
 
 -- A system processes an entry of the message. A request of a task that isn't of the deck has no effect.
 abbrev pub read_entry : Deck → Node → RingBody → Node
@@ -211,13 +276,40 @@ put_in n taken = record {
   fixed = map fixes.Asked (take taken n.outbox);
 }
 
+-- whether the tasks and systems that a mail names are of the deck
+abbrev pub is_for_deck : Deck → Mail → Bool
+is_for_deck deck (mails.Request e from q) = nat_lt from.0 (length deck.systems) && is_of_deck deck q.task
+is_for_deck deck (mails.Answered t answer rank) = is_of_deck deck t
+is_for_deck deck (mails.Granted t r) = is_of_deck deck t
+
+-- A mail was taken. One that names what isn't of the deck has no effect.
+abbrev pub take_mail : Deck → TasksView → StarPart → Mail → StarStep
+take_mail deck v p mail = cond (is_for_deck deck mail) (took_mail v p mail) (quiet_step v p)
+
+abbrev pub take_step : Deck → TasksView → StarPart → Reply → StarStep
+take_step deck v p (replies.Taken mail) = take_mail deck v p mail
+take_step deck v p reply = quiet_step v p
+
+-- what the reply to a call of star mode comes to
+abbrev pub star_step : Deck → TasksView → StarPart → Choice → Reply → StarStep
+star_step deck v p (choices.Send t) reply = send_step v p t reply
+star_step deck v p choices.Take reply = take_step deck v p reply
+star_step deck v p choices.Settle reply = settle_step v p reply
+star_step deck v p (choices.Tell e) reply = tell_step v p e reply
+star_step deck v p (choices.Leave e) reply = leave_step v p e reply
+star_step deck v p choice reply = quiet_step v p
+
+unfoldable pub finish_star : Deck → Node → Option StarPart → Choice → Reply → Step
+finish_star deck n None choice reply = only n
+finish_star deck n (Some p) choice reply = with_star n (star_step deck n.tasks p choice reply)
+
 -- The reply to a call. Those that say nothing new change nothing.
-unfoldable pub finish_call : Deck → Node → Reply → Step
-finish_call deck n (replies.Turned entries taken closed) = put_in (read_entries deck n entries) taken
-finish_call deck n (replies.Stale set) = only (record n { known = set })
-finish_call deck n _ = only n
+unfoldable pub finish_call : Deck → Node → Choice → Reply → Step
+finish_call deck n choice (replies.Turned entries taken closed) = put_in (read_entries deck n entries) taken
+finish_call deck n choice (replies.Stale set) = only (record n { known = set })
+finish_call deck n choice reply = finish_star deck n n.star choice reply
 
 -- What a system is after a choice, with the reply if a call was made.
 unfoldable pub finish : Deck → Node → Choice → Option Reply → Step
 finish deck n choice None = finish_quiet deck n choice
-finish deck n choice (Some reply) = finish_call deck n reply
+finish deck n choice (Some reply) = finish_call deck n choice reply

@@ -4,11 +4,13 @@ ghost use Rattle.std.specs.List.{list_any};
 ghost use Rattle.std.specs.Option.{option_copied};
 ghost use Rattle.grs_node.specs.Node as steps;
 ghost use Rattle.grs_legal.specs.Asks.{lines_in, scripts_of};
+ghost use Rattle.grs_node.specs.TurnCalls.{turn_prepared};
 ghost use Rattle.task_state.specs.View.{is_task, state_of};
 
 use super::lines::goes_on;
 use super::prepared::{Prepared, TurnCall};
-use super::scripts::{Script, lines_among, system_at};
+use super::scripts::{Script, is_of_deck, lines_among, system_at};
+use super::star::{Need, StarPart, any_to_send, is_to_send};
 use super::state::NodeState;
 use grs_base::{List, NoMemory, TaskId, copy_all};
 use grs_wire::{Act, Call, Choice, Deck, Req, SystemDef};
@@ -51,14 +53,26 @@ fn any_goes_on(tasks: &[TaskState]) -> bool
 }
 
 impl NodeState {
-    /// Whether something is pending: a task that has something to do by itself, a request in the outbox, or a
-    /// line of the desk.
+    /// Whether in star mode something is pending: a request that waits to be sent, one that is held, or an owner of
+    /// another system who is still to be told.
+    fn is_star_pending(&self) -> bool
+        ensures { result ≡ steps.is_star_pending self.now.tasks self.now.star }
+    {
+        match &self.star {
+            None => false,
+            Some(part) => any_to_send(self.tasks.all()) || part.is_pending(),
+        }
+    }
+
+    /// Whether something is pending: a task that has something to do by itself, a request in the outbox, something of
+    /// star mode, or a line of the desk.
     #[tactic(auto, unfolding(crate::specs::Node::is_pending))]
     pub(crate) fn is_pending(&self, deck: &Deck) -> bool
         ensures { result ≡ steps.is_pending deck.now self.now }
     {
         any_goes_on(self.tasks.all())
             || self.outbox.len() != 0
+            || self.is_star_pending()
             || (self.done as usize) < desk_count(system_at(deck, self.tasks.system()))
     }
 
@@ -71,15 +85,72 @@ impl NodeState {
             && goes_on(self.tasks.phase(task))
     }
 
-    /// What a Turn asks.
-    pub(crate) fn prepare_turn(&self, alloc: Global) -> Result<TurnCall, NoMemory>
-        ensures { IfOk result (λ turn. turn ≡ record { known = self.now.known; out = take steps.most_additions self.now.outbox }) }
+    /// Whether a task is of this system and of the deck, and has a request that waits to be sent.
+    #[tactic(auto, unfolding(crate::specs::Node::may_send))]
+    fn may_send(&self, deck: &Deck, task: TaskId) -> bool
+        ensures { result ≡ steps.may_send deck.now self.now task }
     {
+        self.tasks.has(task) && is_of_deck(deck, task) && is_to_send(self.tasks.phase(task))
+    }
+
+    /// What a Turn asks. In star mode it is none.
+    pub(crate) fn prepare_turn(&self, alloc: Global) -> Result<Option<TurnCall>, NoMemory>
+        ensures { IfOk result (λ turn. turn_prepared turn ≡ steps.turn_call self.now self.now.star) }
+    {
+        if self.star.is_some() {
+            return Ok(None);
+        }
         let out = additions(alloc, self.outbox.as_slice())?;
-        Ok(TurnCall {
+        Ok(Some(TurnCall {
             known: self.known,
             out,
-        })
+        }))
+    }
+
+    /// What an event of star mode needs.
+    #[tactic(auto, using(crate::proofs::Calls::senders))]
+    fn star_need(
+        &self,
+        alloc: Global,
+        deck: &Deck,
+        part: &StarPart,
+        choice: Choice,
+    ) -> Result<Need, NoMemory>
+        ensures { IfOk result (λ need. need ≡ steps.star_need deck.now self.now part.now choice) }
+    {
+        match choice {
+            Choice::Send(task) if self.may_send(deck, task) => {
+                part.send(alloc, task, self.tasks.asked(task))
+            }
+            Choice::Take => Ok(Need::Asks(Act::Take)),
+            Choice::Settle => part.settle(),
+            Choice::Tell(entry) => part.tell(entry),
+            Choice::Leave(entry) => Ok(part.leave(&self.tasks, entry)),
+            Choice::Task(_)
+            | Choice::Turn
+            | Choice::Send(_)
+            | Choice::Switch
+            | Choice::Purge(_)
+            | Choice::Rest => Ok(Need::Idle),
+        }
+    }
+
+    /// What an event of star mode comes to. It has nothing to do in a ring.
+    #[tactic(auto, unfolding(crate::specs::Node::star_call))]
+    fn prepare_star(&self, alloc: Global, deck: &Deck, choice: Choice) -> Result<Prepared, NoMemory>
+        ensures { IfOk result (λ prepared. prepared ≡ steps.star_call deck.now self.now self.now.star choice) }
+    {
+        let Some(part) = &self.star else {
+            return Ok(Prepared::Nothing);
+        };
+        match self.star_need(alloc, deck, part, choice)? {
+            Need::Alone => Ok(Prepared::Quiet),
+            Need::Asks(act) => Ok(Prepared::Call(Call {
+                known: self.known,
+                act,
+            })),
+            Need::Idle => Ok(Prepared::Nothing),
+        }
     }
 
     /// What a choice comes to.
@@ -96,26 +167,25 @@ impl NodeState {
     {
         match choice {
             Choice::Task(task) if self.may_go(scripts, task) => Ok(Prepared::Quiet),
-            Choice::Turn => {
-                let TurnCall { known, out } = self.prepare_turn(alloc)?;
-                Ok(Prepared::Call(Call {
+            Choice::Turn => match self.prepare_turn(alloc)? {
+                None => Ok(Prepared::Nothing),
+                Some(TurnCall { known, out }) => Ok(Prepared::Call(Call {
                     known,
                     act: Act::Turn { out },
-                }))
-            }
+                })),
+            },
             Choice::Rest if !self.is_pending(deck) => Ok(Prepared::Call(Call {
                 known: self.known,
                 act: Act::Rest,
             })),
-            Choice::Task(_)
-            | Choice::Send(_)
+            Choice::Task(_) | Choice::Rest => Ok(Prepared::Nothing),
+            Choice::Send(_)
             | Choice::Take
             | Choice::Settle
             | Choice::Tell(_)
             | Choice::Leave(_)
             | Choice::Switch
-            | Choice::Purge(_)
-            | Choice::Rest => Ok(Prepared::Nothing),
+            | Choice::Purge(_) => self.prepare_star(alloc, deck, choice),
         }
     }
 }

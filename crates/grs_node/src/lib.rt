@@ -8,9 +8,12 @@ mod lines;
 mod node;
 mod prepared;
 mod scripts;
+mod star;
+mod star_replies;
 mod state;
 pub mod threads;
 mod turn;
 
 pub use node::Node;
 pub use prepared::{Prepared, TurnCall};
+pub use star::Need;

@@ -1,12 +1,13 @@
 //! A system with its deck and what it keeps of its own events. A choice is prepared; it makes at most one call
 //! of the medium, which somebody else carries out; and with the reply it is finished.
 ghost use Rattle.std.specs.Prelude.{◌≡◌, ◌<◌, ◌++◌, ◌∷◌, [], Some, true, drop, length, IfOk, IfSome, IfNone, OnOk};
-ghost use Rattle.grs_wire.specs.Decks.{IsDeck};
+ghost use Rattle.grs_node.specs.EitherMode.{IsDeckInEitherMode};
 ghost use Rattle.task_state.specs.Units.{counted, reserved_of};
 ghost use Rattle.task_state.specs.View.{is_task, state_of};
 ghost use Rattle.grs_node.specs.Node as steps;
-ghost use Rattle.grs_node.specs.Finish.{MayFinish};
-ghost use Rattle.grs_node.specs.TurnCalls.{call_of};
+ghost use Rattle.grs_node.specs.Finish.{MayFinish, may_come};
+ghost use Rattle.grs_node.specs.Addressed.{is_addressed};
+ghost use Rattle.grs_node.specs.TurnCalls.{turn_prepared};
 ghost use Rattle.grs_wire.specs.declared.deck.Choice.TheVariants.{Turn};
 ghost use Rattle.grs_wire.specs.declared.medium.Reply.TheVariants.{Turned};
 ghost use Rattle.grs_node.specs.Log.{starting, stepped, finished, end_in};
@@ -34,13 +35,14 @@ pub struct Node<'d> {
 impl<'d> Model for Node<'d> {
     ghost use Rattle.std.specs.Prelude.{◌≡◌};
     ghost use Rattle.grs_legal.specs.Asks.{scripts_of};
+    ghost use Rattle.grs_node.specs.Addressed.{NodeFits};
     ghost use Rattle.grs_node.specs.Log.{NodeView};
 
     ghost Value = { NodeView };
 
     ghost view = { λ a. record { deck = a.deck.now; node = a.state; log = a.log.steps } };
 
-    ghost invariant = { λ a. a.scripts ≡ scripts_of a.deck.now a.state.tasks.system };
+    ghost invariant = { λ a. (a.scripts ≡ scripts_of a.deck.now a.state.tasks.system) × NodeFits a.deck.now a.state };
 }
 
 /// The lines from a place on.
@@ -76,15 +78,15 @@ fn step_of(
 
 impl<'d> Node<'d> {
     /// A system of a deck before its first event.
-    #[tactic(auto, unfolding(crate::specs::Node::first_node))]
+    #[tactic(auto, using(crate::proofs::Fits::first, crate::proofs::EitherLaws::parts), unfolding(crate::specs::Node::first_node))]
     pub fn new(alloc: Global, deck: &'d Deck, system: SysId) -> Result<Node<'d>, NoMemory>
-        requires deck { IsDeck deck.now }
+        requires deck { IsDeckInEitherMode deck.now }
         requires system { system.0 < length deck.now.systems }
         ensures { IfOk result (λ n. n ≡ starting deck.now system.0) }
     {
         let scripts = scripts_of(alloc, deck, system)?;
         let jobs = sizes_of(alloc, deck, system)?;
-        let state = NodeState::new(alloc, system, jobs.as_slice())?;
+        let state = NodeState::new(alloc, deck, system, jobs.as_slice())?;
         Ok(Node {
             deck,
             scripts,
@@ -96,19 +98,21 @@ impl<'d> Node<'d> {
         })
     }
 
-    /// What a choice comes to. It changes nothing.
+    /// What a choice comes to. It changes nothing. A call goes to systems of the deck and to lock entries that there are.
+    #[tactic(auto, using(crate::proofs::Fits::prepares))]
     pub fn prepare(&mut self, choice: &Choice) -> Result<Prepared, NoMemory>
         ensures prepared { IfOk result (λ prepared. prepared ≡ steps.prepare self.old.deck self.old.node choice.now) }
+        ensures addressed { IfOk result (λ prepared. is_addressed self.old.deck prepared ≡ true) }
         ensures same { self.new ≡ self.old }
     {
         self.state
             .prepare(self.alloc, self.deck, self.scripts.as_slice(), *choice)
     }
 
-    /// What a Turn asks: what `prepare` gives of it, without a call of any other kind in between.
+    /// What a Turn asks: what `prepare` gives of it, without a call of any other kind in between. In star mode it is none.
     #[tactic(auto, unfolding(crate::specs::Node::prepare))]
-    pub fn prepare_turn(&mut self) -> Result<TurnCall, NoMemory>
-        ensures prepared { IfOk result (λ turn. call_of turn ≡ steps.prepare self.old.deck self.old.node Turn) }
+    pub fn prepare_turn(&mut self) -> Result<Option<TurnCall>, NoMemory>
+        ensures prepared { IfOk result (λ turn. turn_prepared turn ≡ steps.prepare self.old.deck self.old.node Turn) }
         ensures same { self.new ≡ self.old }
     {
         self.state.prepare_turn(self.alloc)
@@ -132,6 +136,7 @@ impl<'d> Node<'d> {
     }
 
     /// A choice that is done without a call of the medium.
+    #[tactic(auto, using(crate::proofs::Fits::finishes))]
     fn finish_quiet(&mut self, choice: Choice) -> Result<List<Fixed>, NoMemory>
         requires { steps.prepare self.old.deck self.old.node choice ≡ Quiet }
         ensures step { IfOk result (λ fixed. stepped self.new.node fixed ≡ steps.finish_quiet self.old.deck self.old.node choice) }
@@ -141,23 +146,40 @@ impl<'d> Node<'d> {
     {
         let alloc = self.alloc;
         let deck = self.deck;
-        self.state
+        match self
+            .state
             .finish_quiet(alloc, deck, self.scripts.as_slice(), choice)
+        {
+            Ok(fixed) => Ok(fixed),
+            Err(refused) => {
+                self.state.give_up();
+                Err(refused)
+            }
+        }
     }
 
     /// What the reply to a call comes to.
-    fn finish_call(&mut self, reply: Reply) -> Result<List<Fixed>, NoMemory>
-        ensures step { IfOk result (λ fixed. stepped self.new.node fixed ≡ steps.finish_call self.old.deck self.old.node reply) }
+    #[tactic(auto, using(crate::proofs::Fits::finishes))]
+    fn finish_call(&mut self, choice: Choice, reply: Reply) -> Result<List<Fixed>, NoMemory>
+        requires { may_come (steps.prepare self.old.deck self.old.node choice) reply ≡ true }
+        ensures step { IfOk result (λ fixed. stepped self.new.node fixed ≡ steps.finish_call self.old.deck self.old.node choice reply) }
         ensures log { self.new.log ≡ self.old.log }
         ensures deck { self.new.deck ≡ self.old.deck }
         ensures system { self.new.node.tasks.system ≡ self.old.node.tasks.system }
     {
         let alloc = self.alloc;
         let deck = self.deck;
-        self.state.finish_call(alloc, deck, reply)
+        match self.state.finish_call(alloc, deck, choice, reply) {
+            Ok(fixed) => Ok(fixed),
+            Err(refused) => {
+                self.state.give_up();
+                Err(refused)
+            }
+        }
     }
 
     /// What a Turn at the message comes to.
+    #[tactic(auto, using(crate::proofs::Fits::finishes))]
     fn turned(&mut self, entries: List<RingEntry>, taken: u32) -> Result<List<Fixed>, NoMemory>
         ensures step { IfOk result (λ fixed. stepped self.new.node fixed ≡ steps.put_in (steps.read_entries self.old.deck self.old.node entries) taken) }
         ensures log { self.new.log ≡ self.old.log }
@@ -166,7 +188,13 @@ impl<'d> Node<'d> {
     {
         let alloc = self.alloc;
         let deck = self.deck;
-        self.state.turned(alloc, deck, entries, taken)
+        match self.state.turned(alloc, deck, entries, taken) {
+            Ok(fixed) => Ok(fixed),
+            Err(refused) => {
+                self.state.give_up();
+                Err(refused)
+            }
+        }
     }
 
     /// Finishes a choice: without a reply what was prepared to be done without a call, else with the reply to
@@ -187,7 +215,7 @@ impl<'d> Node<'d> {
                 self.keep(*choice, false, fixed, place)
             }
             Some((reply, journalled)) => {
-                let fixed = self.finish_call(reply)?;
+                let fixed = self.finish_call(*choice, reply)?;
                 if journalled {
                     self.keep(*choice, true, fixed, place)
                 } else {
@@ -241,8 +269,8 @@ impl<'d> Node<'d> {
         &self.log
     }
 
-    /// Whether something is pending: a task that has something to do by itself, a request in the outbox, or a
-    /// line of the desk.
+    /// Whether something is pending: a task that has something to do by itself, a request in the outbox, something of
+    /// star mode, or a line of the desk.
     pub fn pending(&self) -> bool
         ensures { result ≡ steps.is_pending self.now.deck self.now.node }
     {

@@ -13,7 +13,7 @@ pub enum Prepared {
     Nothing,
 }
 
-/// What a Turn asks: the set of the systems that the system knows to be removed, and the requests to put in.
+/// What a Turn asks in ring mode: the set of the systems that the system knows to be removed, and the requests to put in.
 #[derive(Drop)]
 pub struct TurnCall {
     pub known: u32,

@@ -1,6 +1,6 @@
 //! A system without its deck: its tasks, its lists and its outbox, and what each event does to them. Each step
 //! gives what it fixed.
-ghost use Rattle.std.specs.Prelude.{◌≡◌, ◌<◌, ◌≤◌, ◌∷◌, [], true, map, length, sum, option_copied, IfOk, IfSome, OnOk};
+ghost use Rattle.std.specs.Prelude.{◌≡◌, ◌<◌, ◌≤◌, ◌≢◌, None, ◌∷◌, [], true, map, length, sum, option_copied, IfOk, IfSome, OnOk};
 ghost use Rattle.grs_base.specs.Limits.{most_lines};
 ghost use Rattle.task_state.specs.View.{new_tasks, is_task, state_of, record_of};
 ghost use Rattle.grs_legal.specs.Asks.{meaning_of, meanings, scripts_of};
@@ -9,9 +9,11 @@ ghost use Rattle.grs_wire.specs.declared.request.Fixed.TheVariants as fixes;
 ghost use Rattle.grs_node.specs.Node as steps;
 ghost use Rattle.grs_node.specs.Node.{are_of};
 ghost use Rattle.grs_node.specs.Log.{stepped};
+ghost use Rattle.grs_node.specs.Star.{may_decide};
 
 use super::lines::meaning_at;
 use super::scripts::{Script, lines_among};
+use super::star::StarPart;
 use grs_base::{Code, Line, List, Lists, NoMemory, Res, SysId, TaskId};
 use grs_legal::Meaning;
 use grs_wire::{Choice, Deck, Fixed, Req, ToldLine, Verb, Want};
@@ -30,6 +32,7 @@ pub(crate) struct NodeState {
     pub(crate) held: Local,
     pub(crate) shared: Table<PlainQueues>,
     pub(crate) outbox: List<Req>,
+    pub(crate) star: Option<StarPart>,
     pub(crate) known: u32,
     pub(crate) done: u32,
 }
@@ -41,13 +44,13 @@ impl Model for NodeState {
 
     ghost Value = { steps.Node };
 
-    ghost view = { λ a. record { tasks = a.tasks; held = a.held.held; shared = a.shared.held; outbox = a.outbox; known = a.known; done = a.done } };
+    ghost view = { λ a. record { tasks = a.tasks; held = a.held.held; shared = a.shared.held; outbox = a.outbox; star = a.star; known = a.known; done = a.done } };
 
     ghost invariant = { λ a. are_of a.tasks.system (length a.tasks.tasks) a.outbox ≡ true };
 }
 
 /// A request that was fixed.
-fn asked(alloc: Global, req: Req) -> Result<List<Fixed>, NoMemory>
+pub(crate) fn asked_alone(alloc: Global, req: Req) -> Result<List<Fixed>, NoMemory>
     ensures { IfOk result (λ fixed. fixed ≡ fixes.Asked req ∷ []) }
 {
     let mut fixed = List::with_room(alloc, 1)?;
@@ -74,18 +77,37 @@ fn wait(tasks: &mut Tasks, task: TaskId, res: Res) -> Result<(), NoMemory>
 }
 
 impl NodeState {
-    /// A system at the start, and nothing queued. `jobs` has the number of tasks of each of its jobs.
-    pub(crate) fn new(alloc: Global, system: SysId, jobs: &[u32]) -> Result<NodeState, NoMemory>
-        ensures { IfOk result (λ n. n ≡ record { tasks = record { system = system.0; tasks = new_tasks (sum jobs.now); told = [] }; held = []; shared = []; outbox = []; known = 0; done = 0 }) }
+    /// A system of a deck at the start, and nothing queued. `jobs` has the number of tasks of each of its jobs.
+    pub(crate) fn new(
+        alloc: Global,
+        deck: &Deck,
+        system: SysId,
+        jobs: &[u32],
+    ) -> Result<NodeState, NoMemory>
+        requires { deck.now.entries ≢ 0 }
+        ensures { IfOk result (λ n. n ≡ record { tasks = record { system = system.0; tasks = new_tasks (sum jobs.now); told = [] }; held = []; shared = []; outbox = []; star = steps.part_at_first deck.now system.0; known = 0; done = 0 }) }
     {
+        let star = if deck.star {
+            Some(StarPart::new(alloc, system, deck.entries)?)
+        } else {
+            None
+        };
         Ok(NodeState {
             tasks: Tasks::new(alloc, system, jobs)?,
             held: Local::new(alloc, system),
             shared: Table::new(alloc, PlainQueues::new(alloc)),
             outbox: List::new(alloc),
+            star,
             known: 0,
             done: 0,
         })
+    }
+
+    /// A system that is to be given up, since memory was wanting in a step, keeps no part in star mode.
+    pub(crate) fn give_up(&mut self)
+        ensures { self.new ≡ record self.old { star = None } }
+    {
+        self.star = None;
     }
 
     /// A request that the system's own lists decide: the asker's answer first, then control for the tasks that
@@ -117,10 +139,10 @@ impl NodeState {
             res_of(&req.want),
             outcome.owners.as_slice(),
         )?;
-        asked(alloc, req)
+        asked_alone(alloc, req)
     }
 
-    /// A request that waits to be put into the message.
+    /// A request that waits to be put into the message, or, in star mode, to be sent.
     #[tactic(auto, using(crate::proofs::Kept::kept), unfolding(crate::specs::Node::post))]
     fn post(
         &mut self,
@@ -134,14 +156,15 @@ impl NodeState {
         ensures system { self.new.tasks.system ≡ self.old.tasks.system }
     {
         let req = Req { task, want };
-        let waiting = req.copy(alloc)?;
+        if self.star.is_none() {
+            self.outbox.push(req.copy(alloc)?)?;
+        }
         self.tasks.set_phase(task, Phase::ToSend);
         self.tasks.set_outstanding(task, Some(Asked { req, unit }));
-        self.outbox.push(waiting)?;
         Ok(List::new(alloc))
     }
 
-    /// A request: decided at once, or, for a resource of the whole complex, kept until it can be put in.
+    /// A request: decided at once, or, for a resource of the whole complex, kept until it can be put in or sent.
     #[tactic(auto, unfolding(crate::specs::Node::ask))]
     fn ask(
         &mut self,
@@ -300,8 +323,21 @@ impl NodeState {
         }
     }
 
+    /// A manager decides the request of its own task that waits to be sent.
+    fn send_own(&mut self, alloc: Global, task: TaskId) -> Result<List<Fixed>, NoMemory>
+        requires task { is_task self.old.tasks task ≡ true }
+        requires decides { IfSome self.old.star (λ p. may_decide p (state_of self.old.tasks task).outstanding ≡ true) }
+        ensures step { IfOk result (λ fixed. stepped self.new fixed ≡ steps.send_own self.old task self.old.star) }
+        ensures system { self.new.tasks.system ≡ self.old.tasks.system }
+    {
+        match &mut self.star {
+            None => Ok(List::new(alloc)),
+            Some(part) => part.decide_own(alloc, &mut self.tasks, task),
+        }
+    }
+
     /// A choice that is done without a call of the medium.
-    #[tactic(auto, using(crate::proofs::Deck::of_system), unfolding(crate::specs::Node::finish_quiet))]
+    #[tactic(auto, using(crate::proofs::Deck::of_system, crate::proofs::Calls::quiet_sends), unfolding(crate::specs::Node::finish_quiet))]
     pub(crate) fn finish_quiet(
         &mut self,
         alloc: Global,
@@ -319,8 +355,8 @@ impl NodeState {
                 let lines = lines_among(scripts, task);
                 self.task_step(alloc, &deck.lists, task, lines, deck.limit)
             }
+            Choice::Send(task) => self.send_own(alloc, task),
             Choice::Turn
-            | Choice::Send(_)
             | Choice::Take
             | Choice::Settle
             | Choice::Tell(_)

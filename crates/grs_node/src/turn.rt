@@ -4,13 +4,15 @@ ghost use Rattle.grs_wire.specs.declared.request.Fixed.TheVariants as fixes;
 ghost use Rattle.grs_node.specs.Entries.{is_known, removal_from};
 ghost use Rattle.grs_node.specs.Node as steps;
 ghost use Rattle.grs_node.specs.Node.{are_of, with_side};
+ghost use Rattle.grs_node.specs.Finish.{may_come};
 ghost use Rattle.grs_node.specs.Log.{stepped};
+ghost use Rattle.grs_node.specs.Star.{may_call};
 ghost use Rattle.ring_mode.specs.Ring.{side_of, process_all, are_requests, requests_in};
 
 use super::scripts::is_of_deck;
 use super::state::NodeState;
 use grs_base::{List, NoMemory, SysId};
-use grs_wire::{Deck, Fixed, Reply, Req, RingBody, RingEntry};
+use grs_wire::{Choice, Deck, Fixed, Reply, Req, RingBody, RingEntry};
 use ring_mode::on_turn;
 use std::alloc::Global;
 use task_state::{Phase, Tasks};
@@ -170,15 +172,36 @@ impl NodeState {
         self.put_in(alloc, taken)
     }
 
+    /// What the reply to a call of star mode comes to.
+    #[tactic(auto, unfolding(crate::specs::Node::finish_star))]
+    fn finish_star(
+        &mut self,
+        alloc: Global,
+        deck: &Deck,
+        choice: Choice,
+        reply: Reply,
+    ) -> Result<List<Fixed>, NoMemory>
+        requires { IfSome self.old.star (λ p. may_call self.old.tasks p choice ≡ true) }
+        ensures step { IfOk result (λ fixed. stepped self.new fixed ≡ steps.finish_star deck.now self.old self.old.star choice reply) }
+        ensures system { self.new.tasks.system ≡ self.old.tasks.system }
+    {
+        match &mut self.star {
+            None => Ok(List::new(alloc)),
+            Some(part) => part.finish(alloc, deck, &mut self.tasks, choice, reply),
+        }
+    }
+
     /// What the reply to a call comes to. Those that say nothing new change nothing.
-    #[tactic(auto, unfolding(crate::specs::Node::finish_call))]
+    #[tactic(auto, using(crate::proofs::Calls::came), unfolding(crate::specs::Node::finish_call))]
     pub(crate) fn finish_call(
         &mut self,
         alloc: Global,
         deck: &Deck,
+        choice: Choice,
         reply: Reply,
     ) -> Result<List<Fixed>, NoMemory>
-        ensures step { IfOk result (λ fixed. stepped self.new fixed ≡ steps.finish_call deck.now self.old reply) }
+        requires { may_come (steps.prepare deck.now self.old choice) reply ≡ true }
+        ensures step { IfOk result (λ fixed. stepped self.new fixed ≡ steps.finish_call deck.now self.old choice reply) }
         ensures system { self.new.tasks.system ≡ self.old.tasks.system }
     {
         match reply {
@@ -187,24 +210,7 @@ impl NodeState {
                 self.known = set;
                 Ok(List::new(alloc))
             }
-            Reply::NotYours { .. }
-            | Reply::Behind { .. }
-            | Reply::Switched
-            | Reply::Already
-            | Reply::Sole
-            | Reply::Sent
-            | Reply::Taken { .. }
-            | Reply::Empty
-            | Reply::Settled
-            | Reply::Told
-            | Reply::Left
-            | Reply::Kept { .. }
-            | Reply::Purged
-            | Reply::NoSuch
-            | Reply::InStar
-            | Reply::Resting
-            | Reply::Over
-            | Reply::Removed => Ok(List::new(alloc)),
+            reply => self.finish_star(alloc, deck, choice, reply),
         }
     }
 }

@@ -12,6 +12,7 @@ pub mod Reading
 pub mod Putting
 pub mod Outcomes
 pub mod Runs
+pub mod InRing
 pub mod Removals
 pub mod Sound
 pub mod Fronts

@@ -3,3 +3,4 @@ pub mod LapsSamples
 pub mod TablesSamples
 pub mod Samples
 pub mod AgreeSamples
+pub mod StarSamples

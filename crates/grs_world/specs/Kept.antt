@@ -1,11 +1,15 @@
 -- What the systems keep of the resources of the whole complex is what the history says of them.
-use Rattle.std.specs.Prelude.{◌≡◌, Bool, true, false, List, [], Option, Some, None, slice_get}
+use Rattle.std.specs.Prelude.{◌≡◌, ℕ, Bool, true, false, List, [], length, Option, Some, None, slice_get}
+use Rattle.contention_mgr.specs.Manager.{plain, entry_of_res, items_of, managed_of}
 use Rattle.grs_base.specs.State.{is_systems, list_of}
 use Rattle.grs_base.specs.declared.resource.Elem.{Elem}
 use Rattle.grs_base.specs.declared.resource.Res.{Res}
 use Rattle.grs_base.specs.declared.resource.SysId.{SysId}
+use Rattle.grs_medium.specs.Medium.{word}
 use Rattle.grs_node.specs.Node.{Node, read_entries}
+use Rattle.grs_node.specs.Star.{StarPart}
 use Rattle.grs_wire.specs.History.{replay}
+use Rattle.grs_wire.specs.LockWords.{manager}
 use Rattle.grs_wire.specs.declared.deck.Deck.{Deck}
 use Rattle.grs_wire.specs.declared.deck.Event.{Event}
 use Rattle.rsa_message.specs.Message.{unseen}
@@ -22,12 +26,30 @@ abbrev pub in_table : Deck → World → SysId → Option Node → Res → List 
 in_table deck w s None r = []
 in_table deck w s (Some n) r = list_of (read_entries deck n (unseen s w.medium.message.entries)).shared r
 
+-- A manager keeps this list of a resource; one that hasn't changed to star mode keeps none there.
+abbrev pub managed_list : Option StarPart → Res → List Elem
+managed_list None r = []
+managed_list (Some p) r = list_of (plain (items_of (managed_of p.manager r))) r
+
+abbrev pub at_node : Option Node → Res → List Elem
+at_node None r = []
+at_node (Some n) r = managed_list n.star r
+
+abbrev pub at_manager : World → Option SysId → Res → List Elem
+at_manager w None r = []
+at_manager w (Some m) r = at_node (slice_get w.nodes m.0) r
+
+-- the manager of a lock entry, by its word
+abbrev pub manager_at : World → Option ℕ → Option SysId
+manager_at w None = None
+manager_at w (Some e) = manager (word w.medium e)
+
 -- This list of a resource of the whole complex is kept, as this live system sees it, a case a mode of the medium. In a
 -- ring (false) each live system keeps one in its table. In star mode (true) the manager of the resource's lock entry
--- keeps it for all, and where there is no manager nothing is kept: no system comes to manage an entry yet.
+-- keeps it for all, and where there is no manager nothing is kept.
 abbrev pub kept_in : Bool → Deck → World → SysId → Res → List Elem
 kept_in false deck w s r = in_table deck w s (slice_get w.nodes s.0) r
-kept_in true deck w s r = []
+kept_in true deck w s r = at_manager w (manager_at w (entry_of_res (length w.medium.words) r)) r
 
 abbrev pub kept : Deck → World → SysId → Res → List Elem
 kept deck w s r = kept_in w.medium.star deck w s r

@@ -37,7 +37,7 @@ LastAtHome m =
 
 -- So it is in each world that a run reaches.
 abbrev pub ComesBackLast : Type 0
-ComesBackLast = (deck : Deck) (events : List Event) → LastAtHome (run deck events).medium.message
+ComesBackLast = (deck : Deck) → deck.star ≡ false → (events : List Event) → LastAtHome (run deck events).medium.message
 
 -- ---- the event that answers
 -- A reply gives a system these entries to process, each as it stood in the message.

@@ -1,10 +1,12 @@
 //! One choice of one system: it is prepared, makes at most one call of the medium, and is finished.
-ghost use Rattle.std.specs.Prelude.{◌≡◌, ◌≢◌, ◌<◌, [], length, set, Some, IfOk, OnOk};
+ghost use Rattle.std.specs.Prelude.{◌≡◌, ◌≢◌, ◌<◌, [], true, length, set, Some, IfOk, OnOk};
 ghost use Rattle.grs_medium.specs.Apply.{reply_to, medium_after};
 ghost use Rattle.grs_medium.specs.Medium.{systems_of};
 ghost use Rattle.grs_medium.specs.TurnReplies.{reply_of};
+ghost use Rattle.grs_node.specs.Addressed.{is_act_addressed};
 ghost use Rattle.grs_node.specs.Finish.{MayFinish};
 ghost use Rattle.grs_node.specs.Node as steps;
+ghost use Rattle.grs_node.specs.TurnCalls.{call_of};
 ghost use Rattle.grs_node.specs.declared.prepared.Prepared.TheVariants.{Call as Calls};
 ghost use Rattle.grs_wire.specs.declared.deck.Choice.TheVariants.{Turn};
 ghost use Rattle.grs_world.specs.World.{chosen};
@@ -58,7 +60,7 @@ fn finished(node: &mut Node<'_>, choice: &Choice, reply: Option<Reply>) -> Resul
 }
 
 /// A call that was prepared, and its reply.
-#[tactic(auto, using(crate::proofs::code::Calls::calls, crate::proofs::code::Listed::listed))]
+#[tactic(auto, using(crate::proofs::code::Calls::calls, crate::proofs::code::Words::words, crate::proofs::code::Listed::listed))]
 fn called(
     medium: &mut Medium,
     system: SysId,
@@ -67,12 +69,16 @@ fn called(
     call: Call,
 ) -> Result<Done, NoMemory>
     requires caller { system.0 < systems_of medium.old.state }
+    requires systems { systems_of medium.old.state ≡ length node.old.deck.systems }
+    requires words { length medium.old.state.words ≡ node.old.deck.entries }
     requires prepared { steps.prepare node.old.deck node.old.node choice.now ≡ Calls call }
+    requires addressed { is_act_addressed node.old.deck call.act ≡ true }
     ensures medium { OnOk result (medium.new.state ≡ medium_after medium.old.state system call) }
     ensures node { OnOk result (node.new.node ≡ (steps.finish node.old.deck node.old.node choice.now (Some (reply_to medium.old.state system call))).node) }
     ensures done { IfOk result (λ done. done ≡ done_by node.old.node (steps.finish node.old.deck node.old.node choice.now (Some (reply_to medium.old.state system call)))) }
     ensures deck { node.new.deck ≡ node.old.deck }
     ensures systems { systems_of medium.new.state ≡ systems_of medium.old.state }
+    ensures words { length medium.new.state.words ≡ length medium.old.state.words }
 {
     medium.reserve(system, &call)?;
     let reply = medium.apply(system, call);
@@ -96,19 +102,58 @@ fn finished_turn(node: &mut Node<'_>, reply: TurnReply) -> Result<Done, NoMemory
     }
 }
 
-/// A Turn of a system: its call and its reply are made of the parts that a Turn has, and of no others.
-#[tactic(auto, using(crate::proofs::code::Calls::calls, crate::proofs::code::Listed::listed))]
-fn turn(medium: &mut Medium, system: SysId, node: &mut Node<'_>) -> Result<Done, NoMemory>
+/// Nothing fixed and nothing told.
+fn nothing_done(alloc: Global) -> Done
+    ensures { result ≡ record { fixed = []; told = [] } }
+{
+    Done {
+        fixed: List::new(alloc),
+        told: List::new(alloc),
+    }
+}
+
+/// A Turn that was prepared: its call and its reply are made of the parts that a Turn has, and of no others.
+#[tactic(auto, using(crate::proofs::code::Calls::turns, crate::proofs::code::Words::words, crate::proofs::code::Listed::listed))]
+fn turned(
+    medium: &mut Medium,
+    system: SysId,
+    node: &mut Node<'_>,
+    turn: TurnCall,
+) -> Result<Done, NoMemory>
+    requires caller { system.0 < systems_of medium.old.state }
+    requires prepared { call_of turn ≡ steps.prepare node.old.deck node.old.node Turn }
+    ensures medium { OnOk result (medium.new.state ≡ (chosen node.old.deck medium.old.state system node.old.node Turn).medium) }
+    ensures node { OnOk result (node.new.node ≡ (chosen node.old.deck medium.old.state system node.old.node Turn).step.node) }
+    ensures done { IfOk result (λ done. done ≡ done_by node.old.node (chosen node.old.deck medium.old.state system node.old.node Turn).step) }
+    ensures deck { node.new.deck ≡ node.old.deck }
+    ensures systems { systems_of medium.new.state ≡ systems_of medium.old.state }
+    ensures words { length medium.new.state.words ≡ length medium.old.state.words }
+{
+    let TurnCall { known, out } = turn;
+    let reply = medium.turn(system, known, out)?;
+    finished_turn(node, reply)
+}
+
+/// A Turn of a system, which is none in star mode.
+#[tactic(auto, using(crate::proofs::code::Logged::logged_steps), unfolding(crate::specs::World::chosen, crate::specs::World::carry_out))]
+fn turn(
+    alloc: Global,
+    medium: &mut Medium,
+    system: SysId,
+    node: &mut Node<'_>,
+) -> Result<Done, NoMemory>
     requires { system.0 < systems_of medium.old.state }
     ensures medium { OnOk result (medium.new.state ≡ (chosen node.old.deck medium.old.state system node.old.node Turn).medium) }
     ensures node { OnOk result (node.new.node ≡ (chosen node.old.deck medium.old.state system node.old.node Turn).step.node) }
     ensures done { IfOk result (λ done. done ≡ done_by node.old.node (chosen node.old.deck medium.old.state system node.old.node Turn).step) }
     ensures deck { node.new.deck ≡ node.old.deck }
     ensures systems { systems_of medium.new.state ≡ systems_of medium.old.state }
+    ensures words { length medium.new.state.words ≡ length medium.old.state.words }
 {
-    let TurnCall { known, out } = node.prepare_turn()?;
-    let reply = medium.turn(system, known, out)?;
-    finished_turn(node, reply)
+    match node.prepare_turn()? {
+        None => Ok(nothing_done(alloc)),
+        Some(turn) => turned(medium, system, node, turn),
+    }
 }
 
 /// A choice of a system: it is prepared, makes at most one call of the medium, and is finished.
@@ -120,21 +165,21 @@ fn choose(
     node: &mut Node<'_>,
     choice: &Choice,
 ) -> Result<Done, NoMemory>
-    requires { system.0 < systems_of medium.old.state }
+    requires caller { system.0 < systems_of medium.old.state }
+    requires systems { systems_of medium.old.state ≡ length node.old.deck.systems }
+    requires words { length medium.old.state.words ≡ node.old.deck.entries }
     ensures medium { OnOk result (medium.new.state ≡ (chosen node.old.deck medium.old.state system node.old.node choice.now).medium) }
     ensures node { OnOk result (node.new.node ≡ (chosen node.old.deck medium.old.state system node.old.node choice.now).step.node) }
     ensures done { IfOk result (λ done. done ≡ done_by node.old.node (chosen node.old.deck medium.old.state system node.old.node choice.now).step) }
     ensures deck { node.new.deck ≡ node.old.deck }
     ensures systems { systems_of medium.new.state ≡ systems_of medium.old.state }
+    ensures words { length medium.new.state.words ≡ length medium.old.state.words }
 {
     if matches!(choice, Choice::Turn) {
-        return turn(medium, system, node);
+        return turn(alloc, medium, system, node);
     }
     match node.prepare(choice)? {
-        Prepared::Nothing => Ok(Done {
-            fixed: List::new(alloc),
-            told: List::new(alloc),
-        }),
+        Prepared::Nothing => Ok(nothing_done(alloc)),
         Prepared::Quiet => finished(node, choice, None),
         Prepared::Call(call) => called(medium, system, node, choice, call),
     }
@@ -153,12 +198,15 @@ pub(crate) fn choose_at(
     requires place { system.0 < length nodes.old.items }
     requires nodes { AreOf deck.now nodes.old.items }
     requires systems { systems_of medium.old.state ≡ length nodes.old.items }
+    requires all { length nodes.old.items ≡ length deck.now.systems }
+    requires words { length medium.old.state.words ≡ deck.now.entries }
     ensures medium { OnOk result (medium.new.state ≡ (chosen deck.now medium.old.state system (node_at deck.now (nodes_of nodes.old.items) system) choice.now).medium) }
     ensures node { OnOk result (nodes_of nodes.new.items ≡ set (nodes_of nodes.old.items) system.0 (chosen deck.now medium.old.state system (node_at deck.now (nodes_of nodes.old.items) system) choice.now).step.node) }
     ensures done { IfOk result (λ done. done ≡ done_by (node_at deck.now (nodes_of nodes.old.items) system) (chosen deck.now medium.old.state system (node_at deck.now (nodes_of nodes.old.items) system) choice.now).step) }
     ensures deck { AreOf deck.now nodes.new.items }
     ensures count { length nodes.new.items ≡ length nodes.old.items }
     ensures systems { systems_of medium.new.state ≡ systems_of medium.old.state }
+    ensures words { length medium.new.state.words ≡ length medium.old.state.words }
 {
     choose(alloc, medium, system, &mut nodes[system.0 as usize], choice)
 }

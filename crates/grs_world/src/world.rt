@@ -2,6 +2,7 @@
 //! is one system's; one of a system that isn't there, or was removed, does nothing.
 ghost use Rattle.std.specs.Prelude.{◌≡◌, ◌<◌, ◌^◌, ◌+◌, ◌++◌, ◌∷◌, [], true, length, IfOk, OnOk};
 ghost use Rattle.grs_wire.specs.Decks.{IsDeck};
+ghost use Rattle.grs_node.specs.EitherMode.{IsDeckInEitherMode};
 ghost use Rattle.grs_node.specs.Node.{first_node};
 ghost use Rattle.grs_world.specs.World as runs;
 ghost use Rattle.grs_world.specs.Running.{starting, after, ran, nodes_of, AreOf, is_live, at_rest, units_of, task_end};
@@ -41,7 +42,7 @@ impl<'d> Model for World<'d> {
 
     ghost view = { λ a. record { deck = a.deck.now; world = record { medium = a.medium.state; nodes = nodes_of a.nodes.items; events = a.events; fixed = a.fixed; told = a.told } } };
 
-    ghost invariant = { λ a. AreOf a.deck.now a.nodes.items × (systems_of a.medium.state ≡ length a.nodes.items) × (length a.nodes.items ≤ most_systems) };
+    ghost invariant = { λ a. AreOf a.deck.now a.nodes.items × (systems_of a.medium.state ≡ length a.nodes.items) × (length a.nodes.items ≡ length a.deck.now.systems) × (length a.nodes.items ≤ most_systems) × (length a.medium.state.words ≡ a.deck.now.entries) };
 }
 
 /// What is kept of a run: what its events fixed, each with its system, and what was told, both in order.
@@ -59,7 +60,7 @@ fn add_node<'d>(
     nodes: &mut List<Node<'d>>,
     system: SysId,
 ) -> Result<(), NoMemory>
-    requires deck { IsDeck deck.now }
+    requires deck { IsDeckInEitherMode deck.now }
     requires system { system.0 < length deck.now.systems }
     requires nodes { AreOf deck.now nodes.old }
     ensures nodes { OnOk result (nodes_of nodes.new ≡ nodes_of nodes.old ++ first_node deck.now system.0 ∷ []) }
@@ -73,7 +74,7 @@ fn add_node<'d>(
 /// The systems of a deck before their first events.
 #[tactic(auto, using(crate::proofs::system::First::first))]
 fn first_nodes<'d>(alloc: Global, deck: &'d Deck) -> Result<Vec<Node<'d>>, NoMemory>
-    requires { IsDeck deck.now }
+    requires { IsDeckInEitherMode deck.now }
     ensures nodes { IfOk result (λ nodes. nodes_of nodes.items ≡ runs.first_nodes deck.now 0 deck.now.systems) }
     ensures deck { IfOk result (λ nodes. AreOf deck.now nodes.items) }
     ensures count { IfOk result (λ nodes. length nodes.items ≡ length deck.now.systems) }
@@ -122,7 +123,7 @@ impl<'d> World<'d> {
     /// A deck before its first event: nothing is queued and no task has begun.
     #[tactic(auto, using(crate::proofs::system::First::first), unfolding(crate::specs::World::first_world))]
     pub fn new(alloc: Global, deck: &'d Deck) -> Result<World<'d>, NoMemory>
-        requires { IsDeck deck.now }
+        requires { IsDeckInEitherMode deck.now }
         ensures { IfOk result (λ w. w ≡ starting deck.now) }
     {
         let systems = deck.systems.len() as u32;
@@ -249,7 +250,7 @@ impl<'d> World<'d> {
 }
 
 /// The run of a list of events.
-#[tactic(auto, using(crate::proofs::code::Happens::runs))]
+#[tactic(auto, using(crate::proofs::code::Happens::runs, grs_node::proofs::EitherLaws::either))]
 pub fn replay<'d>(alloc: Global, deck: &'d Deck, events: &[Event]) -> Result<World<'d>, NoMemory>
     requires { IsDeck deck.now }
     ensures { IfOk result (λ w. w ≡ ran deck.now events.now) }

@@ -1,60 +1,78 @@
 -- What a system prepares fits the medium.
-use Rattle.std.proofs.Common.{◌≡◌, subst, ◌≤◌, ℕ, Bool, true, false, cond, List, length, take, Some, refl, ap, arith}
+use Rattle.std.proofs.Common.{◌≡◌, ◌<◌, ◌≤◌, ℕ, Bool, true, List, length, take, Some, None, Option, refl, ap, sym, subst, arith}
+use Rattle.std.proofs.lemmas.Bool.Decides.{nat_tests}
 use Rattle.std.proofs.lemmas.List.{length-take}
+use Rattle.std.specs.Prelude.{nat_lt, nat_le}
 use Rattle.grs_base.specs.declared.resource.SysId.{SysId}
 use Rattle.grs_medium.specs.Apply.{ActFits, reply_to, medium_after}
-use Rattle.grs_medium.specs.Medium.{MediumState}
+use Rattle.grs_medium.specs.Medium.{MediumState, systems_of}
 use Rattle.grs_medium.specs.Room.{is_built}
-use Rattle.grs_node.specs.Node.{Node, prepare, finish, most_additions, may_go, is_pending}
+use Rattle.grs_node.specs.Addressed.{is_act_addressed}
+use Rattle.grs_node.specs.Node.{Node, prepare, finish, most_additions, turn_call}
+use Rattle.grs_node.specs.Star.{StarPart}
+use Rattle.grs_node.specs.TurnCalls.{call_of}
 use Rattle.grs_node.specs.declared.prepared.Prepared.{Prepared}
 use Rattle.grs_node.specs.declared.prepared.Prepared.TheVariants.{Quiet, Call, Nothing}
+use Rattle.grs_node.specs.declared.prepared.TurnCall.{TurnCall}
 use Rattle.grs_wire.specs.declared.deck.Choice.{Choice}
 use Rattle.grs_wire.specs.declared.deck.Choice.TheVariants as choices
 use Rattle.grs_wire.specs.declared.deck.Deck.{Deck}
+use Rattle.grs_wire.specs.declared.medium.Act.{Act}
 use Rattle.grs_wire.specs.declared.medium.Act.TheVariants as acts
 use Rattle.grs_wire.specs.declared.medium.Call.{Call as CallOfMedium}
 use Rattle.grs_wire.specs.declared.request.Req.{Req}
 use Rattle.grs_world.specs.World.{chosen, carry_out}
 
--- whether what was prepared, if it is a call, fits the medium
-abbrev Fits : MediumState → SysId → Prepared → Type 0
-Fits m c Quiet = Unit {0}
-Fits m c (Call call) = ActFits m c call.act × (is_built call.act ≡ true)
-Fits m c Nothing = Unit {0}
+below : (a b c : ℕ) → nat_lt a b ≡ true → c ≡ b → a < c
+below a b c h e = grind (arith, nat_tests, h, e)
 
-few : (out : List Req) → length (take most_additions out) ≤ 32
-few out = omega (arith, length-take most_additions out)
+within : (a b : ℕ) → nat_le a b ≡ true → a ≤ b
+within a b h = grind (arith, nat_tests, h)
 
-quiet_fits : (m : MediumState) (c : SysId) (b : Bool) → Fits m c (cond b Quiet Nothing)
-quiet_fits m c true = tt
-quiet_fits m c false = tt
+pub act-fits : (m : MediumState) (c : SysId) (deck : Deck) (act : Act) → is_act_addressed deck act ≡ true → systems_of m ≡ length deck.systems → length m.words ≡ deck.entries → ActFits m c act
+act-fits m c deck (acts.Turn out) a s w = within (length out) most_additions a
+act-fits m c deck (acts.Switch words) a s w = absurd (cc)
+act-fits m c deck (acts.Submit e q) a s w = below e deck.entries (length m.words) a w
+act-fits m c deck acts.Take a s w = tt
+act-fits m c deck (acts.Settle to mail) a s w = below to.0 (length deck.systems) (systems_of m) a s
+act-fits m c deck (acts.Tell to mail) a s w = below to.0 (length deck.systems) (systems_of m) a s
+act-fits m c deck (acts.Leave e) a s w = below e deck.entries (length m.words) a w
+act-fits m c deck (acts.Purge t) a s w = absurd (cc)
+act-fits m c deck acts.Rest a s w = tt
 
-rest_fits : (m : MediumState) (c : SysId) (known : ℕ) (b : Bool) → Fits m c (cond b Nothing (Call (record { known = known; act = acts.Rest })))
-rest_fits m c known true = tt
-rest_fits m c known false = (tt, refl)
+pub act-built : (deck : Deck) (act : Act) → is_act_addressed deck act ≡ true → is_built act ≡ true
+act-built deck (acts.Turn out) a = refl
+act-built deck (acts.Switch words) a = absurd (cc)
+act-built deck (acts.Submit e q) a = refl
+act-built deck acts.Take a = refl
+act-built deck (acts.Settle to mail) a = refl
+act-built deck (acts.Tell to mail) a = refl
+act-built deck (acts.Leave e) a = refl
+act-built deck (acts.Purge t) a = refl
+act-built deck acts.Rest a = refl
 
-prepare-fits : (m : MediumState) (c : SysId) (deck : Deck) (n : Node) (choice : Choice) → Fits m c (prepare deck n choice)
+-- a Turn puts in no more than it may
+pub turn-few : (deck : Deck) (n : Node) (turn : TurnCall) → call_of turn ≡ prepare deck n choices.Turn → length turn.out ≤ 32
 unfolding prepare
-prepare-fits m c deck n (choices.Task t) = quiet_fits m c (may_go deck n t)
-prepare-fits m c deck n choices.Turn = (few n.outbox, refl)
-prepare-fits m c deck n choices.Rest = rest_fits m c n.known (is_pending deck n)
-prepare-fits m c deck n (choices.Send t) = tt
-prepare-fits m c deck n choices.Take = tt
-prepare-fits m c deck n choices.Settle = tt
-prepare-fits m c deck n (choices.Tell e) = tt
-prepare-fits m c deck n (choices.Leave e) = tt
-prepare-fits m c deck n choices.Switch = tt
-prepare-fits m c deck n (choices.Purge s) = tt
+turn-few deck n turn h = go n.star h
+  where
+    out-of : Prepared → ℕ
+    out-of (Call call) = count call.act
+      where
+        count : Act → ℕ
+        count (acts.Turn out) = length out
+        count act = 0
+    out-of p = 0
 
-pub call-fits : (m : MediumState) (c : SysId) (deck : Deck) (n : Node) (choice : Choice) (call : CallOfMedium) → prepare deck n choice ≡ Call call → ActFits m c call.act
-call-fits m c deck n choice call h = (subst (λ (p : Prepared). Fits m c p) h (prepare-fits m c deck n choice)).0
-
-pub call-built : (m : MediumState) (c : SysId) (deck : Deck) (n : Node) (choice : Choice) (call : CallOfMedium) → prepare deck n choice ≡ Call call → is_built call.act ≡ true
-call-built m c deck n choice call h = (subst (λ (p : Prepared). Fits m c p) h (prepare-fits m c deck n choice)).1
+    go : (o : Option StarPart) → call_of turn ≡ turn_call n o → length turn.out ≤ 32
+    go None k = let same : length turn.out ≡ length (take most_additions n.outbox) = ap out-of k in omega (arith, same, length-take most_additions n.outbox)
+    go (Some p) k = absurd (cc)
 
 -- what a call that was prepared leads to
 pub chosen-call : (deck : Deck) (m : MediumState) (c : SysId) (n : Node) (choice : Choice) (call : CallOfMedium) → prepare deck n choice ≡ Call call → chosen deck m c n choice ≡ record { medium = medium_after m c call; step = finish deck n choice (Some (reply_to m c call)) }
 unfolding chosen carry_out
 chosen-call deck m c n choice call h = ap (λ (p : Prepared). carry_out deck m c n choice p) h
 
-pub ruleset calls = (call-fits, call-built)
+pub ruleset calls = (act-fits, act-built)
+
+pub ruleset turns = (turn-few)

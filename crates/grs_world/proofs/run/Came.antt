@@ -5,9 +5,11 @@ use Rattle.std.specs.List.{list_all}
 use Rattle.std.proofs.lemmas.Bool.{and_parts, eqb-true}
 use Rattle.grs_base.specs.declared.resource.SysId.{SysId}
 use Rattle.grs_base.specs.declared.resource.TaskId.{TaskId}
-use Rattle.grs_medium.specs.Apply.{apply, row, turn_row, rest_row, resting}
+use Rattle.grs_medium.specs.Apply.{reply_to, medium_after, apply, row, turn_row, rest_row, resting}
 use Rattle.grs_medium.specs.Medium.{MediumState, live, all_rest, medium_at_end}
-use Rattle.grs_node.specs.Node.{Node, prepare, finish, finish_quiet, finish_call, read_entries, put_in, may_go, is_pending, most_additions}
+use Rattle.grs_node.specs.Node.{Node, Step, prepare, finish, finish_quiet, finish_call, read_entries, put_in, may_go, is_pending, most_additions}
+use Rattle.grs_node.proofs.InRing.{ring_prepare, ring_finish, prepare-ring}
+use Rattle.grs_node.specs.declared.prepared.Prepared.{Prepared}
 use Rattle.grs_node.specs.declared.prepared.Prepared.TheVariants.{Quiet, Call, Nothing}
 use Rattle.grs_wire.specs.Masks.{has, only}
 use Rattle.grs_wire.specs.declared.deck.Choice.{Choice}
@@ -26,6 +28,7 @@ use Rattle.grs_wire.proofs.WantLaws.{by_test}
 use Rattle.rsa_message.specs.Message.{Message, is_at, unseen, opened, never_opened, left_by, cleared, stamped, turn_reply, turned, turned_open, turned_closed, rest_after_turn}
 use Rattle.grs_known.proofs.lists.Facts.{all-behind, take-none}
 use Rattle.grs_world.specs.World.{World, Turnout, carry_out, chosen, placed, counted, happens_at, happens, run, first_world}
+use Rattle.grs_world.proofs.run.InRing.{AreRing, all_ring, finished-ring}
 use Rattle.grs_world.proofs.run.Runs.{GoodWorld, run-push}
 use Rattle.grs_world.proofs.run.Sound.{good_run}
 use Rattle.grs_world.proofs.system.Says.{is_home_at, own_requests}
@@ -38,7 +41,7 @@ pub data Came (deck : Deck) (w : World) (s : SysId) (n : Node) : Turnout → Typ
   turn : (m : MediumState) → is_at w.medium.message.holder s ≡ true → m.message ≡ turned_open w.medium.message s (take most_additions n.outbox) (live w.medium) w.medium.rest →
       Came deck w s n (record { medium = m; step = put_in (read_entries deck n (unseen s w.medium.message.entries)) (length (take most_additions n.outbox)) })
 
-module _ (deck : Deck) (w : World) (s : SysId) (n : Node) (shut : w.medium.message.closed ≡ true → w.medium.message.holder ≡ None) where
+module _ (deck : Deck) (w : World) (s : SysId) (n : Node) (shut : w.medium.message.closed ≡ true → w.medium.message.holder ≡ None) (alone : n.star ≡ None) where
   abbrev Comes : Turnout → Type 0
   Comes o = Came deck w s n o
 
@@ -46,23 +49,23 @@ module _ (deck : Deck) (w : World) (s : SysId) (n : Node) (shut : w.medium.messa
   still m same = nothing m n same refl
 
   abbrev ComesBy : Choice → Reply × MediumState → Type 0
-  ComesBy choice a = Comes (record { medium = a.1; step = finish deck n choice (Some a.0) })
+  ComesBy choice a = Comes (record { medium = a.1; step = ring_finish deck n a.0 })
 
   came_call : (choice : Choice) (call : CallOfMedium) → ComesBy choice (row w.medium s call.act) → ComesBy choice (apply w.medium s call)
-  unfolding apply finish finish_call
+  unfolding apply
   came_call choice call here =
       by_test (ComesBy choice) (has w.medium.removed s.0) (replies.Removed, w.medium) _ (λ r. still w.medium refl)
       (λ r. by_test (ComesBy choice) (call.known == w.medium.removed) (row w.medium s call.act) (replies.Stale w.medium.removed, w.medium) (λ k. here) (λ k. nothing w.medium (record n { known = w.medium.removed }) refl refl))
 
   came_rest : ComesBy choices.Rest (row w.medium s acts.Rest)
-  unfolding row rest_row finish finish_call
+  unfolding row rest_row
   came_rest = by_test (λ r. ComesBy choices.Rest (r, resting w.medium s)) (all_rest (resting w.medium s) && medium_at_end (resting w.medium s)) replies.Over replies.Resting (λ t. still (resting w.medium s) refl) (λ t. still (resting w.medium s) refl)
 
   abbrev after_turn : Message → MediumState
   after_turn m = record w.medium { message = m; rest = rest_after_turn w.medium.message s (length (take most_additions n.outbox)) w.medium.rest }
 
   came_turn : ComesBy choices.Turn (row w.medium s (acts.Turn (take most_additions n.outbox)))
-  unfolding row turn_row turn_reply turned finish finish_call
+  unfolding row turn_row turn_reply turned
   came_turn = go (is_at w.medium.message.holder s) refl w.medium.message.closed refl
     where
       go : (b : Bool) → is_at w.medium.message.holder s ≡ b → (d : Bool) → w.medium.message.closed ≡ d →
@@ -78,29 +81,37 @@ module _ (deck : Deck) (w : World) (s : SysId) (n : Node) (shut : w.medium.messa
           nobody None f t = absurd (cc)
           nobody (Some x) f t = absurd (cc)
 
+  called : (choice : Choice) (call : CallOfMedium) → ComesBy choice (apply w.medium s call) → Comes (carry_out deck w.medium s n choice (Call call))
+  unfolding carry_out
+  called choice call here = subst (λ (st : Step). Comes (record { medium = medium_after w.medium s call; step = st })) (sym (finished-ring deck n choice (Some (reply_to w.medium s call)) alone)) here
+
+  by_ring : (choice : Choice) → Comes (carry_out deck w.medium s n choice (ring_prepare deck n choice))
+  unfolding carry_out finish
+  by_ring (choices.Task t) = by_test (λ p. Comes (carry_out deck w.medium s n (choices.Task t) p)) (may_go deck n t) Quiet Nothing (λ m. went_on t m) (λ m. still w.medium refl)
+  by_ring choices.Turn = called choices.Turn (record { known = n.known; act = acts.Turn (take most_additions n.outbox) }) (came_call choices.Turn (record { known = n.known; act = acts.Turn (take most_additions n.outbox) }) came_turn)
+  by_ring choices.Rest = by_test (λ p. Comes (carry_out deck w.medium s n choices.Rest p)) (is_pending deck n) Nothing (Call (record { known = n.known; act = acts.Rest }))
+      (λ t. still w.medium refl) (λ t. called choices.Rest (record { known = n.known; act = acts.Rest }) (came_call choices.Rest (record { known = n.known; act = acts.Rest }) came_rest))
+  by_ring (choices.Send t) = still w.medium refl
+  by_ring choices.Take = still w.medium refl
+  by_ring choices.Settle = still w.medium refl
+  by_ring (choices.Tell x) = still w.medium refl
+  by_ring (choices.Leave x) = still w.medium refl
+  by_ring choices.Switch = still w.medium refl
+  by_ring (choices.Purge x) = still w.medium refl
+
   came : (choice : Choice) → Comes (chosen deck w.medium s n choice)
-  unfolding chosen carry_out prepare finish
-  came (choices.Task t) = by_test (λ p. Comes (carry_out deck w.medium s n (choices.Task t) p)) (may_go deck n t) Quiet Nothing (λ m. went_on t m) (λ m. still w.medium refl)
-  came choices.Turn = came_call choices.Turn (record { known = n.known; act = acts.Turn (take most_additions n.outbox) }) came_turn
-  came choices.Rest = by_test (λ p. Comes (carry_out deck w.medium s n choices.Rest p)) (is_pending deck n) Nothing (Call (record { known = n.known; act = acts.Rest }))
-      (λ t. still w.medium refl) (λ t. came_call choices.Rest (record { known = n.known; act = acts.Rest }) came_rest)
-  came (choices.Send t) = still w.medium refl
-  came choices.Take = still w.medium refl
-  came choices.Settle = still w.medium refl
-  came (choices.Tell x) = still w.medium refl
-  came (choices.Leave x) = still w.medium refl
-  came choices.Switch = still w.medium refl
-  came (choices.Purge x) = still w.medium refl
+  unfolding chosen
+  came choice = subst (λ (p : Prepared). Comes (carry_out deck w.medium s n choice p)) (sym (prepare-ring deck n choice alone)) (by_ring choice)
 
 -- What holds where an event is only counted, and whatever comes of it at a system, holds behind each event.
-pub each_event : (deck : Deck) (w : World) (e : Event) (P : World → Type 0) → (w.medium.message.closed ≡ true → w.medium.message.holder ≡ None) → P (counted w)
+pub each_event : (deck : Deck) (w : World) (e : Event) (P : World → Type 0) → (w.medium.message.closed ≡ true → w.medium.message.holder ≡ None) → AreRing w.nodes → P (counted w)
     → ((n : Node) (o : Turnout) → slice_get w.nodes e.system.0 ≡ Some n → Came deck w e.system n o → P (placed w e.system n o)) → P (happens deck w e)
 unfolding happens happens_at
-each_event deck w e P shut idle comes = go (slice_get w.nodes e.system.0) refl
+each_event deck w e P shut ring idle comes = go (slice_get w.nodes e.system.0) refl
   where
     go : (o : Option Node) → slice_get w.nodes e.system.0 ≡ o → P (happens_at deck w e o)
     go None at = idle
-    go (Some n) at = by_test P (has w.medium.removed e.system.0) (counted w) (placed w e.system n (chosen deck w.medium e.system n e.choice)) (λ r. idle) (λ r. comes n _ at (came deck w e.system n shut e.choice))
+    go (Some n) at = by_test P (has w.medium.removed e.system.0) (counted w) (placed w e.system n (chosen deck w.medium e.system n e.choice)) (λ r. idle) (λ r. comes n _ at (came deck w e.system n shut (ring e.system.0 n at) e.choice))
 
 -- ---- what stands in the message
 -- An entry of the message is a request of a task of the system that put it in.
@@ -132,16 +143,16 @@ home_put deck c number mask zero qs h = subst (λ xs. AllHome (stamped number c 
 home_put deck c number mask (suc k) [] h = tt
 home_put deck c number mask (suc k) (q ∷ qs) h = (eqb-true q.task.system.0 c.0 (and_parts _ _ (and_parts _ _ h).0).0, home_put deck c (suc number) mask k qs (and_parts _ _ h).1)
 
-module _ (deck : Deck) where
+module _ (deck : Deck) (ring : deck.star ≡ false) where
   holds_next : (es : List Event) (e : Event) → AllHome (run deck es).medium.message.entries → AllHome (happens deck (run deck es) e).medium.message.entries
   unfolding placed
-  holds_next es e h = each_event deck w e (λ (x : World). AllHome x.medium.message.entries) g.message.no_turn h by_case
+  holds_next es e h = each_event deck w e (λ (x : World). AllHome x.medium.message.entries) g.message.no_turn (all_ring deck ring es) h by_case
     where
       w : World
       w = run deck es
 
       g : GoodWorld deck es (run deck es)
-      g = good_run deck es
+      g = good_run deck ring es
 
       by_case : (n : Node) (o : Turnout) → slice_get (run deck es).nodes e.system.0 ≡ Some n → Came deck (run deck es) e.system n o → AllHome o.medium.message.entries
       by_case n o at (nothing m k same told) = subst (λ (x : Message). AllHome x.entries) (sym same) h

@@ -101,5 +101,5 @@ module _ (deck : Deck) (es : List Event) where
       ∙ table-is (items front)
       ∙ ap systems_part (replayed ∙ ap (λ fs. replay deck.limit (answered fs)) (sym is))
 
-pub tables_fronts : (deck : Deck) (es : List Event) → TablesAreFronts deck es
-tables_fronts deck es s n at keeps = table_is deck es s n (good_run deck es) at
+pub tables_fronts : (deck : Deck) → deck.star ≡ false → (es : List Event) → TablesAreFronts deck es
+tables_fronts deck h es s n at keeps = table_is deck es s n (good_run deck h es) at

@@ -18,7 +18,7 @@ use Rattle.grs_known.proofs.lists.Facts.{slice_get-past}
 use Rattle.grs_world.specs.Kept.{places, in_table, kept_in, KeptArePlaces}
 use Rattle.grs_world.specs.Running.{is_live}
 use Rattle.grs_world.specs.World.{World, run}
-use Rattle.grs_world.proofs.run.Laps.{goes}
+use Rattle.grs_world.proofs.run.InRing.{stays_ring}
 use Rattle.grs_world.proofs.run.Messages.{given-later, length-fixeds}
 use Rattle.grs_world.proofs.run.Outcomes.{turn_table}
 use Rattle.grs_world.proofs.run.Runs.{GoodWorld}
@@ -28,7 +28,7 @@ no_items : (xs : List RunItem) → length xs ≡ 0 → xs ≡ []
 no_items [] e = refl
 no_items (x ∷ xs) e = absurd (omega arith)
 
-module _ (deck : Deck) (es : List Event) (r : Res) (all : is_systems r ≡ true) (g : GoodWorld deck es (run deck es)) where
+module _ (deck : Deck) (es : List Event) (r : Res) (all : is_systems r ≡ true) (g : GoodWorld deck es (run deck es)) (mode : (run deck es).medium.star ≡ false) where
   abbrev w : World
   w = run deck es
 
@@ -44,19 +44,13 @@ module _ (deck : Deck) (es : List Event) (r : Res) (all : is_systems r ≡ true)
       let given = given-later w.medium s g.before (g.later s.0) (items w.fixed) (g.whole s.0) (g.systems s.0 n at).0 g.message in
       ap (λ t. list_of t r) (turn_table deck s (items w.fixed) (g.before s.0) (g.later s.0) g.history (g.whole s.0) n (g.systems s.0 n at).1 (unseen s w.medium.message.entries) given) ∙ by_rounds
 
-  -- In star mode nothing goes with the message.
-  in_star : (run deck es).medium.star ≡ true → [] ≡ places deck es r
-  in_star star =
-      let count : suc (length (rounds (items w.fixed))) ≡ 1 = ap suc (sym (length-fixeds (rounds (items w.fixed)))) ∙ (sym g.message.next ∙ ((goes deck es).unused star).1) in
-      ap (λ xs. list_of (lists xs) r) (sym (no_items (rounds (items w.fixed)) (omega arith))) ∙ by_rounds
-
   kept_is : (s : SysId) → is_live (run deck es) s ≡ true → (star : Bool) → (run deck es).medium.star ≡ star → kept_in star deck (run deck es) s r ≡ places deck es r
-  kept_is s live true is = in_star is
+  kept_is s live true is = let no : true ≡ false = sym is ∙ mode in absurd (cc)
   kept_is s live false is = go (slice_get w.nodes s.0) refl
     where
       go : (o : Option Node) → slice_get (run deck es).nodes s.0 ≡ o → in_table deck (run deck es) s o r ≡ places deck es r
       go None at = let past = slice_get-past w.nodes s.0 at in absurd (grind (arith, live, past))
       go (Some n) at = in_ring s n at
 
-pub kept_places : (deck : Deck) (es : List Event) → KeptArePlaces deck es
-kept_places deck es s r live all = kept_is deck es r all (good_run deck es) s live (run deck es).medium.star refl
+pub kept_places : (deck : Deck) → deck.star ≡ false → (es : List Event) → KeptArePlaces deck es
+kept_places deck h es s r live all = kept_is deck es r all (good_run deck h es) (stays_ring deck h es) s live (run deck es).medium.star refl

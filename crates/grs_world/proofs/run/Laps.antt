@@ -23,6 +23,8 @@ use Rattle.grs_medium.specs.Apply.{turn_row, resting, rest_row, row, apply, repl
 use Rattle.grs_node.specs.Node.{Node, most_additions, may_go, is_pending, prepare}
 use Rattle.grs_node.specs.declared.prepared.Prepared.{Prepared}
 use Rattle.grs_node.specs.declared.prepared.Prepared.TheVariants.{Quiet, Call, Nothing}
+use Rattle.grs_node.proofs.InRing.{ring_prepare, prepare-ring}
+use Rattle.grs_world.proofs.run.InRing.{AreRing, happens_ring, all_ring}
 use Rattle.grs_world.specs.Laps.{OnlyLeft, ComesBackLast, given_by, given_when, given_at, ProcessedLast}
 use Rattle.grs_world.specs.World.{World, first_world, carry_out, chosen, counted, placed, happens_at, happens, run_from, run}
 use Rattle.grs_world.proofs.message.LapsMessage.{Round, turned_round, left_at_home, last_at_home, unseen_awaited}
@@ -91,45 +93,49 @@ either_goes : (deck : Deck) (m : MediumState) (s : SysId) (n : Node) (choice : C
 either_goes deck m s n choice true p q g h = g
 either_goes deck m s n choice false p q g h = h
 
-chosen_goes : (deck : Deck) (m : MediumState) (s : SysId) (n : Node) (choice : Choice) → Goes m → Goes (chosen deck m s n choice).medium
-unfolding chosen carry_out prepare
-chosen_goes deck m s n (choices.Task t) g = either_goes deck m s n (choices.Task t) (may_go deck n t) Quiet Nothing g g
-chosen_goes deck m s n choices.Turn g = call_goes m s n.known (Turn (take most_additions n.outbox)) g (turn_goes m s (take most_additions n.outbox) g)
-chosen_goes deck m s n choices.Rest g =
+ring_goes : (deck : Deck) (m : MediumState) (s : SysId) (n : Node) (choice : Choice) → Goes m → Goes (carry_out deck m s n choice (ring_prepare deck n choice)).medium
+unfolding carry_out
+ring_goes deck m s n (choices.Task t) g = either_goes deck m s n (choices.Task t) (may_go deck n t) Quiet Nothing g g
+ring_goes deck m s n choices.Turn g = call_goes m s n.known (Turn (take most_additions n.outbox)) g (turn_goes m s (take most_additions n.outbox) g)
+ring_goes deck m s n choices.Rest g =
     either_goes deck m s n choices.Rest (is_pending deck n) Nothing (Call (record { known = n.known; act = Rest })) g (call_goes m s n.known Rest g (rest_goes m s g))
-chosen_goes deck m s n (choices.Send t) g = g
-chosen_goes deck m s n choices.Take g = g
-chosen_goes deck m s n choices.Settle g = g
-chosen_goes deck m s n (choices.Tell e) g = g
-chosen_goes deck m s n (choices.Leave e) g = g
-chosen_goes deck m s n choices.Switch g = g
-chosen_goes deck m s n (choices.Purge t) g = g
+ring_goes deck m s n (choices.Send t) g = g
+ring_goes deck m s n choices.Take g = g
+ring_goes deck m s n choices.Settle g = g
+ring_goes deck m s n (choices.Tell e) g = g
+ring_goes deck m s n (choices.Leave e) g = g
+ring_goes deck m s n choices.Switch g = g
+ring_goes deck m s n (choices.Purge t) g = g
 
-happens_goes : (deck : Deck) (w : World) (e : Event) → Goes w.medium → Goes (happens deck w e).medium
+chosen_goes : (deck : Deck) (m : MediumState) (s : SysId) (n : Node) (choice : Choice) → n.star ≡ None → Goes m → Goes (chosen deck m s n choice).medium
+unfolding chosen
+chosen_goes deck m s n choice alone g = subst (λ (p : Prepared). Goes (carry_out deck m s n choice p).medium) (sym (prepare-ring deck n choice alone)) (ring_goes deck m s n choice g)
+
+happens_goes : (deck : Deck) (w : World) (e : Event) → AreRing w.nodes → Goes w.medium → Goes (happens deck w e).medium
 unfolding happens happens_at placed
-happens_goes deck w e g = go (slice_get w.nodes e.system.0)
+happens_goes deck w e ring g = go (slice_get w.nodes e.system.0) refl
   where
-    by_node : (n : Node) (removed : Bool) → Goes (cond removed (counted w) (placed w e.system n (chosen deck w.medium e.system n e.choice))).medium
-    by_node n true = g
-    by_node n false = chosen_goes deck w.medium e.system n e.choice g
+    by_node : (n : Node) → slice_get w.nodes e.system.0 ≡ Some n → (removed : Bool) → Goes (cond removed (counted w) (placed w e.system n (chosen deck w.medium e.system n e.choice))).medium
+    by_node n at true = g
+    by_node n at false = chosen_goes deck w.medium e.system n e.choice (ring e.system.0 n at) g
 
-    go : (n : Option Node) → Goes (happens_at deck w e n).medium
-    go None = g
-    go (Some n) = by_node n (has w.medium.removed e.system.0)
+    go : (n : Option Node) → slice_get w.nodes e.system.0 ≡ n → Goes (happens_at deck w e n).medium
+    go None at = g
+    go (Some n) at = by_node n at (has w.medium.removed e.system.0)
 
-run_goes : (deck : Deck) (w : World) (es : List Event) → Goes w.medium → Goes (run_from deck w es).medium
-run_goes deck w [] g = g
-run_goes deck w (e ∷ es) g = run_goes deck (happens deck w e) es (happens_goes deck w e g)
+run_goes : (deck : Deck) (w : World) (es : List Event) → AreRing w.nodes → Goes w.medium → Goes (run_from deck w es).medium
+run_goes deck w [] ring g = g
+run_goes deck w (e ∷ es) ring g = run_goes deck (happens deck w e) es (happens_ring deck w e ring) (happens_goes deck w e ring g)
 
 begun : (deck : Deck) → Goes (first_world deck).medium
 unfolding first_world
 begun deck = goes_at_start (length deck.systems) deck.entries deck.star
 
-pub goes : (deck : Deck) (es : List Event) → Goes (run deck es).medium
-goes deck es = run_goes deck (first_world deck) es (begun deck)
+pub goes : (deck : Deck) → deck.star ≡ false → (es : List Event) → Goes (run deck es).medium
+goes deck h es = run_goes deck (first_world deck) es (all_ring deck h []) (begun deck)
 
 pub comes_back_last : ComesBackLast
-comes_back_last deck es = last_at_home _ (goes deck es).round
+comes_back_last deck h es = last_at_home _ (goes deck h es).round
 
 -- ---- what the next event gives
 -- Of these entries a system's own are left to it alone.
@@ -157,23 +163,25 @@ call_gift m s known act here =
     by_test (λ (a : Reply × MediumState). Gives s (given_by a.0)) (has m.removed s.0) (Removed, m) (cond (known == m.removed) (row m s act) (Stale m.removed, m)) (λ t. no_gift s)
     (λ t. by_test (λ (a : Reply × MediumState). Gives s (given_by a.0)) (known == m.removed) (row m s act) (Stale m.removed, m) (λ u. here) (λ u. no_gift s))
 
-prepared_gift : (deck : Deck) (m : MediumState) (s : SysId) (n : Node) (choice : Choice) → Goes m → Gives s (given_when m s (prepare deck n choice))
-unfolding prepare
-prepared_gift deck m s n (choices.Task t) g = by_test (λ p. Gives s (given_when m s p)) (may_go deck n t) Quiet Nothing (λ u. no_gift s) (λ u. no_gift s)
-prepared_gift deck m s n choices.Turn g = call_gift m s n.known (Turn (take most_additions n.outbox)) (turn_gift m s (take most_additions n.outbox) g)
-prepared_gift deck m s n choices.Rest g =
+ring_gift : (deck : Deck) (m : MediumState) (s : SysId) (n : Node) (choice : Choice) → Goes m → Gives s (given_when m s (ring_prepare deck n choice))
+ring_gift deck m s n (choices.Task t) g = by_test (λ p. Gives s (given_when m s p)) (may_go deck n t) Quiet Nothing (λ u. no_gift s) (λ u. no_gift s)
+ring_gift deck m s n choices.Turn g = call_gift m s n.known (Turn (take most_additions n.outbox)) (turn_gift m s (take most_additions n.outbox) g)
+ring_gift deck m s n choices.Rest g =
     by_test (λ p. Gives s (given_when m s p)) (is_pending deck n) Nothing (Call (record { known = n.known; act = Rest })) (λ u. no_gift s) (λ u. call_gift m s n.known Rest (rest_gift m s))
-prepared_gift deck m s n (choices.Send t) g = no_gift s
-prepared_gift deck m s n choices.Take g = no_gift s
-prepared_gift deck m s n choices.Settle g = no_gift s
-prepared_gift deck m s n (choices.Tell e) g = no_gift s
-prepared_gift deck m s n (choices.Leave e) g = no_gift s
-prepared_gift deck m s n choices.Switch g = no_gift s
-prepared_gift deck m s n (choices.Purge t) g = no_gift s
+ring_gift deck m s n (choices.Send t) g = no_gift s
+ring_gift deck m s n choices.Take g = no_gift s
+ring_gift deck m s n choices.Settle g = no_gift s
+ring_gift deck m s n (choices.Tell e) g = no_gift s
+ring_gift deck m s n (choices.Leave e) g = no_gift s
+ring_gift deck m s n choices.Switch g = no_gift s
+ring_gift deck m s n (choices.Purge t) g = no_gift s
 
-pub processed_last : (deck : Deck) (es : List Event) (e : Event) → ProcessedLast deck es e
-processed_last deck es e = go (slice_get (run deck es).nodes e.system.0)
+prepared_gift : (deck : Deck) (m : MediumState) (s : SysId) (n : Node) (choice : Choice) → n.star ≡ None → Goes m → Gives s (given_when m s (prepare deck n choice))
+prepared_gift deck m s n choice alone g = subst (λ (p : Prepared). Gives s (given_when m s p)) (sym (prepare-ring deck n choice alone)) (ring_gift deck m s n choice g)
+
+pub processed_last : (deck : Deck) → deck.star ≡ false → (es : List Event) (e : Event) → ProcessedLast deck es e
+processed_last deck h es e = go (slice_get (run deck es).nodes e.system.0) refl
   where
-    go : (n : Option Node) → Gives e.system (given_at deck (run deck es) e n)
-    go None = no_gift e.system
-    go (Some n) = prepared_gift deck (run deck es).medium e.system n e.choice (goes deck es)
+    go : (n : Option Node) → slice_get (run deck es).nodes e.system.0 ≡ n → Gives e.system (given_at deck (run deck es) e n)
+    go None at = no_gift e.system
+    go (Some n) at = prepared_gift deck (run deck es).medium e.system n e.choice (all_ring deck h es e.system.0 n at) (goes deck h es)

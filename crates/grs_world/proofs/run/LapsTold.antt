@@ -36,6 +36,7 @@ use Rattle.grs_world.proofs.message.Stands as stands
 use Rattle.grs_world.proofs.run.Answered.{Answered, answered-by, left_turned}
 use Rattle.grs_world.proofs.run.Came.{Came, nothing, went_on, turn, each_event, IsHome, AllHome, all_home}
 use Rattle.grs_world.proofs.run.Growing.{fixeds}
+use Rattle.grs_world.proofs.run.InRing.{all_ring}
 use Rattle.grs_world.proofs.run.Laps.{goes}
 use Rattle.grs_world.proofs.run.Messages.{given-later}
 use Rattle.grs_world.proofs.run.News.{told-fewer}
@@ -100,7 +101,7 @@ lines_home s t (l ∷ ls) mine a = go (answers t l) refl (lines_home s t ls (and
     go false is later = later (or_other (answers t l) (list_any (answers t) ls) a is)
 
 -- ---- one event
-module _ (deck : Deck) (es : List Event) (e : Event) where
+module _ (deck : Deck) (ring : deck.star ≡ false) (es : List Event) (e : Event) where
   abbrev w : World
   w = run deck es
 
@@ -127,20 +128,20 @@ module _ (deck : Deck) (es : List Event) (e : Event) where
     at_home : is_at w.medium.message.holder e.system ≡ true → (t : TaskId) → t.system.0 ≡ s → Last t
     at_home here t home before behind entry q is body same =
         let m = w.medium.message in
-        let mine : IsHome entry.from entry.body = home_of before behind entry (subst AllHome is (all_home deck es)) in
+        let mine : IsHome entry.from entry.body = home_of before behind entry (subst AllHome is (all_home deck ring es)) in
         let from : entry.from ≡ t.system = ap (λ (x : ℕ). let y : SysId = record { 0 = x } in y) (from_home t entry q body same mine) in
-        left_at_home m.systems t.system m.entries before behind entry ((goes deck es).round.awaited t.system (is_at-exact m.holder e.system here ∙ ap Some (sym (its_system t home)))) is from
+        left_at_home m.systems t.system m.entries before behind entry ((goes deck ring es).round.awaited t.system (is_at-exact m.holder e.system here ∙ ap Some (sym (its_system t home)))) is from
 
     -- and where the task has no request that its system has still to process.
     at_rest : (t : TaskId) → t.system.0 ≡ s → is_among t (askers (own_requests e.system.0 (g.later e.system.0))) ≡ false → Last t
     unfolding unseen
-    at_rest t home none before behind entry q is body same u other = ends_of before behind entry (subst AllEndAtHome is (goes deck es).round.ends) (seen_by (has entry.mask entry.from.0) refl) u
+    at_rest t home none before behind entry q is body same u other = ends_of before behind entry (subst AllEndAtHome is (goes deck ring es).round.ends) (seen_by (has entry.mask entry.from.0) refl) u
       where
         here : SysId
         here = e.system
 
         mine : entry.from.0 ≡ e.system.0
-        mine = from_home t entry q body same (home_of before behind entry (subst AllHome is (all_home deck es))) ∙ home
+        mine = from_home t entry q body same (home_of before behind entry (subst AllHome is (all_home deck ring es))) ∙ home
 
         given : Bodies (fixeds (g.later e.system.0)) (unseen e.system w.medium.message.entries)
         given = given-later w.medium e.system g.before (g.later s) (items w.fixed) (g.whole s) (g.systems s n at).0 g.message
@@ -177,7 +178,7 @@ module _ (deck : Deck) (es : List Event) (e : Event) where
     right : (o : Turnout) → Came deck w e.system n o → Right (placed w e.system n o)
     unfolding placed
     right o (nothing m k same told) t a = let none : false ≡ true = told_now k [] (told ∙ sym (append-nil n.tasks.told)) t a in absurd cc
-    right o (went_on task may) t a = by_quiet _ (quiet deck s e.system (items w.fixed) (g.before s) (g.later s) (own_requests s (g.later s)) n task g.history (g.systems s n at).1 may) t a
+    right o (went_on task may) t a = by_quiet _ (quiet deck s e.system (items w.fixed) (g.before s) (g.later s) (own_requests s (g.later s)) n task (all_ring deck ring es s n at) g.history (g.systems s n at).1 may) t a
     right o (turn medium here is) t a =
         let given = given-later w.medium e.system g.before (g.later s) (items w.fixed) (g.whole s) (g.systems s n at).0 g.message in
         let out = take most_additions n.outbox in
@@ -187,14 +188,14 @@ module _ (deck : Deck) (es : List Event) (e : Event) where
         let last : Last t = at_home here t (lines_home s t m.lines m.ours answered) in
         (last, subst (λ (x : Message). LeftHome t x.entries) (sym is) (left_turned t e.system w.medium.message.next (live w.medium) most_additions n.outbox w.medium.message.entries last (m.clear t answered)))
 
-pub answered_last : (deck : Deck) (es : List Event) (e : Event) → AnsweredLast deck es e
-answered_last deck es e t a =
-    let g = good_run deck es in
+pub answered_last : (deck : Deck) → deck.star ≡ false → (es : List Event) (e : Event) → AnsweredLast deck es e
+answered_last deck ring es e t a =
+    let g = good_run deck ring es in
     let w = run deck es in
-    let all : Right deck es e (happens deck w e) = each_event deck w e (Right deck es e) g.message.no_turn
+    let all : Right deck ring es e (happens deck w e) = each_event deck w e (Right deck ring es e) g.message.no_turn (all_ring deck ring es)
     (λ u none. nobody u (sym (ap (list_any (λ x. answers u x.line)) (ap (drop (length w.told)) (sym (append-nil w.told)) ∙ drop-seam w.told [])) ∙ none))
-    (λ n o at c. right deck es e g n at o c) in
-    subst (Right deck es e) (sym (run-push deck es (first_world deck) e)) all t a
+    (λ n o at c. right deck ring es e g n at o c) in
+    subst (Right deck ring es e) (sym (run-push deck es (first_world deck) e)) all t a
   where
-    nobody : (t : TaskId) → false ≡ true → Last deck es e t × Last deck es e t
+    nobody : (t : TaskId) → false ≡ true → Last deck ring es e t × Last deck ring es e t
     nobody t f = absurd cc

@@ -4,9 +4,11 @@ use Rattle.std.specs.Prelude.{slice_get, ◌==◌}
 use Rattle.grs_base.specs.declared.resource.SysId.{SysId}
 use Rattle.grs_base.specs.declared.resource.TaskId.{TaskId}
 use Rattle.grs_legal.specs.Legal.{Legal}
-use Rattle.grs_medium.specs.Apply.{apply, row, turn_row, rest_row, resting}
+use Rattle.grs_medium.specs.Apply.{reply_to, medium_after, apply, row, turn_row, rest_row, resting}
 use Rattle.grs_medium.specs.Medium.{MediumState, live, first_medium, all_rest, medium_at_end}
-use Rattle.grs_node.specs.Node.{Node, Step, prepare, finish, finish_quiet, finish_call, read_entries, put_in, may_go, is_pending, most_additions, first_node}
+use Rattle.grs_node.proofs.InRing.{ring_prepare, ring_finish, prepare-ring}
+use Rattle.grs_node.specs.declared.prepared.Prepared.{Prepared}
+use Rattle.grs_node.specs.Node.{Node, Step, prepare, finish, finish_quiet, read_entries, put_in, may_go, is_pending, most_additions, first_node}
 use Rattle.grs_node.specs.declared.prepared.Prepared.TheVariants.{Quiet, Call, Nothing}
 use Rattle.grs_wire.specs.Masks.{has, others}
 use Rattle.grs_wire.specs.declared.deck.Deck.{Deck}
@@ -28,6 +30,7 @@ use Rattle.grs_known.proofs.lists.Facts.{take-taken}
 use Rattle.grs_world.specs.Agree.{Sound}
 use Rattle.grs_world.specs.World.{World, Turnout, idle, carry_out, chosen, placed, counted, happens_at, happens, run, hist, first_nodes, first_world}
 use Rattle.grs_world.proofs.message.Stands.{none, has-others}
+use Rattle.grs_world.proofs.run.InRing.{AreRing, all_ring, finished-ring}
 use Rattle.grs_world.proofs.run.Messages.{message-same, message-turned, given-later}
 use Rattle.grs_world.proofs.run.OfEvents.{told_of_events}
 use Rattle.grs_world.proofs.run.Outcomes.{Outcome, quiet_outcome, still_outcome, turn_outcome}
@@ -40,7 +43,7 @@ use Rattle.grs_world.proofs.system.Quiet.{quiet}
 use Rattle.grs_world.proofs.system.Says.{own_requests}
 
 -- ---- one event
-module _ (deck : Deck) (es : List Event) (e : Event) (g : GoodWorld deck es (run deck es)) where
+module _ (deck : Deck) (es : List Event) (e : Event) (g : GoodWorld deck es (run deck es)) (ring : AreRing (run deck es).nodes) where
   abbrev c : SysId
   c = e.system
 
@@ -97,10 +100,10 @@ module _ (deck : Deck) (es : List Event) (e : Event) (g : GoodWorld deck es (run
 
     -- any call: what is left is the row of the call itself
     abbrev LeadsBy : Choice → Reply × MediumState → Type 0
-    LeadsBy choice a = Leads (record { medium = a.1; step = finish deck n choice (Some a.0) })
+    LeadsBy choice a = Leads (record { medium = a.1; step = ring_finish deck n a.0 })
 
     good_call : (choice : Choice) (call : CallOfMedium) → LeadsBy choice (row (run deck es).medium e.system call.act) → LeadsBy choice (apply (run deck es).medium e.system call)
-    unfolding apply finish finish_call
+    unfolding apply
     good_call choice call here =
         by_test (LeadsBy choice) (has w.medium.removed c.0) (replies.Removed, w.medium) _
         (λ r. good_idle)
@@ -109,7 +112,7 @@ module _ (deck : Deck) (es : List Event) (e : Event) (g : GoodWorld deck es (run
         (λ k. same_push w.medium (record n { known = w.medium.removed }) refl refl refl (record { good = seen.good; held = seen.held; shared = seen.shared; homes = seen.homes; apart = seen.apart })))
 
     good_rest : LeadsBy choices.Rest (row (run deck es).medium e.system acts.Rest)
-    unfolding row rest_row finish finish_call
+    unfolding row rest_row
     good_rest = by_test (λ r. LeadsBy choices.Rest (r, resting w.medium c)) (all_rest (resting w.medium c) && medium_at_end (resting w.medium c)) replies.Over replies.Resting (λ t. idle_push (resting w.medium c) refl refl) (λ t. idle_push (resting w.medium c) refl refl)
 
     -- the Turn of the system at which the open message stands
@@ -133,7 +136,7 @@ module _ (deck : Deck) (es : List Event) (e : Event) (g : GoodWorld deck es (run
         (message-turned w.medium m c out w.medium.rest g.before g.later P g.whole is_open refl refl g.message))
 
     good_turn : LeadsBy choices.Turn (row (run deck es).medium e.system (acts.Turn (take most_additions n.outbox)))
-    unfolding row turn_row turn_reply turned finish finish_call flags after_turn
+    unfolding row turn_row turn_reply turned flags after_turn
     good_turn = go (is_at w.medium.message.holder c) refl w.medium.message.closed refl
       where
         go : (b : Bool) → is_at (run deck es).medium.message.holder e.system ≡ b → (d : Bool) → (run deck es).medium.message.closed ≡ d →
@@ -153,24 +156,33 @@ module _ (deck : Deck) (es : List Event) (e : Event) (g : GoodWorld deck es (run
     good_task : (t : TaskId) → may_go deck n t ≡ true → Leads (record { medium = (run deck es).medium; step = finish deck n (choices.Task t) None })
     unfolding finish
     good_task t m = quiet_push w.medium (finish_quiet deck n (choices.Task t)) refl refl
-        (quiet_outcome deck c P (g.before s) (g.later s) g.history (g.whole s) n (finish_quiet deck n (choices.Task t)) (quiet deck s c P (g.before s) (g.later s) (own_requests s (g.later s)) n t g.history seen m))
+        (quiet_outcome deck c P (g.before s) (g.later s) g.history (g.whole s) n (finish_quiet deck n (choices.Task t)) (quiet deck s c P (g.before s) (g.later s) (own_requests s (g.later s)) n t (ring s n at) g.history seen m))
+
+    -- a call that is made
+    called : (choice : Choice) (call : CallOfMedium) → LeadsBy choice (apply (run deck es).medium e.system call) → Leads (carry_out deck (run deck es).medium e.system n choice (Call call))
+    unfolding carry_out
+    called choice call here = subst (λ (st : Step). Leads (record { medium = medium_after w.medium c call; step = st })) (sym (finished-ring deck n choice (Some (reply_to w.medium c call)) (ring s n at))) here
 
     -- each choice
-    good_choice : (choice : Choice) → Leads (chosen deck (run deck es).medium e.system n choice)
-    unfolding chosen carry_out prepare
-    good_choice (choices.Task t) = by_test (λ p. Leads (carry_out deck w.medium c n (choices.Task t) p)) (may_go deck n t) Quiet Nothing
+    by_ring : (choice : Choice) → Leads (carry_out deck (run deck es).medium e.system n choice (ring_prepare deck n choice))
+    unfolding carry_out
+    by_ring (choices.Task t) = by_test (λ p. Leads (carry_out deck w.medium c n (choices.Task t) p)) (may_go deck n t) Quiet Nothing
         (λ m. good_task t m)
         (λ m. good_idle)
-    good_choice choices.Turn = good_call choices.Turn (record { known = n.known; act = acts.Turn (take most_additions n.outbox) }) good_turn
-    good_choice choices.Rest = by_test (λ p. Leads (carry_out deck w.medium c n choices.Rest p)) (is_pending deck n) Nothing (Call (record { known = n.known; act = acts.Rest }))
-        (λ t. good_idle) (λ t. good_call choices.Rest (record { known = n.known; act = acts.Rest }) good_rest)
-    good_choice (choices.Send t) = good_idle
-    good_choice choices.Take = good_idle
-    good_choice choices.Settle = good_idle
-    good_choice (choices.Tell x) = good_idle
-    good_choice (choices.Leave x) = good_idle
-    good_choice choices.Switch = good_idle
-    good_choice (choices.Purge x) = good_idle
+    by_ring choices.Turn = called choices.Turn (record { known = n.known; act = acts.Turn (take most_additions n.outbox) }) (good_call choices.Turn (record { known = n.known; act = acts.Turn (take most_additions n.outbox) }) good_turn)
+    by_ring choices.Rest = by_test (λ p. Leads (carry_out deck w.medium c n choices.Rest p)) (is_pending deck n) Nothing (Call (record { known = n.known; act = acts.Rest }))
+        (λ t. good_idle) (λ t. called choices.Rest (record { known = n.known; act = acts.Rest }) (good_call choices.Rest (record { known = n.known; act = acts.Rest }) good_rest))
+    by_ring (choices.Send t) = good_idle
+    by_ring choices.Take = good_idle
+    by_ring choices.Settle = good_idle
+    by_ring (choices.Tell x) = good_idle
+    by_ring (choices.Leave x) = good_idle
+    by_ring choices.Switch = good_idle
+    by_ring (choices.Purge x) = good_idle
+
+    good_choice : (choice : Choice) → Leads (chosen deck (run deck es).medium e.system n choice)
+    unfolding chosen
+    good_choice choice = subst (λ (p : Prepared). Leads (carry_out deck w.medium c n choice p)) (sym (prepare-ring deck n choice (ring s n at))) (by_ring choice)
 
   good_at : (o : Option Node) → slice_get (run deck es).nodes e.system.0 ≡ o → happens deck (run deck es) e ≡ happens_at deck (run deck es) e o → Good (happens_at deck (run deck es) e o)
   unfolding happens_at
@@ -232,25 +244,25 @@ first_good deck = record {
 }
 
 -- ---- every list of events
-good_run_from : (deck : Deck) (done es : List Event) → GoodWorld deck done (run deck done) → GoodWorld deck (done ++ es) (run deck (done ++ es))
-good_run_from deck done [] g = subst (λ xs. GoodWorld deck xs (run deck xs)) (sym (append-nil done)) g
-good_run_from deck done (e ∷ es) g =
+good_run_from : (deck : Deck) → deck.star ≡ false → (done es : List Event) → GoodWorld deck done (run deck done) → GoodWorld deck (done ++ es) (run deck (done ++ es))
+good_run_from deck h done [] g = subst (λ xs. GoodWorld deck xs (run deck xs)) (sym (append-nil done)) g
+good_run_from deck h done (e ∷ es) g =
     subst (λ xs. GoodWorld deck xs (run deck xs)) (append_assoc done (e ∷ []) es)
-    (good_run_from deck (done ++ e ∷ []) es (subst (λ (w : World). GoodWorld deck (done ++ e ∷ []) w) (sym (run-push deck done (first_world deck) e)) (good_happens deck done e g)))
+    (good_run_from deck h (done ++ e ∷ []) es (subst (λ (w : World). GoodWorld deck (done ++ e ∷ []) w) (sym (run-push deck done (first_world deck) e)) (good_happens deck done e g (all_ring deck h done))))
 
-pub good_run : (deck : Deck) (es : List Event) → GoodWorld deck es (run deck es)
-good_run deck es = good_run_from deck [] es (first_good deck)
+pub good_run : (deck : Deck) → deck.star ≡ false → (es : List Event) → GoodWorld deck es (run deck es)
+good_run deck h es = good_run_from deck h [] es (first_good deck)
 
--- every run of every deck is sound
-pub runs_sound : (deck : Deck) (es : List Event) → Sound deck es
-runs_sound deck es = record {
+-- every run of every deck in ring mode is sound
+pub runs_sound : (deck : Deck) → deck.star ≡ false → (es : List Event) → Sound deck es
+runs_sound deck h es = record {
   legal = legal_at es;
   agree = record {
-    lines = (good_run deck es).told.agree;
+    lines = (good_run deck h es).told.agree;
     events = told_of_events deck es;
     removals = λ e s target h. absurd (none_purged s target deck (run deck (take e es)).fixed (legal_at (take e es)) (length (run deck (take (e - 1) es)).fixed) h);
   };
 }
   where
     legal_at : (us : List Event) → Legal deck (hist deck us)
-    legal_at us = subst (Legal deck) (items_are_history (run deck us).fixed).0 (good_run deck us).history.legal
+    legal_at us = subst (Legal deck) (items_are_history (run deck us).fixed).0 (good_run deck h us).history.legal

@@ -21,7 +21,7 @@ use Rattle.grs_base.specs.declared.rnl.RnlEntry.{RnlEntry}
 use Rattle.grs_base.specs.Rnl.{no_entries}
 use Rattle.grs_medium.specs.Apply.{turn_row, rest_row, row, apply, reply_to}
 use Rattle.grs_medium.specs.Medium.{medium_at_end}
-use Rattle.grs_node.specs.Node.{decide, post, ask, wait, take_line, end_step, ready_step, phase_step, is_pending, may_go, prepare, finish_quiet, read_entries, all_sent, put_in, finish_call, finish}
+use Rattle.grs_node.specs.Node.{decide, post, ask, wait, take_line, end_step, ready_step, phase_step, is_pending, may_go, prepare, finish_quiet, read_entries, all_sent, put_in, finish_star, finish_call, finish}
 use Rattle.grs_wire.specs.Masks.{has, without, with_also}
 use Rattle.grs_wire.specs.declared.deck.Deck.{Deck}
 use Rattle.grs_wire.specs.declared.deck.Event.{Event}
@@ -234,5 +234,5 @@ rests :
     × (told idle_systems (rest 0 ∷ rest 1 ∷ []) ≡ [])
     × (hist idle_systems (rest 0 ∷ rest 1 ∷ []) ≡ [])
     × ((run at_once (rest 0 ∷ rest 2 ∷ [])).medium.rest ≡ 4)
-unfolding has with_also medium_at_end rest_row row apply is_pending prepare finish_call finish first_node first_world carry_out chosen placed happens_at happens
+unfolding has with_also medium_at_end rest_row row apply is_pending prepare finish_star finish_call finish first_node first_world carry_out chosen placed happens_at happens
 rests = (refl, refl, refl, refl, refl, refl, refl)

@@ -1,5 +1,5 @@
 -- A complex before its first event.
-use Rattle.std.proofs.Common.{◌≡◌, ◌<◌, ◌+◌, ℕ, zero, suc, Bool, true, false, List, [], ◌∷◌, ◌++◌, length, take, refl, ap, arith, add-one}
+use Rattle.std.proofs.Common.{◌≡◌, ◌<◌, ◌+◌, ℕ, zero, suc, Bool, true, false, List, [], ◌∷◌, ◌++◌, length, replicate, take, refl, ap, arith, add-one}
 use Rattle.grs_wire.specs.declared.deck.Deck.{Deck}
 use Rattle.grs_wire.specs.declared.deck.SystemDef.{SystemDef}
 use Rattle.grs_medium.specs.Medium.{systems_of, first_medium}
@@ -11,6 +11,14 @@ use Rattle.grs_world.specs.World.{first_nodes}
 pub systems_of-first : (systems entries : ℕ) (star : Bool) → systems_of (first_medium systems entries star) ≡ systems
 systems_of-first systems entries true = refl
 systems_of-first systems entries false = refl
+
+length-repeat : (n : ℕ) → length {A = ℕ} (replicate n 0) ≡ n
+length-repeat zero = refl
+length-repeat (suc n) = ap suc (length-repeat n)
+
+-- as many lock words as there are entries
+pub words-first : (systems entries : ℕ) (star : Bool) → length (first_medium systems entries star).words ≡ entries
+words-first systems entries star = length-repeat entries
 
 -- nothing is told
 pub first_told : (deck : Deck) (s : ℕ) → (first_node deck s).tasks.told ≡ []
@@ -30,4 +38,4 @@ pub nodes_of-push : (vs : List NodeView) (v : NodeView) → nodes_of (vs ++ v �
 nodes_of-push [] v = refl
 nodes_of-push (w ∷ vs) v = ap (λ ns. w.node ∷ ns) (nodes_of-push vs v)
 
-pub ruleset first = (systems_of-first, first_nodes-more, nodes_of-push)
+pub ruleset first = (systems_of-first, words-first, first_nodes-more, nodes_of-push)

@@ -17,6 +17,7 @@ use Rattle.grs_legal.specs.Asks.{AsksEnq, AsksDeq, AsksRelease, asks_in, lines_o
 use Rattle.grs_legal.specs.Legal.{line_entries}
 use Rattle.grs_legal.specs.declared.meaning.Meaning.{Meaning}
 use Rattle.grs_legal.specs.declared.meaning.Meaning.TheVariants as lines
+use Rattle.grs_node.proofs.InRing.{outbox-ring}
 use Rattle.grs_node.specs.Node.{Node, only, with_tasks, decide, post, ask, wait, has_most, take_line, end_step, ready_step, phase_step, task_step, goes_on, may_go, finish_quiet}
 use Rattle.grs_wire.specs.History.{replay, entries_for}
 use Rattle.grs_wire.specs.Wants.{answer_to, res_wanted, new_owners}
@@ -81,7 +82,7 @@ asked-push_other : (u : TaskId) (o : Option Asked) (qs : List Req) (q : Req) →
 asked-push_other u o [] q apart h = (λ e. absurd (let f : false ≡ true = sym apart ∙ e in cc), tt)
 asked-push_other u o (x ∷ qs) q apart h = (h.0, asked-push_other u o qs q apart h.1)
 
-module _ (deck : Deck) (s : ℕ) (c : SysId) (P before later : List RunItem) (right : IsHistory deck P) (out : List Req) (n : Node) (seen : Seen deck s P before later out n) where
+module _ (deck : Deck) (s : ℕ) (c : SysId) (P before later : List RunItem) (right : IsHistory deck P) (out : List Req) (n : Node) (seen : Seen deck s P before later out n) (alone : n.star ≡ None) where
   abbrev os : Opens
   os = opens_of later out n
 
@@ -180,7 +181,8 @@ module _ (deck : Deck) (s : ℕ) (c : SysId) (P before later : List RunItem) (ri
           sent = sent-absent t phases.ToSend out free_out;
         })
         (λ u o apart j. subst (λ qs. IsAskedBy u o qs) pushed (asked-push_other u o (out ++ n.outbox) q apart j)) (λ u ph apart j. j) refl (λ u ms apart z leaving y j. j) none in
-        keeps refl
+        subst (λ (qs : List Req). QuietStep deck s c P before later out n (only (record n { tasks = with_outstanding (with_phase v1 t phases.ToSend) t (Some a); outbox = qs }))) (sym (outbox-ring (with_tasks n v1) q alone))
+        (keeps refl
         (record {
           good = settled.good;
           held = seen.held;
@@ -188,7 +190,7 @@ module _ (deck : Deck) (s : ℕ) (c : SysId) (P before later : List RunItem) (ri
           homes = ap (list_all (λ y. is_home_at deck s y.task)) (sym pushed) ∙ all-more (λ (y : Req). is_home_at deck s y.task) (out ++ n.outbox) q seen.homes (ours-home deck s n.tasks t ls ours);
           apart = ap (λ qs. stand_apart (askers qs)) (sym pushed) ∙ apart-push (out ++ n.outbox) q seen.apart free;
         })
-        settled.told
+        settled.told)
 
     -- what makes the task one of ours after a step that leaves its open requests
     still_here : (T : List ToldLine) (x : TaskState) → x.outstanding ≡ None → IsAtLines x.phase x.code → IsTask ls p T (λ q. false) t x → IsHere deck os P T t ls x
@@ -412,10 +414,10 @@ module _ (deck : Deck) (s : ℕ) (c : SysId) (P before later : List RunItem) (ri
       by_phase phases.Ended e g = cc
 
 -- a task goes on
-pub quiet : (deck : Deck) (s : ℕ) (c : SysId) (P before later : List RunItem) (out : List Req) (n : Node) (t : TaskId) → IsHistory deck P → Seen deck s P before later out n → may_go deck n t ≡ true → QuietStep deck s c P before later out n (finish_quiet deck n (choices.Task t))
+pub quiet : (deck : Deck) (s : ℕ) (c : SysId) (P before later : List RunItem) (out : List Req) (n : Node) (t : TaskId) → n.star ≡ None → IsHistory deck P → Seen deck s P before later out n → may_go deck n t ≡ true → QuietStep deck s c P before later out n (finish_quiet deck n (choices.Task t))
 unfolding may_go finish_quiet
-quiet deck s c P before later out n t right seen goes =
+quiet deck s c P before later out n t alone right seen goes =
     let here = and_parts (is_task n.tasks t) (is_some (lines_of deck t) && goes_on (state_of n.tasks t).phase) goes in
     let both = and_parts (is_some (lines_of deck t)) (goes_on (state_of n.tasks t).phase) here.1 in
     let mine = home-ours deck s n.tasks t seen.good.system both.0 here.0 in
-    subst (λ o. QuietStep deck s c P before later out n (task_step deck.limit n t o)) (sym mine.ours.lines) (phase_outcome deck s c P before later right out n seen t mine.lines mine.ours both.1)
+    subst (λ o. QuietStep deck s c P before later out n (task_step deck.limit n t o)) (sym mine.ours.lines) (phase_outcome deck s c P before later right out n seen alone t mine.lines mine.ours both.1)

@@ -1,0 +1,563 @@
+-- A system's part in star mode goes on to fit the deck, and so its calls go to systems and lock entries that there are.
+use Rattle.std.proofs.Common.{◌≡◌, ◌<◌, ◌≢◌, ◌+◌, ℕ, zero, suc, Bool, true, false, cond, List, [], ◌∷◌, ◌++◌, length, map, replicate, take, drop, Option, Some, None, is_some, refl, ap, sym, ◌∙◌, subst, arith}
+use Rattle.std.specs.Prelude.{slice_get, ◌&&◌, ◌||◌, ◌==◌, not, nat_lt, nat_le, slice_set, slice_index_or}
+use Rattle.std.specs.List.{list_all, list_any}
+use Rattle.std.specs.Option.{option_map, option_map_or}
+use Rattle.std.specs.Ordering.{is_lt}
+use Rattle.grs_base.specs.ResOrder.{res_order}
+use Rattle.std.proofs.lemmas.Bool.{and_parts, eqb-true}
+use Rattle.std.proofs.lemmas.Bool.Decides.{nat_tests}
+use Rattle.std.proofs.lemmas.List.{length-take}
+use Rattle.std.proofs.lemmas.Nat.{mod_below}
+use Rattle.grs_base.specs.Slices.{entry_of, slice_of}
+use Rattle.grs_base.specs.declared.resource.Res.TheVariants.{Step as StepRes, System as SystemRes, Systems}
+use Rattle.contention_mgr.proofs.ElementLemmas.{elements_are_askers, telling_keeps_elements, elements-kept, elements-set}
+use Rattle.contention_mgr.specs.Elements.{all_of, elements_of}
+use Rattle.contention_mgr.specs.Manager.{Ranked, Managed, ManagerView, no_elements, first_untold, owner_of, sooner, is_untold, entry_of_res, are_of, entry_of_looks, entry_wanted, managed_at, managed_of, managed_for, items_of, with_entry, settled, told, after_request, after_telling}
+use Rattle.grs_base.specs.Limits.{is_entries}
+use Rattle.grs_base.specs.declared.resource.Res.{Res}
+use Rattle.grs_base.specs.declared.resource.SysId.{SysId}
+use Rattle.grs_base.specs.declared.resource.TaskId.{TaskId}
+use Rattle.grs_node.specs.Addressed.{is_act_addressed, is_addressed, is_within, PartFits, AnyPartFits, NodeFits}
+use Rattle.grs_node.specs.Log.{stepped}
+use Rattle.grs_node.specs.Node.{Node, Step, first_node, prepare, star_call, prepared_by, star_need, turn_call, may_go, may_send, is_pending, finish_quiet, finish_call, finish_star, star_step, take_step, take_mail, is_for_deck, is_of_deck, send_own, read_entries, put_in}
+use Rattle.grs_node.specs.Star.{StarPart, StarStep, first_part, entry_asked, to_tell, send_of, send_to, first_held, answer_for, rank_of, settle_by, tell_by, leave_by, may_leave, has_interest, manages, serves, entry_for, quiet_step, own_step, decide_own, begun, begin_at, sent_to, holds, took_mail, settled_by, settled_first, told_by, not_managing, left_at, send_step, settle_step, tell_step, leave_step}
+use Rattle.grs_node.specs.declared.prepared.Prepared.{Prepared}
+use Rattle.grs_node.specs.declared.prepared.Prepared.TheVariants.{Quiet, Call, Nothing}
+use Rattle.grs_node.specs.declared.star.Need.{Need}
+use Rattle.grs_node.specs.declared.star.Need.TheVariants.{Alone, Asks, Idle}
+use Rattle.grs_node.proofs.Calls.{quiet-send, call-send}
+use Rattle.grs_node.proofs.Keeping.{star-task, star-turned}
+use Rattle.grs_node.specs.Finish.{may_come}
+use Rattle.grs_legal.specs.Asks.{Script, scripts_at, lines_at, lines_in, lines_of, meanings}
+use Rattle.grs_wire.specs.declared.deck.SystemDef.{SystemDef}
+use Rattle.grs_wire.specs.declared.request.Fixed.{Fixed}
+use Rattle.std.proofs.lemmas.Option.{slice_get_within}
+use Rattle.grs_node.specs.EitherMode.{IsDeckInEitherMode}
+use Rattle.grs_wire.specs.declared.deck.Choice.{Choice}
+use Rattle.grs_wire.specs.declared.deck.Choice.TheVariants as choices
+use Rattle.grs_wire.specs.declared.deck.Deck.{Deck}
+use Rattle.grs_wire.specs.declared.medium.Act.TheVariants as acts
+use Rattle.grs_wire.specs.declared.medium.Mail.{Mail}
+use Rattle.grs_wire.specs.declared.medium.Mail.TheVariants as mails
+use Rattle.grs_wire.specs.declared.medium.Reply.{Reply}
+use Rattle.grs_wire.specs.declared.medium.Reply.TheVariants as replies
+use Rattle.grs_wire.specs.declared.medium.RingEntry.{RingEntry}
+use Rattle.grs_wire.specs.declared.request.Req.{Req}
+use Rattle.grs_wire.specs.declared.request.Want.{Want}
+use Rattle.grs_wire.specs.declared.request.Want.TheVariants.{Enq, Deq, Release, Look}
+use Rattle.task_state.specs.View.{TasksView, is_task, state_of}
+use Rattle.task_state.specs.declared.state.Asked.{Asked}
+
+-- ---- lock entries
+lt-below : (a b : ℕ) → a < b → nat_lt a b ≡ true
+lt-below a b h = grind (arith, nat_tests, h)
+
+below-slice : (n slice e : ℕ) → 0 < n → Some (entry_of slice n) ≡ Some e → nat_lt e n ≡ true
+below-slice n slice e some is = subst (λ (o : Option ℕ). option_map_or (λ x. nat_lt x n) o true ≡ true) is (lt-below (entry_of slice n) n (mod_below slice n some))
+
+below-res : (n : ℕ) (r : Res) (e : ℕ) → 0 < n → entry_of_res n r ≡ Some e → nat_lt e n ≡ true
+below-res n (StepRes s j q r) e some is = cc
+below-res n (SystemRes s q r) e some is = cc
+below-res n (Systems q r) e some is = below-slice n (slice_of q r) e some is
+
+-- the lock entry of a request is one that there is
+pub below-wanted : (n : ℕ) (w : Want) (e : ℕ) → 0 < n → entry_wanted n w ≡ Some e → nat_lt e n ≡ true
+below-wanted n (Enq r c ret full) e some is = below-res n r e some is
+below-wanted n (Deq r have) e some is = below-res n r e some is
+below-wanted n (Release r) e some is = below-res n r e some is
+below-wanted n (Look first count f) e some is = go (nat_lt 0 count && nat_le (first + count) 64 && are_of n (entry_of first n) first count) is
+  where
+    go : (b : Bool) → cond b (Some (entry_of first n)) None ≡ Some e → nat_lt e n ≡ true
+    go true h = below-slice n first e some h
+    go false h = cc
+
+-- ---- who is told first
+sooner-of : (p : TaskId → Bool) (y : Ranked) (o : Option Ranked) → p y.elem.task ≡ true → option_map_or (λ z. p z.elem.task) o true ≡ true → p (sooner y o).elem.task ≡ true
+sooner-of p y None here later = here
+sooner-of p y (Some z) here later = go (is_lt (res_order z.res y.res))
+  where
+    go : (b : Bool) → p (cond b z y).elem.task ≡ true
+    go true = later
+    go false = here
+
+any-first : (p : TaskId → Bool) (home : ℕ) (xs : List Ranked) → elements_of p xs ≡ true → option_map_or (λ z. p z.elem.task) (first_untold home xs) true ≡ true
+any-first p home [] h = refl
+any-first p home (y ∷ xs) h = go (is_untold home y) (any-first p home xs (and_parts (p y.elem.task) _ h).1)
+  where
+    go : (b : Bool) → option_map_or (λ z. p z.elem.task) (first_untold home xs) true ≡ true → option_map_or (λ z. p z.elem.task) (cond b (Some (sooner y (first_untold home xs))) (first_untold home xs)) true ≡ true
+    go true later = sooner-of p y (first_untold home xs) (and_parts (p y.elem.task) _ h).0 later
+    go false later = later
+
+first-of : (p : TaskId → Bool) (home : ℕ) (xs : List Ranked) (x : Ranked) → elements_of p xs ≡ true → first_untold home xs ≡ Some x → p x.elem.task ≡ true
+first-of p home xs x h is = subst (λ (o : Option Ranked). option_map_or (λ z. p z.elem.task) o true ≡ true) is (any-first p home xs h)
+
+-- ---- the start
+all-none : (p : TaskId → Bool) (n : ℕ) → all_of p (replicate n None) ≡ true
+all-none p zero = refl
+all-none p (suc n) = all-none p n
+
+length-replicate : {X : Type 0} (n : ℕ) (x : X) → length (replicate n x) ≡ n
+length-replicate zero x = refl
+length-replicate (suc n) x = ap suc (length-replicate n x)
+
+some-entries : (n : ℕ) → is_entries n ≡ true → 0 < n
+some-entries zero h = cc
+some-entries (suc n) h = omega arith
+
+pub first-fits : (deck : Deck) (s : ℕ) → IsDeckInEitherMode deck → s < length deck.systems → NodeFits deck (first_node deck s)
+unfolding first_node
+first-fits deck s h within = record { system = within; part = go deck.star }
+  where
+    go : (b : Bool) → AnyPartFits deck (cond b (Some (first_part (record { 0 = s }) deck.entries)) None)
+    go false = tt
+    go true = record {
+      some = some-entries deck.entries h.entries;
+      entries = length-replicate deck.entries None;
+      interest = length-replicate deck.entries false;
+      elements = all-none (is_within deck) deck.entries;
+      held = refl;
+    }
+
+-- ---- what is prepared
+abbrev need-fits : Deck → Need → Bool
+need-fits deck Alone = true
+need-fits deck (Asks act) = is_act_addressed deck act
+need-fits deck Idle = true
+
+prepared-fits : (deck : Deck) (known : ℕ) (need : Need) → need-fits deck need ≡ true → is_addressed deck (prepared_by known need) ≡ true
+prepared-fits deck known Alone h = refl
+prepared-fits deck known (Asks act) h = h
+prepared-fits deck known Idle h = refl
+
+module _ (deck : Deck) (p : StarPart) (fits : PartFits deck p) where
+  send-fits : (t : TaskId) (o : Option Asked) → need-fits deck (send_of p t o) ≡ true
+  send-fits t None = refl
+  send-fits t (Some a) = go (entry_for p a.req.want) refl
+    where
+      one : (e : ℕ) (b : Bool) → nat_lt e deck.entries ≡ true → need-fits deck (cond b Alone (Asks (acts.Submit e (record { task = t; want = a.req.want })))) ≡ true
+      one e true h = refl
+      one e false h = h
+
+      go : (at : Option ℕ) → entry_for p a.req.want ≡ at → need-fits deck (send_to p (record { task = t; want = a.req.want }) at) ≡ true
+      go None is = refl
+      go (Some e) is = one e (manages p e) (below-wanted deck.entries a.req.want e fits.some (ap (λ (n : ℕ). entry_wanted n a.req.want) (sym fits.entries) ∙ is))
+
+  settle-fits : (qs : List Req) → list_all (λ q. is_within deck q.task) qs ≡ true → need-fits deck (settle_by p (slice_get qs 0)) ≡ true
+  settle-fits [] h = refl
+  settle-fits (q ∷ qs) h = go (serves p q)
+    where
+      go : (b : Bool) → need-fits deck (cond b (Asks (acts.Settle q.task.system (mails.Answered q.task (answer_for p q) (rank_of p q)))) Idle) ≡ true
+      go true = (and_parts (is_within deck q.task) _ h).0
+      go false = refl
+
+  tell-fits : (e : ℕ) → need-fits deck (tell_by (to_tell p e)) ≡ true
+  tell-fits e = go (first_untold p.manager.system.0 (items_of (managed_at p.manager e))) refl
+    where
+      go : (o : Option Ranked) → first_untold p.manager.system.0 (items_of (managed_at p.manager e)) ≡ o → need-fits deck (tell_by (option_map owner_of o)) ≡ true
+      go None is = refl
+      go (Some x) is = first-of (is_within deck) p.manager.system.0 (items_of (managed_at p.manager e)) x (elements-kept (is_within deck) p.manager.entries e fits.elements) is
+
+  interest-below : (flags : List Bool) (e : ℕ) → slice_index_or flags e false ≡ true → nat_lt e (length flags) ≡ true
+  interest-below [] e h = cc
+  interest-below (b ∷ bs) zero h = grind (arith, nat_tests)
+  interest-below (b ∷ bs) (suc e) h = grind (arith, nat_tests, interest-below bs e h)
+
+  leave-fits : (v : TasksView) (e : ℕ) → need-fits deck (leave_by p v e) ≡ true
+  leave-fits v e = go (may_leave p v e) refl
+    where
+      go : (b : Bool) → may_leave p v e ≡ b → need-fits deck (cond b (Asks (acts.Leave e)) Idle) ≡ true
+      go false is = refl
+      go true is = ap (λ (n : ℕ). nat_lt e n) (sym fits.interest) ∙ interest-below p.interest e (and_parts (has_interest p e) _ is).0
+
+need-choice : (deck : Deck) (n : Node) (p : StarPart) → PartFits deck p → (choice : Choice) → need-fits deck (star_need deck n p choice) ≡ true
+need-choice deck n p fits (choices.Send t) = go (may_send deck n t)
+  where
+    go : (b : Bool) → need-fits deck (cond b (send_of p t (state_of n.tasks t).outstanding) Idle) ≡ true
+    go true = send-fits deck p fits t (state_of n.tasks t).outstanding
+    go false = refl
+need-choice deck n p fits choices.Take = refl
+need-choice deck n p fits choices.Settle = settle-fits deck p fits p.held fits.held
+need-choice deck n p fits (choices.Tell e) = tell-fits deck p fits e
+need-choice deck n p fits (choices.Leave e) = leave-fits deck p fits n.tasks e
+need-choice deck n p fits (choices.Task t) = refl
+need-choice deck n p fits choices.Turn = refl
+need-choice deck n p fits choices.Switch = refl
+need-choice deck n p fits (choices.Purge s) = refl
+need-choice deck n p fits choices.Rest = refl
+
+star-call-fits : (deck : Deck) (n : Node) (o : Option StarPart) (choice : Choice) → AnyPartFits deck o → is_addressed deck (star_call deck n o choice) ≡ true
+unfolding star_call
+star-call-fits deck n None choice fits = refl
+star-call-fits deck n (Some p) choice fits = prepared-fits deck n.known (star_need deck n p choice) (need-choice deck n p fits choice)
+
+turn-fits : (deck : Deck) (n : Node) (o : Option StarPart) → is_addressed deck (turn_call n o) ≡ true
+turn-fits deck n None = let few = length-take 32 n.outbox in grind (arith, nat_tests, few)
+turn-fits deck n (Some p) = refl
+
+quiet-fits : (deck : Deck) (b : Bool) → is_addressed deck (cond b Quiet Nothing) ≡ true
+quiet-fits deck true = refl
+quiet-fits deck false = refl
+
+rest-fits : (deck : Deck) (known : ℕ) (b : Bool) → is_addressed deck (cond b Nothing (Call (record { known = known; act = acts.Rest }))) ≡ true
+rest-fits deck known true = refl
+rest-fits deck known false = refl
+
+pub prepare-addressed : (deck : Deck) (n : Node) (choice : Choice) → NodeFits deck n → is_addressed deck (prepare deck n choice) ≡ true
+unfolding prepare
+prepare-addressed deck n (choices.Task t) fits = quiet-fits deck (may_go deck n t)
+prepare-addressed deck n choices.Turn fits = turn-fits deck n n.star
+prepare-addressed deck n choices.Rest fits = rest-fits deck n.known (is_pending deck n)
+prepare-addressed deck n (choices.Send t) fits = star-call-fits deck n n.star (choices.Send t) fits.part
+prepare-addressed deck n choices.Take fits = star-call-fits deck n n.star choices.Take fits.part
+prepare-addressed deck n choices.Settle fits = star-call-fits deck n n.star choices.Settle fits.part
+prepare-addressed deck n (choices.Tell e) fits = star-call-fits deck n n.star (choices.Tell e) fits.part
+prepare-addressed deck n (choices.Leave e) fits = star-call-fits deck n n.star (choices.Leave e) fits.part
+prepare-addressed deck n choices.Switch fits = star-call-fits deck n n.star choices.Switch fits.part
+prepare-addressed deck n (choices.Purge s) fits = star-call-fits deck n n.star (choices.Purge s) fits.part
+
+-- ---- what a step leaves
+length-set : {X : Type 0} (xs : List X) (i : ℕ) (x : X) → length (slice_set xs i x) ≡ length xs
+length-set [] i x = refl
+length-set (y ∷ xs) zero x = refl
+length-set (y ∷ xs) (suc i) x = ap suc (length-set xs i x)
+
+request-entries : (v : ManagerView) (t : TaskId) (w : Want) → length (after_request v t w).entries ≡ length v.entries
+request-entries v t w = go (managed_for v w) (entry_wanted (length v.entries) w)
+  where
+    go : (o : Option Managed) (at : Option ℕ) → length (option_map_or (λ m. with_entry v at (Some (settled v.system.0 m t w))) o v).entries ≡ length v.entries
+    go None at = refl
+    go (Some m) None = refl
+    go (Some m) (Some e) = length-set v.entries e (Some (settled v.system.0 m t w))
+
+telling-entries : (v : ManagerView) (t : TaskId) (r : Res) → length (after_telling v t r).entries ≡ length v.entries
+telling-entries v t r = go (managed_of v r) (entry_of_res (length v.entries) r)
+  where
+    go : (o : Option Managed) (at : Option ℕ) → length (option_map_or (λ m. with_entry v at (Some (told t r m))) o v).entries ≡ length v.entries
+    go None at = refl
+    go (Some m) None = refl
+    go (Some m) (Some e) = length-set v.entries e (Some (told t r m))
+
+all-push : (f : Req → Bool) (qs : List Req) (q : Req) → list_all f qs ≡ true → f q ≡ true → list_all f (qs ++ q ∷ []) ≡ true
+all-push f [] q h new = grind (arith, new)
+all-push f (x ∷ qs) q h new = grind (arith, h, all-push f qs q)
+
+module _ (deck : Deck) where
+  with-interest-fits : (p : StarPart) (e : ℕ) (b : Bool) → PartFits deck p → PartFits deck (record p { interest = slice_set p.interest e b })
+  with-interest-fits p e b h = record { some = h.some; entries = h.entries; interest = length-set p.interest e b ∙ h.interest; elements = h.elements; held = h.held }
+
+  entry-fits : (p : StarPart) (e : ℕ) (o : Option Managed) → PartFits deck p → elements_of (is_within deck) (items_of o) ≡ true → PartFits deck (record p { manager = with_entry p.manager (Some e) o })
+  entry-fits p e o h new = record { some = h.some; entries = length-set p.manager.entries e o ∙ h.entries; interest = h.interest; elements = elements-set (is_within deck) p.manager.entries e o h.elements new; held = h.held }
+
+  request-fits : (p : StarPart) (t : TaskId) (w : Want) → PartFits deck p → is_within deck t ≡ true → PartFits deck (record p { manager = after_request p.manager t w })
+  request-fits p t w h own = record { some = h.some; entries = request-entries p.manager t w ∙ h.entries; interest = h.interest; elements = elements_are_askers (is_within deck) p.manager t w own h.elements; held = h.held }
+
+  own-fits : (v : TasksView) (p : StarPart) (t : TaskId) (o : Option Asked) → PartFits deck p → is_within deck t ≡ true → PartFits deck (own_step v p t o).part
+  unfolding decide_own
+  own-fits v p t None h own = h
+  own-fits v p t (Some a) h own = request-fits p t a.req.want h own
+
+  begin-fits : (v : TasksView) (p : StarPart) (t : TaskId) (o : Option Asked) (at : Option ℕ) → PartFits deck p → is_within deck t ≡ true → PartFits deck (begin_at v p t o at).part
+  begin-fits v p t o None h own = h
+  begin-fits v p t o (Some e) h own = own-fits v (begun p e) t o (with-interest-fits (record p { manager = with_entry p.manager (Some e) (Some no_elements) }) e true (entry-fits p e (Some no_elements) h refl)) own
+
+  sent-fits : (v : TasksView) (p : StarPart) (t : TaskId) (at : Option ℕ) → PartFits deck p → PartFits deck (sent_to v p t at).part
+  sent-fits v p t None h = h
+  sent-fits v p t (Some e) h = with-interest-fits p e true h
+
+  holds-fits : (p : StarPart) (e : ℕ) (q : Req) → PartFits deck p → is_within deck q.task ≡ true → PartFits deck (holds p e q)
+  holds-fits p e q h own = go _
+    where
+      go : (b : Bool) → PartFits deck (cond b (record p { held = p.held ++ q ∷ [] }) p)
+      go true = record { some = h.some; entries = h.entries; interest = h.interest; elements = h.elements; held = all-push (λ x. is_within deck x.task) p.held q h.held own }
+      go false = h
+
+  -- the parts of a held request
+  settled-fits : (v : TasksView) (p : StarPart) → PartFits deck p → PartFits deck (settled_by v p (first_held p)).part
+  settled-fits v p h = go (slice_get p.held 0) refl
+    where
+      first : (qs : List Req) (q : Req) → list_all (λ x. is_within deck x.task) qs ≡ true → slice_get qs 0 ≡ Some q → is_within deck q.task ≡ true
+      first [] q all is = cc
+      first (x ∷ qs) q all is = subst (λ (o : Option Req). option_map_or (λ y. is_within deck y.task) o true ≡ true) is (and_parts (is_within deck x.task) _ all).0
+
+      rest : (qs : List Req) → list_all (λ x. is_within deck x.task) qs ≡ true → list_all (λ x. is_within deck x.task) (drop 1 qs) ≡ true
+      rest [] all = refl
+      rest (x ∷ qs) all = (and_parts (is_within deck x.task) _ all).1
+
+      part : (q : Req) → slice_get p.held 0 ≡ Some q → PartFits deck (record p { manager = after_request p.manager q.task q.want; held = drop 1 p.held })
+      part q is = let k : PartFits deck (record p { manager = after_request p.manager q.task q.want }) = request-fits p q.task q.want h (first p.held q h.held is) in record { some = k.some; entries = k.entries; interest = k.interest; elements = k.elements; held = rest p.held h.held }
+
+      either : (q : Req) → slice_get p.held 0 ≡ Some q → (b : Bool) → PartFits deck (cond b (settled_first v p q) (quiet_step v p)).part
+      either q is true = part q is
+      either q is false = h
+
+      go : (o : Option Req) → slice_get p.held 0 ≡ o → PartFits deck (settled_by v p o).part
+      go None is = h
+      go (Some q) is = either q is (serves p q)
+
+  told-fits : (p : StarPart) (o : Option (TaskId × Res)) → PartFits deck p → PartFits deck (told_by p o)
+  told-fits p None h = h
+  told-fits p (Some x) h = record { some = h.some; entries = telling-entries p.manager x.0 x.1 ∙ h.entries; interest = h.interest; elements = telling_keeps_elements (is_within deck) p.manager x.0 x.1 h.elements; held = h.held }
+
+  left-fits : (p : StarPart) (e : ℕ) → PartFits deck p → PartFits deck (left_at p e)
+  left-fits p e h = with-interest-fits (record p { manager = not_managing p.manager e }) e false (go _)
+    where
+      go : (b : Bool) → PartFits deck (record p { manager = cond b (with_entry p.manager (Some e) None) p.manager })
+      go true = entry-fits p e None h refl
+      go false = h
+
+-- a task of the deck is of a system of the deck
+deck-task : (deck : Deck) (t : TaskId) → is_of_deck deck t ≡ true → is_within deck t ≡ true
+deck-task deck t h = go (slice_get deck.systems t.system.0) refl h
+  where
+    go : (o : Option SystemDef) → slice_get deck.systems t.system.0 ≡ o → is_some (meanings deck.lists t (lines_in (scripts_at o) t)) ≡ true → is_within deck t ≡ true
+    go None is some = cc
+    go (Some s) is some = lt-below t.system.0 (length deck.systems) (slice_get_within deck.systems t.system.0 s is)
+
+-- an own task is
+own-task : (deck : Deck) (n : Node) (t : TaskId) → NodeFits deck n → is_task n.tasks t ≡ true → is_within deck t ≡ true
+own-task deck n t fits h =
+    let own : n.tasks.system ≡ t.system.0 = eqb-true n.tasks.system t.system.0 (and_parts (n.tasks.system == t.system.0) (nat_lt t.task (length n.tasks.tasks)) h).0 in
+    let below : n.tasks.system < length deck.systems = fits.system in
+    lt-below t.system.0 (length deck.systems) (subst (λ (s : ℕ). s < length deck.systems) own below)
+
+-- ---- what a reply leaves
+module _ (deck : Deck) (v : TasksView) (p : StarPart) (fits : PartFits deck p) where
+  mail-fits : (mail : Mail) → PartFits deck (take_mail deck v p mail).part
+  unfolding took_mail
+  mail-fits (mails.Request e from q) = go (nat_lt from.0 (length deck.systems)) (is_of_deck deck q.task) refl
+    where
+      go : (b d : Bool) → is_of_deck deck q.task ≡ d → PartFits deck (cond (b && d) (took_mail v p (mails.Request e from q)) (quiet_step v p)).part
+      go false d is = fits
+      go true false is = fits
+      go true true is = holds-fits deck p e q fits (deck-task deck q.task is)
+  mail-fits (mails.Answered t answer rank) = go (is_of_deck deck t)
+    where
+      go : (b : Bool) → PartFits deck (cond b (took_mail v p (mails.Answered t answer rank)) (quiet_step v p)).part
+      go true = fits
+      go false = fits
+  mail-fits (mails.Granted t r) = go (is_of_deck deck t)
+    where
+      go : (b : Bool) → PartFits deck (cond b (took_mail v p (mails.Granted t r)) (quiet_step v p)).part
+      go true = fits
+      go false = fits
+
+  send-step-fits : (t : TaskId) (reply : Reply) → is_within deck t ≡ true → PartFits deck (send_step v p t reply).part
+  send-step-fits t (replies.Turned entries taken closed) own = fits
+  send-step-fits t (replies.NotYours holder) own = fits
+  send-step-fits t (replies.Behind first) own = fits
+  send-step-fits t replies.Switched own = fits
+  send-step-fits t replies.Already own = fits
+  send-step-fits t replies.Sole own = begin-fits deck v p t (state_of v t).outstanding (entry_asked p (state_of v t).outstanding) fits own
+  send-step-fits t replies.Sent own = sent-fits deck v p t (entry_asked p (state_of v t).outstanding) fits
+  send-step-fits t (replies.Taken mail) own = fits
+  send-step-fits t replies.Empty own = fits
+  send-step-fits t replies.Settled own = fits
+  send-step-fits t replies.Told own = fits
+  send-step-fits t replies.Left own = fits
+  send-step-fits t (replies.Kept mask) own = fits
+  send-step-fits t replies.Purged own = fits
+  send-step-fits t replies.NoSuch own = fits
+  send-step-fits t replies.InStar own = fits
+  send-step-fits t replies.Resting own = fits
+  send-step-fits t replies.Over own = fits
+  send-step-fits t (replies.Stale set) own = fits
+  send-step-fits t replies.Removed own = fits
+
+  take-step-fits : (reply : Reply) → PartFits deck (take_step deck v p reply).part
+  take-step-fits (replies.Turned entries taken closed) = fits
+  take-step-fits (replies.NotYours holder) = fits
+  take-step-fits (replies.Behind first) = fits
+  take-step-fits replies.Switched = fits
+  take-step-fits replies.Already = fits
+  take-step-fits replies.Sole = fits
+  take-step-fits replies.Sent = fits
+  take-step-fits (replies.Taken mail) = mail-fits mail
+  take-step-fits replies.Empty = fits
+  take-step-fits replies.Settled = fits
+  take-step-fits replies.Told = fits
+  take-step-fits replies.Left = fits
+  take-step-fits (replies.Kept mask) = fits
+  take-step-fits replies.Purged = fits
+  take-step-fits replies.NoSuch = fits
+  take-step-fits replies.InStar = fits
+  take-step-fits replies.Resting = fits
+  take-step-fits replies.Over = fits
+  take-step-fits (replies.Stale set) = fits
+  take-step-fits replies.Removed = fits
+
+  settle-step-fits : (reply : Reply) → PartFits deck (settle_step v p reply).part
+  settle-step-fits (replies.Turned entries taken closed) = fits
+  settle-step-fits (replies.NotYours holder) = fits
+  settle-step-fits (replies.Behind first) = fits
+  settle-step-fits replies.Switched = fits
+  settle-step-fits replies.Already = fits
+  settle-step-fits replies.Sole = fits
+  settle-step-fits replies.Sent = fits
+  settle-step-fits (replies.Taken mail) = fits
+  settle-step-fits replies.Empty = fits
+  settle-step-fits replies.Settled = settled-fits deck v p fits
+  settle-step-fits replies.Told = fits
+  settle-step-fits replies.Left = fits
+  settle-step-fits (replies.Kept mask) = fits
+  settle-step-fits replies.Purged = fits
+  settle-step-fits replies.NoSuch = fits
+  settle-step-fits replies.InStar = fits
+  settle-step-fits replies.Resting = fits
+  settle-step-fits replies.Over = fits
+  settle-step-fits (replies.Stale set) = fits
+  settle-step-fits replies.Removed = fits
+
+  tell-step-fits : (e : ℕ) (reply : Reply) → PartFits deck (tell_step v p e reply).part
+  tell-step-fits e (replies.Turned entries taken closed) = fits
+  tell-step-fits e (replies.NotYours holder) = fits
+  tell-step-fits e (replies.Behind first) = fits
+  tell-step-fits e replies.Switched = fits
+  tell-step-fits e replies.Already = fits
+  tell-step-fits e replies.Sole = fits
+  tell-step-fits e replies.Sent = fits
+  tell-step-fits e (replies.Taken mail) = fits
+  tell-step-fits e replies.Empty = fits
+  tell-step-fits e replies.Settled = fits
+  tell-step-fits e replies.Told = told-fits deck p (to_tell p e) fits
+  tell-step-fits e replies.Left = fits
+  tell-step-fits e (replies.Kept mask) = fits
+  tell-step-fits e replies.Purged = fits
+  tell-step-fits e replies.NoSuch = fits
+  tell-step-fits e replies.InStar = fits
+  tell-step-fits e replies.Resting = fits
+  tell-step-fits e replies.Over = fits
+  tell-step-fits e (replies.Stale set) = fits
+  tell-step-fits e replies.Removed = fits
+
+  leave-step-fits : (e : ℕ) (reply : Reply) → PartFits deck (leave_step v p e reply).part
+  leave-step-fits e (replies.Turned entries taken closed) = fits
+  leave-step-fits e (replies.NotYours holder) = fits
+  leave-step-fits e (replies.Behind first) = fits
+  leave-step-fits e replies.Switched = fits
+  leave-step-fits e replies.Already = fits
+  leave-step-fits e replies.Sole = fits
+  leave-step-fits e replies.Sent = fits
+  leave-step-fits e (replies.Taken mail) = fits
+  leave-step-fits e replies.Empty = fits
+  leave-step-fits e replies.Settled = fits
+  leave-step-fits e replies.Told = fits
+  leave-step-fits e replies.Left = left-fits deck p e fits
+  leave-step-fits e (replies.Kept mask) = fits
+  leave-step-fits e replies.Purged = fits
+  leave-step-fits e replies.NoSuch = fits
+  leave-step-fits e replies.InStar = fits
+  leave-step-fits e replies.Resting = fits
+  leave-step-fits e replies.Over = fits
+  leave-step-fits e (replies.Stale set) = fits
+  leave-step-fits e replies.Removed = fits
+
+-- the task of a Send is of a system of the deck
+abbrev Sends : Deck → Choice → Type 0
+Sends deck (choices.Send t) = is_within deck t ≡ true
+Sends deck choice = Unit {0}
+
+star-step-fits : (deck : Deck) (v : TasksView) (p : StarPart) (choice : Choice) (reply : Reply) → PartFits deck p → Sends deck choice → PartFits deck (star_step deck v p choice reply).part
+star-step-fits deck v p (choices.Send t) reply h own = send-step-fits deck v p h t reply own
+star-step-fits deck v p choices.Take reply h own = take-step-fits deck v p h reply
+star-step-fits deck v p choices.Settle reply h own = settle-step-fits deck v p h reply
+star-step-fits deck v p (choices.Tell e) reply h own = tell-step-fits deck v p h e reply
+star-step-fits deck v p (choices.Leave e) reply h own = leave-step-fits deck v p h e reply
+star-step-fits deck v p (choices.Task t) reply h own = h
+star-step-fits deck v p choices.Turn reply h own = h
+star-step-fits deck v p choices.Switch reply h own = h
+star-step-fits deck v p (choices.Purge s) reply h own = h
+star-step-fits deck v p choices.Rest reply h own = h
+
+finish-star-fits : (deck : Deck) (n : Node) (o : Option StarPart) (choice : Choice) (reply : Reply) → n.star ≡ o → AnyPartFits deck o → Sends deck choice → AnyPartFits deck (finish_star deck n o choice reply).node.star
+unfolding finish_star
+finish-star-fits deck n None choice reply is h own = subst (AnyPartFits deck) (sym is) h
+finish-star-fits deck n (Some p) choice reply is h own = star-step-fits deck n.tasks p choice reply h own
+
+call-part : (deck : Deck) (n : Node) (choice : Choice) (reply : Reply) → NodeFits deck n → Sends deck choice → AnyPartFits deck (finish_call deck n choice reply).node.star
+unfolding finish_call
+call-part deck n choice (replies.Turned entries taken closed) fits own = subst (AnyPartFits deck) (sym (star-turned deck n entries taken)) fits.part
+call-part deck n choice (replies.NotYours holder) fits own = finish-star-fits deck n n.star choice (replies.NotYours holder) refl fits.part own
+call-part deck n choice (replies.Behind first) fits own = finish-star-fits deck n n.star choice (replies.Behind first) refl fits.part own
+call-part deck n choice replies.Switched fits own = finish-star-fits deck n n.star choice replies.Switched refl fits.part own
+call-part deck n choice replies.Already fits own = finish-star-fits deck n n.star choice replies.Already refl fits.part own
+call-part deck n choice replies.Sole fits own = finish-star-fits deck n n.star choice replies.Sole refl fits.part own
+call-part deck n choice replies.Sent fits own = finish-star-fits deck n n.star choice replies.Sent refl fits.part own
+call-part deck n choice (replies.Taken mail) fits own = finish-star-fits deck n n.star choice (replies.Taken mail) refl fits.part own
+call-part deck n choice replies.Empty fits own = finish-star-fits deck n n.star choice replies.Empty refl fits.part own
+call-part deck n choice replies.Settled fits own = finish-star-fits deck n n.star choice replies.Settled refl fits.part own
+call-part deck n choice replies.Told fits own = finish-star-fits deck n n.star choice replies.Told refl fits.part own
+call-part deck n choice replies.Left fits own = finish-star-fits deck n n.star choice replies.Left refl fits.part own
+call-part deck n choice (replies.Kept mask) fits own = finish-star-fits deck n n.star choice (replies.Kept mask) refl fits.part own
+call-part deck n choice replies.Purged fits own = finish-star-fits deck n n.star choice replies.Purged refl fits.part own
+call-part deck n choice replies.NoSuch fits own = finish-star-fits deck n n.star choice replies.NoSuch refl fits.part own
+call-part deck n choice replies.InStar fits own = finish-star-fits deck n n.star choice replies.InStar refl fits.part own
+call-part deck n choice replies.Resting fits own = finish-star-fits deck n n.star choice replies.Resting refl fits.part own
+call-part deck n choice replies.Over fits own = finish-star-fits deck n n.star choice replies.Over refl fits.part own
+call-part deck n choice (replies.Stale set) fits own = fits.part
+call-part deck n choice replies.Removed fits own = finish-star-fits deck n n.star choice replies.Removed refl fits.part own
+
+quiet-part : (deck : Deck) (n : Node) (choice : Choice) → NodeFits deck n → Sends deck choice → AnyPartFits deck (finish_quiet deck n choice).node.star
+unfolding finish_quiet
+quiet-part deck n (choices.Task t) fits own = subst (AnyPartFits deck) (sym (star-task deck.limit n t (lines_of deck t))) fits.part
+quiet-part deck n (choices.Send t) fits own = go n.star refl fits.part
+  where
+    go : (o : Option StarPart) → n.star ≡ o → AnyPartFits deck o → AnyPartFits deck (send_own n t o).node.star
+    go None is h = subst (AnyPartFits deck) (sym is) h
+    go (Some p) is h = own-fits deck n.tasks p t (state_of n.tasks t).outstanding h own
+quiet-part deck n choices.Turn fits own = fits.part
+quiet-part deck n choices.Take fits own = fits.part
+quiet-part deck n choices.Settle fits own = fits.part
+quiet-part deck n (choices.Tell e) fits own = fits.part
+quiet-part deck n (choices.Leave e) fits own = fits.part
+quiet-part deck n choices.Switch fits own = fits.part
+quiet-part deck n (choices.Purge s) fits own = fits.part
+quiet-part deck n choices.Rest fits own = fits.part
+
+-- who sends is a task of the system
+sends-quiet : (deck : Deck) (n : Node) (choice : Choice) → NodeFits deck n → prepare deck n choice ≡ Quiet → Sends deck choice
+sends-quiet deck n (choices.Send t) fits h = own-task deck n t fits (quiet-send deck n t h)
+sends-quiet deck n (choices.Task t) fits h = tt
+sends-quiet deck n choices.Turn fits h = tt
+sends-quiet deck n choices.Take fits h = tt
+sends-quiet deck n choices.Settle fits h = tt
+sends-quiet deck n (choices.Tell e) fits h = tt
+sends-quiet deck n (choices.Leave e) fits h = tt
+sends-quiet deck n choices.Switch fits h = tt
+sends-quiet deck n (choices.Purge s) fits h = tt
+sends-quiet deck n choices.Rest fits h = tt
+
+sends-call : (deck : Deck) (n : Node) (choice : Choice) (reply : Reply) → NodeFits deck n → may_come (prepare deck n choice) reply ≡ true → Sends deck choice
+sends-call deck n (choices.Send t) reply fits h = own-task deck n t fits (call-send deck n t reply h)
+sends-call deck n (choices.Task t) reply fits h = tt
+sends-call deck n choices.Turn reply fits h = tt
+sends-call deck n choices.Take reply fits h = tt
+sends-call deck n choices.Settle reply fits h = tt
+sends-call deck n (choices.Tell e) reply fits h = tt
+sends-call deck n (choices.Leave e) reply fits h = tt
+sends-call deck n choices.Switch reply fits h = tt
+sends-call deck n (choices.Purge s) reply fits h = tt
+sends-call deck n choices.Rest reply fits h = tt
+
+-- the system afterwards
+fits-of : (deck : Deck) (n : Node) (m : Node) (s : Step) (fixed : List Fixed) → NodeFits deck n → m.tasks.system ≡ n.tasks.system → stepped m fixed ≡ s → AnyPartFits deck s.node.star → NodeFits deck m
+fits-of deck n m s fixed fits same is h = record { system = subst (λ (k : ℕ). k < length deck.systems) (sym same) fits.system; part = subst (λ (x : Step). AnyPartFits deck x.node.star) (sym is) h }
+
+pub quiet-fits-after : (deck : Deck) (n m : Node) (choice : Choice) (fixed : List Fixed) → NodeFits deck n → prepare deck n choice ≡ Quiet → m.tasks.system ≡ n.tasks.system → stepped m fixed ≡ finish_quiet deck n choice → NodeFits deck m
+quiet-fits-after deck n m choice fixed fits h same is = fits-of deck n m (finish_quiet deck n choice) fixed fits same is (quiet-part deck n choice fits (sends-quiet deck n choice fits h))
+
+pub call-fits-after : (deck : Deck) (n m : Node) (choice : Choice) (reply : Reply) (fixed : List Fixed) → NodeFits deck n → may_come (prepare deck n choice) reply ≡ true → m.tasks.system ≡ n.tasks.system → stepped m fixed ≡ finish_call deck n choice reply → NodeFits deck m
+call-fits-after deck n m choice reply fixed fits h same is = fits-of deck n m (finish_call deck n choice reply) fixed fits same is (call-part deck n choice reply fits (sends-call deck n choice reply fits h))
+
+pub turned-fits-after : (deck : Deck) (n m : Node) (es : List RingEntry) (taken : ℕ) (fixed : List Fixed) → NodeFits deck n → m.tasks.system ≡ n.tasks.system → stepped m fixed ≡ put_in (read_entries deck n es) taken → NodeFits deck m
+turned-fits-after deck n m es taken fixed fits same is = fits-of deck n m (put_in (read_entries deck n es) taken) fixed fits same is (subst (AnyPartFits deck) (sym (star-turned deck n es taken)) fits.part)
+
+-- a system that is given up has no part
+pub gone-fits : (deck : Deck) (n m : Node) → NodeFits deck n → m.tasks.system ≡ n.tasks.system → m.star ≡ None → NodeFits deck m
+gone-fits deck n m fits same is = record { system = subst (λ (k : ℕ). k < length deck.systems) (sym same) fits.system; part = subst (AnyPartFits deck) (sym is) tt }
+
+pub ruleset first = (first-fits)
+
+pub ruleset prepares = (prepare-addressed)
+
+pub ruleset finishes = (quiet-fits-after, call-fits-after, turned-fits-after, gone-fits)

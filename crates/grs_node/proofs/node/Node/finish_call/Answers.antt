@@ -1,0 +1,14 @@
+use Rattle.std.proofs.Common.{◌≡◌, true, ap, sym, ◌∙◌, subst}
+use Rattle.grs_legal.specs.Asks.{scripts_of}
+use Rattle.grs_node.proofs.Fits.{call-fits-after}
+use Rattle.grs_node.specs.Finish.{may_come}
+use Rattle.grs_node.specs.Log.{NodeView}
+use Rattle.grs_node.specs.Node.{prepare}
+use Rattle.grs_node.proofs.node.Node.finish_call.Goals as goal
+
+pub invariant_of-self : goal.invariant_of-self
+invariant_of-self c =
+    let comes = subst (λ (v : NodeView). may_come (prepare v.deck v.node c.args.choice) c.args.reply ≡ true) (sym c.self.view_is) c.requires in (
+      c.self.invariant.0 ∙ ap (scripts_of c.self.inside.deck.now) (sym c.finish_call.ensures.system),
+      call-fits-after c.self.inside.deck.now c.self.inside.state c.finish_call.new.self c.args.choice c.args.reply c.in-Ok.fixed c.self.invariant.1 comes c.in-Ok.ensures.system c.in-Ok.ensures.step,
+    )

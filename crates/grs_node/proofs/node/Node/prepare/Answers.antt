@@ -1,0 +1,19 @@
+use Rattle.std.proofs.Common.{◌≡◌, true, ap, ◌∙◌, subst, Result, Ok, Err, IfOk}
+use Rattle.grs_node.proofs.Fits.{prepare-addressed}
+use Rattle.grs_node.specs.Addressed.{is_addressed, NodeFits}
+use Rattle.grs_node.specs.Log.{NodeView}
+use Rattle.grs_node.specs.Node.{Node, prepare}
+use Rattle.grs_node.specs.declared.prepared.Prepared.{Prepared}
+use Rattle.grs_wire.specs.declared.deck.Choice.{Choice}
+use Rattle.grs_wire.specs.declared.deck.Deck.{Deck}
+use Rattle.grs_node.proofs.node.Node.prepare.Goals as goal
+
+-- so does what is prepared
+addressed : {E : Type 0} (deck : Deck) (n : Node) (choice : Choice) (r : Result Prepared E) → NodeFits deck n → IfOk r (λ p. p ≡ prepare deck n choice) → IfOk r (λ p. is_addressed deck p ≡ true)
+addressed deck n choice (Ok p) fits is = ap (is_addressed deck) is ∙ prepare-addressed deck n choice fits
+addressed deck n choice (Err e) fits is = tt
+
+pub returns-clause-addressed : goal.returns-clause-addressed
+returns-clause-addressed c =
+    subst (λ (v : NodeView). IfOk c.prepare.result (λ p. is_addressed v.deck p ≡ true)) c.self.view_is
+    (addressed c.self.inside.deck.now c.self.inside.state c.args.choice.now c.prepare.result c.self.invariant.1 c.prepare.ensures)

@@ -1,0 +1,53 @@
+-- To whom the calls of a system go: to systems of the deck, and to lock entries that there are.
+use Rattle.std.specs.Prelude.{◌≡◌, ◌<◌, Bool, true, false, nat_lt, nat_le, length, Option, Some, None}
+use Rattle.std.specs.List.{list_all}
+use Rattle.contention_mgr.specs.Elements.{all_of}
+use Rattle.grs_base.specs.declared.resource.TaskId.{TaskId}
+use Rattle.grs_node.specs.Node.{Node, most_additions}
+use Rattle.grs_node.specs.Star.{StarPart}
+use Rattle.grs_node.specs.declared.prepared.Prepared.{Prepared}
+use Rattle.grs_node.specs.declared.prepared.Prepared.TheVariants.{Quiet, Call, Nothing}
+use Rattle.grs_wire.specs.declared.deck.Deck.{Deck}
+use Rattle.grs_wire.specs.declared.medium.Act.{Act}
+use Rattle.grs_wire.specs.declared.medium.Act.TheVariants as acts
+
+-- Whether an act names systems of the deck and lock entries that there are, and a Turn puts in no more than it may. No
+-- system changes the mode or removes another yet.
+abbrev pub is_act_addressed : Deck → Act → Bool
+is_act_addressed deck (acts.Turn out) = nat_le (length out) most_additions
+is_act_addressed deck (acts.Switch words) = false
+is_act_addressed deck (acts.Submit e q) = nat_lt e deck.entries
+is_act_addressed deck acts.Take = true
+is_act_addressed deck (acts.Settle to mail) = nat_lt to.0 (length deck.systems)
+is_act_addressed deck (acts.Tell to mail) = nat_lt to.0 (length deck.systems)
+is_act_addressed deck (acts.Leave e) = nat_lt e deck.entries
+is_act_addressed deck (acts.Purge target) = false
+is_act_addressed deck acts.Rest = true
+
+-- the same of what was prepared, if it is a call
+abbrev pub is_addressed : Deck → Prepared → Bool
+is_addressed deck Quiet = true
+is_addressed deck (Call call) = is_act_addressed deck call.act
+is_addressed deck Nothing = true
+
+-- whether a task is of a system of the deck
+abbrev pub is_within : Deck → TaskId → Bool
+is_within deck t = nat_lt t.system.0 (length deck.systems)
+
+-- What a system's part in star mode keeps: there are as many lock entries as the deck says, one at least, and elements and
+-- held requests are of systems of the deck.
+pub record PartFits (deck : Deck) (p : StarPart) : Type 0 where
+  pub some : 0 < deck.entries
+  pub entries : length p.manager.entries ≡ deck.entries
+  pub interest : length p.interest ≡ deck.entries
+  pub elements : all_of (is_within deck) p.manager.entries ≡ true
+  pub held : list_all (λ q. is_within deck q.task) p.held ≡ true
+
+abbrev pub AnyPartFits : Deck → Option StarPart → Type 0
+AnyPartFits deck None = Unit {0}
+AnyPartFits deck (Some p) = PartFits deck p
+
+-- a system of the deck, whose part in star mode fits
+pub record NodeFits (deck : Deck) (n : Node) : Type 0 where
+  pub system : n.tasks.system < length deck.systems
+  pub part : AnyPartFits deck n.star

@@ -1,0 +1,265 @@
+-- A system's part in star mode: the lock entries that it manages, the requests of others that it has still to settle, and
+-- the entries in which it has interest; and what each event of star mode comes to by this part.
+use Rattle.std.specs.Prelude.{ℕ, Bool, true, false, not, ◌&&◌, ◌||◌, ◌==◌, List, [], ◌∷◌, ◌++◌, length, drop, replicate, cond, Option, Some, None, is_some, slice_get, slice_index_or, slice_set}
+use Rattle.std.specs.List.{list_any}
+use Rattle.std.specs.Option.{option_map, option_map_or}
+use Rattle.contention_mgr.specs.Manager.{ManagerView, no_elements, plain, first_untold, owner_of, any_untold_at, entry_of_res, entry_wanted, managed_at, managed_for, items_of, with_entry, after_request, rank_for, after_telling}
+use Rattle.grs_base.specs.State.{State}
+use Rattle.grs_base.specs.declared.resource.Res.{Res}
+use Rattle.grs_base.specs.declared.resource.SysId.{SysId}
+use Rattle.grs_base.specs.declared.resource.TaskId.{TaskId}
+use Rattle.grs_wire.specs.Wants.{answer_to, res_wanted, new_owners}
+use Rattle.grs_wire.specs.declared.deck.Choice.{Choice}
+use Rattle.grs_wire.specs.declared.deck.Choice.TheVariants as choices
+use Rattle.grs_wire.specs.declared.medium.Act.TheVariants as acts
+use Rattle.grs_wire.specs.declared.medium.Mail.{Mail}
+use Rattle.grs_wire.specs.declared.medium.Mail.TheVariants.{Request, Answered, Granted}
+use Rattle.grs_node.specs.declared.star.Need.{Need}
+use Rattle.grs_node.specs.declared.star.Need.TheVariants.{Alone, Asks, Idle}
+use Rattle.grs_wire.specs.declared.medium.Reply.{Reply}
+use Rattle.grs_wire.specs.declared.medium.Reply.TheVariants as replies
+use Rattle.grs_wire.specs.declared.request.Answer.{Answer}
+use Rattle.grs_wire.specs.declared.request.Fixed.{Fixed}
+use Rattle.grs_wire.specs.declared.request.Fixed.TheVariants as fixes
+use Rattle.grs_wire.specs.declared.request.Req.{Req}
+use Rattle.grs_wire.specs.declared.request.Want.{Want}
+use Rattle.star_client.specs.Client.{settled_ranked, after_mail}
+use Rattle.task_state.specs.declared.state.Asked.{Asked}
+use Rattle.task_state.specs.declared.state.Phase.TheVariants as phases
+use Rattle.task_state.specs.declared.state.TaskState.{TaskState}
+use Rattle.task_state.specs.Replies.{tell_new}
+use Rattle.task_state.specs.View.{TasksView, is_task, state_of, with_phase}
+
+-- `held` are the requests that were taken from the inbox and have still to be settled, in order; `interest` tells of each
+-- lock entry whether the system has interest in it.
+pub record StarPart : Type 0 where
+  pub manager : ManagerView
+  pub held : List Req
+  pub interest : List Bool
+
+-- the part of a system at the start, where there are so many lock entries: it manages none
+abbrev pub first_part : SysId → ℕ → StarPart
+first_part s entries = record {
+  manager = record { system = s; entries = replicate entries None };
+  held = [];
+  interest = replicate entries false;
+}
+
+-- ---- what it says of entries and requests
+
+abbrev pub entry_for : StarPart → Want → Option ℕ
+entry_for p w = entry_wanted (length p.manager.entries) w
+
+abbrev pub manages : StarPart → ℕ → Bool
+manages p e = is_some (managed_at p.manager e)
+
+abbrev pub has_interest : StarPart → ℕ → Bool
+has_interest p e = slice_index_or p.interest e false
+
+abbrev pub with_interest : StarPart → ℕ → Bool → StarPart
+with_interest p e b = record p { interest = slice_set p.interest e b }
+
+-- whether a request is of an entry that the system manages
+abbrev pub serves : StarPart → Req → Bool
+serves p q = is_some (managed_for p.manager q.want)
+
+-- the plain lists of the entry of a request, and what they answer it
+abbrev pub lists_for : StarPart → Want → State
+lists_for p w = plain (items_of (managed_for p.manager w))
+
+abbrev pub answer_for : StarPart → Req → Answer
+answer_for p q = answer_to (lists_for p q.want) q.task q.want
+
+abbrev pub rank_of : StarPart → Req → ℕ
+rank_of p q = rank_for (managed_for p.manager q.want) q.task q.want
+
+abbrev pub owners_by : StarPart → Req → List TaskId
+owners_by p q = new_owners (lists_for p q.want) q.task q.want
+
+-- the owner of another system who is to be told first that it owns a resource of an entry, with the resource
+abbrev pub to_tell : StarPart → ℕ → Option (TaskId × Res)
+to_tell p e = option_map owner_of (first_untold p.manager.system.0 (items_of (managed_at p.manager e)))
+
+-- what a task asks for that isn't answered yet
+abbrev pub request_of : TaskId → Asked → Req
+request_of t a = record { task = t; want = a.req.want }
+
+-- ---- which entries a system may leave
+
+-- whether an entry is this one
+abbrev pub is_entry : ℕ → Option ℕ → Bool
+is_entry e at = option_map_or (λ n. n == e) at false
+
+-- whether a request that isn't answered yet is of this entry
+abbrev pub asks_in : StarPart → ℕ → Option Asked → Bool
+asks_in p e None = false
+asks_in p e (Some a) = is_entry e (entry_for p a.req.want)
+
+-- whether a task has a request on record, or one that isn't answered yet, in an entry
+abbrev pub is_busy_in : StarPart → ℕ → TaskState → Bool
+is_busy_in p e x = list_any (λ y. is_entry e (entry_of_res (length p.manager.entries) y.res)) x.records || asks_in p e x.outstanding
+
+-- whether nothing stands in the lists of an entry that the system manages, and no request of it is held; so of an entry
+-- that it doesn't manage
+abbrev pub is_done_with : StarPart → ℕ → Bool
+is_done_with p e = (length (items_of (managed_at p.manager e)) == 0) && not (manages p e && list_any (λ q. is_entry e (entry_for p q.want)) p.held)
+
+-- whether a system of these tasks may give up its interest in an entry
+abbrev pub may_leave : StarPart → TasksView → ℕ → Bool
+may_leave p v e = has_interest p e && (not (list_any (is_busy_in p e) v.tasks) && is_done_with p e)
+
+-- ---- what a choice of star mode asks of the medium
+
+-- a request is sent to the manager of its entry, who may be the system itself
+abbrev pub send_to : StarPart → Req → Option ℕ → Need
+send_to p q None = Idle
+send_to p q (Some e) = cond (manages p e) Alone (Asks (acts.Submit e q))
+
+abbrev pub send_of : StarPart → TaskId → Option Asked → Need
+send_of p t None = Idle
+send_of p t (Some a) = send_to p (request_of t a) (entry_for p a.req.want)
+
+-- the request that was held first, if one is held
+abbrev pub first_held : StarPart → Option Req
+first_held p = slice_get p.held 0
+
+-- it is answered by the lists of its entry
+abbrev pub settle_by : StarPart → Option Req → Need
+settle_by p None = Idle
+settle_by p (Some q) = cond (serves p q) (Asks (acts.Settle q.task.system (Answered q.task (answer_for p q) (rank_of p q)))) Idle
+
+-- the owner of another system who is to be told first is told
+abbrev pub tell_by : Option (TaskId × Res) → Need
+tell_by None = Idle
+tell_by (Some x) = Asks (acts.Tell x.0.system (Granted x.0 x.1))
+
+-- the interest in an entry is given up
+abbrev pub leave_by : StarPart → TasksView → ℕ → Need
+leave_by p v e = cond (may_leave p v e) (Asks (acts.Leave e)) Idle
+
+-- whether something is pending: a request that is held, or an owner of another system who is still to be told
+abbrev pub is_part_pending : StarPart → Bool
+is_part_pending p = not (length p.held == 0) || any_untold_at p.manager.system.0 p.manager.entries
+
+-- ---- what it is afterwards
+
+-- the lock entry of what a task asks for
+abbrev pub entry_asked : StarPart → Option Asked → Option ℕ
+entry_asked p None = None
+entry_asked p (Some a) = entry_for p a.req.want
+
+-- whether the system manages this entry, if it is one
+abbrev pub manages_any : StarPart → Option ℕ → Bool
+manages_any p None = false
+manages_any p (Some e) = manages p e
+
+-- whether the system manages the entry of what a task asks for, if it asks for anything
+abbrev pub may_decide : StarPart → Option Asked → Bool
+may_decide p None = true
+may_decide p (Some a) = is_some (managed_for p.manager a.req.want)
+
+-- what is so once a choice of star mode was prepared to make a call
+abbrev pub may_call : TasksView → StarPart → Choice → Bool
+may_call v p (choices.Send t) = is_task v t && not (manages_any p (entry_asked p (state_of v t).outstanding))
+may_call v p (choices.Leave e) = may_leave p v e
+may_call v p choice = true
+
+-- the tasks and the part of a system after a step, and what the step fixed
+pub record StarStep : Type 0 where
+  pub tasks : TasksView
+  pub part : StarPart
+  pub fixed : List Fixed
+
+abbrev pub starred : TasksView → StarPart → List Fixed → StarStep
+starred v p fixed = record { tasks = v; part = p; fixed = fixed }
+
+abbrev pub quiet_step : TasksView → StarPart → StarStep
+quiet_step v p = starred v p []
+
+-- A manager decides a request of its own task by the lists of its entry: the asker's answer first, then control for the
+-- own tasks that became owners.
+unfoldable pub decide_own : TasksView → StarPart → TaskId → Asked → StarStep
+decide_own v p t a =
+    let q : Req = request_of t a in
+    record {
+      tasks = tell_new (settled_ranked v t a (answer_for p q) (rank_of p q)) (res_wanted q.want) (owners_by p q);
+      part = record p { manager = after_request p.manager t q.want };
+      fixed = fixes.Asked q ∷ [];
+    }
+
+-- the same of the request that a task has, if it has one
+abbrev pub own_step : TasksView → StarPart → TaskId → Option Asked → StarStep
+own_step v p t None = quiet_step v p
+own_step v p t (Some a) = decide_own v p t a
+
+-- a system that manages an entry from now on, with empty lists
+abbrev pub begun : StarPart → ℕ → StarPart
+begun p e = with_interest (record p { manager = with_entry p.manager (Some e) (Some no_elements) }) e true
+
+-- nobody managed the entry of a request: its system does from now on, and decides it
+abbrev pub begin_at : TasksView → StarPart → TaskId → Option Asked → Option ℕ → StarStep
+begin_at v p t asked None = quiet_step v p
+begin_at v p t asked (Some e) = own_step v (begun p e) t asked
+
+-- a request went to the manager of its entry
+abbrev pub sent_to : TasksView → StarPart → TaskId → Option ℕ → StarStep
+sent_to v p t None = quiet_step v p
+sent_to v p t (Some e) = quiet_step (with_phase v t phases.Sent) (with_interest p e true)
+
+-- a request of another system is held last, where it is of this entry and the system manages it
+abbrev pub holds : StarPart → ℕ → Req → StarPart
+holds p e q = cond (is_entry e (entry_for p q.want) && manages p e) (record p { held = p.held ++ q ∷ [] }) p
+
+-- a mail was taken
+unfoldable pub took_mail : TasksView → StarPart → Mail → StarStep
+took_mail v p (Request e from q) = quiet_step v (holds p e q)
+took_mail v p mail = quiet_step (after_mail v mail) p
+
+-- the first request that is held was settled: control for the own tasks that became owners
+abbrev pub settled_first : TasksView → StarPart → Req → StarStep
+settled_first v p q = record {
+  tasks = tell_new v (res_wanted q.want) (owners_by p q);
+  part = record p { manager = after_request p.manager q.task q.want; held = drop 1 p.held };
+  fixed = fixes.Asked q ∷ [];
+}
+
+abbrev pub settled_by : TasksView → StarPart → Option Req → StarStep
+settled_by v p None = quiet_step v p
+settled_by v p (Some q) = cond (serves p q) (settled_first v p q) (quiet_step v p)
+
+-- whether the request that was held first is of an entry that the system manages
+abbrev pub serves_any : StarPart → Option Req → Bool
+serves_any p None = false
+serves_any p (Some q) = serves p q
+
+-- an owner of another system was told
+abbrev pub told_by : StarPart → Option (TaskId × Res) → StarPart
+told_by p None = p
+told_by p (Some x) = record p { manager = after_telling p.manager x.0 x.1 }
+
+-- the interest in an entry was given up; a system that managed it does so no longer
+abbrev pub not_managing : ManagerView → ℕ → ManagerView
+not_managing m e = cond (is_some (managed_at m e)) (with_entry m (Some e) None) m
+
+abbrev pub left_at : StarPart → ℕ → StarPart
+left_at p e = with_interest (record p { manager = not_managing p.manager e }) e false
+
+-- ---- replies
+
+-- what the reply to a call of each kind comes to; one that says nothing new changes nothing
+abbrev pub send_step : TasksView → StarPart → TaskId → Reply → StarStep
+send_step v p t replies.Sole = begin_at v p t (state_of v t).outstanding (entry_asked p (state_of v t).outstanding)
+send_step v p t replies.Sent = sent_to v p t (entry_asked p (state_of v t).outstanding)
+send_step v p t reply = quiet_step v p
+
+abbrev pub settle_step : TasksView → StarPart → Reply → StarStep
+settle_step v p replies.Settled = settled_by v p (first_held p)
+settle_step v p reply = quiet_step v p
+
+abbrev pub tell_step : TasksView → StarPart → ℕ → Reply → StarStep
+tell_step v p e replies.Told = quiet_step v (told_by p (to_tell p e))
+tell_step v p e reply = quiet_step v p
+
+abbrev pub leave_step : TasksView → StarPart → ℕ → Reply → StarStep
+leave_step v p e replies.Left = quiet_step v (left_at p e)
+leave_step v p e reply = quiet_step v p

@@ -1,0 +1,352 @@
+//! What the events of star mode come to: what a system decides as a manager, and what the replies to its calls do to its
+//! tasks and its part.
+ghost use Rattle.std.specs.Prelude.{◌≡◌, ◌<◌, ◌==◌, [], true, false, length, drop, IfOk, IfSome, OnOk};
+ghost use Rattle.std.specs.Option.{option_copied};
+ghost use Rattle.contention_mgr.specs.Manager.{items_of, managed_at};
+ghost use Rattle.grs_node.specs.Node as steps;
+ghost use Rattle.grs_node.specs.Star as star;
+ghost use Rattle.grs_node.specs.Star.{starred};
+ghost use Rattle.grs_wire.specs.declared.deck.Choice.TheVariants.{Send};
+ghost use Rattle.task_state.specs.View.{is_task, state_of};
+
+use super::scripts::is_of_deck;
+use super::star::{StarPart, request_of};
+use super::state::asked_alone;
+use contention_mgr::Manager;
+use grs_base::{List, NoMemory, TaskId};
+use grs_wire::{Choice, Deck, Fixed, Mail, Reply, Req};
+use ring_mode::res_of;
+use star_client::{on_mail, settled_ranked};
+use std::alloc::Global;
+use task_state::{Asked, Phase, Tasks, tell_new};
+
+/// Whether the tasks and systems that a mail names are of the deck.
+fn is_for_deck(deck: &Deck, mail: &Mail) -> bool
+    ensures { result ≡ steps.is_for_deck deck.now mail.now }
+{
+    match mail {
+        Mail::Request { from, req, .. } => {
+            (from.0 as usize) < deck.systems.len() && is_of_deck(deck, req.task)
+        }
+        Mail::Answered { task, .. } | Mail::Granted { task, .. } => is_of_deck(deck, *task),
+    }
+}
+
+/// The system manages an entry no longer.
+fn give_up(manager: &mut Manager, entry: u32)
+    requires { (length (items_of (managed_at manager.old entry)) == 0) ≡ true }
+    ensures { manager.new ≡ star.not_managing manager.old entry }
+{
+    if manager.manages(entry) {
+        manager.end(entry);
+    }
+}
+
+impl StarPart {
+    /// The system has interest in an entry, or none.
+    #[tactic(auto, using(crate::proofs::Flags::flags))]
+    fn set_interest(&mut self, entry: u32, has: bool)
+        ensures { self.new ≡ star.with_interest self.old entry has }
+    {
+        if (entry as usize) < self.interest.len() {
+            self.interest[entry as usize] = has;
+        }
+    }
+
+    /// The lock entry of what a task asks for.
+    fn entry_asked(&self, asked: Option<&Asked>) -> Option<u32>
+        ensures entry { result ≡ star.entry_asked self.now (option_copied asked.entry) }
+        ensures below { IfSome result (λ entry. entry < length self.now.manager.entries) }
+    {
+        match asked {
+            None => None,
+            Some(asked) => self.manager.entry_wanted(&asked.req.want),
+        }
+    }
+
+    /// The system manages an entry from now on, with empty lists.
+    fn begin(&mut self, entry: u32) -> Result<(), NoMemory>
+        requires below { entry < length self.old.manager.entries }
+        requires free { star.manages self.old entry ≡ false }
+        ensures { OnOk result (self.new ≡ star.begun self.old entry) }
+    {
+        self.manager.begin(entry)?;
+        self.set_interest(entry, true);
+        Ok(())
+    }
+
+    /// The system decides the request of a task of its own, if it has one, as the manager of its entry: the asker's answer
+    /// first, then control for the own tasks that became owners.
+    #[tactic(auto, using(crate::proofs::Kept::kept), unfolding(crate::specs::Star::decide_own))]
+    pub(crate) fn decide_own(
+        &mut self,
+        alloc: Global,
+        tasks: &mut Tasks,
+        task: TaskId,
+    ) -> Result<List<Fixed>, NoMemory>
+        requires task { is_task tasks.old task ≡ true }
+        requires serves { star.may_decide self.old (state_of tasks.old task).outstanding ≡ true }
+        ensures step { IfOk result (λ fixed. starred tasks.new self.new fixed ≡ star.own_step tasks.old self.old task (state_of tasks.old task).outstanding) }
+        ensures system { tasks.new.system ≡ tasks.old.system }
+        ensures count { length tasks.new.tasks ≡ length tasks.old.tasks }
+    {
+        let Some(asked) = tasks.asked(task) else {
+            return Ok(List::new(alloc));
+        };
+        let req = request_of(alloc, task, asked)?;
+        let outcome = self.manager.own_request(&req)?;
+        settled_ranked(alloc, tasks, task, &outcome.answer, outcome.rank)?;
+        tell_new(tasks, res_of(&req.want), outcome.owners.as_slice())?;
+        asked_alone(alloc, req)
+    }
+
+    /// Nobody managed the entry of a task's request: the system does from now on, and decides it.
+    #[tactic(auto, using(crate::proofs::Calls::begins))]
+    fn begin_own(
+        &mut self,
+        alloc: Global,
+        tasks: &mut Tasks,
+        task: TaskId,
+    ) -> Result<List<Fixed>, NoMemory>
+        requires task { is_task tasks.old task ≡ true }
+        requires free { star.manages_any self.old (star.entry_asked self.old (state_of tasks.old task).outstanding) ≡ false }
+        ensures step { IfOk result (λ fixed. starred tasks.new self.new fixed ≡ star.begin_at tasks.old self.old task (state_of tasks.old task).outstanding (star.entry_asked self.old (state_of tasks.old task).outstanding)) }
+        ensures system { tasks.new.system ≡ tasks.old.system }
+        ensures count { length tasks.new.tasks ≡ length tasks.old.tasks }
+    {
+        match self.entry_asked(tasks.asked(task)) {
+            None => Ok(List::new(alloc)),
+            Some(entry) => {
+                self.begin(entry)?;
+                self.decide_own(alloc, tasks, task)
+            }
+        }
+    }
+
+    /// A task's request went to the manager of its entry.
+    #[tactic(auto, using(crate::proofs::Kept::kept))]
+    fn sent(
+        &mut self,
+        alloc: Global,
+        tasks: &mut Tasks,
+        task: TaskId,
+    ) -> Result<List<Fixed>, NoMemory>
+        requires { is_task tasks.old task ≡ true }
+        ensures step { IfOk result (λ fixed. starred tasks.new self.new fixed ≡ star.sent_to tasks.old self.old task (star.entry_asked self.old (state_of tasks.old task).outstanding)) }
+        ensures system { tasks.new.system ≡ tasks.old.system }
+        ensures count { length tasks.new.tasks ≡ length tasks.old.tasks }
+    {
+        match self.entry_asked(tasks.asked(task)) {
+            None => Ok(List::new(alloc)),
+            Some(entry) => {
+                self.set_interest(entry, true);
+                tasks.set_phase(task, Phase::Sent);
+                Ok(List::new(alloc))
+            }
+        }
+    }
+
+    /// What the reply to a request that was sent comes to.
+    fn finish_send(
+        &mut self,
+        alloc: Global,
+        tasks: &mut Tasks,
+        task: TaskId,
+        reply: &Reply,
+    ) -> Result<List<Fixed>, NoMemory>
+        requires { star.may_call tasks.old self.old (Send task) ≡ true }
+        ensures step { IfOk result (λ fixed. starred tasks.new self.new fixed ≡ star.send_step tasks.old self.old task reply.now) }
+        ensures system { tasks.new.system ≡ tasks.old.system }
+        ensures count { length tasks.new.tasks ≡ length tasks.old.tasks }
+    {
+        match reply {
+            Reply::Sole => self.begin_own(alloc, tasks, task),
+            Reply::Sent => self.sent(alloc, tasks, task),
+            _ => Ok(List::new(alloc)),
+        }
+    }
+
+    /// A request of another system is held last, where it is of this entry and the system manages it.
+    fn hold(&mut self, entry: u32, req: Req) -> Result<(), NoMemory>
+        ensures { OnOk result (self.new ≡ star.holds self.old entry req) }
+    {
+        if !(self.is_req_of(entry, &req) && self.manager.manages(entry)) {
+            return Ok(());
+        }
+        match self.held.push_back(req) {
+            Ok(()) => Ok(()),
+            Err(_) => Err(NoMemory),
+        }
+    }
+
+    /// A mail was taken from the inbox.
+    #[tactic(auto, unfolding(crate::specs::Star::took_mail, star_client::specs::Client::after_mail))]
+    fn took(&mut self, alloc: Global, tasks: &mut Tasks, mail: Mail) -> Result<(), NoMemory>
+        ensures step { OnOk result (starred tasks.new self.new [] ≡ star.took_mail tasks.old self.old mail) }
+        ensures system { tasks.new.system ≡ tasks.old.system }
+        ensures count { length tasks.new.tasks ≡ length tasks.old.tasks }
+    {
+        match mail {
+            Mail::Request { entry, req, .. } => self.hold(entry, req),
+            mail => on_mail(alloc, tasks, mail),
+        }
+    }
+
+    /// A mail was taken. One that names what isn't of the deck has no effect.
+    fn take(
+        &mut self,
+        alloc: Global,
+        deck: &Deck,
+        tasks: &mut Tasks,
+        mail: Mail,
+    ) -> Result<(), NoMemory>
+        ensures step { OnOk result (starred tasks.new self.new [] ≡ steps.take_mail deck.now tasks.old self.old mail) }
+        ensures system { tasks.new.system ≡ tasks.old.system }
+        ensures count { length tasks.new.tasks ≡ length tasks.old.tasks }
+    {
+        if is_for_deck(deck, &mail) {
+            self.took(alloc, tasks, mail)
+        } else {
+            Ok(())
+        }
+    }
+
+    /// What the reply to a Take comes to.
+    fn finish_take(
+        &mut self,
+        alloc: Global,
+        deck: &Deck,
+        tasks: &mut Tasks,
+        reply: Reply,
+    ) -> Result<List<Fixed>, NoMemory>
+        ensures step { IfOk result (λ fixed. starred tasks.new self.new fixed ≡ steps.take_step deck.now tasks.old self.old reply) }
+        ensures system { tasks.new.system ≡ tasks.old.system }
+        ensures count { length tasks.new.tasks ≡ length tasks.old.tasks }
+    {
+        match reply {
+            Reply::Taken { mail } => {
+                self.take(alloc, deck, tasks, mail)?;
+                Ok(List::new(alloc))
+            }
+            _ => Ok(List::new(alloc)),
+        }
+    }
+
+    /// Takes the request out that was held first.
+    fn pop_held(&mut self) -> Option<Req>
+        ensures first { result ≡ star.first_held self.old }
+        ensures rest { self.new ≡ record self.old { held = drop 1 self.old.held } }
+    {
+        self.held.pop_front()
+    }
+
+    /// The request that was held first was settled: control for the own tasks that became owners.
+    fn settled(&mut self, alloc: Global, tasks: &mut Tasks) -> Result<List<Fixed>, NoMemory>
+        ensures step { IfOk result (λ fixed. starred tasks.new self.new fixed ≡ star.settled_by tasks.old self.old (star.first_held self.old)) }
+        ensures system { tasks.new.system ≡ tasks.old.system }
+        ensures count { length tasks.new.tasks ≡ length tasks.old.tasks }
+    {
+        if !self.serves_first() {
+            return Ok(List::new(alloc));
+        }
+        match self.pop_held() {
+            None => Ok(List::new(alloc)),
+            Some(req) => {
+                let outcome = self.manager.settle(&req)?;
+                tell_new(tasks, res_of(&req.want), outcome.owners.as_slice())?;
+                asked_alone(alloc, req)
+            }
+        }
+    }
+
+    /// An owner of another system was told.
+    fn told(&mut self, entry: u32) -> Result<(), NoMemory>
+        ensures { OnOk result (self.new ≡ star.told_by self.old (star.to_tell self.old entry)) }
+    {
+        if let Some((task, res)) = self.to_tell(entry)? {
+            if self.manager.serves_res(&res) {
+                self.manager.mark_told(task, &res);
+            }
+        }
+        Ok(())
+    }
+
+    /// The interest in an entry was given up.
+    fn left(&mut self, entry: u32)
+        requires { star.is_done_with self.old entry ≡ true }
+        ensures { self.new ≡ star.left_at self.old entry }
+    {
+        give_up(&mut self.manager, entry);
+        self.set_interest(entry, false);
+    }
+
+    /// What the reply to a Settle comes to.
+    fn finish_settle(
+        &mut self,
+        alloc: Global,
+        tasks: &mut Tasks,
+        reply: &Reply,
+    ) -> Result<List<Fixed>, NoMemory>
+        ensures step { IfOk result (λ fixed. starred tasks.new self.new fixed ≡ star.settle_step tasks.old self.old reply.now) }
+        ensures system { tasks.new.system ≡ tasks.old.system }
+        ensures count { length tasks.new.tasks ≡ length tasks.old.tasks }
+    {
+        match reply {
+            Reply::Settled => self.settled(alloc, tasks),
+            _ => Ok(List::new(alloc)),
+        }
+    }
+
+    /// What the reply to a Tell comes to.
+    fn finish_tell(&mut self, tasks: &Tasks, entry: u32, reply: &Reply) -> Result<(), NoMemory>
+        ensures { OnOk result (starred tasks.now self.new [] ≡ star.tell_step tasks.now self.old entry reply.now) }
+    {
+        match reply {
+            Reply::Told => self.told(entry),
+            _ => Ok(()),
+        }
+    }
+
+    /// What the reply to a Leave comes to.
+    fn finish_leave(&mut self, tasks: &Tasks, entry: u32, reply: &Reply)
+        requires { star.may_leave self.old tasks.now entry ≡ true }
+        ensures { starred tasks.now self.new [] ≡ star.leave_step tasks.now self.old entry reply.now }
+    {
+        match reply {
+            Reply::Left => self.left(entry),
+            _ => {}
+        }
+    }
+
+    /// What the reply to a call of star mode comes to. Those that say nothing new change nothing.
+    pub(crate) fn finish(
+        &mut self,
+        alloc: Global,
+        deck: &Deck,
+        tasks: &mut Tasks,
+        choice: Choice,
+        reply: Reply,
+    ) -> Result<List<Fixed>, NoMemory>
+        requires { star.may_call tasks.old self.old choice ≡ true }
+        ensures step { IfOk result (λ fixed. starred tasks.new self.new fixed ≡ steps.star_step deck.now tasks.old self.old choice reply) }
+        ensures system { tasks.new.system ≡ tasks.old.system }
+        ensures count { length tasks.new.tasks ≡ length tasks.old.tasks }
+    {
+        match choice {
+            Choice::Send(task) => self.finish_send(alloc, tasks, task, &reply),
+            Choice::Take => self.finish_take(alloc, deck, tasks, reply),
+            Choice::Settle => self.finish_settle(alloc, tasks, &reply),
+            Choice::Tell(entry) => {
+                self.finish_tell(tasks, entry, &reply)?;
+                Ok(List::new(alloc))
+            }
+            Choice::Leave(entry) => {
+                self.finish_leave(tasks, entry, &reply);
+                Ok(List::new(alloc))
+            }
+            Choice::Task(_) | Choice::Turn | Choice::Switch | Choice::Purge(_) | Choice::Rest => {
+                Ok(List::new(alloc))
+            }
+        }
+    }
+}

@@ -1,0 +1,106 @@
+-- Worked runs in star mode, by which the definitions are checked: each history, each told line and each lock word is what
+-- the rules of the service give by hand.
+use Rattle.std.proofs.Common.{◌≡◌, ℕ, Bool, true, false, List, [], ◌∷◌, ◌++◌, Some, None, refl}
+use Rattle.grs_base.specs.declared.decision.Code.TheVariants.{C00, C04, Wait}
+use Rattle.grs_base.specs.declared.line.Line.{Line}
+use Rattle.grs_base.specs.declared.line.Scope.TheVariants.{Systems}
+use Rattle.grs_base.specs.declared.resource.Ctl.TheVariants.{E, S}
+use Rattle.grs_base.specs.declared.resource.Elem.{Elem}
+use Rattle.grs_base.specs.declared.resource.Ret.TheVariants.{RetNone, RetEcb}
+use Rattle.grs_medium.specs.Apply.{row, apply, reply_to, submit_row, take_row, mail_row, leave_row, rest_row}
+use Rattle.grs_medium.specs.Medium.{medium_at_end}
+use Rattle.grs_node.specs.Node.{post, ask, take_line, end_step, ready_step, phase_step, is_pending, may_go, may_send, star_call, prepare, finish_quiet, finish_star, finish_call, finish, first_node}
+use Rattle.grs_node.specs.Star.{decide_own, took_mail}
+use Rattle.grs_wire.specs.LockWords.{manager, lock_word, submitted, leave_reply, leave_changes, left_word}
+use Rattle.grs_wire.specs.Masks.{has, without, with_also}
+use Rattle.grs_wire.specs.declared.deck.Deck.{Deck}
+use Rattle.grs_wire.specs.declared.deck.Event.{Event}
+use Rattle.grs_wire.specs.declared.deck.Choice.TheVariants as choices
+use Rattle.grs_wire.specs.declared.history.HistEntry.TheVariants.{Enq, Deq}
+use Rattle.grs_wire.specs.declared.medium.Act.TheVariants as acts
+use Rattle.grs_wire.specs.declared.medium.Reply.TheVariants as replies
+use Rattle.grs_wire.specs.declared.told.ToldLine.TheVariants.{Coded, Post, Ended}
+use Rattle.grs_wire.specs.declared.told.Verb.TheVariants as verbs
+use Rattle.lock_structure.specs.Words.{route}
+use Rattle.star_client.specs.Client.{settled_ranked, after_mail}
+use Rattle.task_state.specs.Replies.{tell_code, record_enq, answered, replied, passes_wait, tell_line, tell_untold, tell_control, tell_all, tell_new, recalled, settled, settled_any}
+use Rattle.task_state.specs.View.{state_of, with_state, with_line, with_phase, with_outstanding, with_record, without_record, with_told, with_exclusive, with_rank, telling}
+use Rattle.grs_world.specs.Kept.{kept, places}
+use Rattle.grs_world.specs.World.{World, first_world, carry_out, chosen, placed, happens_at, happens, run, hist, told}
+use Rattle.grs_world.proofs.samples.Samples.{system, task_of, shared, enq, deq, deck_of, goes, rest, at}
+
+-- events of star mode
+abbrev pub sends : ℕ → ℕ → Event
+sends s n = record { system = system s; choice = choices.Send (task_of s n) }
+
+abbrev pub takes : ℕ → Event
+takes s = record { system = system s; choice = choices.Take }
+
+abbrev pub settles : ℕ → Event
+settles s = record { system = system s; choice = choices.Settle }
+
+abbrev pub tells : ℕ → Event
+tells s = record { system = system s; choice = choices.Tell 0 }
+
+abbrev pub leaves : ℕ → Event
+leaves s = record { system = system s; choice = choices.Leave 0 }
+
+abbrev pub turns : ℕ → Event
+turns s = record { system = system s; choice = choices.Turn }
+
+-- a deck in star mode with one lock entry
+abbrev pub star_of : List (List (List Line)) → Deck
+star_of systems = record (deck_of systems) { star = true }
+
+-- ---- two systems that don't meet
+-- The first manages the entry; the second asks it, and both leave.
+abbrev apart : Deck
+apart = star_of (((enq 49 E Systems RetNone ∷ deq 49 Systems ∷ []) ∷ []) ∷ ((enq 50 E Systems RetNone ∷ deq 50 Systems ∷ []) ∷ []) ∷ [])
+
+abbrev asked : List Event
+asked = goes 0 0 ∷ sends 0 0 ∷ goes 1 0 ∷ sends 1 0 ∷ takes 0 ∷ settles 0 ∷ takes 1 ∷ goes 0 0 ∷ sends 0 0 ∷ goes 1 0 ∷ sends 1 0 ∷ takes 0 ∷ settles 0 ∷ takes 1 ∷ []
+
+abbrev left : List Event
+left = leaves 0 ∷ leaves 1 ∷ leaves 0 ∷ goes 0 0 ∷ goes 1 0 ∷ rest 0 ∷ []
+
+lonely :
+    (hist apart (asked ++ left) ≡ Enq (task_of 0 0) (shared 49) E RetNone C00 ∷ Enq (task_of 1 0) (shared 50) E RetNone C00 ∷ Deq (task_of 0 0) (shared 49) false C00 ∷ Deq (task_of 1 0) (shared 50) false C00 ∷ [])
+    × (told apart (asked ++ left)
+    ≡ at 2 0 (Coded (task_of 0 0) 1 0 verbs.Enq C00) ∷ at 7 1 (Coded (task_of 1 0) 1 0 verbs.Enq C00) ∷ at 9 0 (Coded (task_of 0 0) 2 0 verbs.Deq C00) ∷ at 14 1 (Coded (task_of 1 0) 2 0 verbs.Deq C00)
+    ∷ at 18 0 (Ended (task_of 0 0) 0) ∷ at 19 1 (Ended (task_of 1 0) 0) ∷ [])
+    × ((run apart asked).medium.words ≡ 259 ∷ [])
+    -- the manager doesn't leave the other behind
+    × (reply_to (run apart asked).medium (system 0) (record { known = 0; act = acts.Leave 0 }) ≡ replies.Kept 3)
+    × ((run apart (asked ++ leaves 0 ∷ [])).medium.words ≡ 259 ∷ [])
+    × ((run apart (asked ++ leaves 0 ∷ leaves 1 ∷ [])).medium.words ≡ 257 ∷ [])
+    × ((run apart (asked ++ left)).medium.words ≡ 0 ∷ [])
+    × (reply_to (run apart (asked ++ left)).medium (system 1) (record { known = 0; act = acts.Rest }) ≡ replies.Over)
+unfolding state_of with_state with_line with_phase with_outstanding with_record without_record with_told with_exclusive with_rank telling tell_code record_enq answered replied passes_wait tell_line tell_untold tell_control tell_all tell_new recalled settled settled_any settled_ranked after_mail decide_own took_mail post ask take_line end_step ready_step phase_step is_pending may_go may_send star_call prepare finish_quiet finish_star finish_call finish has without with_also manager lock_word submitted leave_reply leave_changes left_word route submit_row take_row mail_row leave_row medium_at_end rest_row row apply first_node first_world carry_out chosen placed happens_at happens
+lonely = (refl, refl, refl, refl, refl, refl, refl, refl)
+
+-- ---- a wait and a grant
+-- A task of the second system waits for what one of the manager's own has, and is told control once that one gives it
+-- back; another of its tasks asks by ECB behind it.
+abbrev waiting : Deck
+waiting = star_of (((enq 66 E Systems RetNone ∷ deq 66 Systems ∷ []) ∷ []) ∷ ((enq 66 E Systems RetNone ∷ deq 66 Systems ∷ []) ∷ (enq 66 S Systems RetEcb ∷ []) ∷ []) ∷ [])
+
+abbrev asks_all : List Event
+asks_all = goes 0 0 ∷ sends 0 0 ∷ goes 1 0 ∷ sends 1 0 ∷ takes 0 ∷ settles 0 ∷ takes 1 ∷ goes 1 1 ∷ sends 1 1 ∷ takes 0 ∷ settles 0 ∷ takes 1 ∷ []
+
+-- the manager's own task gives the resource back (event 14), and the next owner is told (16)
+abbrev first_grant : List Event
+first_grant = goes 0 0 ∷ sends 0 0 ∷ tells 0 ∷ takes 1 ∷ []
+
+abbrev elem : ℕ → ℕ → Elem
+elem s n = record { task = task_of s n; ctl = E }
+
+first_granted :
+    told waiting (asks_all ++ first_grant)
+    ≡ at 2 0 (Coded (task_of 0 0) 1 0 verbs.Enq C00) ∷ at 12 1 (Coded (task_of 1 1) 1 0 verbs.Enq C04) ∷ at 14 0 (Coded (task_of 0 0) 2 0 verbs.Deq C00) ∷ at 16 1 (Coded (task_of 1 0) 1 0 verbs.Enq C00) ∷ []
+unfolding state_of with_state with_line with_phase with_outstanding with_record without_record with_told with_exclusive with_rank telling tell_code record_enq answered replied passes_wait tell_line tell_untold tell_control tell_all tell_new recalled settled settled_any settled_ranked after_mail decide_own took_mail post ask take_line end_step ready_step phase_step is_pending may_go may_send star_call prepare finish_quiet finish_star finish_call finish has without with_also manager lock_word submitted leave_reply leave_changes left_word route submit_row take_row mail_row leave_row medium_at_end rest_row row apply first_node first_world carry_out chosen placed happens_at happens
+first_granted = refl
+
+-- what the manager keeps is the history's list
+keeps_lists : kept waiting (run waiting asks_all) (system 1) (shared 66) ≡ elem 0 0 ∷ elem 1 0 ∷ record { task = task_of 1 1; ctl = S } ∷ []
+unfolding state_of with_state with_line with_phase with_outstanding with_record without_record with_told with_exclusive with_rank telling tell_code record_enq answered replied passes_wait tell_line tell_untold tell_control tell_all tell_new recalled settled settled_any settled_ranked after_mail decide_own took_mail post ask take_line end_step ready_step phase_step is_pending may_go may_send star_call prepare finish_quiet finish_star finish_call finish has without with_also manager lock_word submitted leave_reply leave_changes left_word route submit_row take_row mail_row leave_row medium_at_end rest_row row apply first_node first_world carry_out chosen placed happens_at happens
+keeps_lists = refl
