@@ -1,0 +1,133 @@
+-- The rank of a task's request says nothing of how the task stands.
+use Rattle.std.proofs.Common.{◌≡◌, ℕ, Bool, true, false, cond, not, ◌&&◌, ◌||◌, List, [], ◌∷◌, map, Option, Some, None, refl, ap, sym, ◌∙◌, subst}
+use Rattle.std.specs.Prelude.{slice_get, nat_le}
+use Rattle.grs_base.specs.Same.{same_res}
+use Rattle.grs_base.specs.declared.resource.Res.{Res}
+use Rattle.grs_base.specs.declared.resource.TaskId.{TaskId}
+use Rattle.grs_legal.specs.declared.meaning.Meaning.{Meaning}
+use Rattle.grs_wire.specs.declared.deck.Deck.{Deck}
+use Rattle.grs_wire.specs.declared.history.HistEntry.{HistEntry}
+use Rattle.grs_wire.specs.declared.request.Want.{Want}
+use Rattle.grs_wire.specs.declared.request.Want.TheVariants.{Enq, Deq, Release, Look}
+use Rattle.grs_wire.specs.declared.told.ToldLine.{ToldLine}
+use Rattle.star_client.specs.Client.{with_rank_of}
+use Rattle.task_state.specs.Replies.{is_leaving}
+use Rattle.task_state.specs.View.{TasksView, is_task, state_of, on_record, with_rank}
+use Rattle.task_state.specs.declared.state.Asked.{Asked}
+use Rattle.task_state.specs.declared.state.Phase.{Phase}
+use Rattle.task_state.specs.declared.state.Rec.{Rec}
+use Rattle.task_state.specs.declared.state.TaskState.{TaskState}
+use Rattle.task_state.proofs.ViewLaws.{length-on_record, state_of-same, told-state}
+use Rattle.grs_known.specs.Items.{RunItem, history}
+use Rattle.grs_known.specs.Past.{Past, past_of}
+use Rattle.grs_known.proofs.tasks.Invariant.{Each, IsRec, IsTask, key, has_res, is_distinct}
+use Rattle.grs_world.proofs.system.Asking.{Opens, unasked, unasked-told, IsAskedFor, IsOpenBy, IsOpen}
+use Rattle.grs_world.proofs.system.Did.{Did}
+use Rattle.grs_world.proofs.system.Events.{Settles}
+use Rattle.grs_world.proofs.system.Good.{IsGood}
+use Rattle.grs_world.proofs.system.Ours.{IsOurs, changed-state}
+use Rattle.grs_world.proofs.system.Says.{ToldBy, none}
+use Rattle.grs_world.proofs.system.Turns.{quiet_settles}
+
+abbrev ranked : ℕ → Rec → Rec
+ranked k y = record y { rank = k }
+
+keys-ranked : (r : Res) (k : ℕ) (xs : List Rec) → map key (on_record r (ranked k) xs) ≡ map key xs
+keys-ranked r k [] = refl
+keys-ranked r k (x ∷ xs) = go (same_res r x.res) (keys-ranked r k xs)
+  where
+    go : (b : Bool) → map key (on_record r (ranked k) xs) ≡ map key xs → map key (cond b (ranked k x) x ∷ on_record r (ranked k) xs) ≡ map key (x ∷ xs)
+    go true h = ap (λ zs. key x ∷ zs) h
+    go false h = ap (λ zs. key x ∷ zs) h
+
+has-ranked : (q r : Res) (k : ℕ) (xs : List Rec) → has_res q (on_record r (ranked k) xs) ≡ has_res q xs
+has-ranked q r k [] = refl
+has-ranked q r k (x ∷ xs) = go (same_res r x.res) (has-ranked q r k xs)
+  where
+    go : (b : Bool) → has_res q (on_record r (ranked k) xs) ≡ has_res q xs → has_res q (cond b (ranked k x) x ∷ on_record r (ranked k) xs) ≡ has_res q (x ∷ xs)
+    go true h = ap (λ c. same_res q x.res || c) h
+    go false h = ap (λ c. same_res q x.res || c) h
+
+distinct-ranked : (r : Res) (k : ℕ) (xs : List Rec) → is_distinct (on_record r (ranked k) xs) ≡ is_distinct xs
+distinct-ranked r k [] = refl
+distinct-ranked r k (x ∷ xs) = go (same_res r x.res) (distinct-ranked r k xs)
+  where
+    go : (b : Bool) → is_distinct (on_record r (ranked k) xs) ≡ is_distinct xs → is_distinct (cond b (ranked k x) x ∷ on_record r (ranked k) xs) ≡ is_distinct (x ∷ xs)
+    go true h = ap (λ c. not c && is_distinct (on_record r (ranked k) xs)) (has-ranked x.res r k xs) ∙ ap (λ c. not (has_res x.res xs) && c) h
+    go false h = ap (λ c. not c && is_distinct (on_record r (ranked k) xs)) (has-ranked x.res r k xs) ∙ ap (λ c. not (has_res x.res xs) && c) h
+
+rec-ranked : (ls : List Meaning) (E : List HistEntry) (T : List ToldLine) (owns leaving : Res → Bool) (t : TaskId) (line : ℕ) (p : Phase) (k : ℕ) (x : Rec) → IsRec ls E T owns leaving t line p x → IsRec ls E T owns leaving t line p (ranked k x)
+rec-ranked ls E T owns leaving t line p k x h = record { entry = h.entry; latest = h.latest; low = h.low; high = h.high; known = h.known; control = h.control; due = h.due }
+
+each-ranked : (ls : List Meaning) (E : List HistEntry) (T : List ToldLine) (owns leaving : Res → Bool) (t : TaskId) (line : ℕ) (p : Phase) (r : Res) (k : ℕ) (xs : List Rec) → Each (IsRec ls E T owns leaving t line p) xs → Each (IsRec ls E T owns leaving t line p) (on_record r (ranked k) xs)
+each-ranked ls E T owns leaving t line p r k [] h = tt
+each-ranked ls E T owns leaving t line p r k (x ∷ xs) h = (go (same_res r x.res), each-ranked ls E T owns leaving t line p r k xs h.1)
+  where
+    go : (b : Bool) → IsRec ls E T owns leaving t line p (cond b (ranked k x) x)
+    go true = rec-ranked ls E T owns leaving t line p k x h.0
+    go false = h.0
+
+task-ranked : (ls : List Meaning) (p : Past) (T : List ToldLine) (leaving : Res → Bool) (t : TaskId) (x : TaskState) (r : Res) (k : ℕ) → IsTask ls p T leaving t x → IsTask ls p T leaving t (record x { records = on_record r (ranked k) x.records })
+task-ranked ls p T leaving t x r k h = record {
+  keys = keys-ranked r k x.records ∙ h.keys;
+  owned = h.owned;
+  distinct = distinct-ranked r k x.records ∙ h.distinct;
+  within = h.within;
+  count = h.count;
+  records = each-ranked ls p.asked T p.owns leaving t x.line x.phase r k x.records h.records;
+  codes = h.codes;
+  posts = h.posts;
+  phase = h.phase;
+  emptied = λ e. ap (on_record r (ranked k)) (h.emptied e);
+}
+
+res-ranked : (r : Res) (k : ℕ) (xs : List Rec) → map (λ (y : Rec). y.res) (on_record r (ranked k) xs) ≡ map (λ (y : Rec). y.res) xs
+res-ranked r k [] = refl
+res-ranked r k (x ∷ xs) = go (same_res r x.res) (res-ranked r k xs)
+  where
+    go : (b : Bool) → map (λ (y : Rec). y.res) (on_record r (ranked k) xs) ≡ map (λ (y : Rec). y.res) xs → map (λ (y : Rec). y.res) (cond b (ranked k x) x ∷ on_record r (ranked k) xs) ≡ map (λ (y : Rec). y.res) (x ∷ xs)
+    go true h = ap (λ zs. x.res ∷ zs) h
+    go false h = ap (λ zs. x.res ∷ zs) h
+
+open-ranked : (limit : ℕ) (ls : List Meaning) (t : TaskId) (r : Res) (k : ℕ) (x : TaskState) → IsOpen limit ls t x → IsOpen limit ls t (record x { records = on_record r (ranked k) x.records })
+open-ranked limit ls t r k x h = go x.outstanding h
+  where
+    by_want : (n : ℕ) (xs : List Rec) (w : Want) (unit : Option ℕ) → IsAskedFor limit ls n xs w unit → IsAskedFor limit ls n (on_record r (ranked k) xs) w unit
+    by_want n xs (Enq q c ret full) unit j = (j.0, j.1, j.2, j.3 ∙ ap (nat_le limit) (sym (length-on_record r (ranked k) xs)))
+    by_want n xs (Deq q have) unit j = j
+    by_want n xs (Release q) unit j = (ap (λ zs. slice_get zs 0) (res-ranked r k xs) ∙ j.0, j.1)
+    by_want n xs (Look first count f) unit j = j
+
+    go : (o : Option Asked) → IsOpenBy limit ls t x o → IsOpenBy limit ls t (record x { records = on_record r (ranked k) x.records }) o
+    go None j = j
+    go (Some a) j = (j.0, j.1, by_want x.line x.records a.req.want a.unit j.2)
+
+-- ---- the tasks of a system, once a request of one of them has its rank
+did-rank : (v : TasksView) (t : TaskId) (r : Res) (k : ℕ) → is_task v t ≡ true → Did v (with_rank v t r k) t (record (state_of v t) { records = on_record r (ranked k) (state_of v t).records }) v.told
+unfolding with_rank
+did-rank v t r k here =
+    let f : TaskState → TaskState = λ x. record x { records = on_record r (λ y. record y { rank = k }) x.records } in
+    record { changed = changed-state v t f; state = state_of-same v t f here; told = told-state v t f }
+
+good-rank : (deck : Deck) (s : ℕ) (os : Opens) (P : List RunItem) (v : TasksView) (t : TaskId) (ls : List Meaning) (r : Res) (k : ℕ) → IsOurs deck s v t ls → IsGood deck s os P v → IsGood deck s os P (with_rank v t r k)
+good-rank deck s os P v t ls r k ours g =
+    let x : TaskState = state_of v t in
+    let h = g.tasks.each t ls ours in
+    (quiet_settles deck s os os P v g t ls ours (with_rank v t r k) (record x { records = on_record r (ranked k) x.records }) v.told (did-rank v t r k ours.here)
+    (record {
+      known = h.known;
+      knows = h.knows;
+      due = h.due;
+      task = subst (λ y. IsTask ls (past_of t h.known P) v.told (λ q. is_leaving q x.outstanding) t y) (sym (unasked-told x r (ranked k))) (task-ranked ls (past_of t h.known P) v.told (λ q. is_leaving q x.outstanding) t (unasked x) r k h.task);
+      opened = open-ranked deck.limit ls t r k x h.opened;
+      asked = h.asked;
+      sent = h.sent;
+    })
+    (λ u o apart a. a) (λ u ph apart a. a) refl (λ u ms apart p leaving y j. j) none).good
+
+told-rank : (v : TasksView) (t : TaskId) (r : Res) (k : ℕ) → is_task v t ≡ true → (with_rank v t r k).told ≡ v.told
+told-rank v t r k here = (did-rank v t r k here).told
+
+pub ranked-settles : (deck : Deck) (s : ℕ) (os : Opens) (P : List RunItem) (T0 : List ToldLine) (v : TasksView) (t : TaskId) (ls : List Meaning) (o : Option Res) (k : ℕ) → IsOurs deck s v t ls → Settles deck s os P T0 v → Settles deck s os P T0 (with_rank_of v t o k)
+ranked-settles deck s os P T0 v t ls None k ours z = z
+ranked-settles deck s os P T0 v t ls (Some r) k ours z = record { good = good-rank deck s os P v t ls r k ours z.good; told = subst (ToldBy deck s os.all (history P) T0) (sym (told-rank v t r k ours.here)) z.told }

@@ -1,0 +1,270 @@
+-- The systems of a run in star mode together: whose hands each request is in, and how an event of one system is placed.
+use Rattle.std.proofs.Common.{◌≡◌, ◌≢◌, ◌⊎◌, ◌<◌, ℕ, Bool, true, false, List, [], ◌∷◌, ◌++◌, length, Some, refl, ap, sym, ◌∙◌, subst, append-nil, arith, append_assoc, Option, None}
+use Rattle.std.specs.Prelude.{drop, set, slice_get, ◌==◌}
+use Rattle.std.proofs.lemmas.Bool.{eqb-true, eqb-false}
+use Rattle.std.proofs.lemmas.List.{length-set, get_or-set_same, get_or-set_other}
+use Rattle.contention_mgr.specs.Manager.{entry_wanted, entry_of_res}
+use Rattle.grs_base.specs.Lists.{owns}
+use Rattle.grs_base.specs.State.{list_of, is_systems}
+use Rattle.grs_base.specs.declared.resource.Res.{Res}
+use Rattle.grs_base.specs.declared.resource.Res.TheVariants.{Step as StepRes, System, Systems}
+use Rattle.grs_base.specs.declared.resource.TaskId.{TaskId}
+use Rattle.grs_base.specs.declared.resource.SysId.{SysId}
+use Rattle.grs_medium.specs.Inboxes.{without_first}
+use Rattle.grs_medium.specs.Medium.{MediumState, inbox}
+use Rattle.grs_legal.specs.Asks.{lines_of}
+use Rattle.grs_node.specs.Node.{Node, finish_quiet, may_go, is_of_deck}
+use Rattle.grs_node.specs.Star.{StarPart, request_of}
+use Rattle.grs_legal.specs.declared.meaning.Meaning.{Meaning}
+use Rattle.grs_wire.specs.LockWords.{interest}
+use Rattle.grs_wire.specs.Wants.{answer_to, res_wanted}
+use Rattle.grs_wire.specs.declared.request.Want.{Want}
+use Rattle.grs_wire.specs.declared.request.Want.TheVariants.{Enq, Deq, Release, Look}
+use Rattle.lock_structure.specs.Laws.{IsManaged, ManagedBy, is_interested, manager_at}
+use Rattle.lock_structure.specs.Words.{word_at}
+use Rattle.lock_structure.proofs.LawProofs.{empty_is_managed}
+use Rattle.star_client.specs.Client.{settled_ranked}
+use Rattle.task_state.specs.View.{state_of}
+use Rattle.task_state.specs.declared.state.Asked.{Asked}
+use Rattle.grs_wire.specs.declared.deck.Deck.{Deck}
+use Rattle.grs_wire.specs.declared.medium.Mail.{Mail}
+use Rattle.grs_wire.specs.declared.medium.Mail.TheVariants.{Request, Granted}
+use Rattle.task_state.specs.Replies.{tell_control, tell_new}
+use Rattle.grs_wire.specs.declared.deck.Choice.TheVariants as choices
+use Rattle.grs_wire.specs.declared.request.Fixed.{Fixed}
+use Rattle.grs_wire.specs.declared.request.Fixed.TheVariants as fixing
+use Rattle.grs_wire.specs.declared.request.Req.{Req}
+use Rattle.grs_wire.specs.History.{replay}
+use Rattle.grs_known.specs.Items.{RunItem, goes_round, mine, lists, items, history}
+use Rattle.grs_known.proofs.known.Histories.{IsHistory, MayFollow, made_item, items-append, replayed, follows, wants-round}
+use Rattle.grs_known.proofs.known.ItemLaws.{lists-push}
+use Rattle.grs_known.proofs.lists.Facts.{slice_get-within, slice_get-past, slice_get-set, slice_get-set_other, some_value}
+use Rattle.grs_world.specs.Kept.{kept}
+use Rattle.grs_world.specs.World.{World, Turnout, fixed_by, placed}
+use Rattle.grs_known.proofs.lists.Owners.{is_among}
+use Rattle.grs_world.proofs.system.Ours.{IsOurs}
+use Rattle.grs_world.proofs.system.Says.{is_home_at, askers, stand_apart}
+use Rattle.grs_star.proofs.Elements.{AreNear, is_near_res, near-want}
+use Rattle.grs_star.proofs.Mailed.{took-request, took-control}
+use Rattle.grs_star.proofs.OwnEvents.{Task, idle_task, local_task, system-task, may-follow, system-decided}
+use Rattle.grs_star.proofs.Tasks.{task-quiet}
+use Rattle.grs_star.proofs.Members.{IsMember, IsStar, IsStep, has_manager, all_lists, framed, managed-is}
+use Rattle.grs_star.proofs.Runs.{kept_lists, word_past}
+use Rattle.grs_star.proofs.Systems.{IsSystem, requests_in, system-other, near_at}
+
+-- a request is one of these
+abbrev pub IsIn : Req → List Req → Type 0
+IsIn q [] = ⊥
+IsIn q (x ∷ xs) = (q ≡ x) ⊎ IsIn q xs
+
+-- A request in the hands of system m is the one that a task of another system sent and that isn't settled; it is of an
+-- entry that m manages.
+pub record IsHand (deck : Deck) (words : List ℕ) (count : ℕ) (later : ℕ → List RunItem) (out : ℕ → List Req) (m : ℕ) (q : Req) : Type 0 where
+  pub apart : q.task.system.0 ≢ m
+  pub below : q.task.system.0 < count
+  pub among : IsIn q (out q.task.system.0)
+  pub idle : mine q.task (later q.task.system.0) ≡ []
+  pub entry : ℕ
+  pub at : entry_wanted deck.entries q.want ≡ Some entry
+  pub managed : has_manager words entry m ≡ true
+
+abbrev pub AllHands : Deck → List ℕ → ℕ → (ℕ → List RunItem) → (ℕ → List Req) → ℕ → List Req → Type 0
+AllHands deck words count later out m [] = Unit {0}
+AllHands deck words count later out m (q ∷ qs) = IsHand deck words count later out m q × AllHands deck words count later out m qs
+
+-- The requests in its hands are such, each of another task.
+pub record Hands (deck : Deck) (words : List ℕ) (count : ℕ) (later : ℕ → List RunItem) (out : ℕ → List Req) (m : ℕ) (qs : List Req) : Type 0 where
+  pub each : AllHands deck words count later out m qs
+  pub apart : stand_apart (askers qs) ≡ true
+
+-- What is in a system's hands: what it holds, and then what comes.
+abbrev pub in_hands : StarPart → List Mail → List Req
+in_hands p ms = p.held ++ requests_in ms
+
+-- What holds of the world.
+pub record IsWhole (deck : Deck) (w : World) : Type 0 where
+  pub roles : IsStar deck w
+  pub right : IsHistory deck (items w.fixed)
+  pub later : ℕ → List RunItem
+  pub out : ℕ → List Req
+  -- each element is of a system with interest in its entry
+  pub near : AreNear deck w.medium.words (all_lists w)
+  pub system : (s : ℕ) (n : Node) → slice_get w.nodes s ≡ Some n → IsSystem deck w.medium.words (items w.fixed) s n (inbox w.medium s) (later s) (out s)
+  pub hands : (m : ℕ) (n : Node) (p : StarPart) → slice_get w.nodes m ≡ Some n → n.star ≡ Some p → Hands deck w.medium.words (length w.nodes) later out m (in_hands p (inbox w.medium m))
+
+-- one item more
+pub items-one : (xs : List (SysId × Fixed)) (c : SysId) (f : Fixed) → items (xs ++ fixed_by c (f ∷ [])) ≡ items xs ++ made_item c (items xs) f ∷ []
+items-one xs c f = items-append xs (fixed_by c (f ∷ []))
+
+pub items-none : (xs : List (SysId × Fixed)) (c : SysId) → items (xs ++ fixed_by c []) ≡ items xs
+items-none xs c = ap items (append-nil xs)
+
+-- ---- the world after an event of system c, where the items become these
+module _ (deck : Deck) (w : World) (c : SysId) (n : Node) (at : slice_get w.nodes c.0 ≡ Some n) (g : IsStar deck w) (o : Turnout) (step : IsStep deck w c n o) (T : List RunItem) (grown : items (w.fixed ++ fixed_by c o.step.fixed) ≡ T) (later : ℕ → List RunItem) (out : ℕ → List Req) where
+  abbrev words : List ℕ
+  words = o.medium.words
+
+  -- by systems: that of the event, and the others
+  by_system : (P : ℕ → Node → Type 0) → P c.0 o.step.node → ((s : ℕ) (k : Node) → s ≢ c.0 → slice_get w.nodes s ≡ Some k → P s k) → (s : ℕ) (k : Node) → slice_get (set w.nodes c.0 o.step.node) s ≡ Some k → P s k
+  by_system P own others s k f = go (s == c.0) refl
+    where
+      go : (b : Bool) → (s == c.0) ≡ b → P s k
+      go true e =
+          let same : s ≡ c.0 = eqb-true s c.0 e in
+          let is : o.step.node ≡ k = some_value o.step.node k (sym (slice_get-set w.nodes c.0 n o.step.node at) ∙ (ap (slice_get (set w.nodes c.0 o.step.node)) (sym same) ∙ f)) in
+          subst (P s) is (subst (λ z. P z o.step.node) (sym same) own)
+      go false e = let ne : s ≢ c.0 = eqb-false s c.0 e in others s k ne (sym (slice_get-set_other w.nodes c.0 s o.step.node ne) ∙ f)
+
+  pub whole-placed : IsHistory deck T → AreNear deck o.medium.words (lists T) →
+      IsSystem deck o.medium.words T c.0 o.step.node (inbox o.medium c.0) (later c.0) (out c.0) →
+      ((s : ℕ) (k : Node) → s ≢ c.0 → slice_get w.nodes s ≡ Some k → IsSystem deck o.medium.words T s k (inbox o.medium s) (later s) (out s)) →
+      ((p : StarPart) → o.step.node.star ≡ Some p → Hands deck o.medium.words (length w.nodes) later out c.0 (in_hands p (inbox o.medium c.0))) →
+      ((m : ℕ) (k : Node) (p : StarPart) → m ≢ c.0 → slice_get w.nodes m ≡ Some k → k.star ≡ Some p → Hands deck o.medium.words (length w.nodes) later out m (in_hands p (inbox o.medium m))) →
+      IsWhole deck (placed w c n o)
+  unfolding placed
+  whole-placed right near own others hands_own hands_others = record {
+    roles = framed deck w c n at g o step;
+    right = subst (IsHistory deck) (sym grown) right;
+    later = later;
+    out = out;
+    near = subst (λ U. AreNear deck o.medium.words (lists U)) (sym grown) near;
+    system = λ s k f. subst (λ U. IsSystem deck o.medium.words U s k (inbox o.medium s) (later s) (out s)) (sym grown) (by_system (λ u z. IsSystem deck o.medium.words T u z (inbox o.medium u) (later u) (out u)) own others s k f);
+    hands = λ m k p f is. subst (λ count. Hands deck o.medium.words count later out m (in_hands p (inbox o.medium m))) (sym (length-set w.nodes c.0 o.step.node))
+        (by_system (λ u z. (q : StarPart) → z.star ≡ Some q → Hands deck o.medium.words (length w.nodes) later out u (in_hands q (inbox o.medium u))) hands_own (λ u z ne found q star. hands_others u z q ne found star) m k f p is);
+  }
+
+-- So what is kept is what the history says.
+pub kept-whole : (deck : Deck) (w : World) → IsWhole deck w → (s : SysId) (r : Res) → is_systems r ≡ true → kept deck w s r ≡ list_of (replay deck.limit (history (items w.fixed))) r
+kept-whole deck w g s r all = kept_lists deck w g.roles s r all ∙ ap (λ st. list_of st r) (replayed deck (items w.fixed) g.right)
+
+-- ---- events of a system c
+module _ (deck : Deck) (w : World) (g : IsWhole deck w) (c : SysId) (n : Node) (at : slice_get w.nodes c.0 ≡ Some n) where
+  abbrev T : List RunItem
+  T = items w.fixed
+
+  -- its own item is another system's to the others
+  others-item : (f : Req) (m : MayFollow deck T (made_item c T (fixing.Asked f))) → f.task.system.0 ≡ c.0 → (s : ℕ) (k : Node) → s ≢ c.0 → slice_get w.nodes s ≡ Some k →
+      IsSystem deck w.medium.words (T ++ made_item c T (fixing.Asked f) ∷ []) s k (inbox w.medium s) (g.later s) (g.out s)
+  others-item f m home s k ne found = system-other deck w.medium.words T s k (inbox w.medium s) (g.later s) (g.out s) (made_item c T (fixing.Asked f)) m.ask (λ e. ne (sym e ∙ (ap (λ (q : Req). q.task.system.0) (sym asker) ∙ home))) (g.system s k found)
+    where
+      asker : f ≡ m.ask.req
+      asker = let e : fixing.Asked f ≡ fixing.Asked m.ask.req = m.ask.asked in cc
+
+  -- a task goes on by itself
+  pub whole-task : (t : TaskId) → may_go deck n t ≡ true → IsStep deck w c n (record { medium = w.medium; step = finish_quiet deck n (choices.Task t) }) → IsWhole deck (placed w c n (record { medium = w.medium; step = finish_quiet deck n (choices.Task t) }))
+  unfolding finish_quiet
+  whole-task t goes step = by_task (system-task deck w.medium.words T g.right c.0 n (inbox w.medium c.0) (g.later c.0) (g.out c.0) (g.system c.0 n at) c t goes)
+    where
+      same_star : (finish_quiet deck n (choices.Task t)).node.star ≡ n.star
+      same_star = by_part (g.roles.node c.0 n at)
+        where
+          by_part : IsMember deck w.medium.words (all_lists w) c.0 n → (finish_quiet deck n (choices.Task t)).node.star ≡ n.star
+          by_part m = (task-quiet m.part n m.star deck.limit t (lines_of deck t)).star
+
+      no_entry : (u : TaskId) (r : Res) → is_systems r ≡ false → is_near_res deck w.medium.words r u ≡ true
+      no_entry u (StepRes z j q r) e = refl
+      no_entry u (System z q r) e = refl
+      no_entry u (Systems q r) e = absurd (cc)
+
+      near-local : (q : Req) → goes_round (fixing.Asked q) ≡ false → AreNear deck w.medium.words (lists (T ++ made_item c T (fixing.Asked q) ∷ []))
+      near-local q away = subst (AreNear deck w.medium.words) (sym (lists-push T (made_item c T (fixing.Asked q)))) (near-want deck w.medium.words (lists T) q.task q.want (λ r wanted. no_entry q.task r (sym (wants-round q.want r wanted) ∙ away)) g.near)
+
+      by_task : Task deck w.medium.words T g.right c.0 n (inbox w.medium c.0) (g.later c.0) (g.out c.0) (g.system c.0 n at) c (finish_quiet deck n (choices.Task t)) → IsWhole deck (placed w c n (record { medium = w.medium; step = finish_quiet deck n (choices.Task t) }))
+      by_task (idle_task none_fixed z) =
+          whole-placed deck w c n at g.roles (record { medium = w.medium; step = finish_quiet deck n (choices.Task t) }) step T (ap (λ fs. items (w.fixed ++ fixed_by c fs)) none_fixed ∙ items-none w.fixed c) g.later g.out
+          g.right g.near z.system (λ s k ne found. g.system s k found) (λ p is. g.hands c.0 n p at (sym same_star ∙ is)) (λ m k p ne found is. g.hands m k p found is)
+      by_task (local_task q one_fixed mine_q away m z) =
+          let item : RunItem = made_item c T (fixing.Asked q) in
+          let home : q.task.system.0 ≡ c.0 = eqb-true q.task.system.0 c.0 mine_q in
+          whole-placed deck w c n at g.roles (record { medium = w.medium; step = finish_quiet deck n (choices.Task t) }) step (T ++ item ∷ []) (ap (λ fs. items (w.fixed ++ fixed_by c fs)) one_fixed ∙ items-one w.fixed c (fixing.Asked q)) g.later g.out
+          (follows deck T item g.right m) (near-local q away) z.system (others-item q m home) (λ p is. g.hands c.0 n p at (sym same_star ∙ is)) (λ k j p ne found is. g.hands k j p found is)
+
+  -- the first mail of its inbox is taken, after which the same is open at each system
+  module _ (mail : Mail) (rest : List Mail) (is : inbox w.medium c.0 ≡ mail ∷ rest) (flags : ℕ) where
+    abbrev took : MediumState
+    took = record w.medium { inboxes = without_first w.medium.inboxes c.0; rest = flags }
+
+    here_box : c.0 < length w.medium.inboxes
+    here_box = let k = slice_get-within w.nodes c.0 n at in omega (arith, k, g.roles.systems, g.roles.inboxes)
+
+    own_box : inbox took c.0 ≡ rest
+    own_box = get_or-set_same w.medium.inboxes c.0 (drop 1 (inbox w.medium c.0)) [] here_box ∙ ap (drop 1) is
+
+    other_box : (s : ℕ) → s ≢ c.0 → inbox took s ≡ inbox w.medium s
+    other_box s ne = get_or-set_other w.medium.inboxes c.0 s (drop 1 (inbox w.medium c.0)) [] ne
+
+    pub whole-took : (n' : Node) → IsStep deck w c n (record { medium = took; step = record { node = n'; fixed = [] } }) → IsSystem deck w.medium.words T c.0 n' rest (g.later c.0) (g.out c.0) →
+        ((p : StarPart) → n'.star ≡ Some p → Hands deck w.medium.words (length w.nodes) g.later g.out c.0 (in_hands p rest)) → IsWhole deck (placed w c n (record { medium = took; step = record { node = n'; fixed = [] } }))
+    whole-took n' step own hands =
+        whole-placed deck w c n at g.roles (record { medium = took; step = record { node = n'; fixed = [] } }) step T (items-none w.fixed c) g.later g.out g.right g.near
+        (subst (λ ms. IsSystem deck w.medium.words T c.0 n' ms (g.later c.0) (g.out c.0)) (sym own_box) own)
+        (λ s k ne found. subst (λ ms. IsSystem deck w.medium.words T s k ms (g.later s) (g.out s)) (sym (other_box s ne)) (g.system s k found))
+        (λ p star. subst (λ ms. Hands deck w.medium.words (length w.nodes) g.later g.out c.0 (in_hands p ms)) (sym own_box) (hands p star))
+        (λ m k p ne found star. subst (λ ms. Hands deck w.medium.words (length w.nodes) g.later g.out m (in_hands p ms)) (sym (other_box m ne)) (g.hands m k p found star))
+
+    -- a request is held last: the same requests are in its hands, in the same order
+    pub whole-took_request : (e : ℕ) (from : SysId) (q : Req) (p : StarPart) → mail ≡ Request e from q → n.star ≡ Some p → (n' : Node) → n' ≡ record n { star = Some (record p { held = p.held ++ q ∷ [] }) } →
+        IsStep deck w c n (record { medium = took; step = record { node = n'; fixed = [] } }) → IsWhole deck (placed w c n (record { medium = took; step = record { node = n'; fixed = [] } }))
+    whole-took_request e from q p which star n' node step =
+        whole-took n' step (subst (λ z. IsSystem deck w.medium.words T c.0 z rest (g.later c.0) (g.out c.0)) (sym node) (took-request deck w.medium.words T c.0 n e from q rest (g.later c.0) (g.out c.0) _ (subst (λ ms. IsSystem deck w.medium.words T c.0 n ms (g.later c.0) (g.out c.0)) (is ∙ ap (λ m. m ∷ rest) which) (g.system c.0 n at))))
+        (λ r found.
+        let same : record p { held = p.held ++ q ∷ [] } ≡ r = some_value (record p { held = p.held ++ q ∷ [] }) r (sym (ap (λ (z : Node). z.star) node) ∙ found) in
+        subst (λ (z : StarPart). Hands deck w.medium.words (length w.nodes) g.later g.out c.0 (in_hands z rest)) same
+        (subst (Hands deck w.medium.words (length w.nodes) g.later g.out c.0) (ap (in_hands p) (is ∙ ap (λ m. m ∷ rest) which) ∙ sym (append_assoc p.held (q ∷ []) (requests_in rest))) (g.hands c.0 n p at star)))
+
+    -- control is taken
+    pub whole-took_control : (t : TaskId) (r : Res) (p : StarPart) → mail ≡ Granted t r → n.star ≡ Some p → is_of_deck deck t ≡ true → (n' : Node) → n' ≡ record n { tasks = tell_control n.tasks r t; star = Some p } →
+        IsStep deck w c n (record { medium = took; step = record { node = n'; fixed = [] } }) → IsWhole deck (placed w c n (record { medium = took; step = record { node = n'; fixed = [] } }))
+    whole-took_control t r p which star of_deck n' node step =
+        let h : IsSystem deck w.medium.words T c.0 n (Granted t r ∷ rest) (g.later c.0) (g.out c.0) = subst (λ ms. IsSystem deck w.medium.words T c.0 n ms (g.later c.0) (g.out c.0)) (is ∙ ap (λ m. m ∷ rest) which) (g.system c.0 n at) in
+        let z = took-control deck w.medium.words T g.right c.0 n rest (g.later c.0) (g.out c.0) t r h of_deck (Some p) in
+        whole-took n' step (subst (λ k. IsSystem deck w.medium.words T c.0 k rest (g.later c.0) (g.out c.0)) (sym node) z.system)
+        (λ q found.
+        let same : p ≡ q = some_value p q (sym (ap (λ (k : Node). k.star) node) ∙ found) in
+        subst (λ (k : StarPart). Hands deck w.medium.words (length w.nodes) g.later g.out c.0 (in_hands k rest)) same
+        (subst (Hands deck w.medium.words (length w.nodes) g.later g.out c.0) (ap (in_hands p) (is ∙ ap (λ m. m ∷ rest) which)) (g.hands c.0 n p at star)))
+
+  -- it decides a request of its own task, of an entry that it manages
+  manager-near : (e : ℕ) (s : ℕ) → has_manager w.medium.words e s ≡ true → is_interested w.medium.words e s ≡ true
+  manager-near e s h = go (slice_get w.medium.words e) refl
+    where
+      named : manager_at w.medium.words e ≡ Some (record { 0 = s })
+      named = managed-is w.medium.words e s (manager_at w.medium.words e) refl h
+
+      fits : IsManaged (word_at w.medium.words e) → is_interested w.medium.words e s ≡ true
+      fits k = subst (λ o. ManagedBy o (interest (word_at w.medium.words e))) named k
+
+      go : (o : Option ℕ) → slice_get w.medium.words e ≡ o → is_interested w.medium.words e s ≡ true
+      go (Some x) f = fits (g.roles.managed e 0 (slice_get-within w.medium.words e x f))
+      go None f = fits (subst IsManaged (sym (word_past w.medium.words e (slice_get-past w.medium.words e f))) empty_is_managed)
+
+  pub whole-decided : (t : TaskId) (ls : List Meaning) → IsOurs deck c.0 n.tasks t ls → is_home_at deck c.0 t ≡ true → (a : Asked) → (state_of n.tasks t).outstanding ≡ Some a → is_among t (askers (g.out c.0)) ≡ false →
+      (entry : ℕ) → entry_wanted deck.entries a.req.want ≡ Some entry → has_manager w.medium.words entry c.0 ≡ true → (r : Res) → res_wanted a.req.want ≡ Some r → (ts : List TaskId) →
+      ((u : TaskId) → is_among u ts ≡ true → owns (list_of (lists (T ++ made_item c T (fixing.Asked (request_of t a)) ∷ [])) r) u ≡ true) → (rank : ℕ) (p p' : StarPart) → n.star ≡ Some p → p'.held ≡ p.held → (n' : Node) →
+      n' ≡ record n { tasks = tell_new (settled_ranked n.tasks t a (answer_to (lists T) t a.req.want) rank) (res_wanted a.req.want) ts; star = Some p' } →
+      IsStep deck w c n (record { medium = w.medium; step = record { node = n'; fixed = fixing.Asked (request_of t a) ∷ [] } }) → IsWhole deck (placed w c n (record { medium = w.medium; step = record { node = n'; fixed = fixing.Asked (request_of t a) ∷ [] } }))
+  whole-decided t ls ours home a is free entry of_entry mine r wanted ts owned rank p p' star held n' node step =
+      let q : Req = request_of t a in
+      let item : RunItem = made_item c T (fixing.Asked q) in
+      let h = g.system c.0 n at in
+      let m = may-follow deck w.medium.words T g.right c.0 n (inbox w.medium c.0) (g.later c.0) (g.out c.0) h t ls ours home a is free c in
+      let z = system-decided deck w.medium.words T g.right c.0 n (inbox w.medium c.0) (g.later c.0) (g.out c.0) h t ls ours home a is free c entry of_entry mine r wanted ts rank (Some p') owned in
+      whole-placed deck w c n at g.roles (record { medium = w.medium; step = record { node = n'; fixed = fixing.Asked q ∷ [] } }) step (T ++ item ∷ []) (items-one w.fixed c (fixing.Asked q)) g.later g.out
+      (follows deck T item g.right m)
+      (subst (AreNear deck w.medium.words) (sym (lists-push T item)) (near-want deck w.medium.words (lists T) t a.req.want (λ v e. near v e) g.near))
+      (subst (λ k. IsSystem deck w.medium.words (T ++ item ∷ []) c.0 k (inbox w.medium c.0) (g.later c.0) (g.out c.0)) (sym node) z.system)
+      (others-item q m ours.home)
+      (λ k found.
+      let same : p' ≡ k = some_value p' k (sym (ap (λ (y : Node). y.star) node) ∙ found) in
+      subst (λ (y : StarPart). Hands deck w.medium.words (length w.nodes) g.later g.out c.0 (in_hands y (inbox w.medium c.0))) same
+      (subst (λ hs. Hands deck w.medium.words (length w.nodes) g.later g.out c.0 (hs ++ requests_in (inbox w.medium c.0))) (sym held) (g.hands c.0 n p at star)))
+      (λ k y v ne found is. g.hands k y v found is)
+    where
+      at_entry : (x : Want) (v : Res) → res_wanted x ≡ Some v → entry_wanted deck.entries x ≡ Some entry → entry_of_res deck.entries v ≡ Some entry
+      at_entry (Enq y d ret full) v e f = ap (entry_of_res deck.entries) (some_value v y (sym e)) ∙ f
+      at_entry (Deq y have) v e f = ap (entry_of_res deck.entries) (some_value v y (sym e)) ∙ f
+      at_entry (Release y) v e f = ap (entry_of_res deck.entries) (some_value v y (sym e)) ∙ f
+      at_entry (Look first count filter) v e f = absurd (cc)
+
+      near : (v : Res) → res_wanted a.req.want ≡ Some v → is_near_res deck w.medium.words v t ≡ true
+      near v e = ap (near_at w.medium.words t.system.0) (at_entry a.req.want v e of_entry) ∙ (ap (is_interested w.medium.words entry) ours.home ∙ manager-near entry c.0 mine)

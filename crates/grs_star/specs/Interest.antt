@@ -1,0 +1,33 @@
+-- In star mode each lock word tells who has interest in its entry, and who manages it.
+use Rattle.std.specs.Prelude.{◌≡◌, ◌≤◌, ℕ, Bool, true, false, List, length, Option, Some, None, slice_get}
+use Rattle.grs_base.specs.Limits.{most_systems, is_entries}
+use Rattle.grs_node.specs.Node.{Node}
+use Rattle.grs_node.specs.Star.{StarPart, has_interest}
+use Rattle.grs_wire.specs.declared.deck.Deck.{Deck}
+use Rattle.grs_wire.specs.declared.deck.Event.{Event}
+use Rattle.lock_structure.specs.Laws.{IsManaged, is_interested}
+use Rattle.lock_structure.specs.Words.{word_at}
+use Rattle.grs_world.specs.World.{run}
+
+-- A deck that begins in star mode, of no more systems and lock entries than there may be.
+pub record IsStarDeck (deck : Deck) : Type 0 where
+  pub star : deck.star ≡ true
+  pub few : length deck.systems ≤ most_systems
+  pub entries : is_entries deck.entries ≡ true
+
+-- whether a system has interest in a lock entry by its own part; one that isn't in star mode has none, nor has one that
+-- isn't there
+abbrev pub interest_by : Option StarPart → ℕ → Bool
+interest_by None e = false
+interest_by (Some p) e = has_interest p e
+
+abbrev pub interest_at : Option Node → ℕ → Bool
+interest_at None e = false
+interest_at (Some n) e = interest_by n.star e
+
+-- After these events each word goes with the systems.
+pub record WordsGoWithSystems (deck : Deck) (es : List Event) : Type 0 where
+  -- its set holds a system exactly where that system has interest in the entry
+  pub interest : (e s : ℕ) → is_interested (run deck es).medium.words e s ≡ interest_at (slice_get (run deck es).nodes s) e
+  -- and it has a manager exactly where that set isn't empty, who is in it
+  pub managed : (e : ℕ) → IsManaged (word_at (run deck es).medium.words e)
