@@ -132,7 +132,7 @@ fits_line ss line h = record { few = rw (length-on_last _ ss) h.few; each = each
     one : (s : SystemDef) → IsWithin s → jobs_now ss ≡ s.jobs → IsWithin (record s { jobs = in_tasks (add_line line) s.jobs })
     one s w e = record { desk = w.desk; jobs = rw (length-on_last _ s.jobs) w.jobs; tasks = rw (task_count-line line s.jobs) w.tasks }
 
-event_systems : (o : Option Event) (d : Deck) → (with_event o d).systems ≡ d.systems
+pub event_systems : (o : Option Event) (d : Deck) → (with_event o d).systems ≡ d.systems
 event_systems None d = refl
 event_systems (Some e) d = refl
 

@@ -1,6 +1,7 @@
 -- What the definitions say of some small texts.
 use Rattle.std.proofs.Common.{◌≡◌, ◌≤◌, ◌<◌, arith, ℕ, List, [], ◌∷◌, ◌++◌, Option, Some, None, Ok, true, false, refl}
 use Rattle.std.specs.Prelude.{codes}
+use Rattle.std.proofs.lemmas.List.Elements.{All-nil, All-push}
 use Rattle.grs_base.specs.declared.fault.DeckFault.{DeckFault}
 use Rattle.grs_base.specs.declared.fault.Kind.{Kind}
 use Rattle.grs_base.specs.declared.fault.Kind.TheVariants.{BadByte, UnknownStatement, BadOperand, NameLength, Repeated, OutOfPlace, TooMany, UnknownName, NoSystem, NotBuilt}
@@ -15,8 +16,10 @@ use Rattle.grs_base.specs.declared.line.Line.TheVariants as lines
 use Rattle.grs_base.specs.declared.line.Item.{Item}
 use Rattle.grs_base.specs.ShortNames.{is_name_byte, all_name, is_name}
 use Rattle.grs_wire.specs.declared.deck.Deck.{Deck}
+use Rattle.grs_wire.specs.declared.deck.Desk.{Desk}
 use Rattle.grs_wire.specs.declared.deck.Choice.TheVariants as choices
-use Rattle.grs_wire.specs.Decks.{IsDeck}
+use Rattle.grs_wire.specs.Decks.{IsOrderOf, AreOrders, IsDeck}
+use Rattle.grs_wire.specs.declared.deck.Order.TheVariants.{Star, Vary}
 use Rattle.deck_scan.specs.Bytes.{is_word, is_hex, digit, is_allowed, bad_line}
 use Rattle.deck_scan.specs.Scan.{put, put_word, put_open, end_line, break_off, begin_word, begin, step_in, step, scan_from, finish_in, lines_of}
 use Rattle.deck_scan.specs.Reading.{lines_or_fault}
@@ -260,6 +263,22 @@ long_filter h = let k : false ≡ true = (h.lines.each 0 lines.DisplayC (omega a
 
 empty_filter : IsDeck (of_lines (codes "SYA") (lines.Gqscan true (filters.Named None None) ∷ [])) → ⊥
 empty_filter h = let k : true ≡ false = (h.lines.each 0 lines.DisplayC (omega arith)).2 in cc
+
+-- nor a system at whose desk its own removal is commanded, or that of a system that isn't there; another's may be
+abbrev commanded : ℕ → Deck
+commanded target = record no_deck { systems = record { name = codes "SYA"; desk = record { at = 0; order = Vary (record { 0 = target }) } ∷ []; jobs = [] } ∷ record { name = codes "SYB"; desk = []; jobs = [] } ∷ [] }
+
+removes_itself : IsDeck (commanded 0) → ⊥
+removes_itself h = (h.orders.0 0 (record { at = 0; order = Star }) (omega arith)).1 refl
+
+removes_none : IsDeck (commanded 2) → ⊥
+removes_none h = let few : 2 < 2 = (h.orders.0 0 (record { at = 0; order = Star }) (omega arith)).0 in omega (arith, few)
+
+abbrev of_first : Desk → Type 0
+of_first c = IsOrderOf 2 0 c.order
+
+removes_another : AreOrders 2 0 (commanded 1).systems
+removes_another = (All-push of_first [] (record { at = 0; order = Vary (record { 0 = 1 }) }) (All-nil of_first) (omega arith, λ e. absurd (omega (arith, e))), (All-nil (λ (c : Desk). IsOrderOf 2 1 c.order), tt))
 
 -- nor two systems of one name
 one_name : IsDeck (record no_deck { systems = record { name = codes "SYA"; desk = []; jobs = [] } ∷ record { name = codes "SYA"; desk = []; jobs = [] } ∷ [] }) → ⊥

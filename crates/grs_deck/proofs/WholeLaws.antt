@@ -1,5 +1,5 @@
 -- Each deck that is spelled is whole.
-use Rattle.std.proofs.Common.{◌≡◌, ℕ, ◌+◌, ◌-◌, ◌<◌, Bool, true, false, cond, eqb, List, [], ◌∷◌, length, take, Option, Some, None, refl, sym, ap, subst, arith, filter}
+use Rattle.std.proofs.Common.{◌≡◌, ℕ, ◌+◌, ◌-◌, ◌<◌, Bool, true, false, cond, eqb, List, [], ◌∷◌, ◌++◌, length, take, Option, Some, None, refl, sym, ap, subst, arith, filter}
 use Rattle.std.specs.Prelude.{All, slice_get, unwrap_or, Result, Ok, Err, IfOk}
 use Rattle.grs_base.specs.declared.fault.ReadError.{ReadError}
 use Rattle.deck_scan.specs.Gives.{Gives}
@@ -10,15 +10,18 @@ use Rattle.std.proofs.lemmas.List.Quantifiers.{position-Some}
 use Rattle.std.proofs.lemmas.Option.{slice_get_within}
 use Rattle.grs_base.specs.declared.resource.SysId.{SysId}
 use Rattle.grs_base.specs.declared.resource.TaskId.{TaskId}
+use Rattle.grs_wire.specs.declared.deck.Desk.{Desk}
+use Rattle.grs_wire.specs.declared.deck.JobDef.{JobDef}
 use Rattle.grs_wire.specs.declared.deck.TaskDef.{TaskDef}
 use Rattle.grs_wire.specs.declared.deck.SystemDef.{SystemDef}
 use Rattle.grs_wire.specs.declared.deck.Event.{Event}
 use Rattle.grs_wire.specs.declared.deck.Choice.{Choice}
 use Rattle.grs_wire.specs.declared.deck.Choice.TheVariants as choices
 use Rattle.grs_wire.specs.declared.deck.Deck.{Deck}
-use Rattle.grs_wire.specs.Decks.{task_count, Fits, IsTaskOf, IsChoiceOf, IsBuilt, IsEventOf, all_lines, AreLines, AreNamedOnce, IsDeck}
+use Rattle.grs_wire.specs.Decks.{task_count, Fits, IsTaskOf, IsChoiceOf, IsBuilt, IsEventOf, IsOrderOf, AreOrders, all_lines, AreLines, AreNamedOnce, IsDeck}
 use Rattle.deck_scan.specs.declared.token.Token.{Token}
 use Rattle.deck_scan.specs.declared.token.TokenLine.{TokenLine}
+use Rattle.job_syntax.specs.Lines.{line_of}
 use Rattle.deck_form.specs.declared.event.Act.{Act}
 use Rattle.deck_form.specs.declared.event.Act.TheVariants as acts
 use Rattle.deck_form.specs.declared.complex.Setup.{Setup}
@@ -32,7 +35,7 @@ use Rattle.deck_form.specs.Spelled.{Operand, Mode, Entries, Limit, IsFreeOperand
 use Rattle.deck_scan.proofs.Taking.{bind_some}
 use Rattle.grs_deck.specs.declared.judge.Draft.{Draft}
 use Rattle.grs_deck.specs.Places.{system_place, job_place, task_place, system_id, system_at, task_in, unless_own, choice_of, event_of}
-use Rattle.grs_deck.specs.Grow.{with_event, grow}
+use Rattle.grs_deck.specs.Grow.{add_task, add_line, in_jobs, in_tasks, with_event, grow}
 use Rattle.grs_deck.specs.Reading.{no_draft, reading}
 use Rattle.grs_deck.specs.Spells.{IsRight, Says, SpellsDeck}
 use Rattle.grs_base.specs.Rnl.{no_entries}
@@ -42,7 +45,7 @@ use Rattle.grs_base.specs.declared.rnl.RnlEntry.{RnlEntry}
 use Rattle.grs_base.specs.Limits.{is_entries, is_limit}
 use Rattle.grs_base.specs.Lines.{is_display}
 use Rattle.grs_base.specs.NameLists.{IsListOf, AreLists}
-use Rattle.grs_deck.proofs.FitsLaws.{fits_grow, lists_grow}
+use Rattle.grs_deck.proofs.FitsLaws.{fits_grow, lists_grow, event_systems}
 use Rattle.grs_deck.proofs.SpellsLaws.{no_test, reading_spells}
 use Rattle.grs_deck.proofs.Distinct.{once_none, once_grow}
 use Rattle.grs_deck.proofs.TokenBytes.{are_of_bytes, spelled_bytes, statements_bytes}
@@ -156,6 +159,48 @@ event_is systems entries rest name a e act built h =
     let made : IsEventOf systems entries (record { system = x.0.0; choice = c.0 }) = record { found = x.0.1; system = (found_of systems name x.0 x.1).at; below = (found_of systems name x.0 x.1).below; choice = choice_is systems entries rest x.0.1 x.0.0 a c.0 act c.1; built = built_is systems x.0.0 x.0.1 a c.0 built c.1 } in
     subst (IsEventOf systems entries) (some_is (record { system = x.0.0; choice = c.0 }) e c.2) made
 
+-- ---- desks
+
+-- nothing is commanded at the desks of these systems
+NoOrders : List SystemDef → Type 0
+NoOrders [] = Unit {0}
+NoOrders (s ∷ ss) = (s.desk ≡ []) × NoOrders ss
+
+orders-push : (ss : List SystemDef) (s : SystemDef) → NoOrders ss → s.desk ≡ [] → NoOrders (ss ++ s ∷ [])
+unfolding NoOrders
+orders-push [] s h e = (e, tt)
+orders-push (x ∷ ss) s h e = (h.0, orders-push ss s h.1 e)
+
+orders-last : (f : List JobDef → List JobDef) (ss : List SystemDef) → NoOrders ss → NoOrders (in_jobs f ss)
+unfolding NoOrders
+orders-last f [] h = tt
+orders-last f (s ∷ []) h = (h.0, tt)
+orders-last f (s ∷ t ∷ ss) h = (h.0, orders-last f (t ∷ ss) h.1)
+
+orders_grow : (d : Draft) (st : Stmt) → NoOrders d.deck.systems → NoOrders (grow d st).deck.systems
+orders_grow d stmts.Unbuilt h = h
+orders_grow d (stmts.Complex c) h = h
+orders_grow d (stmts.System n) h = orders-push d.deck.systems (record { name = n; desk = []; jobs = [] }) h refl
+orders_grow d (stmts.Job n) h = orders-last (λ js. js ++ record { name = n; tasks = [] } ∷ []) d.deck.systems h
+orders_grow d (stmts.Task n) h = orders-last (add_task n) d.deck.systems h
+orders_grow d (stmts.Rnldef r) h = h
+orders_grow d (stmts.Line s) h = orders-last (in_tasks (add_line (line_of s))) d.deck.systems h
+orders_grow d stmts.Schedule h = h
+orders_grow d (stmts.Event s a) h = subst NoOrders (sym (event_systems (event_of d.deck.systems s a) d.deck)) h
+
+says_orders : (ls : List TokenLine) (d e : Draft) → Says d ls e → NoOrders d.deck.systems → NoOrders e.deck.systems
+says_orders [] d e s h = subst (λ (x : Draft). NoOrders x.deck.systems) s h
+says_orders (l ∷ ls) d e s h = says_orders ls (grow d s.0) e s.3 (orders_grow d s.0 h)
+
+no_orders : NoOrders no_draft.deck.systems
+unfolding NoOrders
+no_orders = tt
+
+are_orders : (systems n : ℕ) (ss : List SystemDef) → NoOrders ss → AreOrders systems n ss
+unfolding NoOrders
+are_orders systems n [] h = tt
+are_orders systems n (s ∷ ss) h = (subst (λ (desk : List Desk). All (λ (c : Desk). IsOrderOf systems n c.order) desk) (sym h.0) (All-nil (λ (c : Desk). IsOrderOf systems n c.order)), are_orders systems (n + 1) ss h.1)
+
 -- ---- a deck so far
 
 -- before SCHEDULE there is no event
@@ -248,7 +293,7 @@ spelled_whole text d h =
     let w = says_keeps (statements h.lines) no_draft h.draft h.says first_draft in
     let some : 0 < length h.draft.deck.systems = subst (λ (x : Deck). 0 < length x.systems) (sym h.is) h.system in
     let k = says_keep (statements h.lines) no_draft h.draft (statements_bytes h.lines (spelled_bytes text h.lines h.spelled)) h.says keeps_none in
-    let made : IsDeck h.draft.deck = record { some = some; fits = w.fits; names = k.names; once = says_once (statements h.lines) no_draft h.draft h.says once_none; lines = lines_of_deck h.draft k; named = k.entries; ring = w.ring; entries = w.entries; limit = w.limit; lists = w.lists; events = w.events } in
+    let made : IsDeck h.draft.deck = record { some = some; fits = w.fits; names = k.names; once = says_once (statements h.lines) no_draft h.draft h.says once_none; orders = are_orders (length h.draft.deck.systems) 0 h.draft.deck.systems (says_orders (statements h.lines) no_draft h.draft h.says no_orders); lines = lines_of_deck h.draft k; named = k.entries; ring = w.ring; entries = w.entries; limit = w.limit; lists = w.lists; events = w.events } in
     subst IsDeck h.is made
 
 pub whole : (text : List ℕ) (r : Result Deck ReadError) → Gives r (reading text) → IfOk r IsDeck

@@ -8,7 +8,10 @@ use Rattle.grs_base.specs.declared.line.Line.{Line}
 use Rattle.grs_base.specs.declared.resource.SysId.{SysId}
 use Rattle.grs_base.specs.declared.resource.TaskId.{TaskId}
 use Rattle.grs_base.specs.NameLists.{AreLists, AreEntries}
+use Rattle.grs_wire.specs.declared.deck.Desk.{Desk}
 use Rattle.grs_wire.specs.declared.deck.JobDef.{JobDef}
+use Rattle.grs_wire.specs.declared.deck.Order.{Order}
+use Rattle.grs_wire.specs.declared.deck.Order.TheVariants.{Star, Vary}
 use Rattle.grs_wire.specs.declared.deck.SystemDef.{SystemDef}
 use Rattle.grs_wire.specs.declared.deck.Event.{Event}
 use Rattle.grs_wire.specs.declared.deck.Choice.{Choice}
@@ -25,6 +28,16 @@ pub record IsWithin (s : SystemDef) : Type 0 where
   pub desk : length s.desk ≤ most_commands
   pub jobs : length s.jobs ≤ most_jobs
   pub tasks : task_count s.jobs ≤ most_tasks
+
+-- What may be commanded at the desk of the system of this number, of so many: a removal is of another system.
+abbrev pub IsOrderOf : ℕ → ℕ → Order → Type 0
+IsOrderOf systems s Star = Unit {0}
+IsOrderOf systems s (Vary target) = (target.0 < systems) × (target.0 ≢ s)
+
+-- The commands at the desks of these systems, of which the first has this number.
+abbrev pub AreOrders : ℕ → ℕ → List SystemDef → Type 0
+AreOrders systems s [] = Unit {0}
+AreOrders systems s (d ∷ ds) = All (λ (c : Desk). IsOrderOf systems s c.order) d.desk × AreOrders systems (s + 1) ds
 
 -- The systems are within their limit, and each is within its own.
 pub record Fits (systems : List SystemDef) : Type 0 where
@@ -95,14 +108,15 @@ pub record IsEventOf (systems : List SystemDef) (entries : ℕ) (e : Event) : Ty
   pub built : IsBuilt e.choice
 
 -- A deck: at least one system and at most eight, each with at most 64 commands at its desk, 64 jobs and 64
--- tasks, all with names of their form that are given once; at most 16,384 task lines, of which at most 256 show
--- something; ring mode; one of the numbers of entries and of the limits that there may be; the three name lists; and
--- events of its systems.
+-- tasks, all with names of their form that are given once; no system that is to remove itself, or one that isn't there;
+-- at most 16,384 task lines, of which at most 256 show something; ring mode; one of the numbers of entries and of the
+-- limits that there may be; the three name lists; and events of its systems.
 pub record IsDeck (d : Deck) : Type 0 where
   pub some : 0 < length d.systems
   pub fits : Fits d.systems
   pub names : All IsShortName (all_names d.systems)
   pub once : AreNamedOnce d.systems
+  pub orders : AreOrders (length d.systems) 0 d.systems
   pub lines : AreLines (all_lines d.systems)
   pub ring : d.star ≡ false
   pub entries : is_entries d.entries ≡ true
