@@ -3,6 +3,7 @@ use Rattle.std.proofs.Common.{◌≡◌, ◌≤◌, ◌<◌, ◌+◌, ◌^◌, �
 use Rattle.std.specs.Prelude.{nat_le, max}
 use Rattle.std.specs.List.{list_any, list_all}
 use Rattle.std.proofs.lemmas.Bool.Decides.{nat_tests}
+use Rattle.grs_base.specs.Limits.{last_number}
 use Rattle.grs_base.specs.Same.{same_res, same_task}
 use Rattle.grs_base.specs.Lists.{has_task, is_apart, standing_of, enq_decision, can_have}
 use Rattle.grs_base.specs.State.{State, list_of, after_effect, enq_state}
@@ -14,9 +15,10 @@ use Rattle.grs_base.specs.declared.resource.TaskId.{TaskId}
 use Rattle.grs_base.proofs.ListLaws.{has_task-append, has_task-place, owners-le, same_task-sym}
 use Rattle.grs_base.proofs.SameLaws.{same_res-exact, same_res-itself}
 use Rattle.grs_base.proofs.StateLaws.{list_at-push, res_equality}
+use Rattle.grs_base.specs.Limits.{last_number}
 use Rattle.contention_mgr.specs.Manager.{Ranked, plain}
 use Rattle.contention_mgr.specs.Marks.{ranked_all, AreMarked}
-use Rattle.contention_mgr.specs.Loads.{RankedRow, ranked_list, ranked_rows, greatest, ranks_of, rows_apart, no_elems, rows_free, all_apart, last_rank}
+use Rattle.contention_mgr.specs.Loads.{RankedRow, ranked_list, ranked_rows, greatest, ranks_of, rows_apart, no_elems, rows_free, all_apart}
 use Rattle.contention_mgr.proofs.ItemLemmas.{Marking, plain-ranked, ranked-push, marked-push, holds-list}
 
 -- a task that has no element is absent, so its request is queued
@@ -129,5 +131,5 @@ all_pass (x ∷ xs) = all_pass xs
 pub rows-free_none : (s : State) (xs : List RankedRow) → s ≡ [] → rows_apart xs ≡ true → rows_free s xs ≡ true
 rows-free_none s xs none apart = ap (λ (l : State). rows_free l xs) none ∙ ap (λ (b : Bool). b && rows_apart xs) (all_pass xs) ∙ apart
 
-pub small-next : (n : ℕ) (ns : List ℕ) → n ≡ greatest 0 ns → list_all (λ k. nat_le k last_rank) ns ≡ true → n + 1 < 2 ^ 64
-small-next n ns is small = let below : greatest 0 ns ≤ last_rank = greatest-small 0 last_rank ns (omega arith) small in omega (arith, is, below)
+pub small-next : (n : ℕ) (ns : List ℕ) → n ≡ greatest 0 ns → list_all (λ k. nat_le k last_number) ns ≡ true → n + 1 < 2 ^ 64
+small-next n ns is small = let below : greatest 0 ns ≤ last_number = greatest-small 0 last_number ns (omega arith) small in omega (arith, is, below)

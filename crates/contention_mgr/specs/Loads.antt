@@ -1,6 +1,7 @@
 -- Which ranked lists an entry can be loaded with, and what it keeps of them.
 use Rattle.std.specs.Prelude.{◌≡◌, ℕ, ◌+◌, ◌^◌, Bool, true, false, not, ◌&&◌, ◌==◌, nat_lt, nat_le, max, List, [], ◌∷◌, ◌++◌, length, Option, Some, None}
 use Rattle.std.specs.List.{list_any, list_all}
+use Rattle.grs_base.specs.Limits.{last_number}
 use Rattle.grs_base.specs.Same.{same_res}
 use Rattle.grs_base.specs.Lists.{is_apart}
 use Rattle.grs_base.specs.State.{State, list_of}
@@ -71,10 +72,6 @@ abbrev pub is_entry : ℕ → Option ℕ → Bool
 is_entry e None = false
 is_entry e (Some f) = e == f
 
--- the greatest rank that there can be
-abbrev pub last_rank : ℕ
-last_rank = 2 ^ 57
-
 pub record IsLoadable (entries e : ℕ) (xs : List RankedRow) : Type 0 where
   -- each row is of a resource of the entry, and each resource has one
   pub of_entry : list_all (λ x. is_entry e (entry_of_res entries x.0.res)) xs ≡ true
@@ -85,4 +82,4 @@ pub record IsLoadable (entries e : ℕ) (xs : List RankedRow) : Type 0 where
   -- ranks rise in each row, and no two are equal
   pub rising : list_all (λ x. rises x.1) xs ≡ true
   pub distinct : differ (ranks_of xs) ≡ true
-  pub small : list_all (λ n. nat_le n last_rank) (ranks_of xs) ≡ true
+  pub small : list_all (λ n. nat_le n last_number) (ranks_of xs) ≡ true

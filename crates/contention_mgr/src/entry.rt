@@ -1,24 +1,22 @@
 //! One lock entry that is managed: the lists of its resources, and beside them the ranks of their elements.
 ghost use Rattle.std.specs.Prelude.{◌≡◌, ◌≤◌, ◌==◌, ℕ, true, false, not, cond, length, nat_le, option_map, IfOk, OnOk, OnErr};
 ghost use Rattle.std.specs.List.{list_all};
+ghost use Rattle.grs_base.specs.Limits.{last_number};
 ghost use Rattle.grs_base.specs.State.{State as Plain, release_state};
 ghost use Rattle.grs_wire.specs.Wants.{answer_to, after_want, new_owners};
 ghost use Rattle.contention_mgr.specs.Manager.{plain, no_elements, settled, appends, queues as queues_by, rank_given, with_control, taken_out, with_mark, any_untold_in, first_untold, owner_of};
-ghost use Rattle.contention_mgr.specs.Loads.{loaded, rows_apart, all_apart, ranks_of, last_rank};
+ghost use Rattle.contention_mgr.specs.Loads.{loaded, rows_apart, all_apart, ranks_of};
 ghost use Rattle.contention_mgr.specs.Marks.{mark_in, ranked_all, entry_of_parts, is_gone, AreMarked};
 
 use crate::load::{add_rows, greatest_rank};
 use crate::marks::{Mark, Marks};
 use crate::untold::first_in;
-use grs_base::{Code, Effect, List, NoMemory, Res, Row, SysId, TaskId};
+use grs_base::{Code, Effect, LAST_NUMBER, List, NoMemory, Res, Row, SysId, TaskId};
 use grs_wire::{Answer, Req, Want};
 use queue_table::{Outcome, Table};
 use serial_queue::PlainQueues;
 use std::alloc::Global;
 use std::marker::Model;
-
-/// The greatest rank that an element can have: there is no memory for one behind it.
-pub const LAST_RANK: u64 = 1 << 57;
 
 /// A managed entry, seen as the rank that its next element gets and its elements, on each resource in order of arrival,
 /// each with its rank and whether its task is still to be told.
@@ -116,13 +114,13 @@ fn settle_queued(
     requires queues { queues_by table.old.held req.now.task req.now.want ≡ true }
     ensures answer { IfOk result (λ outcome. outcome.answer ≡ answer_to table.old.held req.now.task req.now.want) }
     ensures rank { IfOk result (λ outcome. outcome.rank ≡ next.old) }
-    ensures last { IfOk result (λ outcome. outcome.rank ≤ last_rank) }
+    ensures last { IfOk result (λ outcome. outcome.rank ≤ last_number) }
     ensures owners { IfOk result (λ outcome. outcome.owners ≡ new_owners table.old.held req.now.task req.now.want) }
     ensures after { OnOk result ((s : ℕ) → entry_of_parts next.new table.new.held (mark_in marks.new.names.entries marks.new.marks.entries) ≡ settled s (entry_of_parts next.old table.old.held (mark_in marks.old.names.entries marks.old.marks.entries)) req.now.task req.now.want) }
     ensures unchanged { OnErr result (entry_of_parts next.new table.new.held (mark_in marks.new.names.entries marks.new.marks.entries) ≡ entry_of_parts next.old table.old.held (mark_in marks.old.names.entries marks.old.marks.entries)) }
     ensures marked { AreMarked (mark_in marks.new.names.entries marks.new.marks.entries) table.new.held }
 {
-    if *next > LAST_RANK {
+    if *next > LAST_NUMBER {
         return Err(NoMemory);
     }
     match &req.want {
@@ -209,7 +207,7 @@ impl Entry {
     pub(crate) fn load(alloc: Global, rows: &[(Row, List<u64>)]) -> Result<Self, NoMemory>
         requires once { rows_apart rows.now ≡ true }
         requires apart { all_apart rows.now ≡ true }
-        requires small { list_all (λ n. nat_le n last_rank) (ranks_of rows.now) ≡ true }
+        requires small { list_all (λ n. nat_le n last_number) (ranks_of rows.now) ≡ true }
         ensures { IfOk result (λ entry. entry ≡ loaded rows.now) }
     {
         let mut table = Table::new(alloc, PlainQueues::new(alloc));
@@ -226,11 +224,11 @@ impl Entry {
     pub(crate) fn answer(&self, alloc: Global, req: &Req) -> Result<(Answer, u64), NoMemory>
         ensures answer { IfOk result (λ given. given.0 ≡ answer_to (plain self.now.items) req.now.task req.now.want) }
         ensures rank { IfOk result (λ given. given.1 ≡ rank_given self.now req.now.task req.now.want) }
-        ensures last { IfOk result (λ given. given.1 ≤ last_rank) }
+        ensures last { IfOk result (λ given. given.1 ≤ last_number) }
     {
         let answer = self.table.answer(alloc, req)?;
         if queues(&self.table, req) {
-            if self.next > LAST_RANK {
+            if self.next > LAST_NUMBER {
                 return Err(NoMemory);
             }
             Ok((answer, self.next))
@@ -248,7 +246,7 @@ impl Entry {
     ) -> Result<Outcome, NoMemory>
         ensures answer { IfOk result (λ outcome. outcome.answer ≡ answer_to (plain self.old.items) req.now.task req.now.want) }
         ensures rank { IfOk result (λ outcome. outcome.rank ≡ rank_given self.old req.now.task req.now.want) }
-        ensures last { IfOk result (λ outcome. outcome.rank ≤ last_rank) }
+        ensures last { IfOk result (λ outcome. outcome.rank ≤ last_number) }
         ensures owners { IfOk result (λ outcome. outcome.owners ≡ new_owners (plain self.old.items) req.now.task req.now.want) }
         ensures after { OnOk result (self.new ≡ settled system.0 self.old req.now.task req.now.want) }
         ensures unchanged { OnErr result (self.new ≡ self.old) }

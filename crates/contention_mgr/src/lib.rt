@@ -10,5 +10,4 @@ mod manager;
 mod marks;
 mod untold;
 
-pub use entry::LAST_RANK;
 pub use manager::Manager;

@@ -1,8 +1,9 @@
 //! The manager of a system: of each lock entry what it keeps, where it manages it.
 ghost use Rattle.std.specs.Prelude.{◌≡◌, ◌≢◌, ◌<◌, ◌≤◌, ◌+◌, ◌==◌, ℕ, true, false, is_some, length, replicate, slice_set, None, Some, option_map, IfOk, IfSome, OnOk, OnErr};
 ghost use Rattle.std.specs.Option.{option_copied};
+ghost use Rattle.grs_base.specs.Limits.{last_number};
 ghost use Rattle.grs_wire.specs.Wants.{answer_to, new_owners};
-ghost use Rattle.contention_mgr.specs.Loads.{IsLoadable, loaded, last_rank};
+ghost use Rattle.contention_mgr.specs.Loads.{IsLoadable, loaded};
 ghost use Rattle.contention_mgr.specs.Manager.{plain, no_elements, settled, rank_given, entry_of_res, are_of, entry_of_looks, entry_wanted, kept_at, managed_at, managed_of, managed_for, items_of, with_entry, after_request, rank_for, told, after_telling, any_untold_in, any_untold_at, first_untold, owner_of};
 
 use crate::entry::Entry;
@@ -129,7 +130,7 @@ fn settle_at(
     requires { is_some (kept_at slots.old.items entry) ≡ true }
     ensures answer { IfOk result (λ outcome. outcome.answer ≡ answer_to (plain (items_of (kept_at slots.old.items entry))) req.now.task req.now.want) }
     ensures rank { IfOk result (λ outcome. outcome.rank ≡ rank_for (kept_at slots.old.items entry) req.now.task req.now.want) }
-    ensures last { IfOk result (λ outcome. outcome.rank ≤ last_rank) }
+    ensures last { IfOk result (λ outcome. outcome.rank ≤ last_number) }
     ensures owners { IfOk result (λ outcome. outcome.owners ≡ new_owners (plain (items_of (kept_at slots.old.items entry))) req.now.task req.now.want) }
     ensures after { OnOk result (slots.new.items ≡ slice_set slots.old.items entry (option_map (λ m. settled system.0 m req.now.task req.now.want) (kept_at slots.old.items entry))) }
     ensures unchanged { OnErr result (slots.new.items ≡ slots.old.items) }
@@ -281,7 +282,7 @@ impl Manager {
         requires { is_some (managed_for self.now req.now.want) ≡ true }
         ensures answer { IfOk result (λ given. given.0 ≡ answer_to (plain (items_of (managed_for self.now req.now.want))) req.now.task req.now.want) }
         ensures rank { IfOk result (λ given. given.1 ≡ rank_for (managed_for self.now req.now.want) req.now.task req.now.want) }
-        ensures last { IfOk result (λ given. given.1 ≤ last_rank) }
+        ensures last { IfOk result (λ given. given.1 ≤ last_number) }
     {
         match wanted_entry(self.entries, &req.want) {
             Some(entry) => match slot(&self.slots, entry) {
@@ -297,7 +298,7 @@ impl Manager {
         requires { is_some (managed_for self.old req.now.want) ≡ true }
         ensures answer { IfOk result (λ outcome. outcome.answer ≡ answer_to (plain (items_of (managed_for self.old req.now.want))) req.now.task req.now.want) }
         ensures rank { IfOk result (λ outcome. outcome.rank ≡ rank_for (managed_for self.old req.now.want) req.now.task req.now.want) }
-        ensures last { IfOk result (λ outcome. outcome.rank ≤ last_rank) }
+        ensures last { IfOk result (λ outcome. outcome.rank ≤ last_number) }
         ensures owners { IfOk result (λ outcome. outcome.owners ≡ new_owners (plain (items_of (managed_for self.old req.now.want))) req.now.task req.now.want) }
         ensures after { OnOk result (self.new ≡ after_request self.old req.now.task req.now.want) }
         ensures unchanged { OnErr result (self.new ≡ self.old) }
@@ -313,7 +314,7 @@ impl Manager {
         requires { is_some (managed_for self.old req.now.want) ≡ true }
         ensures answer { IfOk result (λ outcome. outcome.answer ≡ answer_to (plain (items_of (managed_for self.old req.now.want))) req.now.task req.now.want) }
         ensures rank { IfOk result (λ outcome. outcome.rank ≡ rank_for (managed_for self.old req.now.want) req.now.task req.now.want) }
-        ensures last { IfOk result (λ outcome. outcome.rank ≤ last_rank) }
+        ensures last { IfOk result (λ outcome. outcome.rank ≤ last_number) }
         ensures owners { IfOk result (λ outcome. outcome.owners ≡ new_owners (plain (items_of (managed_for self.old req.now.want))) req.now.task req.now.want) }
         ensures after { OnOk result (self.new ≡ after_request self.old req.now.task req.now.want) }
         ensures unchanged { OnErr result (self.new ≡ self.old) }

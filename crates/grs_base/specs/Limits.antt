@@ -1,5 +1,5 @@
 -- The limits of a complex and of a deck.
-use Rattle.std.specs.Prelude.{ℕ, Bool, ◌&&◌, ◌||◌, ◌==◌, nat_le}
+use Rattle.std.specs.Prelude.{ℕ, ◌^◌, Bool, ◌&&◌, ◌||◌, ◌==◌, nat_le}
 
 -- systems of a complex
 abbrev pub most_systems : ℕ
@@ -48,6 +48,10 @@ most_lines = 16384
 -- task lines of a deck that show something: GQSCAN and DISPLAY
 abbrev pub most_displays : ℕ
 most_displays = 256
+
+-- the last number of an event, of an entry of the message, and of an element (its rank)
+abbrev pub last_number : ℕ
+last_number = 2 ^ 57
 
 -- commands of a system's desk
 abbrev pub most_commands : ℕ

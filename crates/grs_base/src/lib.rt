@@ -19,7 +19,7 @@ mod slice;
 pub use decision::{Code, Decision, Effect, Standing};
 pub use fault::{DeckFault, Kind, NameFault, NoMemory, ReadError};
 pub use limits::{
-    MOST_ENTRIES, MOST_JOBS, MOST_LIMIT, MOST_LINES, MOST_NAME_BYTES, MOST_QNAME_BYTES,
+    LAST_NUMBER, MOST_ENTRIES, MOST_JOBS, MOST_LIMIT, MOST_LINES, MOST_NAME_BYTES, MOST_QNAME_BYTES,
     MOST_RNAME_BYTES, MOST_SYSTEMS, MOST_TASKS,
 };
 pub use line::{Item, Line, Scope};

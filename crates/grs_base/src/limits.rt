@@ -27,3 +27,7 @@ pub const MOST_TASKS: usize = 64;
 
 /// The most task lines of a deck.
 pub const MOST_LINES: u32 = 16_384;
+
+/// The last number that an event, an entry of the authority message or an element (its rank) can have: there is no
+/// memory for more.
+pub const LAST_NUMBER: u64 = 1 << 57;

@@ -11,8 +11,8 @@ use std::alloc::Global;
 #[derive(Clone, Copy, Debug, PartialEq, Eq, Hash)]
 pub struct SysId(pub u8);
 
-/// A task: `job` is the job's place in its system, `task` the task's place among all tasks of its
-/// system, both from 0.
+/// A task, by its system, its job and itself: jobs and tasks are numbered from 0 along the lines of their system, and the
+/// numbers of tasks go on from one job to the next.
 #[derive(Clone, Copy, Debug, PartialEq, Eq, Hash)]
 pub struct TaskId {
     pub system: SysId,

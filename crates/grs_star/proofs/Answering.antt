@@ -28,9 +28,8 @@ use Rattle.grs_wire.specs.declared.request.Want.{Want}
 use Rattle.grs_wire.specs.declared.request.Want.TheVariants.{Enq, Deq, Release, Look}
 use Rattle.grs_wire.specs.declared.told.ToldLine.{ToldLine}
 use Rattle.star_client.specs.Client.{settled_ranked}
-use Rattle.ring_mode.specs.Ring.{is_sent}
 use Rattle.task_state.specs.Replies.{replied, recalled, settled, tell_new, tell_all, phase_asking, gives_up, is_leaving}
-use Rattle.task_state.specs.View.{TasksView, state_of, with_phase, code_in}
+use Rattle.task_state.specs.View.{TasksView, state_of, with_phase, code_in, is_sent}
 use Rattle.task_state.specs.declared.state.Asked.{Asked}
 use Rattle.task_state.specs.declared.state.Phase.TheVariants as phases
 use Rattle.task_state.specs.declared.state.TaskState.{TaskState}

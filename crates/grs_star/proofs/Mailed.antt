@@ -25,10 +25,10 @@ use Rattle.grs_wire.specs.declared.request.Fixed.TheVariants as fixing
 use Rattle.grs_wire.specs.declared.request.Req.{Req}
 use Rattle.grs_wire.specs.declared.request.Want.{Want}
 use Rattle.grs_wire.specs.declared.request.Want.TheVariants.{Enq, Deq, Release, Look}
-use Rattle.ring_mode.specs.Ring.{is_sent}
-use Rattle.star_client.specs.Client.{last_rank, is_sent as is_sent_now, can_get, is_code_of, deq_codes, is_heard, has_sent, is_awaited, settled_ranked, settled_any_ranked, after_mail}
+use Rattle.grs_base.specs.Limits.{last_number}
+use Rattle.star_client.specs.Client.{can_get, is_code_of, deq_codes, is_heard, has_sent, is_awaited, settled_ranked, settled_any_ranked, after_mail}
 use Rattle.task_state.specs.Replies.{tell_control, tell_untold, tell_all}
-use Rattle.task_state.specs.View.{TasksView, is_task, state_of, record_of}
+use Rattle.task_state.specs.View.{TasksView, is_task, state_of, record_of, is_sent}
 use Rattle.task_state.specs.declared.state.Asked.{Asked}
 use Rattle.task_state.specs.declared.state.Phase.{Phase}
 use Rattle.task_state.specs.declared.state.Phase.TheVariants as phases
@@ -62,15 +62,6 @@ one-same None (Some y) e = absurd (cc)
 one-same (Some x) None e = absurd (cc)
 one-same (Some x) (Some y) e = ap Some cc
 
--- a task that has sent its request has, to either mode
-sent-now : (p : Phase) → is_sent_now p ≡ is_sent p
-sent-now phases.Ready = refl
-sent-now phases.ToSend = refl
-sent-now phases.Sent = refl
-sent-now phases.HeldAnswer = refl
-sent-now (phases.HeldLine r) = refl
-sent-now (phases.Ending c) = refl
-sent-now phases.Ended = refl
 
 module _ (deck : Deck) (words : List ℕ) (T : List RunItem) (right : IsHistory deck T) (s : ℕ) (n : Node) (ms : List Mail) (later : List RunItem) (out : List Req) where
   -- ---- control
@@ -255,9 +246,9 @@ module _ (deck : Deck) (words : List ℕ) (T : List RunItem) (right : IsHistory 
         -- one that isn't heard answers what gives nothing up
         must_hear : gives x.fixed ≡ true → is_heard n.tasks t answer rank ≡ true
         must_hear gave =
-            and_on (has_sent n.tasks t) (nat_le rank last_rank && is_awaited answer (state_of n.tasks t).outstanding)
-            (and_on (is_task n.tasks t) (is_sent_now (state_of n.tasks t).phase) (h.at.good.here t home) (sent-now (state_of n.tasks t).phase ∙ sent-among t (state_of n.tasks t).phase out (here deck s T later out n h.at t home).sent among))
-            (and_on (nat_le rank last_rank) (is_awaited answer (state_of n.tasks t).outstanding) (subst (λ z. nat_le z last_rank ≡ true) (sym plain) refl)
+            and_on (has_sent n.tasks t) (nat_le rank last_number && is_awaited answer (state_of n.tasks t).outstanding)
+            (and_on (is_task n.tasks t) (is_sent (state_of n.tasks t).phase) (h.at.good.here t home) (sent-among t (state_of n.tasks t).phase out (here deck s T later out n h.at t home).sent among))
+            (and_on (nat_le rank last_number) (is_awaited answer (state_of n.tasks t).outstanding) (subst (λ z. nat_le z last_number ≡ true) (sym plain) refl)
             (ap (is_awaited answer) is ∙ (ap (can_get a.req.want) replies ∙ gets item.lists t a.req.want (sym (ap gives fixed) ∙ gave))))
           where
             among : is_among t (askers out) ≡ true
@@ -319,8 +310,8 @@ module _ (deck : Deck) (words : List ℕ) (T : List RunItem) (right : IsHistory 
 
         at_home : is_heard n.tasks t answer rank ≡ true → is_home_at deck s t ≡ true
         at_home e =
-            let both = and_parts (has_sent n.tasks t) (nat_le rank last_rank && is_awaited answer (state_of n.tasks t).outstanding) e in
-            let there = (and_parts (is_task n.tasks t) (is_sent_now (state_of n.tasks t).phase) both.0).0 in
+            let both = and_parts (has_sent n.tasks t) (nat_le rank last_number && is_awaited answer (state_of n.tasks t).outstanding) e in
+            let there = (and_parts (is_task n.tasks t) (is_sent (state_of n.tasks t).phase) both.0).0 in
             and_on (t.system.0 == s) (is_some (lines_of deck t)) (eq-eqb t.system.0 s (sym (is_task-system n.tasks t there) ∙ h.at.good.system)) of_deck
 
         go : (b : Bool) → is_heard n.tasks t answer rank ≡ b → (d : Bool) → is_home_at deck s t ≡ d → TookAnswer (record n { tasks = cond (is_heard n.tasks t answer rank) (settled_any_ranked n.tasks t answer rank (state_of n.tasks t).outstanding) n.tasks; star = o })

@@ -1,6 +1,7 @@
 //! The world of a run: the medium, the systems that share it, what the events fixed and what was told. Each event
 //! is one system's; one of a system that isn't there, or was removed, does nothing.
-ghost use Rattle.std.specs.Prelude.{◌≡◌, ◌<◌, ◌^◌, ◌+◌, ◌++◌, ◌∷◌, [], true, length, IfOk, OnOk};
+ghost use Rattle.std.specs.Prelude.{◌≡◌, ◌<◌, ◌+◌, ◌++◌, ◌∷◌, [], true, length, IfOk, OnOk};
+ghost use Rattle.grs_base.specs.Limits.{last_number};
 ghost use Rattle.grs_wire.specs.Decks.{IsDeck};
 ghost use Rattle.grs_node.specs.EitherMode.{IsDeckInEitherMode};
 ghost use Rattle.grs_node.specs.Node.{first_node};
@@ -9,16 +10,13 @@ ghost use Rattle.grs_world.specs.Running.{starting, after, ran, nodes_of, AreOf,
 
 use super::chosen::{Done, choose_at};
 use super::summary;
-use grs_base::{List, NoMemory, SysId, TaskId};
+use grs_base::{LAST_NUMBER, List, NoMemory, SysId, TaskId};
 use grs_medium::Medium;
 use grs_node::Node;
 use grs_wire::masks::has_system;
 use grs_wire::{Deck, Event, Fixed, TaskEnd, Told, ToldLine};
 use std::alloc::Global;
 use std::marker::Model;
-
-/// The most events of a run: no memory holds more.
-const MOST_EVENTS: u64 = 1 << 57;
 
 /// A run as far as it has come: its deck, and the world after its events.
 #[derive(Drop)]
@@ -151,7 +149,7 @@ impl<'d> World<'d> {
     #[tactic(auto, using(crate::proofs::code::Happens::happening), unfolding(crate::specs::World::placed))]
     fn place(&mut self, event: &Event) -> Result<(), NoMemory>
         requires live { is_live self.old.world event.now.system ≡ true }
-        requires more { self.old.world.events < 2 ^ 57 }
+        requires more { self.old.world.events < last_number }
         ensures { OnOk result (self.new ≡ after self.old event.now) }
     {
         let done = choose_at(
@@ -174,7 +172,7 @@ impl<'d> World<'d> {
     pub fn step(&mut self, event: &Event) -> Result<(), NoMemory>
         ensures { OnOk result (self.new ≡ after self.old event.now) }
     {
-        if self.events >= MOST_EVENTS {
+        if self.events >= LAST_NUMBER {
             return Err(NoMemory);
         }
         if self.is_live(event.system) {

@@ -21,9 +21,7 @@ use Rattle.grs_wire.specs.declared.request.Req.{Req}
 use Rattle.grs_wire.specs.declared.request.Want.{Want}
 use Rattle.grs_wire.specs.declared.request.Want.TheVariants.{Enq, Deq, Release, Look}
 use Rattle.task_state.specs.declared.state.Asked.{Asked}
-use Rattle.task_state.specs.declared.state.Phase.{Phase}
-use Rattle.task_state.specs.declared.state.Phase.TheVariants as phases
-use Rattle.task_state.specs.View.{TasksView, is_task, state_of}
+use Rattle.task_state.specs.View.{TasksView, is_task, state_of, is_sent}
 use Rattle.task_state.specs.Replies.{settled_any, tell_new}
 
 -- the ring's part of a system: its tasks, and its table of the Systems resources
@@ -81,11 +79,6 @@ same_want _ _ = false
 abbrev pub is_asked : Want → Option Asked → Bool
 is_asked w None = false
 is_asked w (Some a) = same_want w a.req.want
-
--- whether a task's request has been sent and isn't answered yet
-abbrev pub is_sent : Phase → Bool
-is_sent phases.Sent = true
-is_sent _ = false
 
 -- a task of this system that has sent this request gets its answer
 unfoldable pub answer_own : TasksView → Req → Answer → TasksView

@@ -2,11 +2,11 @@
 ghost use Rattle.std.specs.Prelude.{◌≡◌, ◌&&◌, [], true, length, OnOk};
 ghost use Rattle.std.specs.Option.{option_copied};
 ghost use Rattle.grs_wire.specs.Wants.{res_wanted};
-ghost use Rattle.task_state.specs.View.{is_task, state_of};
+ghost use Rattle.task_state.specs.View.{is_task, state_of, is_sent};
 ghost use Rattle.ring_mode.specs.Ring as ring;
 ghost use Rattle.ring_mode.specs.Ring.{side_of, is_request, are_requests, request_then, requests_in};
 
-use super::same::{is_asked, is_sent};
+use super::same::is_asked;
 use grs_base::{List, NoMemory, Queues, Res};
 use grs_wire::{Answer, Req, RingBody, RingEntry, Want};
 use queue_table::Table;
@@ -32,10 +32,10 @@ pub fn is_for_all(res: Option<&Res>) -> bool
 
 /// Whether a request is that of a task of this system which isn't answered yet.
 fn is_awaited(tasks: &Tasks, req: &Req) -> bool
-    ensures { result ≡ (is_task tasks.now req.now.task && (ring.is_sent (state_of tasks.now req.now.task).phase && ring.is_asked req.now.want (state_of tasks.now req.now.task).outstanding)) }
+    ensures { result ≡ (is_task tasks.now req.now.task && (is_sent (state_of tasks.now req.now.task).phase && ring.is_asked req.now.want (state_of tasks.now req.now.task).outstanding)) }
 {
     tasks.has(req.task)
-        && is_sent(tasks.phase(req.task))
+        && tasks.phase(req.task).is_sent()
         && is_asked(&req.want, tasks.asked(req.task))
 }
 

@@ -4,7 +4,7 @@ ghost use Rattle.std.specs.Option.{option_copied};
 ghost use Rattle.ring_mode.specs.Ring as ring;
 
 use grs_wire::Want;
-use task_state::{Asked, Phase};
+use task_state::Asked;
 
 /// Whether a task's request that isn't answered yet is this one.
 #[tactic(auto, using(crate::proofs::WantLaws::same))]
@@ -15,11 +15,4 @@ pub(crate) fn is_asked(want: &Want, asked: Option<&Asked>) -> bool
         None => false,
         Some(asked) => *want == asked.req.want,
     }
-}
-
-/// Whether a task's request isn't answered yet.
-pub(crate) fn is_sent(phase: &Phase) -> bool
-    ensures { result ≡ ring.is_sent phase.now }
-{
-    matches!(phase, Phase::Sent)
 }

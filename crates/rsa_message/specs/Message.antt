@@ -31,7 +31,8 @@ abbrev pub is_at : Option SysId → SysId → Bool
 is_at None s = false
 is_at (Some h) s = h.0 == s.0
 
--- the systems after s, upwards by number and round, s itself last
+-- the systems in the order in which a message that leaves s comes to them: from the next number to the last, from 0 on, and
+-- to s again
 abbrev pub after : ℕ → SysId → List SysId
 after systems s = map (λ k. record { 0 = (s.0 + k) % systems }) (range_with_len 1 systems)
 
@@ -49,11 +50,11 @@ abbrev pub number_of : Option SysId → ℕ
 number_of None = 0
 number_of (Some s) = s.0
 
--- an entry is unseen by s where s is in its mask
+-- whether s has yet to process an entry: those that have are the entry's mask
 abbrev pub is_unseen : SysId → RingEntry → Bool
 is_unseen s e = has e.mask s.0
 
--- the entries unseen by s, by number
+-- the entries that s has yet to process, in their order
 unfoldable pub unseen : SysId → List RingEntry → List RingEntry
 unseen s es = filter (is_unseen s) es
 

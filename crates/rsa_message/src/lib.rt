@@ -7,4 +7,4 @@ mod entries;
 mod order;
 mod rsa;
 
-pub use rsa::{Given, LAST_NUMBER, Rsa};
+pub use rsa::{Given, Rsa};

@@ -1,20 +1,17 @@
 //! The message as a whole.
-ghost use Rattle.std.specs.Prelude.{◌≡◌, ◌+◌, ◌<◌, ◌≤◌, ◌^◌, true, length, if◌then◌else◌, Some, None, IfOk, IfNone, OnOk};
-ghost use Rattle.grs_base.specs.Limits.{most_systems};
+ghost use Rattle.std.specs.Prelude.{◌≡◌, ◌+◌, ◌<◌, ◌≤◌, true, length, if◌then◌else◌, Some, None, IfOk, IfNone, OnOk};
+ghost use Rattle.grs_base.specs.Limits.{most_systems, last_number};
 ghost use Rattle.rsa_message.specs.Message.{is_at, opened, never_opened, unseen, first_number, turn_reply, turned, turned_open, turned_closed, turn_changes, wakes, dropped, closed_by, message_at_end};
 ghost use Rattle.rsa_message.specs.Room.{HasRoom, given_to};
 ghost use Rattle.rsa_message.specs.Given.{reply_by};
 
 use crate::entries::{clear, copy_unseen, first_of_unseen, has_unseen, put};
 use crate::order::{first_in, moved_to, next_due, stands_at};
-use grs_base::{List, NoMemory, SysId};
+use grs_base::{LAST_NUMBER, List, NoMemory, SysId};
 use grs_wire::masks::without_system;
 use grs_wire::{Reply, Req, RingBody, RingEntry};
 use std::alloc::Global;
 use std::marker::Model;
-
-/// The last number that an entry may have: no memory holds so many.
-pub const LAST_NUMBER: u64 = 0x200_0000_0000_0000;
 
 /// The authority message. Contracts see what it holds, and the room that `reserve` made. `given` are the copies
 /// for the reply to the next Turn of the system `ready`, and `room` says how many entries can be put in.
@@ -33,8 +30,8 @@ pub struct Rsa {
 }
 
 impl Model for Rsa {
-    ghost use Rattle.std.specs.Prelude.{◌≡◌, ◌+◌, ◌<◌, ◌≤◌, ◌^◌, vec_len, vec_capacity};
-    ghost use Rattle.grs_base.specs.Limits.{most_systems};
+    ghost use Rattle.std.specs.Prelude.{◌≡◌, ◌+◌, ◌<◌, ◌≤◌, vec_len, vec_capacity};
+    ghost use Rattle.grs_base.specs.Limits.{most_systems, last_number};
     ghost use Rattle.rsa_message.specs.Message.{number_of};
     ghost use Rattle.rsa_message.specs.Room.{RsaValue, given_to};
 
@@ -42,7 +39,7 @@ impl Model for Rsa {
 
     ghost view = { λ r. record { message = record { systems = r.systems; holder = r.holder; closed = r.closed; still = r.still; entries = r.entries.items; next = r.next }; room = record { caller = r.ready; entries = r.room } } };
 
-    ghost invariant = { λ r. (r.systems ≤ most_systems) × (number_of r.holder < r.systems) × (r.next + r.room ≤ 2 ^ 57 + 1) × (vec_len r.entries + r.room ≤ vec_capacity r.entries) × (r.given ≡ given_to r.ready r.holder r.entries.items) };
+    ghost invariant = { λ r. (r.systems ≤ most_systems) × (number_of r.holder < r.systems) × (r.next + r.room ≤ last_number + 1) × (vec_len r.entries + r.room ≤ vec_capacity r.entries) × (r.given ≡ given_to r.ready r.holder r.entries.items) };
 }
 
 /// What a Turn gives where the message is at its caller: the entries that the caller had yet to process, how many of

@@ -1,6 +1,7 @@
 -- What the mail of star mode does to the tasks of a system: the answer to a task's request, and control that a task got.
-use Rattle.std.specs.Prelude.{ℕ, ◌^◌, Bool, true, false, ◌&&◌, ◌==◌, nat_le, cond, map, List, [], ◌∷◌, Option, Some, None, is_none}
+use Rattle.std.specs.Prelude.{ℕ, Bool, true, false, ◌&&◌, ◌==◌, nat_le, cond, map, List, [], ◌∷◌, Option, Some, None, is_none}
 use Rattle.std.specs.List.{list_any, flat_map}
+use Rattle.grs_base.specs.Limits.{last_number}
 use Rattle.grs_base.specs.Lists.{enq_decision, deq_code}
 use Rattle.grs_base.specs.declared.decision.Code.{Code}
 use Rattle.grs_base.specs.declared.decision.Code.TheVariants.{C00, C04, C08, C14, C18, Wait, End}
@@ -17,10 +18,8 @@ use Rattle.grs_wire.specs.declared.request.Answer.TheVariants.{Coded, Rows}
 use Rattle.grs_wire.specs.declared.request.Want.{Want}
 use Rattle.grs_wire.specs.declared.request.Want.TheVariants.{Enq, Deq, Release, Look}
 use Rattle.task_state.specs.declared.state.Asked.{Asked}
-use Rattle.task_state.specs.declared.state.Phase.{Phase}
-use Rattle.task_state.specs.declared.state.Phase.TheVariants.{Sent}
 use Rattle.task_state.specs.Replies.{settled, tell_control}
-use Rattle.task_state.specs.View.{TasksView, is_task, state_of, record_of, with_rank}
+use Rattle.task_state.specs.View.{TasksView, is_task, state_of, is_sent, record_of, with_rank}
 
 -- ---- which answers a request can get
 
@@ -77,15 +76,6 @@ settled_any_ranked v t answer rank (Some a) = settled_ranked v t a answer rank
 
 -- ---- mail
 
--- the greatest rank that an element can have
-abbrev pub last_rank : ℕ
-last_rank = 2 ^ 57
-
--- whether a task's request has been sent and isn't answered yet
-abbrev pub is_sent : Phase → Bool
-is_sent Sent = true
-is_sent _ = false
-
 -- whether an answer is one that the outstanding request of a task can get
 abbrev pub is_awaited : Answer → Option Asked → Bool
 is_awaited answer None = false
@@ -98,7 +88,7 @@ has_sent v t = is_task v t && is_sent (state_of v t).phase
 -- Whether the answer to a task's request has an effect: the task has sent one that can get this answer, and the rank is
 -- one that there can be.
 abbrev pub is_heard : TasksView → TaskId → Answer → ℕ → Bool
-is_heard v t answer rank = has_sent v t && (nat_le rank last_rank && is_awaited answer (state_of v t).outstanding)
+is_heard v t answer rank = has_sent v t && (nat_le rank last_number && is_awaited answer (state_of v t).outstanding)
 
 -- The tasks after a mail. A request is for their system as a manager, and nothing to them.
 unfoldable pub after_mail : TasksView → Mail → TasksView

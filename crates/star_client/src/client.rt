@@ -6,13 +6,10 @@ ghost use Rattle.star_client.specs.Client as client;
 ghost use Rattle.task_state.specs.View.{is_task, state_of};
 
 use super::answers::can_get;
-use grs_base::{NoMemory, Res, TaskId};
+use grs_base::{LAST_NUMBER, NoMemory, Res, TaskId};
 use grs_wire::{Answer, Mail, Want};
 use std::alloc::Global;
-use task_state::{Asked, Phase, Tasks, settled, tell_new};
-
-/// The greatest rank that an element can have.
-const LAST_RANK: u64 = 1 << 57;
+use task_state::{Asked, Tasks, settled, tell_new};
 
 /// The resource of a request, if it is for one and the task has no record of it.
 fn unrecorded(
@@ -77,8 +74,8 @@ fn is_heard(tasks: &Tasks, task: TaskId, answer: &Answer, rank: u64) -> bool
     ensures { result ≡ client.is_heard tasks.now task answer.now rank }
 {
     tasks.has(task)
-        && matches!(tasks.phase(task), Phase::Sent)
-        && rank <= LAST_RANK
+        && tasks.phase(task).is_sent()
+        && rank <= LAST_NUMBER
         && is_awaited(answer, tasks.asked(task))
 }
 

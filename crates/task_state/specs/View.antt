@@ -1,5 +1,5 @@
 -- What callers see of the tasks of a system, and the words for what changes.
-use Rattle.std.specs.Prelude.{ℕ, suc, zero, Bool, true, ◌&&◌, ◌==◌, nat_lt, List, [], ◌∷◌, ◌++◌, length, map, cond, Option, None, Some, slice_get, ◌+◌, get_or, set}
+use Rattle.std.specs.Prelude.{ℕ, suc, zero, Bool, true, false, ◌&&◌, ◌==◌, nat_lt, List, [], ◌∷◌, ◌++◌, length, map, cond, Option, None, Some, slice_get, ◌+◌, get_or, set}
 use Rattle.grs_base.specs.Same.{same_res}
 use Rattle.grs_base.specs.declared.resource.Ctl.TheVariants.{E}
 use Rattle.grs_base.specs.declared.resource.Res.{Res}
@@ -9,7 +9,7 @@ use Rattle.grs_wire.specs.declared.told.ToldLine.{ToldLine}
 use Rattle.task_state.specs.declared.state.Asked.{Asked}
 use Rattle.task_state.specs.declared.state.Rec.{Rec}
 use Rattle.task_state.specs.declared.state.Phase.{Phase}
-use Rattle.task_state.specs.declared.state.Phase.TheVariants.{Ready, Ending}
+use Rattle.task_state.specs.declared.state.Phase.TheVariants.{Ready, Sent, Ending}
 use Rattle.task_state.specs.declared.state.TaskState.{TaskState}
 
 -- the number of the system, its tasks, and all lines that were told, in the order of telling
@@ -26,6 +26,11 @@ new_task = record { line = 0; phase = Ready; code = 0; records = []; outstanding
 abbrev pub new_tasks : ℕ → List TaskState
 new_tasks zero = []
 new_tasks (suc n) = new_task ∷ new_tasks n
+
+-- whether a task in this phase has sent a request that isn't answered yet
+abbrev pub is_sent : Phase → Bool
+is_sent Sent = true
+is_sent _ = false
 
 -- whether a task is one of them
 abbrev pub is_task : TasksView → TaskId → Bool

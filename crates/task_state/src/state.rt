@@ -1,4 +1,7 @@
 //! How one task stands.
+ghost use Rattle.std.specs.Prelude.{◌≡◌};
+ghost use Rattle.task_state.specs.View.{is_sent};
+
 use super::records::Records;
 use grs_base::{Ctl, List, Res, Row};
 use grs_wire::Req;
@@ -32,6 +35,15 @@ pub enum Phase {
     /// It releases what it has, and then ends with this code.
     Ending(u16),
     Ended,
+}
+
+impl Phase {
+    /// Whether the task has sent a request that isn't answered yet.
+    pub fn is_sent(&self) -> bool
+        ensures { result ≡ is_sent self.now }
+    {
+        matches!(self, Phase::Sent)
+    }
 }
 
 /// A request that isn't answered yet, and the device that its record will reserve, if it is to.

@@ -14,13 +14,12 @@ use Rattle.grs_wire.specs.declared.request.Req.{Req}
 use Rattle.grs_wire.specs.declared.request.Want.{Want}
 use Rattle.grs_wire.specs.declared.request.Want.TheVariants.{Enq, Deq, Release, Look}
 use Rattle.grs_wire.specs.declared.told.ToldLine.{ToldLine}
-use Rattle.ring_mode.specs.Ring.{is_sent}
 use Rattle.task_state.specs.declared.state.Asked.{Asked}
 use Rattle.task_state.specs.declared.state.Rec.{Rec}
 use Rattle.task_state.specs.declared.state.Phase.{Phase}
 use Rattle.task_state.specs.declared.state.Phase.TheVariants as phases
 use Rattle.task_state.specs.declared.state.TaskState.{TaskState}
-use Rattle.task_state.specs.View.{on_record}
+use Rattle.task_state.specs.View.{on_record, is_sent}
 use Rattle.task_state.specs.Replies.{gives_up, is_leaving, is_held, phase_asking}
 use Rattle.task_state.proofs.ViewLaws.{length-on_record}
 use Rattle.grs_known.proofs.lists.Owners.{is_among}

@@ -25,9 +25,9 @@ use Rattle.grs_wire.specs.declared.request.Fixed.TheVariants as fixing
 use Rattle.grs_wire.specs.declared.request.Req.{Req}
 use Rattle.grs_wire.specs.declared.request.Want.{Want}
 use Rattle.grs_wire.specs.declared.request.Want.TheVariants.{Enq, Deq, Release, Look}
-use Rattle.ring_mode.specs.Ring.{Side, process, answer_own, is_asked, is_sent, same_want, same_ctl, same_ret, same_bool}
+use Rattle.ring_mode.specs.Ring.{Side, process, answer_own, is_asked, same_want, same_ctl, same_ret, same_bool}
 use Rattle.task_state.specs.Replies.{replied, recalled, settled, settled_any, tell_new, phase_asking, gives_up, is_leaving}
-use Rattle.task_state.specs.View.{TasksView, is_task, state_of, code_in}
+use Rattle.task_state.specs.View.{TasksView, is_task, state_of, is_sent, code_in}
 use Rattle.task_state.proofs.ViewLaws.{is_task-system}
 use Rattle.task_state.specs.declared.state.Asked.{Asked}
 use Rattle.task_state.specs.declared.state.Phase.TheVariants as phases

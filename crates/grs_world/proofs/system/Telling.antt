@@ -19,10 +19,9 @@ use Rattle.task_state.specs.declared.state.Rec.{Rec}
 use Rattle.task_state.specs.declared.state.Phase.{Phase}
 use Rattle.task_state.specs.declared.state.Phase.TheVariants as phases
 use Rattle.task_state.specs.declared.state.TaskState.{TaskState}
-use Rattle.task_state.specs.View.{TasksView, is_task, state_of, with_phase, with_told, telling, record_of, on_record, code_in}
+use Rattle.task_state.specs.View.{TasksView, is_task, state_of, with_phase, with_told, telling, record_of, on_record, code_in, is_sent}
 use Rattle.task_state.proofs.ViewLaws.{state_of-same, told-state, state_of-telling, told-telling}
 use Rattle.task_state.specs.Replies.{is_leaving, is_held, is_held_for, tell_control, tell_untold, tell_line, passes_wait, tell_all}
-use Rattle.ring_mode.specs.Ring.{is_sent}
 use Rattle.grs_known.specs.Items.{RunItem, history}
 use Rattle.grs_known.specs.Known.{Known, outstanding, Still, learns_control}
 use Rattle.grs_known.specs.Past.{Past, past_of, Speaks}
