@@ -16,3 +16,4 @@ pub mod Leaving
 pub mod Elements
 pub mod Worlds
 pub mod Settling
+pub mod steps

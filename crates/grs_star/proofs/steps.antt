@@ -1,0 +1,2 @@
+-- What each kind of event comes to.
+pub mod Outcome
