@@ -17,6 +17,7 @@ in_either d h = record {
   fits = h.fits;
   names = h.names;
   once = h.once;
+  orders = h.orders;
   lines = h.lines;
   ring = refl;
   entries = h.entries;
