@@ -7,7 +7,7 @@ use Rattle.grs_base.specs.declared.resource.SysId.{SysId}
 use Rattle.grs_base.specs.declared.resource.TaskId.{TaskId}
 use Rattle.grs_medium.specs.Apply.{reply_to, medium_after, apply, row, turn_row, rest_row, resting}
 use Rattle.grs_medium.specs.Medium.{MediumState, live, all_rest, medium_at_end}
-use Rattle.grs_node.specs.Node.{Node, Step, prepare, finish, finish_quiet, finish_call, read_entries, put_in, may_go, is_pending, most_additions}
+use Rattle.grs_node.specs.Node.{Node, Step, finish, finish_quiet, read_entries, put_in, may_go, is_pending, most_additions}
 use Rattle.grs_node.proofs.InRing.{ring_prepare, ring_finish, prepare-ring}
 use Rattle.grs_node.specs.declared.prepared.Prepared.{Prepared}
 use Rattle.grs_node.specs.declared.prepared.Prepared.TheVariants.{Quiet, Call, Nothing}

@@ -5,7 +5,7 @@ use Rattle.grs_base.specs.declared.resource.SysId.{SysId}
 use Rattle.grs_medium.specs.Apply.{turn_row, rest_row, row, apply, reply_to, medium_after}
 use Rattle.grs_medium.specs.Medium.{MediumState}
 use Rattle.grs_node.proofs.InRing.{ring_prepare, ring_finish, prepare-ring, finish-ring, ring-stays}
-use Rattle.grs_node.specs.Node.{Node, Step, most_additions, may_go, is_pending, prepare, finish, finish_quiet, finish_call, first_node, part_at_first}
+use Rattle.grs_node.specs.Node.{Node, Step, most_additions, may_go, is_pending, prepare, finish, finish_quiet, first_node}
 use Rattle.grs_node.specs.Star.{StarPart, first_part}
 use Rattle.grs_node.specs.declared.prepared.Prepared.{Prepared}
 use Rattle.grs_node.specs.declared.prepared.Prepared.TheVariants.{Quiet, Call, Nothing}

@@ -1,5 +1,5 @@
 -- What the systems keep is the history's state.
-use Rattle.std.proofs.Common.{◌≡◌, Bool, true, false, suc, List, [], ◌∷◌, length, Option, Some, None, refl, ap, sym, ◌∙◌, arith}
+use Rattle.std.proofs.Common.{◌≡◌, Bool, true, false, List, [], ◌∷◌, length, Option, Some, None, refl, ap, sym, ◌∙◌, arith}
 use Rattle.std.specs.Prelude.{slice_get}
 use Rattle.grs_base.specs.State.{list_of, is_systems}
 use Rattle.grs_base.specs.declared.resource.Res.{Res}
@@ -19,7 +19,7 @@ use Rattle.grs_world.specs.Kept.{places, in_table, kept_in, KeptArePlaces}
 use Rattle.grs_world.specs.Running.{is_live}
 use Rattle.grs_world.specs.World.{World, run}
 use Rattle.grs_world.proofs.run.InRing.{stays_ring}
-use Rattle.grs_world.proofs.run.Messages.{given-later, length-fixeds}
+use Rattle.grs_world.proofs.run.Messages.{given-later}
 use Rattle.grs_world.proofs.run.Outcomes.{turn_table}
 use Rattle.grs_world.proofs.run.Runs.{GoodWorld}
 use Rattle.grs_world.proofs.run.Sound.{good_run}

@@ -57,8 +57,12 @@ pub record ToldNews (deck : Deck) (s : ℕ) (P : List HistEntry) (T0 T : List To
   pub ours : list_all (is_line_of s) lines ≡ true
   pub agree : (before : List ToldLine) → T0 ≡ filter (is_line_of s) before → LinesAgree deck P before lines
 
+-- nothing is told
+pub still-told : {deck : Deck} {s : ℕ} {P : List HistEntry} {T0 T : List ToldLine} → T ≡ T0 → ToldNews deck s P T0 T
+still-told {T0 = T0} same = record { lines = []; is = same ∙ sym (append-nil T0); ours = refl; agree = λ before e. tt }
+
 pub told-news : {deck : Deck} {s : ℕ} {opens : List Req} {P : List HistEntry} {T0 T : List ToldLine} → ToldBy deck s opens P T0 T → ToldNews deck s P T0 T
-told-news {T0 = T0} none = record { lines = []; is = sym (append-nil T0); ours = refl; agree = λ before e. tt }
+told-news none = still-told refl
 told-news {deck = deck} {s = s} {P = P} {T0 = T0} (more U l by_now ours agrees clears) =
     let m = told-news by_now in
     record {

@@ -13,7 +13,7 @@ use Rattle.grs_known.proofs.known.Histories.{AllAsk, IsHistory, made_item, asks-
 use Rattle.grs_known.proofs.lists.Facts.{all-behind, filter-cons_left}
 use Rattle.grs_world.proofs.message.Stands.{Bodies}
 use Rattle.grs_world.proofs.run.Growing.{fixeds, Grows, same, more, grows-history, grows-rounds, asks-rounds}
-use Rattle.grs_world.proofs.run.News.{ToldNews, told-news}
+use Rattle.grs_world.proofs.run.News.{ToldNews, told-news, still-told}
 use Rattle.grs_world.proofs.run.Putting.{PutIn, put-all}
 use Rattle.grs_world.proofs.run.Reading.{read_all, read-entries, all-rounds, ReadTo, reading}
 use Rattle.grs_world.proofs.system.AtNode.{Seen, QuietStep, keeps, fixes}
@@ -66,7 +66,7 @@ module _ (deck : Deck) (c : SysId) (P before later : List RunItem) (right : IsHi
     message = refl;
     whole = whole;
     seen = seen;
-    news = record { lines = []; is = told ∙ sym (append-nil n.tasks.told); ours = refl; agree = λ b e. tt };
+    news = still-told told;
   }
 
   -- It has its Turn: its requests are put in, and then it processes what is due.

@@ -21,7 +21,7 @@ use Rattle.grs_known.proofs.known.ItemLaws.{items_are_history}
 use Rattle.grs_known.proofs.lists.Facts.{drop-seam, filter-append, slice_get-set, slice_get-set_other, some_value, take-front, take-whole, map-append}
 use Rattle.grs_known.proofs.lists.Truths.{false_by}
 use Rattle.grs_world.specs.Agree.{Agrees, AgreesBy, AllAgree, Moment, moment, lines_of_told}
-use Rattle.grs_world.specs.World.{World, placed, told_by, happens, run_from, run, hist, first_world}
+use Rattle.grs_world.specs.World.{World, Turnout, placed, counted, fixed_by, told_by, happens, run_from, run, hist, first_world}
 use Rattle.grs_world.proofs.message.Stands.{Stands, waits_for}
 use Rattle.grs_world.proofs.run.Growing.{fixeds, grows-items, grows-history, grows-rounds, grows-seen, grows-requests, own_requests-append}
 use Rattle.grs_world.proofs.run.News.{LinesAgree, ToldNews, filter-ours}
@@ -176,6 +176,44 @@ pub run-push : (deck : Deck) (es : List Event) (w : World) (e : Event) → run_f
 run-push deck [] w e = refl
 run-push deck (x ∷ es) w e = run-push deck es (happens deck w x) e
 
+-- ---- what was told, by one event more
+-- an event that is only counted tells nothing
+pub told-counted : (deck : Deck) (es : List Event) (e : Event) (w : World) → GoodTold deck es w → GoodTold deck (es ++ e ∷ []) (counted w)
+told-counted deck es e w g = record {
+  counted = ap (λ k. k + 1) g.counted ∙ sym (length-append es (e ∷ []));
+  by_now = by-later (length es) (length (es ++ e ∷ [])) (omega (arith, length-append es (e ∷ []))) w.told g.by_now;
+  agree = agree-longer deck es e [] w.told g.by_now g.agree;
+  lines = g.lines;
+}
+
+-- What the system of an event tells agrees with the history after the event: so does all that was told.
+pub told-after : (deck : Deck) (es : List Event) (e : Event) (n : Node) → slice_get (run deck es).nodes e.system.0 ≡ Some n → GoodTold deck es (run deck es) → (o : Turnout) (T : List RunItem) →
+    items (placed (run deck es) e.system n o).fixed ≡ T → ToldNews deck e.system.0 (history T) n.tasks.told o.step.node.tasks.told → happens deck (run deck es) e ≡ placed (run deck es) e.system n o → GoodTold deck (es ++ e ∷ []) (placed (run deck es) e.system n o)
+unfolding placed
+told-after deck es e n at g o T items_now news is =
+    let w : World = run deck es in
+    let s : ℕ = e.system.0 in
+    let after : List ToldLine = o.step.node.tasks.told in
+    let lines_are : drop (length n.tasks.told) after ≡ news.lines = ap (drop (length n.tasks.told)) news.is ∙ drop-seam n.tasks.told news.lines in
+    let told_is : w.told ++ told_by (w.events + 1) e.system (drop (length n.tasks.told) after) ≡ w.told ++ told_by (w.events + 1) e.system news.lines = ap (λ ls. w.told ++ told_by (w.events + 1) e.system ls) lines_are in
+    let all_lines : lines_of_told (w.told ++ told_by (w.events + 1) e.system (drop (length n.tasks.told) after)) ≡ lines_of_told w.told ++ news.lines =
+    ap lines_of_told told_is ∙ (lines_of_told-append w.told (told_by (w.events + 1) e.system news.lines) ∙ ap (λ z. lines_of_told w.told ++ z) (lines-told_by (w.events + 1) e.system news.lines)) in
+    let number : w.events + 1 ≡ length (es ++ e ∷ []) = ap (λ k. k + 1) g.counted ∙ sym (length-append es (e ∷ [])) in
+    let hist_run : hist deck (es ++ e ∷ []) ≡ history T = ap (λ (x : World). answered x.fixed) (run-push deck es (first_world deck) e ∙ is) ∙ sym (items_are_history (w.fixed ++ fixed_by e.system o.step.fixed)).0 ∙ ap history items_now in
+    record {
+      counted = number;
+      by_now = subst (λ xs. AllBy (length (es ++ e ∷ [])) xs) (sym told_is) (by-append (length (es ++ e ∷ [])) w.told (told_by (w.events + 1) e.system news.lines) (by-later (length es) (length (es ++ e ∷ [])) (omega (arith, length-append es (e ∷ []))) w.told g.by_now)
+          (subst (λ k. AllBy k (told_by (w.events + 1) e.system news.lines)) number (by-told (w.events + 1) e.system news.lines)));
+      agree = subst (λ xs. AllAgree deck (es ++ e ∷ []) [] xs) (sym told_is)
+          (agree-append deck (es ++ e ∷ []) [] w.told (told_by (w.events + 1) e.system news.lines) (agree-longer deck es e [] w.told g.by_now g.agree)
+          (agree-new deck (es ++ e ∷ []) (w.events + 1) e.system w.told news.lines number news.ours
+          (subst (λ H. LinesAgree deck H (lines_of_told w.told) news.lines) (sym hist_run) (news.agree (lines_of_told w.told) (g.lines s n at)))));
+      lines = by_node w.nodes s n o.step.node at (λ u k. k.tasks.told ≡ filter (is_line_of u) (lines_of_told (w.told ++ told_by (w.events + 1) e.system (drop (length n.tasks.told) after))))
+          (news.is ∙ (ap (λ z. z ++ news.lines) (g.lines s n at) ∙ (ap (λ z. filter (is_line_of s) (lines_of_told w.told) ++ z) (sym (filter-ours s news.lines news.ours)) ∙ (sym (filter-append (is_line_of s) (lines_of_told w.told) news.lines) ∙ ap (filter (is_line_of s)) (sym all_lines)))))
+          (λ u k ne f. g.lines u k f ∙ (sym (append-nil (filter (is_line_of u) (lines_of_told w.told))) ∙ (ap (λ z. filter (is_line_of u) (lines_of_told w.told) ++ z) (sym (lines-apart s u news.lines ne news.ours))
+          ∙ (sym (filter-append (is_line_of u) (lines_of_told w.told) news.lines) ∙ ap (filter (is_line_of u)) (sym all_lines)))));
+    }
+
 -- the world after an event of a system, whose outcome is known
 module _ (deck : Deck) (es : List Event) (e : Event) (g : GoodWorld deck es (run deck es)) (n : Node) (at : slice_get (run deck es).nodes e.system.0 ≡ Some n) where
   abbrev s : ℕ
@@ -196,28 +234,7 @@ module _ (deck : Deck) (es : List Event) (e : Event) (g : GoodWorld deck es (run
     items-now = grows-items w.fixed o.grows
 
     told-now : happens deck (run deck es) e ≡ after → GoodTold deck (es ++ e ∷ []) after
-    unfolding placed
-    told-now is =
-        let news : ToldNews deck s (history o.items) n.tasks.told st.node.tasks.told = o.news in
-        let lines_are : drop (length n.tasks.told) st.node.tasks.told ≡ news.lines = ap (drop (length n.tasks.told)) news.is ∙ drop-seam n.tasks.told news.lines in
-        let told_is : w.told ++ told_by (w.events + 1) e.system (drop (length n.tasks.told) st.node.tasks.told) ≡ w.told ++ told_by (w.events + 1) e.system news.lines = ap (λ ls. w.told ++ told_by (w.events + 1) e.system ls) lines_are in
-        let all_lines : lines_of_told (w.told ++ told_by (w.events + 1) e.system (drop (length n.tasks.told) st.node.tasks.told)) ≡ lines_of_told w.told ++ news.lines =
-        ap lines_of_told told_is ∙ (lines_of_told-append w.told (told_by (w.events + 1) e.system news.lines) ∙ ap (λ z. lines_of_told w.told ++ z) (lines-told_by (w.events + 1) e.system news.lines)) in
-        let number : w.events + 1 ≡ length (es ++ e ∷ []) = ap (λ k. k + 1) g.told.counted ∙ sym (length-append es (e ∷ [])) in
-        let hist_run : hist deck (es ++ e ∷ []) ≡ history o.items = ap (λ (x : World). answered x.fixed) (run-push deck es (first_world deck) e ∙ is) ∙ sym (items_are_history after.fixed).0 ∙ ap history items-now in
-        record {
-          counted = number;
-          by_now = subst (λ xs. AllBy (length (es ++ e ∷ [])) xs) (sym told_is) (by-append (length (es ++ e ∷ [])) w.told (told_by (w.events + 1) e.system news.lines) (by-later (length es) (length (es ++ e ∷ [])) (omega (arith, length-append es (e ∷ []))) w.told g.told.by_now)
-              (subst (λ k. AllBy k (told_by (w.events + 1) e.system news.lines)) number (by-told (w.events + 1) e.system news.lines)));
-          agree = subst (λ xs. AllAgree deck (es ++ e ∷ []) [] xs) (sym told_is)
-              (agree-append deck (es ++ e ∷ []) [] w.told (told_by (w.events + 1) e.system news.lines) (agree-longer deck es e [] w.told g.told.by_now g.told.agree)
-              (agree-new deck (es ++ e ∷ []) (w.events + 1) e.system w.told news.lines number news.ours
-              (subst (λ H. LinesAgree deck H (lines_of_told w.told) news.lines) (sym hist_run) (news.agree (lines_of_told w.told) (g.told.lines s n at)))));
-          lines = by_node w.nodes s n st.node at (λ u k. k.tasks.told ≡ filter (is_line_of u) (lines_of_told (w.told ++ told_by (w.events + 1) e.system (drop (length n.tasks.told) st.node.tasks.told))))
-              (news.is ∙ (ap (λ z. z ++ news.lines) (g.told.lines s n at) ∙ (ap (λ z. filter (is_line_of s) (lines_of_told w.told) ++ z) (sym (filter-ours s news.lines news.ours)) ∙ (sym (filter-append (is_line_of s) (lines_of_told w.told) news.lines) ∙ ap (filter (is_line_of s)) (sym all_lines)))))
-              (λ u k ne f. g.told.lines u k f ∙ (sym (append-nil (filter (is_line_of u) (lines_of_told w.told))) ∙ (ap (λ z. filter (is_line_of u) (lines_of_told w.told) ++ z) (sym (lines-apart s u news.lines ne news.ours))
-              ∙ (sym (filter-append (is_line_of u) (lines_of_told w.told) news.lines) ∙ ap (filter (is_line_of u)) (sym all_lines)))));
-        }
+    told-now is = told-after deck es e n at g.told (record { medium = m; step = st }) o.items items-now o.news is
 
     -- what the systems have processed, and have yet to process
     abbrev before_now : ℕ → List RunItem

@@ -1,5 +1,5 @@
 -- Every run is sound.
-use Rattle.std.proofs.Common.{◌≡◌, ◌<◌, ◌+◌, ◌-◌, cond, Bool, true, false, ◌&&◌, ℕ, zero, suc, List, [], ◌∷◌, ◌++◌, length, map, take, Option, Some, None, refl, ap, sym, ◌∙◌, subst, arith, append-nil, append_assoc, length-append}
+use Rattle.std.proofs.Common.{◌≡◌, ◌<◌, ◌+◌, ◌-◌, cond, Bool, true, false, ◌&&◌, ℕ, zero, suc, List, [], ◌∷◌, ◌++◌, length, map, take, Option, Some, None, refl, ap, sym, ◌∙◌, subst, arith, append-nil, append_assoc}
 use Rattle.std.specs.Prelude.{slice_get, ◌==◌}
 use Rattle.grs_base.specs.declared.resource.SysId.{SysId}
 use Rattle.grs_base.specs.declared.resource.TaskId.{TaskId}
@@ -8,7 +8,7 @@ use Rattle.grs_medium.specs.Apply.{reply_to, medium_after, apply, row, turn_row,
 use Rattle.grs_medium.specs.Medium.{MediumState, live, first_medium, all_rest, medium_at_end}
 use Rattle.grs_node.proofs.InRing.{ring_prepare, ring_finish, prepare-ring}
 use Rattle.grs_node.specs.declared.prepared.Prepared.{Prepared}
-use Rattle.grs_node.specs.Node.{Node, Step, prepare, finish, finish_quiet, read_entries, put_in, may_go, is_pending, most_additions, first_node}
+use Rattle.grs_node.specs.Node.{Node, Step, finish, finish_quiet, read_entries, put_in, may_go, is_pending, most_additions, first_node}
 use Rattle.grs_node.specs.declared.prepared.Prepared.TheVariants.{Quiet, Call, Nothing}
 use Rattle.grs_wire.specs.Masks.{has, others}
 use Rattle.grs_wire.specs.declared.deck.Deck.{Deck}
@@ -25,6 +25,7 @@ use Rattle.grs_wire.specs.declared.request.Req.{Req}
 use Rattle.grs_wire.proofs.WantLaws.{by_test}
 use Rattle.rsa_message.specs.Message.{Message, is_at, unseen, turn_reply, turned, turned_open, turned_closed, rest_after_turn, opened, never_opened}
 use Rattle.grs_known.specs.Items.{RunItem, rounds, items}
+use Rattle.grs_known.proofs.known.Histories.{IsHistory}
 use Rattle.grs_known.proofs.known.ItemLaws.{items_are_history}
 use Rattle.grs_known.proofs.lists.Facts.{take-taken}
 use Rattle.grs_world.specs.Agree.{Sound}
@@ -35,7 +36,7 @@ use Rattle.grs_world.proofs.run.Messages.{message-same, message-turned, given-la
 use Rattle.grs_world.proofs.run.OfEvents.{told_of_events}
 use Rattle.grs_world.proofs.run.Outcomes.{Outcome, quiet_outcome, still_outcome, turn_outcome}
 use Rattle.grs_world.proofs.run.Removals.{none_purged}
-use Rattle.grs_world.proofs.run.Runs.{GoodWorld, GoodMessage, push, run-push, seen_at, message_log, updated, by-later, agree-longer}
+use Rattle.grs_world.proofs.run.Runs.{GoodTold, GoodWorld, GoodMessage, push, run-push, told-counted, seen_at, message_log, updated}
 use Rattle.grs_world.proofs.system.AtNode.{Seen}
 use Rattle.grs_world.proofs.system.Begun.{first_seen}
 use Rattle.grs_world.proofs.system.First.{first_told}
@@ -57,12 +58,7 @@ module _ (deck : Deck) (es : List Event) (e : Event) (g : GoodWorld deck es (run
   good_counted : Good (counted (run deck es))
   good_counted = record {
     history = g.history;
-    told = record {
-      counted = ap (λ k. k + 1) g.told.counted ∙ sym (length-append es (e ∷ []));
-      by_now = by-later (length es) (length (es ++ e ∷ [])) (omega (arith, length-append es (e ∷ []))) w.told g.told.by_now;
-      agree = agree-longer deck es e [] w.told g.told.by_now g.told.agree;
-      lines = g.told.lines;
-    };
+    told = told-counted deck es e w g.told;
     before = g.before;
     later = g.later;
     whole = g.whole;
@@ -212,7 +208,7 @@ first_at deck k (d ∷ ds) (suc i) n h =
     next : (a b : ℕ) → a + 1 + b ≡ a + suc b
     next a b = omega arith
 
-first_is : (deck : Deck) (s : ℕ) (n : Node) → slice_get (first_nodes deck 0 deck.systems) s ≡ Some n → n ≡ first_node deck s
+pub first_is : (deck : Deck) (s : ℕ) (n : Node) → slice_get (first_nodes deck 0 deck.systems) s ≡ Some n → n ≡ first_node deck s
 first_is deck s n h = (first_at deck 0 deck.systems s n h).0 ∙ ap (first_node deck) (zero_plus s)
   where
     zero_plus : (a : ℕ) → 0 + a ≡ a
@@ -228,11 +224,18 @@ first_message deck = go deck.star
     go true = record { stands = none; next = refl; no_turn = λ e. refl }
     go false = record { stands = none; next = refl; no_turn = λ e. cc }
 
+pub first_good_told : (deck : Deck) → GoodTold deck [] (first_world deck)
+unfolding first_world
+first_good_told deck = record { counted = refl; by_now = tt; agree = tt; lines = λ s n h. ap (λ (m : Node). m.tasks.told) (first_is deck s n h) ∙ first_told deck s }
+
+pub first_history : (deck : Deck) → IsHistory deck []
+first_history deck = record { made = tt; count = tt; asks = tt; legal = tt }
+
 pub first_good : (deck : Deck) → GoodWorld deck [] (first_world deck)
 unfolding first_world
 first_good deck = record {
-  history = record { made = tt; count = tt; asks = tt; legal = tt };
-  told = record { counted = refl; by_now = tt; agree = tt; lines = λ s n h. ap (λ (m : Node). m.tasks.told) (first_is deck s n h) ∙ first_told deck s };
+  history = first_history deck;
+  told = first_good_told deck;
   before = λ u. [];
   later = λ u. [];
   whole = λ u. refl;
@@ -253,16 +256,20 @@ good_run_from deck h done (e ∷ es) g =
 pub good_run : (deck : Deck) → deck.star ≡ false → (es : List Event) → GoodWorld deck es (run deck es)
 good_run deck h es = good_run_from deck h [] es (first_good deck)
 
--- every run of every deck in ring mode is sound
-pub runs_sound : (deck : Deck) → deck.star ≡ false → (es : List Event) → Sound deck es
-runs_sound deck h es = record {
+-- ---- So a run is sound, if what was fixed makes a history after each list of events, and what was told agrees.
+pub sound-of : (deck : Deck) → ((us : List Event) → IsHistory deck (items (run deck us).fixed)) → (es : List Event) → GoodTold deck es (run deck es) → Sound deck es
+sound-of deck right es told = record {
   legal = legal_at es;
   agree = record {
-    lines = (good_run deck h es).told.agree;
+    lines = told.agree;
     events = told_of_events deck es;
     removals = λ e s target h. absurd (none_purged s target deck (run deck (take e es)).fixed (legal_at (take e es)) (length (run deck (take (e - 1) es)).fixed) h);
   };
 }
   where
     legal_at : (us : List Event) → Legal deck (hist deck us)
-    legal_at us = subst (Legal deck) (items_are_history (run deck us).fixed).0 (good_run deck h us).history.legal
+    legal_at us = subst (Legal deck) (items_are_history (run deck us).fixed).0 (right us).legal
+
+-- every run of every deck in ring mode is sound
+pub runs_sound : (deck : Deck) → deck.star ≡ false → (es : List Event) → Sound deck es
+runs_sound deck h es = sound-of deck (λ us. (good_run deck h us).history) es (good_run deck h es).told
