@@ -52,7 +52,7 @@ use Rattle.grs_star.proofs.Tasks.{task-quiet}
 use Rattle.grs_star.proofs.Under.{under, under-other}
 
 -- a call of a system that wasn't removed, where none was
-heard : (m : MediumState) (c : SysId) (call : CallOfMedium) → m.removed ≡ 0 → call.known ≡ 0 → apply m c call ≡ row m c call.act
+pub heard : (m : MediumState) (c : SysId) (call : CallOfMedium) → m.removed ≡ 0 → call.known ≡ 0 → apply m c call ≡ row m c call.act
 unfolding apply
 heard m c call none known =
     ap (λ b. cond b (replies.Removed, m) (cond (call.known == m.removed) (row m c call.act) (replies.Stale m.removed, m))) (ap (λ z. has z c.0) none ∙ has-zero c.0)

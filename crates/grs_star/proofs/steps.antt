@@ -1,2 +1,3 @@
 -- What each kind of event comes to.
 pub mod Outcome
+pub mod Rest
