@@ -16,4 +16,5 @@ pub mod Leaving
 pub mod Elements
 pub mod Worlds
 pub mod Settling
+pub mod Sending
 pub mod steps

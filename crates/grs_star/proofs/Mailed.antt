@@ -31,7 +31,6 @@ use Rattle.task_state.specs.Replies.{tell_control, tell_untold, tell_all}
 use Rattle.task_state.specs.View.{TasksView, is_task, state_of, record_of, is_sent}
 use Rattle.task_state.specs.declared.state.Asked.{Asked}
 use Rattle.task_state.specs.declared.state.Phase.{Phase}
-use Rattle.task_state.specs.declared.state.Phase.TheVariants as phases
 use Rattle.task_state.proofs.ViewLaws.{is_task-system}
 use Rattle.grs_known.specs.Items.{RunItem, is_of, mine, history, reply_in}
 use Rattle.grs_known.specs.Known.{last_of, outstanding, Still, Coming, learns_control, learns_item, is_answer_to}
@@ -61,7 +60,6 @@ one-same None None e = refl
 one-same None (Some y) e = absurd (cc)
 one-same (Some x) None e = absurd (cc)
 one-same (Some x) (Some y) e = ap Some cc
-
 
 module _ (deck : Deck) (words : List ℕ) (T : List RunItem) (right : IsHistory deck T) (s : ℕ) (n : Node) (ms : List Mail) (later : List RunItem) (out : List Req) where
   -- ---- control

@@ -1,10 +1,9 @@
 -- The systems of a run in star mode together: whose hands each request is in, and how an event of one system is placed.
-use Rattle.std.proofs.Common.{◌≡◌, ◌≢◌, ◌⊎◌, ◌<◌, ℕ, Bool, true, false, List, [], ◌∷◌, ◌++◌, length, Some, refl, ap, sym, ◌∙◌, subst, append-nil, arith, append_assoc, Option, None}
+use Rattle.std.proofs.Common.{◌≡◌, ◌≢◌, ◌⊎◌, ◌<◌, ℕ, Bool, true, false, List, [], ◌∷◌, ◌++◌, length, Some, refl, ap, sym, ◌∙◌, subst, append-nil, arith, append_assoc}
 use Rattle.std.specs.Prelude.{drop, set, slice_get, ◌==◌}
 use Rattle.std.proofs.lemmas.Bool.{eqb-true, eqb-false}
 use Rattle.std.proofs.lemmas.List.{length-set, get_or-set_same, get_or-set_other}
-use Rattle.contention_mgr.specs.Manager.{entry_wanted, entry_of_res}
-use Rattle.grs_base.specs.Lists.{owns}
+use Rattle.contention_mgr.specs.Manager.{entry_wanted}
 use Rattle.grs_base.specs.State.{list_of, is_systems}
 use Rattle.grs_base.specs.declared.resource.Res.{Res}
 use Rattle.grs_base.specs.declared.resource.Res.TheVariants.{Step as StepRes, System, Systems}
@@ -14,22 +13,11 @@ use Rattle.grs_medium.specs.Inboxes.{without_first}
 use Rattle.grs_medium.specs.Medium.{MediumState, inbox}
 use Rattle.grs_legal.specs.Asks.{lines_of}
 use Rattle.grs_node.specs.Node.{Node, finish_quiet, may_go, is_of_deck}
-use Rattle.grs_node.specs.Star.{StarPart, request_of}
-use Rattle.grs_legal.specs.declared.meaning.Meaning.{Meaning}
-use Rattle.grs_wire.specs.LockWords.{interest}
-use Rattle.grs_wire.specs.Wants.{answer_to, res_wanted}
-use Rattle.grs_wire.specs.declared.request.Want.{Want}
-use Rattle.grs_wire.specs.declared.request.Want.TheVariants.{Enq, Deq, Release, Look}
-use Rattle.lock_structure.specs.Laws.{IsManaged, ManagedBy, is_interested, manager_at}
-use Rattle.lock_structure.specs.Words.{word_at}
-use Rattle.lock_structure.proofs.LawProofs.{empty_is_managed}
-use Rattle.star_client.specs.Client.{settled_ranked}
-use Rattle.task_state.specs.View.{state_of}
-use Rattle.task_state.specs.declared.state.Asked.{Asked}
+use Rattle.grs_node.specs.Star.{StarPart}
 use Rattle.grs_wire.specs.declared.deck.Deck.{Deck}
 use Rattle.grs_wire.specs.declared.medium.Mail.{Mail}
 use Rattle.grs_wire.specs.declared.medium.Mail.TheVariants.{Request, Granted}
-use Rattle.task_state.specs.Replies.{tell_control, tell_new}
+use Rattle.task_state.specs.Replies.{tell_control}
 use Rattle.grs_wire.specs.declared.deck.Choice.TheVariants as choices
 use Rattle.grs_wire.specs.declared.request.Fixed.{Fixed}
 use Rattle.grs_wire.specs.declared.request.Fixed.TheVariants as fixing
@@ -38,19 +26,17 @@ use Rattle.grs_wire.specs.History.{replay}
 use Rattle.grs_known.specs.Items.{RunItem, goes_round, mine, lists, items, history}
 use Rattle.grs_known.proofs.known.Histories.{IsHistory, MayFollow, made_item, items-append, replayed, follows, wants-round}
 use Rattle.grs_known.proofs.known.ItemLaws.{lists-push}
-use Rattle.grs_known.proofs.lists.Facts.{slice_get-within, slice_get-past, slice_get-set, slice_get-set_other, some_value}
+use Rattle.grs_known.proofs.lists.Facts.{slice_get-within, slice_get-set, slice_get-set_other, some_value}
 use Rattle.grs_world.specs.Kept.{kept}
 use Rattle.grs_world.specs.World.{World, Turnout, fixed_by, placed}
-use Rattle.grs_known.proofs.lists.Owners.{is_among}
-use Rattle.grs_world.proofs.system.Ours.{IsOurs}
-use Rattle.grs_world.proofs.system.Says.{is_home_at, askers, stand_apart}
+use Rattle.grs_world.proofs.system.Says.{askers, stand_apart}
 use Rattle.grs_star.proofs.Elements.{AreNear, is_near_res, near-want}
 use Rattle.grs_star.proofs.Mailed.{took-request, took-control}
-use Rattle.grs_star.proofs.OwnEvents.{Task, idle_task, local_task, system-task, may-follow, system-decided}
+use Rattle.grs_star.proofs.OwnEvents.{Task, idle_task, local_task, system-task}
 use Rattle.grs_star.proofs.Tasks.{task-quiet}
-use Rattle.grs_star.proofs.Members.{IsMember, IsStar, IsStep, has_manager, all_lists, framed, managed-is}
-use Rattle.grs_star.proofs.Runs.{kept_lists, word_past}
-use Rattle.grs_star.proofs.Systems.{IsSystem, requests_in, system-other, near_at}
+use Rattle.grs_star.proofs.Members.{IsMember, IsStar, IsStep, has_manager, all_lists, framed}
+use Rattle.grs_star.proofs.Runs.{kept_lists}
+use Rattle.grs_star.proofs.Systems.{IsSystem, requests_in, system-other}
 
 -- a request is one of these
 abbrev pub IsIn : Req → List Req → Type 0
@@ -223,48 +209,3 @@ module _ (deck : Deck) (w : World) (g : IsWhole deck w) (c : SysId) (n : Node) (
         let same : p ≡ q = some_value p q (sym (ap (λ (k : Node). k.star) node) ∙ found) in
         subst (λ (k : StarPart). Hands deck w.medium.words (length w.nodes) g.later g.out c.0 (in_hands k rest)) same
         (subst (Hands deck w.medium.words (length w.nodes) g.later g.out c.0) (ap (in_hands p) (is ∙ ap (λ m. m ∷ rest) which)) (g.hands c.0 n p at star)))
-
-  -- it decides a request of its own task, of an entry that it manages
-  manager-near : (e : ℕ) (s : ℕ) → has_manager w.medium.words e s ≡ true → is_interested w.medium.words e s ≡ true
-  manager-near e s h = go (slice_get w.medium.words e) refl
-    where
-      named : manager_at w.medium.words e ≡ Some (record { 0 = s })
-      named = managed-is w.medium.words e s (manager_at w.medium.words e) refl h
-
-      fits : IsManaged (word_at w.medium.words e) → is_interested w.medium.words e s ≡ true
-      fits k = subst (λ o. ManagedBy o (interest (word_at w.medium.words e))) named k
-
-      go : (o : Option ℕ) → slice_get w.medium.words e ≡ o → is_interested w.medium.words e s ≡ true
-      go (Some x) f = fits (g.roles.managed e 0 (slice_get-within w.medium.words e x f))
-      go None f = fits (subst IsManaged (sym (word_past w.medium.words e (slice_get-past w.medium.words e f))) empty_is_managed)
-
-  pub whole-decided : (t : TaskId) (ls : List Meaning) → IsOurs deck c.0 n.tasks t ls → is_home_at deck c.0 t ≡ true → (a : Asked) → (state_of n.tasks t).outstanding ≡ Some a → is_among t (askers (g.out c.0)) ≡ false →
-      (entry : ℕ) → entry_wanted deck.entries a.req.want ≡ Some entry → has_manager w.medium.words entry c.0 ≡ true → (r : Res) → res_wanted a.req.want ≡ Some r → (ts : List TaskId) →
-      ((u : TaskId) → is_among u ts ≡ true → owns (list_of (lists (T ++ made_item c T (fixing.Asked (request_of t a)) ∷ [])) r) u ≡ true) → (rank : ℕ) (p p' : StarPart) → n.star ≡ Some p → p'.held ≡ p.held → (n' : Node) →
-      n' ≡ record n { tasks = tell_new (settled_ranked n.tasks t a (answer_to (lists T) t a.req.want) rank) (res_wanted a.req.want) ts; star = Some p' } →
-      IsStep deck w c n (record { medium = w.medium; step = record { node = n'; fixed = fixing.Asked (request_of t a) ∷ [] } }) → IsWhole deck (placed w c n (record { medium = w.medium; step = record { node = n'; fixed = fixing.Asked (request_of t a) ∷ [] } }))
-  whole-decided t ls ours home a is free entry of_entry mine r wanted ts owned rank p p' star held n' node step =
-      let q : Req = request_of t a in
-      let item : RunItem = made_item c T (fixing.Asked q) in
-      let h = g.system c.0 n at in
-      let m = may-follow deck w.medium.words T g.right c.0 n (inbox w.medium c.0) (g.later c.0) (g.out c.0) h t ls ours home a is free c in
-      let z = system-decided deck w.medium.words T g.right c.0 n (inbox w.medium c.0) (g.later c.0) (g.out c.0) h t ls ours home a is free c entry of_entry mine r wanted ts rank (Some p') owned in
-      whole-placed deck w c n at g.roles (record { medium = w.medium; step = record { node = n'; fixed = fixing.Asked q ∷ [] } }) step (T ++ item ∷ []) (items-one w.fixed c (fixing.Asked q)) g.later g.out
-      (follows deck T item g.right m)
-      (subst (AreNear deck w.medium.words) (sym (lists-push T item)) (near-want deck w.medium.words (lists T) t a.req.want (λ v e. near v e) g.near))
-      (subst (λ k. IsSystem deck w.medium.words (T ++ item ∷ []) c.0 k (inbox w.medium c.0) (g.later c.0) (g.out c.0)) (sym node) z.system)
-      (others-item q m ours.home)
-      (λ k found.
-      let same : p' ≡ k = some_value p' k (sym (ap (λ (y : Node). y.star) node) ∙ found) in
-      subst (λ (y : StarPart). Hands deck w.medium.words (length w.nodes) g.later g.out c.0 (in_hands y (inbox w.medium c.0))) same
-      (subst (λ hs. Hands deck w.medium.words (length w.nodes) g.later g.out c.0 (hs ++ requests_in (inbox w.medium c.0))) (sym held) (g.hands c.0 n p at star)))
-      (λ k y v ne found is. g.hands k y v found is)
-    where
-      at_entry : (x : Want) (v : Res) → res_wanted x ≡ Some v → entry_wanted deck.entries x ≡ Some entry → entry_of_res deck.entries v ≡ Some entry
-      at_entry (Enq y d ret full) v e f = ap (entry_of_res deck.entries) (some_value v y (sym e)) ∙ f
-      at_entry (Deq y have) v e f = ap (entry_of_res deck.entries) (some_value v y (sym e)) ∙ f
-      at_entry (Release y) v e f = ap (entry_of_res deck.entries) (some_value v y (sym e)) ∙ f
-      at_entry (Look first count filter) v e f = absurd (cc)
-
-      near : (v : Res) → res_wanted a.req.want ≡ Some v → is_near_res deck w.medium.words v t ≡ true
-      near v e = ap (near_at w.medium.words t.system.0) (at_entry a.req.want v e of_entry) ∙ (ap (is_interested w.medium.words entry) ours.home ∙ manager-near entry c.0 mine)
