@@ -336,7 +336,7 @@ module _ (deck : Deck) (some : 0 < deck.entries) (w : World) (c : SysId) (few : 
         go true = ap (λ o. is_manager (Some (unwrap_or o c)) (record { 0 = c.0 })) is ∙ eq-eqb c.0 c.0 refl
         go false = refl
 
-    begun_part : manager_at w.medium.words x ≡ None → IsPart deck joined_words (all_lists w) c.0 (begun me.part x)
+    pub begun_part : manager_at w.medium.words x ≡ None → IsPart deck joined_words (all_lists w) c.0 (begun me.part x)
     begun_part is = part-place deck words joined_words L c.0 p x (Some no_elements) true me.fits inside (role_gained is) interest_now (λ h. sym (g.free x is))
 
     -- the entry is managed by another system, to which the request goes

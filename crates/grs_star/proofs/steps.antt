@@ -1,3 +1,4 @@
 -- What each kind of event comes to.
 pub mod Outcome
 pub mod Rest
+pub mod Send
