@@ -40,7 +40,7 @@ use Rattle.grs_known.proofs.known.ItemLaws.{replies_are_answers}
 use Rattle.grs_known.proofs.known.Knows.{IsOutstanding}
 use Rattle.grs_known.proofs.lists.Facts.{all-filter}
 use Rattle.grs_known.proofs.lists.Owners.{is_among}
-use Rattle.grs_known.proofs.lists.Truths.{and_on, no_truth, false_by}
+use Rattle.grs_known.proofs.lists.Truths.{and_on, and_off, no_truth, false_by}
 use Rattle.grs_world.proofs.system.AtNode.{opens_of}
 use Rattle.grs_world.proofs.system.Puts.{home-task}
 use Rattle.grs_world.proofs.system.Says.{is_home_at, askers, stand_apart, none}
@@ -73,6 +73,10 @@ module _ (deck : Deck) (words : List ℕ) (T : List RunItem) (right : IsHistory 
 
     went : (v : TasksView) (o : Option StarPart) → IsAt deck s T later out (record n { tasks = v; star = o }) → IsSystem deck words T s (record n { tasks = v; star = o }) ms later out
     went v o at = record { at = at; late = h.late; sent = h.sent; near = h.near; coming = passed; answered = h.answered; fits = h.fits.1 }
+
+    -- it has no effect
+    pub strange-control : (o : Option StarPart) → IsSystem deck words T s (record n { star = o }) ms later out
+    strange-control o = went n.tasks o h.at
 
     still : is_home_at deck s t ≡ true → (o : Option RunItem) → mine t later ≡ one o → Still r t T o
     still home o due =
@@ -294,9 +298,13 @@ module _ (deck : Deck) (words : List ℕ) (T : List RunItem) (right : IsHistory 
                 let e : x ≡ y = cc in
                 no_truth (gives x.fixed) (ap (λ (z : RunItem). gives z.fixed) e ∙ gave) keeps_all
 
+    -- a task that isn't of the deck is none of the system's
+    pub strange-answer : is_of_deck deck t ≡ false → (o : Option StarPart) → IsSystem deck words T s (record n { star = o }) ms later out
+    strange-answer strange o = unheard_away (and_off (t.system.0 == s) (is_of_deck deck t) strange) o
+
     -- What taking the answer comes to: its item is learned, and its request is no longer open; or it has no effect.
     pub data TookAnswer (n' : Node) : Type 0 where
-      learns : Goes deck words T s n' ms (others_of t later) (without_asker t out) n.tasks.told → TookAnswer n'
+      learns : is_late t later ≡ true → Goes deck words T s n' ms (others_of t later) (without_asker t out) n.tasks.told → TookAnswer n'
       leaves : Goes deck words T s n' ms later out n.tasks.told → TookAnswer n'
 
     pub took-answer : is_of_deck deck t ≡ true → (o : Option StarPart) → TookAnswer (record n { tasks = after_mail n.tasks (Answered t answer rank); star = o })
@@ -317,6 +325,6 @@ module _ (deck : Deck) (words : List ℕ) (T : List RunItem) (right : IsHistory 
             let home = at_home e in
             let r = request home in
             subst (λ b. TookAnswer (record n { tasks = cond b (settled_any_ranked n.tasks t answer rank (state_of n.tasks t).outstanding) n.tasks; star = o })) (sym e)
-            (subst (λ z. TookAnswer (record n { tasks = settled_any_ranked n.tasks t answer rank z; star = o })) (sym r.1) (learns (heard home r.0 r.1 r.2 o)))
+            (subst (λ z. TookAnswer (record n { tasks = settled_any_ranked n.tasks t answer rank z; star = o })) (sym r.1) (learns (late-one t (x home) [] later (due home)) (heard home r.0 r.1 r.2 o)))
         go false e true f = let r = request f in stays (unheard f r.0 r.1 r.2 e o) e
         go false e false f = stays (unheard_away f o) e

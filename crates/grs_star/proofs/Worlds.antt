@@ -1,23 +1,20 @@
 -- The systems of a run in star mode together: whose hands each request is in, and how an event of one system is placed.
-use Rattle.std.proofs.Common.{◌≡◌, ◌≢◌, ◌⊎◌, ◌<◌, ℕ, Bool, true, false, List, [], ◌∷◌, ◌++◌, length, Some, refl, ap, sym, ◌∙◌, subst, append-nil, arith, append_assoc}
-use Rattle.std.specs.Prelude.{drop, set, slice_get, ◌==◌}
+use Rattle.std.proofs.Common.{◌≡◌, ◌≢◌, ◌⊎◌, ◌<◌, ℕ, Bool, true, false, List, [], ◌∷◌, ◌++◌, length, Some, refl, ap, sym, ◌∙◌, subst, append-nil}
+use Rattle.std.specs.Prelude.{set, slice_get, ◌==◌}
 use Rattle.std.proofs.lemmas.Bool.{eqb-true, eqb-false}
-use Rattle.std.proofs.lemmas.List.{length-set, get_or-set_same, get_or-set_other}
+use Rattle.std.proofs.lemmas.List.{length-set}
 use Rattle.contention_mgr.specs.Manager.{entry_wanted}
 use Rattle.grs_base.specs.State.{list_of, is_systems}
 use Rattle.grs_base.specs.declared.resource.Res.{Res}
 use Rattle.grs_base.specs.declared.resource.Res.TheVariants.{Step as StepRes, System, Systems}
 use Rattle.grs_base.specs.declared.resource.TaskId.{TaskId}
 use Rattle.grs_base.specs.declared.resource.SysId.{SysId}
-use Rattle.grs_medium.specs.Inboxes.{without_first}
-use Rattle.grs_medium.specs.Medium.{MediumState, inbox}
+use Rattle.grs_medium.specs.Medium.{inbox}
 use Rattle.grs_legal.specs.Asks.{lines_of}
-use Rattle.grs_node.specs.Node.{Node, finish_quiet, may_go, is_of_deck}
+use Rattle.grs_node.specs.Node.{Node, finish_quiet, may_go}
 use Rattle.grs_node.specs.Star.{StarPart}
 use Rattle.grs_wire.specs.declared.deck.Deck.{Deck}
 use Rattle.grs_wire.specs.declared.medium.Mail.{Mail}
-use Rattle.grs_wire.specs.declared.medium.Mail.TheVariants.{Request, Granted}
-use Rattle.task_state.specs.Replies.{tell_control}
 use Rattle.grs_wire.specs.declared.deck.Choice.TheVariants as choices
 use Rattle.grs_wire.specs.declared.request.Fixed.{Fixed}
 use Rattle.grs_wire.specs.declared.request.Fixed.TheVariants as fixing
@@ -26,12 +23,11 @@ use Rattle.grs_wire.specs.History.{replay}
 use Rattle.grs_known.specs.Items.{RunItem, goes_round, mine, lists, items, history}
 use Rattle.grs_known.proofs.known.Histories.{IsHistory, MayFollow, made_item, items-append, replayed, follows, wants-round}
 use Rattle.grs_known.proofs.known.ItemLaws.{lists-push}
-use Rattle.grs_known.proofs.lists.Facts.{slice_get-within, slice_get-set, slice_get-set_other, some_value}
+use Rattle.grs_known.proofs.lists.Facts.{slice_get-set, slice_get-set_other, some_value}
 use Rattle.grs_world.specs.Kept.{kept}
 use Rattle.grs_world.specs.World.{World, Turnout, fixed_by, placed}
 use Rattle.grs_world.proofs.system.Says.{askers, stand_apart}
 use Rattle.grs_star.proofs.Elements.{AreNear, is_near_res, near-want}
-use Rattle.grs_star.proofs.Mailed.{took-request, took-control}
 use Rattle.grs_star.proofs.OwnEvents.{Task, idle_task, local_task, system-task}
 use Rattle.grs_star.proofs.Tasks.{task-quiet}
 use Rattle.grs_star.proofs.Members.{IsMember, IsStar, IsStep, has_manager, all_lists, framed}
@@ -164,48 +160,3 @@ module _ (deck : Deck) (w : World) (g : IsWhole deck w) (c : SysId) (n : Node) (
           let home : q.task.system.0 ≡ c.0 = eqb-true q.task.system.0 c.0 mine_q in
           whole-placed deck w c n at g.roles (record { medium = w.medium; step = finish_quiet deck n (choices.Task t) }) step (T ++ item ∷ []) (ap (λ fs. items (w.fixed ++ fixed_by c fs)) one_fixed ∙ items-one w.fixed c (fixing.Asked q)) g.later g.out
           (follows deck T item g.right m) (near-local q away) z.system (others-item q m home) (λ p is. g.hands c.0 n p at (sym same_star ∙ is)) (λ k j p ne found is. g.hands k j p found is)
-
-  -- the first mail of its inbox is taken, after which the same is open at each system
-  module _ (mail : Mail) (rest : List Mail) (is : inbox w.medium c.0 ≡ mail ∷ rest) (flags : ℕ) where
-    abbrev took : MediumState
-    took = record w.medium { inboxes = without_first w.medium.inboxes c.0; rest = flags }
-
-    here_box : c.0 < length w.medium.inboxes
-    here_box = let k = slice_get-within w.nodes c.0 n at in omega (arith, k, g.roles.systems, g.roles.inboxes)
-
-    own_box : inbox took c.0 ≡ rest
-    own_box = get_or-set_same w.medium.inboxes c.0 (drop 1 (inbox w.medium c.0)) [] here_box ∙ ap (drop 1) is
-
-    other_box : (s : ℕ) → s ≢ c.0 → inbox took s ≡ inbox w.medium s
-    other_box s ne = get_or-set_other w.medium.inboxes c.0 s (drop 1 (inbox w.medium c.0)) [] ne
-
-    pub whole-took : (n' : Node) → IsStep deck w c n (record { medium = took; step = record { node = n'; fixed = [] } }) → IsSystem deck w.medium.words T c.0 n' rest (g.later c.0) (g.out c.0) →
-        ((p : StarPart) → n'.star ≡ Some p → Hands deck w.medium.words (length w.nodes) g.later g.out c.0 (in_hands p rest)) → IsWhole deck (placed w c n (record { medium = took; step = record { node = n'; fixed = [] } }))
-    whole-took n' step own hands =
-        whole-placed deck w c n at g.roles (record { medium = took; step = record { node = n'; fixed = [] } }) step T (items-none w.fixed c) g.later g.out g.right g.near
-        (subst (λ ms. IsSystem deck w.medium.words T c.0 n' ms (g.later c.0) (g.out c.0)) (sym own_box) own)
-        (λ s k ne found. subst (λ ms. IsSystem deck w.medium.words T s k ms (g.later s) (g.out s)) (sym (other_box s ne)) (g.system s k found))
-        (λ p star. subst (λ ms. Hands deck w.medium.words (length w.nodes) g.later g.out c.0 (in_hands p ms)) (sym own_box) (hands p star))
-        (λ m k p ne found star. subst (λ ms. Hands deck w.medium.words (length w.nodes) g.later g.out m (in_hands p ms)) (sym (other_box m ne)) (g.hands m k p found star))
-
-    -- a request is held last: the same requests are in its hands, in the same order
-    pub whole-took_request : (e : ℕ) (from : SysId) (q : Req) (p : StarPart) → mail ≡ Request e from q → n.star ≡ Some p → (n' : Node) → n' ≡ record n { star = Some (record p { held = p.held ++ q ∷ [] }) } →
-        IsStep deck w c n (record { medium = took; step = record { node = n'; fixed = [] } }) → IsWhole deck (placed w c n (record { medium = took; step = record { node = n'; fixed = [] } }))
-    whole-took_request e from q p which star n' node step =
-        whole-took n' step (subst (λ z. IsSystem deck w.medium.words T c.0 z rest (g.later c.0) (g.out c.0)) (sym node) (took-request deck w.medium.words T c.0 n e from q rest (g.later c.0) (g.out c.0) _ (subst (λ ms. IsSystem deck w.medium.words T c.0 n ms (g.later c.0) (g.out c.0)) (is ∙ ap (λ m. m ∷ rest) which) (g.system c.0 n at))))
-        (λ r found.
-        let same : record p { held = p.held ++ q ∷ [] } ≡ r = some_value (record p { held = p.held ++ q ∷ [] }) r (sym (ap (λ (z : Node). z.star) node) ∙ found) in
-        subst (λ (z : StarPart). Hands deck w.medium.words (length w.nodes) g.later g.out c.0 (in_hands z rest)) same
-        (subst (Hands deck w.medium.words (length w.nodes) g.later g.out c.0) (ap (in_hands p) (is ∙ ap (λ m. m ∷ rest) which) ∙ sym (append_assoc p.held (q ∷ []) (requests_in rest))) (g.hands c.0 n p at star)))
-
-    -- control is taken
-    pub whole-took_control : (t : TaskId) (r : Res) (p : StarPart) → mail ≡ Granted t r → n.star ≡ Some p → is_of_deck deck t ≡ true → (n' : Node) → n' ≡ record n { tasks = tell_control n.tasks r t; star = Some p } →
-        IsStep deck w c n (record { medium = took; step = record { node = n'; fixed = [] } }) → IsWhole deck (placed w c n (record { medium = took; step = record { node = n'; fixed = [] } }))
-    whole-took_control t r p which star of_deck n' node step =
-        let h : IsSystem deck w.medium.words T c.0 n (Granted t r ∷ rest) (g.later c.0) (g.out c.0) = subst (λ ms. IsSystem deck w.medium.words T c.0 n ms (g.later c.0) (g.out c.0)) (is ∙ ap (λ m. m ∷ rest) which) (g.system c.0 n at) in
-        let z = took-control deck w.medium.words T g.right c.0 n rest (g.later c.0) (g.out c.0) t r h of_deck (Some p) in
-        whole-took n' step (subst (λ k. IsSystem deck w.medium.words T c.0 k rest (g.later c.0) (g.out c.0)) (sym node) z.system)
-        (λ q found.
-        let same : p ≡ q = some_value p q (sym (ap (λ (k : Node). k.star) node) ∙ found) in
-        subst (λ (k : StarPart). Hands deck w.medium.words (length w.nodes) g.later g.out c.0 (in_hands k rest)) same
-        (subst (Hands deck w.medium.words (length w.nodes) g.later g.out c.0) (ap (in_hands p) (is ∙ ap (λ m. m ∷ rest) which)) (g.hands c.0 n p at star)))

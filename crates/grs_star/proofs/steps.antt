@@ -2,3 +2,5 @@
 pub mod Outcome
 pub mod Rest
 pub mod Send
+pub mod Take
+pub mod Task
