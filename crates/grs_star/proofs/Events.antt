@@ -5,6 +5,7 @@ use Rattle.std.specs.List.{list_any}
 use Rattle.std.proofs.lemmas.Bool.{and_parts, eqb-true, eq-eqb}
 use Rattle.std.proofs.lemmas.List.{length-set, set-get_or}
 use Rattle.contention_mgr.specs.Manager.{Ranked, plain, items_of, no_elements, entry_wanted, managed_at, kept_for, after_request}
+use Rattle.contention_mgr.proofs.ManagerLaws.{entries_are_well_kept}
 use Rattle.grs_base.specs.Limits.{most_systems}
 use Rattle.grs_base.specs.State.{State}
 use Rattle.grs_base.specs.declared.resource.Res.{Res}
@@ -172,6 +173,7 @@ module _ (deck : Deck) (some : 0 < deck.entries) (w : World) (c : SysId) (few : 
             roles = me.fits.roles;
             interest = me.fits.interest;
             lists = λ e h. me.fits.lists e h ∙ sym (k.lists deck.entries e L);
+            well = me.fits.well;
           };
         };
       }
@@ -337,7 +339,7 @@ module _ (deck : Deck) (some : 0 < deck.entries) (w : World) (c : SysId) (few : 
         go false = refl
 
     pub begun_part : manager_at w.medium.words x ≡ None → IsPart deck joined_words (all_lists w) c.0 (begun me.part x)
-    begun_part is = part-place deck words joined_words L c.0 p x (Some no_elements) true me.fits inside (role_gained is) interest_now (λ h. sym (g.free x is))
+    begun_part is = part-place deck words joined_words L c.0 p x (Some no_elements) true me.fits inside (role_gained is) interest_now (λ h. sym (g.free x is)) (entries_are_well_kept p.manager x me.fits.well).0
 
     -- the entry is managed by another system, to which the request goes
     sends_away : (t : TaskId) (a : Asked) → (state_of n.tasks t).outstanding ≡ Some a → entry_for me.part a.req.want ≡ Some x → (s : SysId) → manager_at w.medium.words x ≡ Some s →

@@ -5,6 +5,7 @@ use Rattle.std.specs.Prelude.{set, slice_get, ◌==◌}
 use Rattle.std.specs.List.{All}
 use Rattle.std.proofs.lemmas.Bool.{eqb-true, eqb-false, eq-eqb}
 use Rattle.std.proofs.lemmas.List.{length-set}
+use Rattle.contention_mgr.specs.Laws.{AreWellKept}
 use Rattle.contention_mgr.specs.Manager.{plain, items_of, managed_at}
 use Rattle.grs_base.specs.State.{State}
 use Rattle.grs_base.specs.declared.resource.SysId.{SysId}
@@ -43,6 +44,8 @@ pub record IsPart (deck : Deck) (words : List ℕ) (L : State) (s : ℕ) (p : St
   pub interest : (e : ℕ) → has_interest p e ≡ is_interested words e s
   -- of an entry that it manages it keeps the lists
   pub lists : (e : ℕ) → manages p e ≡ true → plain (items_of (managed_at p.manager e)) ≡ under deck.entries e L
+  -- there ranks rise, and each who is still to be told owns and is of another system
+  pub well : AreWellKept p.manager
 
 -- What holds of the system.
 pub record IsMember (deck : Deck) (words : List ℕ) (L : State) (s : ℕ) (n : Node) : Type 0 where
@@ -127,6 +130,7 @@ member-other deck c words words' L L' u n ne m k = record {
     lists = λ e h.
         let mine : has_manager words e u ≡ true = sym (k.fits.roles e) ∙ h in
         k.fits.lists e h ∙ sym (m.lists e (apart words e mine) (apart words' e (m.managers e u ne ∙ mine)));
+    well = k.fits.well;
   };
 }
   where

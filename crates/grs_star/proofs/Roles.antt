@@ -6,8 +6,10 @@ use Rattle.std.proofs.lemmas.Bool.{eqb-true, eqb-false}
 use Rattle.std.proofs.lemmas.List.{length-set, get_or-set_same, get_or-set_other}
 use Rattle.std.proofs.lemmas.Nat.{mod_below}
 use Rattle.std.proofs.lemmas.Option.{unwrap_or-slice_get}
+use Rattle.contention_mgr.specs.Laws.{AreWellKept}
 use Rattle.contention_mgr.specs.Manager.{Managed, ManagerView, plain, items_of, settled, told, entry_of_res, entry_wanted, are_of, kept_at, kept_for, managed_at, with_entry, after_request, after_telling}
 use Rattle.contention_mgr.proofs.LawProofs.{lists_follow, telling_keeps_lists}
+use Rattle.contention_mgr.proofs.ManagerLaws.{entries_are_well_kept, requests_keep_well, telling_keeps_well}
 use Rattle.grs_base.specs.Slices.{slice_of, entry_of}
 use Rattle.grs_base.specs.State.{State}
 use Rattle.grs_base.specs.declared.resource.Res.{Res}
@@ -78,14 +80,15 @@ abbrev keeping : StarPart → ℕ → Managed → List Req → StarPart
 keeping p x m held = record p { manager = record { system = p.manager.system; entries = slice_set p.manager.entries x (Some m) }; held = held }
 
 part-keeping : (deck : Deck) (words : List ℕ) (L L' : State) (s : ℕ) (p : StarPart) (x : ℕ) (m : Managed) (held : List Req) → IsPart deck words L s p → manages p x ≡ true →
-    plain m.items ≡ under deck.entries x L' → ((e : ℕ) → e ≢ x → under deck.entries e L' ≡ under deck.entries e L) → IsPart deck words L' s (keeping p x m held)
-part-keeping deck words L L' s p x m held k mine now others = record {
+    plain m.items ≡ under deck.entries x L' → ((e : ℕ) → e ≢ x → under deck.entries e L' ≡ under deck.entries e L) → AreWellKept (keeping p x m held).manager → IsPart deck words L' s (keeping p x m held)
+part-keeping deck words L L' s p x m held k mine now others well = record {
   home = k.home;
   entries = length-set p.manager.entries x (Some m) ∙ k.entries;
   interests = k.interests;
   roles = λ e. ap is_some (kept-set p.manager.entries x e (Some m) inside) ∙ (role e (e == x) refl ∙ k.roles e);
   interest = k.interest;
   lists = λ e h. ap (λ o. plain (items_of o)) (kept-set p.manager.entries x e (Some m) inside) ∙ list e (e == x) refl (sym (ap is_some (kept-set p.manager.entries x e (Some m) inside)) ∙ h);
+  well = well;
 }
   where
     inside : x < length p.manager.entries
@@ -128,23 +131,27 @@ part-settled deck words L s p t w x held k at mine = go (managed-some p x mine)
         subst (λ (v : ManagerView). IsPart deck words (after_want L t w) s (record p { manager = v; held = held })) (sym same)
         (part-keeping deck words L (after_want L t w) s p x (settled p.manager.system.0 m t w) held k mine
         (lists_follow p.manager.system.0 m t w ∙ (ap (λ z. after_want z t w) (ap (λ o. plain (items_of o)) (sym is) ∙ k.lists x mine) ∙ under-want deck.entries x L t w mine_entry))
-        (λ e ne. under-other deck.entries e L t w (other_entry e ne)))
+        (λ e ne. under-other deck.entries e L t w (other_entry e ne))
+        (subst AreWellKept same (requests_keep_well p.manager t w k.well)))
 
 -- An owner is told.
 pub part-telling : (deck : Deck) (words : List ℕ) (L : State) (s : ℕ) (p : StarPart) (t : TaskId) (r : Res) → IsPart deck words L s p → IsPart deck words L s (record p { manager = after_telling p.manager t r })
-part-telling deck words L s p t r k = by_entry (entry_of_res (length p.manager.entries) r)
+part-telling deck words L s p t r k = by_entry (entry_of_res (length p.manager.entries) r) (telling_keeps_well p.manager t r k.well)
   where
-    by_managed : (x : ℕ) (o : Option Managed) → kept_at p.manager.entries x ≡ o → IsPart deck words L s (record p { manager = option_map_or (λ z. with_entry p.manager (Some x) (Some (told t r z))) o p.manager })
-    by_managed x None is = k
-    by_managed x (Some m) is =
+    by_managed : (x : ℕ) (o : Option Managed) → kept_at p.manager.entries x ≡ o → AreWellKept (option_map_or (λ z. with_entry p.manager (Some x) (Some (told t r z))) o p.manager) →
+        IsPart deck words L s (record p { manager = option_map_or (λ z. with_entry p.manager (Some x) (Some (told t r z))) o p.manager })
+    by_managed x None is well = k
+    by_managed x (Some m) is well =
         let mine : manages p x ≡ true = ap is_some is in
         part-keeping deck words L L s p x (told t r m) p.held k mine
         (telling_keeps_lists false r t m.items ∙ (ap (λ o. plain (items_of o)) (sym is) ∙ k.lists x mine))
         (λ e ne. refl)
+        well
 
-    by_entry : (o : Option ℕ) → IsPart deck words L s (record p { manager = option_map_or (λ z. with_entry p.manager o (Some (told t r z))) (kept_for p.manager.entries o) p.manager })
-    by_entry None = k
-    by_entry (Some x) = by_managed x (kept_at p.manager.entries x) refl
+    by_entry : (o : Option ℕ) → AreWellKept (option_map_or (λ z. with_entry p.manager o (Some (told t r z))) (kept_for p.manager.entries o) p.manager) →
+        IsPart deck words L s (record p { manager = option_map_or (λ z. with_entry p.manager o (Some (told t r z))) (kept_for p.manager.entries o) p.manager })
+    by_entry None well = k
+    by_entry (Some x) well = by_managed x (kept_at p.manager.entries x) refl well
 
 pub part-told : (deck : Deck) (words : List ℕ) (L : State) (s : ℕ) (p : StarPart) (o : Option (TaskId × Res)) → IsPart deck words L s p → IsPart deck words L s (told_by p o)
 part-told deck words L s p None k = k
@@ -152,7 +159,7 @@ part-told deck words L s p (Some x) k = part-telling deck words L s p x.0 x.1 k
 
 -- what is held doesn't matter
 pub part-held : (deck : Deck) (words : List ℕ) (L : State) (s : ℕ) (p : StarPart) (held : List Req) → IsPart deck words L s p → IsPart deck words L s (record p { held = held })
-part-held deck words L s p held k = record { home = k.home; entries = k.entries; interests = k.interests; roles = k.roles; interest = k.interest; lists = k.lists }
+part-held deck words L s p held k = record { home = k.home; entries = k.entries; interests = k.interests; roles = k.roles; interest = k.interest; lists = k.lists; well = k.well }
 
 -- ---- interest and roles
 -- It gains or loses interest in an entry, and what it manages stays: so where the words do the same.
@@ -165,19 +172,21 @@ part-interest deck words words' L s p x b k inside roles interest = record {
   roles = λ e. k.roles e ∙ sym (roles e);
   interest = λ e. interest-set p.interest x e b (omega (arith, inside, k.interests)) ∙ (ap (cond (e == x) b) (k.interest e) ∙ sym (interest e));
   lists = k.lists;
+  well = k.well;
 }
 
 -- It manages an entry from now on, or no longer, and gains or loses interest in it.
 pub part-place : (deck : Deck) (words words' : List ℕ) (L : State) (s : ℕ) (p : StarPart) (x : ℕ) (o : Option Managed) (b : Bool) → IsPart deck words L s p → x < deck.entries →
     ((e : ℕ) → has_manager words' e s ≡ cond (e == x) (is_some o) (has_manager words e s)) → ((e : ℕ) → is_interested words' e s ≡ cond (e == x) b (is_interested words e s)) → (is_some o ≡ true → plain (items_of o) ≡ under deck.entries x L) →
-    IsPart deck words' L s (with_interest (record p { manager = with_entry p.manager (Some x) o }) x b)
-part-place deck words words' L s p x o b k inside roles interest kept = record {
+    AreWellKept (with_entry p.manager (Some x) o) → IsPart deck words' L s (with_interest (record p { manager = with_entry p.manager (Some x) o }) x b)
+part-place deck words words' L s p x o b k inside roles interest kept well = record {
   home = k.home;
   entries = length-set p.manager.entries x o ∙ k.entries;
   interests = length-set p.interest x b ∙ k.interests;
   roles = λ e. ap is_some (kept-set p.manager.entries x e o there) ∙ (role e (e == x) ∙ sym (roles e));
   interest = λ e. interest-set p.interest x e b (omega (arith, inside, k.interests)) ∙ (ap (cond (e == x) b) (k.interest e) ∙ sym (interest e));
   lists = λ e h. ap (λ z. plain (items_of z)) (kept-set p.manager.entries x e o there) ∙ list e (e == x) refl (sym (ap is_some (kept-set p.manager.entries x e o there)) ∙ h);
+  well = well;
 }
   where
     there : x < length p.manager.entries
@@ -197,7 +206,7 @@ pub part-left : (deck : Deck) (words words' : List ℕ) (L : State) (s : ℕ) (p
 part-left deck words words' L s p x k inside roles interest = go (manages p x) refl
   where
     go : (b : Bool) → manages p x ≡ b → IsPart deck words' L s (with_interest (record p { manager = cond b (with_entry p.manager (Some x) None) p.manager }) x false)
-    go true h = part-place deck words words' L s p x None false k inside roles interest (λ e. absurd (cc))
+    go true h = part-place deck words words' L s p x None false k inside roles interest (λ e. absurd (cc)) (entries_are_well_kept p.manager x k.well).1
     go false h = part-interest deck words words' L s p x false k inside (λ e. roles e ∙ same e (e == x) refl) interest
       where
         same : (e : ℕ) (b : Bool) → (e == x) ≡ b → cond b false (has_manager words e s) ≡ has_manager words e s

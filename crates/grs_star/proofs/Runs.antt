@@ -3,6 +3,7 @@ use Rattle.std.proofs.Common.{◌≡◌, ◌<◌, ◌≤◌, ◌+◌, ◌%◌, �
 use Rattle.std.specs.Prelude.{is_some, slice_get, replicate, slice_index_or}
 use Rattle.std.proofs.lemmas.List.{length-replicate}
 use Rattle.contention_mgr.specs.Manager.{plain, items_of, entry_of_res, kept_at, kept_for}
+use Rattle.contention_mgr.proofs.ManagerLaws.{well_kept_begins}
 use Rattle.grs_base.specs.Limits.{is_entries}
 use Rattle.grs_base.specs.Slices.{slice_of, entry_of}
 use Rattle.grs_base.specs.State.{list_of, is_systems}
@@ -107,6 +108,7 @@ first_fits deck s = record {
   roles = λ e. ap is_some (no_managed deck.entries e) ∙ sym (ap (λ o. is_manager o (record { 0 = s })) (no_manager deck.entries e));
   interest = λ e. none_interested deck.entries e ∙ sym (no_interest deck.entries e s);
   lists = λ e h. ap (λ o. plain (items_of o)) (no_managed deck.entries e);
+  well = well_kept_begins (record { 0 = s }) deck.entries;
 }
 
 first_member : (deck : Deck) (s : ℕ) → deck.star ≡ true → IsMember deck (replicate deck.entries 0) [] s (first_node deck s)
