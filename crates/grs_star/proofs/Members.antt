@@ -34,6 +34,10 @@ managed-is words e s (Some m) at h = at ∙ ap (λ (k : ℕ). Some (record { 0 =
 pub manager-here : (words : List ℕ) (e : ℕ) (m : SysId) → manager_at words e ≡ Some m → has_manager words e m.0 ≡ true
 manager-here words e m h = ap (λ o. is_manager o (record { 0 = m.0 })) h ∙ eq-eqb m.0 m.0 refl
 
+-- an entry has one manager
+pub one-manages : (words : List ℕ) (e m k : ℕ) → has_manager words e m ≡ true → has_manager words e k ≡ true → m ≡ k
+one-manages words e m k mine other = ap (λ (z : SysId). z.0) (some_value (record { 0 = m }) (record { 0 = k }) (sym (managed-is words e m (manager_at words e) refl mine) ∙ managed-is words e k (manager_at words e) refl other))
+
 -- What holds of a system's part in star mode, by the words and by all lists.
 pub record IsPart (deck : Deck) (words : List ℕ) (L : State) (s : ℕ) (p : StarPart) : Type 0 where
   pub home : p.manager.system.0 ≡ s

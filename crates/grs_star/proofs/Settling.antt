@@ -38,8 +38,7 @@ use Rattle.grs_world.proofs.system.Says.{none, is_home_at, askers, stand_apart}
 use Rattle.grs_star.proofs.Answering.{Taken, tells-owners, asker-settled}
 use Rattle.grs_star.proofs.Ghosts.{told-free}
 use Rattle.grs_known.proofs.lists.Facts.{some_value, filter-append, filter-cons_left, slice_get-there}
-use Rattle.lock_structure.specs.Laws.{manager_at}
-use Rattle.grs_star.proofs.Members.{has_manager, managed-is, IsStep}
+use Rattle.grs_star.proofs.Members.{has_manager, one-manages, IsStep}
 use Rattle.grs_star.proofs.OwnEvents.{Goes, late-calm}
 use Rattle.grs_star.proofs.Systems.{IsSystem, system-other, Away, near_at, is_near, gives_want, system-settled, requests_in, here}
 use Rattle.grs_star.proofs.Worlds.{IsIn, IsHand, AllHands, IsWhole, Hands, in_hands, items-one, whole-placed}
@@ -80,9 +79,7 @@ one-request q r o qs same h k asked = go o (in-asked q o qs h asked) (in-asked r
 pub one-manager : (deck : Deck) (words : List ℕ) (q : Req) (e f m k : ℕ) → entry_wanted deck.entries q.want ≡ Some e → entry_wanted deck.entries q.want ≡ Some f → has_manager words e m ≡ true → has_manager words f k ≡ true → m ≡ k
 one-manager deck words q e f m k at also mine other =
     let same : e ≡ f = some_value e f (sym at ∙ also) in
-    let one : manager_at words e ≡ Some (record { 0 = m }) = managed-is words e m (manager_at words e) refl mine in
-    let two : manager_at words e ≡ Some (record { 0 = k }) = managed-is words e k (manager_at words e) refl (ap (λ i. has_manager words i k) same ∙ other) in
-    ap (λ (z : SysId). z.0) (some_value (record { 0 = m }) (record { 0 = k }) (sym one ∙ two))
+    one-manages words e m k mine (ap (λ i. has_manager words i k) same ∙ other)
 
 -- ---- The asker's system, whose task is behind now.
 module _ (deck : Deck) (words : List ℕ) (T : List RunItem) (right : IsHistory deck T) (s : ℕ) (k : Node) (ms : List Mail) (later : List RunItem) (out : List Req) (h : IsSystem deck words T s k ms later out) (q : Req) (among : IsIn q out) (idle : mine q.task later ≡ []) (m : SysId) (entry : ℕ) (at : entry_wanted deck.entries q.want ≡ Some entry) (mine_entry : has_manager words entry m.0 ≡ true) (ne : s ≢ m.0) where

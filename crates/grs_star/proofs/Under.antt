@@ -1,7 +1,9 @@
 -- The elements on the resources of a lock entry.
-use Rattle.std.proofs.Common.{◌≡◌, ℕ, Bool, true, false, Option, Some, None, refl, ap, ◌∙◌}
+use Rattle.std.proofs.Common.{◌≡◌, ℕ, Bool, true, false, cond, [], ◌∷◌, Option, Some, None, refl, ap, ◌∙◌}
+use Rattle.std.specs.List.{list_all}
 use Rattle.std.proofs.lemmas.Bool.{eqb-true, eq-eqb}
 use Rattle.contention_mgr.specs.Manager.{entry_of_res, entry_wanted}
+use Rattle.grs_base.specs.Lists.{has_task}
 use Rattle.grs_base.specs.State.{State, list_of}
 use Rattle.grs_base.specs.declared.resource.Res.{Res}
 use Rattle.grs_base.specs.declared.resource.TaskId.{TaskId}
@@ -9,6 +11,8 @@ use Rattle.grs_wire.specs.Wants.{after_want, answer_to, new_owners, res_wanted}
 use Rattle.grs_wire.specs.declared.request.Want.{Want}
 use Rattle.grs_wire.specs.declared.request.Want.TheVariants.{Enq, Deq, Release, Look}
 use Rattle.grs_node.specs.Star.{is_entry}
+use Rattle.grs_known.proofs.lists.All.{has_task-all}
+use Rattle.grs_known.proofs.lists.Truths.{and_on}
 use Rattle.grs_known.proofs.lists.Parts.{part, list_of-part, after_want-part, answer_to-part, new_owners-part, part-want_other}
 
 -- whether a resource is of a lock entry, where there are so many
@@ -54,3 +58,15 @@ owners-under entries e s t (Look first count f) r is h = absurd (cc)
 
 pub list-under : (entries e : ℕ) (s : State) (r : Res) → in_entry entries e r ≡ true → list_of (under entries e s) r ≡ list_of s r
 list-under entries e s r h = list_of-part (in_entry entries e) s r h
+
+-- and who has an element among them has it on a resource of the entry
+part-passes : (p : Res → Bool) (s : State) → list_all (λ h. p h.0) (part p s) ≡ true
+part-passes p [] = refl
+part-passes p (x ∷ s) = go (p x.0) refl (part-passes p s)
+  where
+    go : (b : Bool) → p x.0 ≡ b → list_all (λ h. p h.0) (part p s) ≡ true → list_all (λ h. p h.0) (cond b (x ∷ part p s) (part p s)) ≡ true
+    go true e more = and_on (p x.0) (list_all (λ h. p h.0) (part p s)) e more
+    go false e more = more
+
+pub under-has : (entries e : ℕ) (s : State) (r : Res) (t : TaskId) → has_task (list_of (under entries e s) r) t ≡ true → in_entry entries e r ≡ true
+under-has entries e s r t h = has_task-all (λ q u. in_entry entries e q) (under entries e s) r t (part-passes (in_entry entries e) s) h

@@ -4,3 +4,4 @@ pub mod Rest
 pub mod Send
 pub mod Take
 pub mod Task
+pub mod Tell
