@@ -50,6 +50,7 @@ use Rattle.grs_star.proofs.Ghosts.{IsAt, TaskStep, idles, does, task-goes, told-
 use Rattle.grs_star.proofs.Members.{has_manager}
 use Rattle.grs_star.proofs.News.{blank, coming-other, coming-decided}
 use Rattle.grs_star.proofs.Systems.{IsSystem, IsLate, AllLate, AllFit, Keeps, is_near, is_late, news_of, late-none, here, behind-late, right-late, system-words}
+use Rattle.grs_star.proofs.Under.{res-entry}
 
 -- what a system is afterwards, and what it told
 pub record Goes (deck : Deck) (words : List ℕ) (T : List RunItem) (s : ℕ) (n : Node) (ms : List Mail) (later : List RunItem) (out : List Req) (T0 : List ToldLine) : Type 0 where
@@ -202,7 +203,7 @@ module _ (deck : Deck) (words : List ℕ) (T : List RunItem) (right : IsHistory 
           let m = may-follow c in
           let T' : List RunItem = T ++ item ∷ [] in
           let k = decides-own deck s T later right out n h.at t ls ours a is c m (h.sent t free) free rank in
-          let told = tells-owners deck s T' later out (follows deck T item right m) n.tasks.told (settled_ranked n.tasks t a (answer_to (lists T) t a.req.want) rank) k r ts owned (late-calm deck words s r entry later (res_entry a.req.want wanted of_entry) mine_entry h.late) in
+          let told = tells-owners deck s T' later out (follows deck T item right m) n.tasks.told (settled_ranked n.tasks t a (answer_to (lists T) t a.req.want) rank) k r ts owned (late-calm deck words s r entry later (res-entry deck.entries a.req.want r entry wanted of_entry) mine_entry h.late) in
           subst (λ w. Goes deck words T' s (record n { tasks = tell_new (settled_ranked n.tasks t a (answer_to (lists T) t a.req.want) rank) w ts; star = o }) ms later out n.tasks.told) (sym wanted)
           (record {
             system = record {
@@ -218,14 +219,8 @@ module _ (deck : Deck) (words : List ℕ) (T : List RunItem) (right : IsHistory 
             told = told-free deck s (out ++ []) (history T') n.tasks.told _ told.told;
           })
         where
-          res_entry : (w : Want) → res_wanted w ≡ Some r → entry_wanted deck.entries w ≡ Some entry → entry_of_res deck.entries r ≡ Some entry
-          res_entry (Enq q d ret full) e f = ap (entry_of_res deck.entries) (some_value r q (sym e)) ∙ f
-          res_entry (Deq q have) e f = ap (entry_of_res deck.entries) (some_value r q (sym e)) ∙ f
-          res_entry (Release q) e f = ap (entry_of_res deck.entries) (some_value r q (sym e)) ∙ f
-          res_entry (Look first count g) e f = absurd (cc)
-
           wide : is_systems r ≡ true
-          wide = by_entry r (res_entry a.req.want wanted of_entry)
+          wide = by_entry r (res-entry deck.entries a.req.want r entry wanted of_entry)
             where
               by_entry : (p : Res) → entry_of_res deck.entries p ≡ Some entry → is_systems p ≡ true
               by_entry (StepRes z j q u) e = absurd (cc)

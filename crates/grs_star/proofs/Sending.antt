@@ -26,8 +26,6 @@ use Rattle.grs_wire.specs.declared.medium.Mail.{Mail}
 use Rattle.grs_wire.specs.declared.medium.Mail.TheVariants.{Request, Answered, Granted}
 use Rattle.grs_wire.specs.declared.request.Fixed.TheVariants as fixing
 use Rattle.grs_wire.specs.declared.request.Req.{Req}
-use Rattle.grs_wire.specs.declared.request.Want.{Want}
-use Rattle.grs_wire.specs.declared.request.Want.TheVariants.{Enq, Deq, Release, Look}
 use Rattle.grs_wire.proofs.MaskLaws.{has-zero}
 use Rattle.lock_structure.specs.Laws.{IsManaged, ManagedBy, is_interested, manager_at}
 use Rattle.lock_structure.specs.Words.{word_at, submitted_words}
@@ -54,6 +52,7 @@ use Rattle.grs_star.proofs.Members.{IsStep, has_manager, managed-is}
 use Rattle.grs_star.proofs.OwnEvents.{may-follow, system-decided, system-sent}
 use Rattle.grs_star.proofs.Runs.{word_past}
 use Rattle.grs_star.proofs.Systems.{IsSystem, Keeps, Away, near_at, requests_in, system-other, system-requested, system-words}
+use Rattle.grs_star.proofs.Under.{res-entry}
 use Rattle.grs_star.proofs.Worlds.{IsIn, IsHand, AllHands, Hands, IsWhole, in_hands, items-none, items-one, whole-placed}
 use Rattle.grs_star.proofs.steps.Outcome.{IsOutcome}
 
@@ -315,12 +314,6 @@ module _ (deck : Deck) (w : World) (g : IsWhole deck w) (c : SysId) (n : Node) (
         asker : q ≡ m.ask.req
         asker = let e : fixing.Asked q ≡ fixing.Asked m.ask.req = m.ask.asked in cc
 
-    at_entry : (x : Want) (v : Res) → res_wanted x ≡ Some v → entry_wanted deck.entries x ≡ Some entry → entry_of_res deck.entries v ≡ Some entry
-    at_entry (Enq y d ret full) v e f = ap (entry_of_res deck.entries) (some_value v y (sym e)) ∙ f
-    at_entry (Deq y have) v e f = ap (entry_of_res deck.entries) (some_value v y (sym e)) ∙ f
-    at_entry (Release y) v e f = ap (entry_of_res deck.entries) (some_value v y (sym e)) ∙ f
-    at_entry (Look first count filter) v e f = absurd (cc)
-
     hands_same : (m : ℕ) (k : Node) (v : StarPart) → slice_get w.nodes m ≡ Some k → k.star ≡ Some v → Hands deck words (length w.nodes) g.later g.out m (in_hands v (inbox w.medium m))
     hands_same m k v found known = hands-grow deck w.medium.words words grow (length w.nodes) g.later g.out g.out (λ u z h. h) m (in_hands v (inbox w.medium m)) (g.hands m k v found known)
 
@@ -345,4 +338,4 @@ module _ (deck : Deck) (w : World) (g : IsWhole deck w) (c : SysId) (n : Node) (
         }
       where
         near : (v : Res) → res_wanted a.req.want ≡ Some v → All IsManaged words → is_near_res deck words v t ≡ true
-        near v e managed = ap (near_at words t.system.0) (at_entry a.req.want v e of_entry) ∙ (ap (is_interested words entry) ours.home ∙ manager-near words managed entry c.0 managing)
+        near v e managed = ap (near_at words t.system.0) (res-entry deck.entries a.req.want v entry e of_entry) ∙ (ap (is_interested words entry) ours.home ∙ manager-near words managed entry c.0 managing)

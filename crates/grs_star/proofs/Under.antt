@@ -1,5 +1,5 @@
 -- The elements on the resources of a lock entry.
-use Rattle.std.proofs.Common.{◌≡◌, ℕ, Bool, true, false, cond, [], ◌∷◌, Option, Some, None, refl, ap, ◌∙◌}
+use Rattle.std.proofs.Common.{◌≡◌, ℕ, Bool, true, false, cond, [], ◌∷◌, Option, Some, None, refl, ap, sym, ◌∙◌}
 use Rattle.std.specs.List.{list_all}
 use Rattle.std.proofs.lemmas.Bool.{eqb-true, eq-eqb}
 use Rattle.contention_mgr.specs.Manager.{entry_of_res, entry_wanted}
@@ -13,6 +13,7 @@ use Rattle.grs_wire.specs.declared.request.Want.TheVariants.{Enq, Deq, Release, 
 use Rattle.grs_node.specs.Star.{is_entry}
 use Rattle.grs_known.proofs.lists.All.{has_task-all}
 use Rattle.grs_known.proofs.lists.Truths.{and_on}
+use Rattle.grs_known.proofs.lists.Facts.{some_value}
 use Rattle.grs_known.proofs.lists.Parts.{part, list_of-part, after_want-part, answer_to-part, new_owners-part, part-want_other}
 
 -- whether a resource is of a lock entry, where there are so many
@@ -28,6 +29,13 @@ entry-same e o h = ap (is_entry e) h ∙ eq-eqb e e refl
 pub entry-is : (e : ℕ) (o : Option ℕ) → is_entry e o ≡ true → o ≡ Some e
 entry-is e None h = absurd (cc)
 entry-is e (Some n) h = ap Some (eqb-true n e h)
+
+-- the entry of a request is that of its resource
+pub res-entry : (entries : ℕ) (w : Want) (r : Res) (e : ℕ) → res_wanted w ≡ Some r → entry_wanted entries w ≡ Some e → entry_of_res entries r ≡ Some e
+res-entry entries (Enq q c ret full) r e wanted is = ap (entry_of_res entries) (some_value r q (sym wanted)) ∙ is
+res-entry entries (Deq q have) r e wanted is = ap (entry_of_res entries) (some_value r q (sym wanted)) ∙ is
+res-entry entries (Release q) r e wanted is = ap (entry_of_res entries) (some_value r q (sym wanted)) ∙ is
+res-entry entries (Look first count f) r e wanted is = absurd (cc)
 
 -- a request of the entry does to them what it does to all lists
 pub under-want : (entries e : ℕ) (s : State) (t : TaskId) (w : Want) → is_entry e (entry_wanted entries w) ≡ true → after_want (under entries e s) t w ≡ under entries e (after_want s t w)
