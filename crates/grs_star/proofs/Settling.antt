@@ -180,11 +180,18 @@ module _ (deck : Deck) (w : World) (g : IsWhole deck w) (c : SysId) (n : Node) (
   its : IsSystem deck w.medium.words T s other (inbox w.medium s) (g.later s) (g.out s)
   its = g.system s other (slice_get-there w.nodes s n hand.below)
 
-  follows-now : MayFollow deck T item
+  -- the request may be fixed now
+  pub follows-now : MayFollow deck T item
   follows-now = asker-follows deck w.medium.words T g.right s other (inbox w.medium s) (g.later s) (g.out s) its q hand.among hand.idle c hand.entry hand.at hand.managed hand.apart
 
-  same_req : q ≡ follows-now.ask.req
+  pub same_req : q ≡ follows-now.ask.req
   same_req = let e : fixing.Asked q ≡ fixing.Asked follows-now.ask.req = follows-now.ask.asked in cc
+
+  -- the manager then, whose own tasks that became owners of the resource are told
+  pub manager-after : (r : Res) (ts : List TaskId) → ((u : TaskId) → is_among u ts ≡ true → owns (list_of (lists (T ++ item ∷ [])) r) u ≡ true) → entry_of_res deck.entries r ≡ Some hand.entry → (o : Option StarPart) →
+      Goes deck w.medium.words (T ++ item ∷ []) c.0 (record n { tasks = tell_all n.tasks r ts; star = o }) (inbox w.medium c.0) (g.later c.0) (g.out c.0) n.tasks.told
+  manager-after r ts owned of_entry o =
+      system-manages deck w.medium.words T c.0 n (inbox w.medium c.0) (g.later c.0) (g.out c.0) item follows-now.ask (λ e. hand.apart (ap (λ (y : Req). y.task.system.0) same_req ∙ e)) (follows deck T item g.right follows-now) (g.system c.0 n at) r hand.entry of_entry hand.managed ts owned o
 
   module _ (rank : ℕ) (plain : gives_want q.want ≡ true → rank ≡ 0) (flags : ℕ) where
     abbrev answer : Mail
@@ -231,13 +238,12 @@ module _ (deck : Deck) (w : World) (g : IsWhole deck w) (c : SysId) (n : Node) (
             (subst (λ xs. IsSystem deck w.medium.words (T ++ item ∷ []) u k (inbox w.medium u) xs (g.out u)) (sym (other_later u apart))
             (system-other deck w.medium.words T u k (inbox w.medium u) (g.later u) (g.out u) item follows-now.ask (λ z. apart (sym z ∙ ap (λ (r : Req). r.task.system.0) (sym same_req))) (g.system u k found)))
 
-    -- the manager's own tasks that became owners of the resource are told
     pub whole-settled : (r : Res) → res_wanted q.want ≡ Some r → (ts : List TaskId) → ((u : TaskId) → is_among u ts ≡ true → owns (list_of (lists (T ++ item ∷ [])) r) u ≡ true) → entry_of_res deck.entries r ≡ Some hand.entry →
         (p' : StarPart) → p'.held ≡ qs → (n' : Node) → n' ≡ record n { tasks = tell_all n.tasks r ts; star = Some p' } →
         IsStep deck w c n (record { medium = sent_on; step = record { node = n'; fixed = fixing.Asked q ∷ [] } }) → IsWhole deck (placed w c n (record { medium = sent_on; step = record { node = n'; fixed = fixing.Asked q ∷ [] } }))
     whole-settled r wanted ts owned of_entry p' kept n' node step =
         let away : c.0 ≢ s = λ e. hand.apart (sym e) in
-        let z = system-manages deck w.medium.words T c.0 n (inbox w.medium c.0) (g.later c.0) (g.out c.0) item follows-now.ask (λ e. hand.apart (ap (λ (y : Req). y.task.system.0) same_req ∙ e)) (follows deck T item g.right follows-now) (g.system c.0 n at) r hand.entry of_entry hand.managed ts owned (Some p') in
+        let z = manager-after r ts owned of_entry (Some p') in
         let asked = (here deck s T (g.later s) (g.out s) other its.at q.task (asker-home deck w.medium.words T g.right s other (inbox w.medium s) (g.later s) (g.out s) its q hand.among hand.idle c hand.entry hand.at hand.managed hand.apart)).asked in
         whole-placed deck w c n at g.roles (record { medium = sent_on; step = record { node = n'; fixed = fixing.Asked q ∷ [] } }) step (T ++ item ∷ []) (items-one w.fixed c (fixing.Asked q)) (later-with g.later s item) g.out
         (follows deck T item g.right follows-now)

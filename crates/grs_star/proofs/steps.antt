@@ -5,3 +5,4 @@ pub mod Send
 pub mod Take
 pub mod Task
 pub mod Tell
+pub mod Settle
