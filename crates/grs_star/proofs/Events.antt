@@ -414,7 +414,7 @@ module _ (deck : Deck) (some : 0 < deck.entries) (w : World) (c : SysId) (few : 
     inside_leave : x < deck.entries
     inside_leave = let k = interest-within p x interested in omega (arith, k, me.fits.interests)
 
-    there_leave : x < length w.medium.words
+    pub there_leave : x < length w.medium.words
     there_leave = omega (arith, inside_leave, g.words)
 
     abbrev words_left : List ℕ
@@ -428,7 +428,8 @@ module _ (deck : Deck) (some : 0 < deck.entries) (w : World) (c : SysId) (few : 
         no_items [] h = refl
         no_items (y ∷ ys) h = absurd (omega (arith, eqb-true (length (y ∷ ys)) 0 h))
 
-    left-is : cond (leave_changes (word_at w.medium.words x) c) (med words_left w.medium.inboxes (awake w.medium c)) w.medium ≡ med words_left w.medium.inboxes (cond (leave_changes (word_at w.medium.words x) c) (awake w.medium c) w.medium.rest)
+    -- what the medium is after a Leave
+    pub left-is : cond (leave_changes (word_at w.medium.words x) c) (med words_left w.medium.inboxes (awake w.medium c)) w.medium ≡ med words_left w.medium.inboxes (cond (leave_changes (word_at w.medium.words x) c) (awake w.medium c) w.medium.rest)
     unfolding left_word
     left-is = go (leave_changes (word_at words x) c) refl
       where

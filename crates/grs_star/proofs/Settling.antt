@@ -92,7 +92,7 @@ module _ (deck : Deck) (words : List ℕ) (T : List RunItem) (right : IsHistory 
   asker-home = all-in (λ z. is_home_at deck s z.task) out among (sym (ap (list_all (λ z. is_home_at deck s z.task)) (append-nil out)) ∙ h.at.homes)
 
   -- the entry is another system's, and the asker's has interest in it
-  asker-away : Away words s entry
+  pub asker-away : Away words s entry
   asker-away = (
     false_by (has_manager words entry s) (λ mine_too. absurd (ne (one-manager deck words q entry entry s m.0 at at mine_too mine_entry))),
     sym (ap (near_at words s) at) ∙ all-in (is_near deck words s) out among h.near,

@@ -5,4 +5,6 @@ pub mod Send
 pub mod Take
 pub mod Task
 pub mod Tell
+pub mod Words
 pub mod Settle
+pub mod Leave
