@@ -18,3 +18,4 @@ pub mod Worlds
 pub mod Settling
 pub mod Sending
 pub mod steps
+pub mod Sound

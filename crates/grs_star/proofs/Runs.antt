@@ -25,23 +25,25 @@ use Rattle.lock_structure.proofs.LawProofs.{words_begin, empty_is_managed}
 use Rattle.grs_known.proofs.lists.Facts.{slice_get-within, slice_get-past}
 use Rattle.grs_world.specs.Kept.{kept, kept_in, at_manager, at_node, managed_list, manager_at as kept_manager}
 use Rattle.grs_world.specs.World.{World, run, run_from, first_world, first_nodes, happens, happens_at, counted, placed, chosen}
+use Rattle.grs_world.proofs.run.Sound.{first_is}
 use Rattle.grs_star.specs.Interest.{IsStarDeck, WordsGoWithSystems, interest_at, interest_by}
 use Rattle.grs_star.proofs.Events.{good_choice}
 use Rattle.grs_star.proofs.Members.{IsPart, IsMember, IsStar, manager-here, all_lists, framed}
 use Rattle.grs_star.proofs.Under.{in_entry, under, entry-same, list-under}
 
 -- ---- one event
-module _ (deck : Deck) (star : IsStarDeck deck) (some : 0 < deck.entries) (w : World) (g : IsStar deck w) (e : Event) where
-  good_counted : IsStar deck (counted w)
-  good_counted = record { mode = g.mode; removed = g.removed; words = g.words; inboxes = g.inboxes; systems = g.systems; managed = g.managed; nobody = g.nobody; free = g.free; node = g.node }
+-- an event that is only counted
+pub counted-star : (deck : Deck) (w : World) → IsStar deck w → IsStar deck (counted w)
+counted-star deck w g = record { mode = g.mode; removed = g.removed; words = g.words; inboxes = g.inboxes; systems = g.systems; managed = g.managed; nobody = g.nobody; free = g.free; node = g.node }
 
+module _ (deck : Deck) (star : IsStarDeck deck) (some : 0 < deck.entries) (w : World) (g : IsStar deck w) (e : Event) where
   good_at : (o : Option Node) → slice_get w.nodes e.system.0 ≡ o → IsStar deck (happens_at deck w e o)
   unfolding happens_at
-  good_at None at = good_counted
+  good_at None at = counted-star deck w g
   good_at (Some n) at =
       let here = slice_get-within w.nodes e.system.0 n at in
       by_test (IsStar deck) (has w.medium.removed e.system.0) (counted w) (placed w e.system n (chosen deck w.medium e.system n e.choice))
-      (λ h. good_counted)
+      (λ h. counted-star deck w g)
       (λ h. framed deck w e.system n at g (chosen deck w.medium e.system n e.choice) (good_choice deck some w e.system (omega (arith, here, g.systems, star.few)) n at g (g.node e.system.0 n at) e.choice))
 
   pub good_happens : IsStar deck (happens deck w e)
@@ -49,26 +51,6 @@ module _ (deck : Deck) (star : IsStarDeck deck) (some : 0 < deck.entries) (w : W
   good_happens = good_at (slice_get w.nodes e.system.0) refl
 
 -- ---- the first world
-first_at : (deck : Deck) (k : ℕ) (ds : List SystemDef) (i : ℕ) (n : Node) → slice_get (first_nodes deck k ds) i ≡ Some n → n ≡ first_node deck (k + i)
-first_at deck k [] i n h = absurd (cc)
-first_at deck k (d ∷ ds) zero n h = sym (same_some (first_node deck k) n h) ∙ ap (first_node deck) (plus_zero k)
-  where
-    same_some : (a b : Node) → Some a ≡ Some b → a ≡ b
-    same_some a b e = cc
-
-    plus_zero : (a : ℕ) → a ≡ a + 0
-    plus_zero a = omega arith
-first_at deck k (d ∷ ds) (suc i) n h = first_at deck (k + 1) ds i n h ∙ ap (first_node deck) (next k i)
-  where
-    next : (a b : ℕ) → a + 1 + b ≡ a + suc b
-    next a b = omega arith
-
-first_is : (deck : Deck) (s : ℕ) (n : Node) → slice_get (first_nodes deck 0 deck.systems) s ≡ Some n → n ≡ first_node deck s
-first_is deck s n h = first_at deck 0 deck.systems s n h ∙ ap (first_node deck) (zero_plus s)
-  where
-    zero_plus : (a : ℕ) → 0 + a ≡ a
-    zero_plus a = omega arith
-
 count_first : (deck : Deck) (k : ℕ) (ds : List SystemDef) → length (first_nodes deck k ds) ≡ length ds
 count_first deck k [] = refl
 count_first deck k (d ∷ ds) = ap suc (count_first deck (k + 1) ds)
@@ -96,7 +78,7 @@ none_interested zero e = refl
 none_interested (suc k) zero = refl
 none_interested (suc k) (suc e) = none_interested k e
 
-entries_some : (n : ℕ) → is_entries n ≡ true → 0 < n
+pub entries_some : (n : ℕ) → is_entries n ≡ true → 0 < n
 entries_some zero h = absurd (cc)
 entries_some (suc n) h = omega arith
 

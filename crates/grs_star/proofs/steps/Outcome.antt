@@ -1,5 +1,5 @@
 -- What an event of one system comes to, and how it is found: by what its choice needs, and by the reply to its call.
-use Rattle.std.proofs.Common.{◌≡◌, ℕ, [], ◌++◌, Some, None, refl, ap, sym, ◌∙◌, subst, length}
+use Rattle.std.proofs.Common.{◌≡◌, ℕ, [], ◌++◌, Some, refl, ap, sym, ◌∙◌, subst, length}
 use Rattle.std.specs.Prelude.{slice_get}
 use Rattle.grs_base.specs.declared.resource.SysId.{SysId}
 use Rattle.grs_known.specs.Items.{history, items}
