@@ -5,3 +5,4 @@ pub mod Tables
 pub mod Kept
 pub mod Running
 pub mod Done
+pub mod Interest

@@ -1,5 +1,5 @@
 -- What a system prepares fits the medium.
-use Rattle.std.proofs.Common.{◌≡◌, ◌<◌, ◌≤◌, ℕ, Bool, true, List, length, take, Some, None, Option, refl, ap, sym, subst, arith}
+use Rattle.std.proofs.Common.{◌≡◌, ◌<◌, ◌≤◌, ℕ, true, length, take, Some, None, Option, refl, ap, arith}
 use Rattle.std.proofs.lemmas.Bool.Decides.{nat_tests}
 use Rattle.std.proofs.lemmas.List.{length-take}
 use Rattle.std.specs.Prelude.{nat_lt, nat_le}
@@ -12,7 +12,7 @@ use Rattle.grs_node.specs.Node.{Node, prepare, finish, most_additions, turn_call
 use Rattle.grs_node.specs.Star.{StarPart}
 use Rattle.grs_node.specs.TurnCalls.{call_of}
 use Rattle.grs_node.specs.declared.prepared.Prepared.{Prepared}
-use Rattle.grs_node.specs.declared.prepared.Prepared.TheVariants.{Quiet, Call, Nothing}
+use Rattle.grs_node.specs.declared.prepared.Prepared.TheVariants.{Call}
 use Rattle.grs_node.specs.declared.prepared.TurnCall.{TurnCall}
 use Rattle.grs_wire.specs.declared.deck.Choice.{Choice}
 use Rattle.grs_wire.specs.declared.deck.Choice.TheVariants as choices
@@ -20,7 +20,6 @@ use Rattle.grs_wire.specs.declared.deck.Deck.{Deck}
 use Rattle.grs_wire.specs.declared.medium.Act.{Act}
 use Rattle.grs_wire.specs.declared.medium.Act.TheVariants as acts
 use Rattle.grs_wire.specs.declared.medium.Call.{Call as CallOfMedium}
-use Rattle.grs_wire.specs.declared.request.Req.{Req}
 use Rattle.grs_world.specs.World.{chosen, carry_out}
 
 below : (a b c : ℕ) → nat_lt a b ≡ true → c ≡ b → a < c

@@ -1,8 +1,8 @@
 -- There are as many lock words as before, whatever a call does.
-use Rattle.std.proofs.Common.{◌≡◌, ℕ, zero, suc, Bool, true, false, cond, List, [], ◌∷◌, length, Option, Some, None, refl, ap}
+use Rattle.std.proofs.Common.{◌≡◌, ℕ, zero, suc, Bool, true, false, cond, List, [], ◌∷◌, length, refl, ap}
 use Rattle.std.specs.Prelude.{slice_set, ◌==◌}
 use Rattle.grs_base.specs.declared.resource.SysId.{SysId}
-use Rattle.grs_medium.specs.Apply.{turn_row, manages, joined, submit_on, submit_row, take_from, take_row, mail_row, leave_row, is_live, without_system, purge_row, resting, rest_row, row, apply, medium_after}
+use Rattle.grs_medium.specs.Apply.{turn_row, manages, joined, submit_on, submit_row, take_from, take_row, mail_row, leave_row, is_live, without_system, purge_row, rest_row, row, apply, medium_after}
 use Rattle.grs_medium.specs.Medium.{MediumState, inbox, word}
 use Rattle.grs_medium.specs.Room.{is_built}
 use Rattle.grs_wire.specs.LockWords.{leave_changes}
@@ -14,7 +14,7 @@ use Rattle.grs_wire.specs.declared.medium.Mail.{Mail}
 use Rattle.grs_wire.specs.declared.medium.Reply.{Reply}
 use Rattle.grs_wire.specs.declared.medium.Reply.TheVariants.{Purged, NoSuch, InStar, Stale, Removed}
 use Rattle.grs_wire.specs.declared.request.Req.{Req}
-use Rattle.lock_structure.specs.Words.{route, submitted_words, left_words}
+use Rattle.lock_structure.specs.Words.{route}
 use Rattle.lock_structure.specs.declared.word.Route.{Route}
 use Rattle.lock_structure.specs.declared.word.Route.TheVariants as routes
 

@@ -1,7 +1,7 @@
 -- Worked runs in star mode, by which the definitions are checked: each history, each told line and each lock word is what
 -- the rules of the service give by hand.
-use Rattle.std.proofs.Common.{◌≡◌, ℕ, Bool, true, false, List, [], ◌∷◌, ◌++◌, Some, None, refl}
-use Rattle.grs_base.specs.declared.decision.Code.TheVariants.{C00, C04, Wait}
+use Rattle.std.proofs.Common.{◌≡◌, ℕ, true, false, List, [], ◌∷◌, ◌++◌, refl}
+use Rattle.grs_base.specs.declared.decision.Code.TheVariants.{C00, C04}
 use Rattle.grs_base.specs.declared.line.Line.{Line}
 use Rattle.grs_base.specs.declared.line.Scope.TheVariants.{Systems}
 use Rattle.grs_base.specs.declared.resource.Ctl.TheVariants.{E, S}
@@ -19,14 +19,14 @@ use Rattle.grs_wire.specs.declared.deck.Choice.TheVariants as choices
 use Rattle.grs_wire.specs.declared.history.HistEntry.TheVariants.{Enq, Deq}
 use Rattle.grs_wire.specs.declared.medium.Act.TheVariants as acts
 use Rattle.grs_wire.specs.declared.medium.Reply.TheVariants as replies
-use Rattle.grs_wire.specs.declared.told.ToldLine.TheVariants.{Coded, Post, Ended}
+use Rattle.grs_wire.specs.declared.told.ToldLine.TheVariants.{Coded, Ended}
 use Rattle.grs_wire.specs.declared.told.Verb.TheVariants as verbs
 use Rattle.lock_structure.specs.Words.{route}
 use Rattle.star_client.specs.Client.{settled_ranked, after_mail}
 use Rattle.task_state.specs.Replies.{tell_code, record_enq, answered, replied, passes_wait, tell_line, tell_untold, tell_control, tell_all, tell_new, recalled, settled, settled_any}
 use Rattle.task_state.specs.View.{state_of, with_state, with_line, with_phase, with_outstanding, with_record, without_record, with_told, with_exclusive, with_rank, telling}
-use Rattle.grs_world.specs.Kept.{kept, places}
-use Rattle.grs_world.specs.World.{World, first_world, carry_out, chosen, placed, happens_at, happens, run, hist, told}
+use Rattle.grs_world.specs.Kept.{kept}
+use Rattle.grs_world.specs.World.{first_world, carry_out, chosen, placed, happens_at, happens, run, hist, told}
 use Rattle.grs_world.proofs.samples.Samples.{system, task_of, shared, enq, deq, deck_of, goes, rest, at}
 
 -- events of star mode

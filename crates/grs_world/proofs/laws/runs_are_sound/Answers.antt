@@ -1,5 +1,5 @@
-use Rattle.grs_world.proofs.run.Sound.{runs_sound}
+use Rattle.grs_world.proofs.star.Sound.{every_sound}
 use Rattle.grs_world.proofs.laws.runs_are_sound.Goals as goal
 
 pub returns : goal.returns
-returns c = runs_sound
+returns c = every_sound

@@ -1,5 +1,0 @@
-use Rattle.grs_star.proofs.Runs.{words_go}
-use Rattle.grs_star.proofs.laws.words_go_with_systems.Goals as goal
-
-pub returns : goal.returns
-returns c = λ deck es star. words_go deck star es

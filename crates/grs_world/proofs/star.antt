@@ -1,0 +1,22 @@
+-- The run in star mode.
+pub mod Under
+pub mod Members
+pub mod Roles
+pub mod Tasks
+pub mod Events
+pub mod Runs
+pub mod Ghosts
+pub mod Ranked
+pub mod Answering
+pub mod News
+pub mod Busy
+pub mod Systems
+pub mod OwnEvents
+pub mod Mailed
+pub mod Leaving
+pub mod Elements
+pub mod Worlds
+pub mod Settling
+pub mod Sending
+pub mod steps
+pub mod Sound

@@ -1,0 +1,189 @@
+-- What holds of the medium and of each system of a run in star mode, as far as words, roles and lists go; and how an
+-- event of one system keeps it.
+use Rattle.std.proofs.Common.{◌≡◌, ◌≢◌, ◌<◌, ◌≤◌, ℕ, Bool, true, false, List, [], ◌∷◌, ◌++◌, length, Option, Some, None, refl, ap, sym, ◌∙◌, subst, arith}
+use Rattle.std.specs.Prelude.{set, slice_get, ◌==◌}
+use Rattle.std.specs.List.{All}
+use Rattle.std.proofs.lemmas.Bool.{eqb-true, eqb-false, eq-eqb}
+use Rattle.std.proofs.lemmas.List.{length-set}
+use Rattle.contention_mgr.specs.Laws.{AreWellKept}
+use Rattle.contention_mgr.specs.Manager.{plain, items_of, managed_at}
+use Rattle.grs_base.specs.State.{State}
+use Rattle.grs_base.specs.declared.resource.SysId.{SysId}
+use Rattle.grs_node.specs.Node.{Node}
+use Rattle.grs_node.specs.Star.{StarPart, manages, has_interest}
+use Rattle.grs_wire.specs.History.{after_fixed}
+use Rattle.grs_wire.specs.LockWords.{is_manager}
+use Rattle.grs_wire.specs.declared.deck.Deck.{Deck}
+use Rattle.grs_wire.specs.declared.request.Fixed.{Fixed}
+use Rattle.lock_structure.specs.Laws.{IsManaged, is_interested, manager_at}
+use Rattle.grs_known.specs.Items.{lists, lists_from, items, items_from}
+use Rattle.grs_known.proofs.known.Histories.{items-append}
+use Rattle.grs_known.proofs.known.ItemLaws.{lists_from-append}
+use Rattle.grs_known.proofs.lists.Facts.{slice_get-set, slice_get-set_other, slice_get-within, some_value}
+use Rattle.grs_world.specs.World.{World, Turnout, fixed_by, placed}
+use Rattle.grs_world.proofs.star.Under.{under}
+
+-- whether a system manages an entry, by the words
+abbrev pub has_manager : List ℕ → ℕ → ℕ → Bool
+has_manager words e s = is_manager (manager_at words e) (record { 0 = s })
+
+pub managed-is : (words : List ℕ) (e s : ℕ) (o : Option SysId) → manager_at words e ≡ o → is_manager o (record { 0 = s }) ≡ true → manager_at words e ≡ Some (record { 0 = s })
+managed-is words e s None at h = absurd (cc)
+managed-is words e s (Some m) at h = at ∙ ap (λ (k : ℕ). Some (record { 0 = k })) (eqb-true m.0 s h)
+
+pub manager-here : (words : List ℕ) (e : ℕ) (m : SysId) → manager_at words e ≡ Some m → has_manager words e m.0 ≡ true
+manager-here words e m h = ap (λ o. is_manager o (record { 0 = m.0 })) h ∙ eq-eqb m.0 m.0 refl
+
+-- an entry has one manager
+pub one-manages : (words : List ℕ) (e m k : ℕ) → has_manager words e m ≡ true → has_manager words e k ≡ true → m ≡ k
+one-manages words e m k mine other = ap (λ (z : SysId). z.0) (some_value (record { 0 = m }) (record { 0 = k }) (sym (managed-is words e m (manager_at words e) refl mine) ∙ managed-is words e k (manager_at words e) refl other))
+
+-- What holds of a system's part in star mode, by the words and by all lists.
+pub record IsPart (deck : Deck) (words : List ℕ) (L : State) (s : ℕ) (p : StarPart) : Type 0 where
+  pub home : p.manager.system.0 ≡ s
+  pub entries : length p.manager.entries ≡ deck.entries
+  pub interests : length p.interest ≡ deck.entries
+  -- it manages the entries whose words name it, and has interest in those whose words hold it
+  pub roles : (e : ℕ) → manages p e ≡ has_manager words e s
+  pub interest : (e : ℕ) → has_interest p e ≡ is_interested words e s
+  -- of an entry that it manages it keeps the lists
+  pub lists : (e : ℕ) → manages p e ≡ true → plain (items_of (managed_at p.manager e)) ≡ under deck.entries e L
+  -- there ranks rise, and each who is still to be told owns and is of another system
+  pub well : AreWellKept p.manager
+
+-- What holds of the system.
+pub record IsMember (deck : Deck) (words : List ℕ) (L : State) (s : ℕ) (n : Node) : Type 0 where
+  pub part : StarPart
+  pub star : n.star ≡ Some part
+  pub outbox : n.outbox ≡ []
+  pub known : n.known ≡ 0
+  pub fits : IsPart deck words L s part
+
+-- the lists after all that was fixed
+abbrev pub all_lists : World → State
+all_lists w = lists (items w.fixed)
+
+abbrev pub lists_after : State → List Fixed → State
+lists_after s [] = s
+lists_after s (f ∷ fs) = lists_after (after_fixed s f) fs
+
+after-items : (s : State) (c : SysId) (fs : List Fixed) → lists_from s (items_from s (fixed_by c fs)) ≡ lists_after s fs
+after-items s c [] = refl
+after-items s c (f ∷ fs) = after-items (after_fixed s f) c fs
+
+pub lists-grown : (xs : List (SysId × Fixed)) (c : SysId) (fs : List Fixed) → lists (items (xs ++ fixed_by c fs)) ≡ lists_after (lists (items xs)) fs
+lists-grown xs c fs =
+    ap lists (items-append xs (fixed_by c fs)) ∙ lists_from-append [] (items xs) (items_from (lists (items xs)) (fixed_by c fs)) ∙ after-items (lists (items xs)) c fs
+
+-- What holds of the medium and all systems.
+pub record IsStar (deck : Deck) (w : World) : Type 0 where
+  pub mode : w.medium.star ≡ true
+  pub removed : w.medium.removed ≡ 0
+  pub words : length w.medium.words ≡ deck.entries
+  pub inboxes : length w.medium.inboxes ≡ length deck.systems
+  pub systems : length w.nodes ≡ length deck.systems
+  pub managed : All IsManaged w.medium.words
+  -- nobody but a system has interest or manages
+  pub nobody : (e s : ℕ) → length w.nodes ≤ s → (is_interested w.medium.words e s ≡ false) × (has_manager w.medium.words e s ≡ false)
+  -- where there is no manager nothing is queued
+  pub free : (e : ℕ) → manager_at w.medium.words e ≡ None → under deck.entries e (all_lists w) ≡ []
+  pub node : (s : ℕ) (n : Node) → slice_get w.nodes s ≡ Some n → IsMember deck w.medium.words (all_lists w) s n
+
+-- What an event of system c does to words and lists: nothing to the others' interest and roles, and nothing to the lists
+-- of an entry that c doesn't manage.
+pub record Moves (deck : Deck) (c : ℕ) (words words' : List ℕ) (L L' : State) : Type 0 where
+  pub count : length words' ≡ length words
+  pub managed : All IsManaged words'
+  pub managers : (e u : ℕ) → u ≢ c → has_manager words' e u ≡ has_manager words e u
+  pub interest : (e u : ℕ) → u ≢ c → is_interested words' e u ≡ is_interested words e u
+  pub lists : (e : ℕ) → has_manager words e c ≡ false → has_manager words' e c ≡ false → under deck.entries e L' ≡ under deck.entries e L
+  pub free : (e : ℕ) → manager_at words' e ≡ None → under deck.entries e L' ≡ []
+
+-- What an event of a system comes to.
+pub record IsStep (deck : Deck) (w : World) (c : SysId) (n : Node) (o : Turnout) : Type 0 where
+  pub mode : o.medium.star ≡ true
+  pub removed : o.medium.removed ≡ 0
+  pub inboxes : length o.medium.inboxes ≡ length w.medium.inboxes
+  pub moves : Moves deck c.0 w.medium.words o.medium.words (all_lists w) (lists_after (all_lists w) o.step.fixed)
+  pub member : IsMember deck o.medium.words (lists_after (all_lists w) o.step.fixed) c.0 o.step.node
+
+-- nothing happens to words and lists
+pub stays : (deck : Deck) (w : World) (c : ℕ) → IsStar deck w → Moves deck c w.medium.words w.medium.words (all_lists w) (all_lists w)
+stays deck w c g = record {
+  count = refl;
+  managed = g.managed;
+  managers = λ e u ne. refl;
+  interest = λ e u ne. refl;
+  lists = λ e h k. refl;
+  free = g.free;
+}
+
+-- another system, which is as it was
+member-other : (deck : Deck) (c : ℕ) (words words' : List ℕ) (L L' : State) (u : ℕ) (n : Node) → u ≢ c → Moves deck c words words' L L' → IsMember deck words L u n → IsMember deck words' L' u n
+member-other deck c words words' L L' u n ne m k = record {
+  part = k.part;
+  star = k.star;
+  outbox = k.outbox;
+  known = k.known;
+  fits = record {
+    home = k.fits.home;
+    entries = k.fits.entries;
+    interests = k.fits.interests;
+    roles = λ e. k.fits.roles e ∙ sym (m.managers e u ne);
+    interest = λ e. k.fits.interest e ∙ sym (m.interest e u ne);
+    lists = λ e h.
+        let mine : has_manager words e u ≡ true = sym (k.fits.roles e) ∙ h in
+        k.fits.lists e h ∙ sym (m.lists e (apart words e mine) (apart words' e (m.managers e u ne ∙ mine)));
+    well = k.fits.well;
+  };
+}
+  where
+    -- an entry has one manager
+    apart : (ws : List ℕ) (e : ℕ) → has_manager ws e u ≡ true → has_manager ws e c ≡ false
+    apart ws e h = ap (λ o. is_manager o (record { 0 = c })) (managed-is ws e u (manager_at ws e) refl h) ∙ other (u == c) refl
+      where
+        other : (b : Bool) → (u == c) ≡ b → b ≡ false
+        other true f = absurd (ne (eqb-true u c f))
+        other false f = refl
+
+-- the world after the event
+module _ (deck : Deck) (w : World) (c : SysId) (n : Node) (at : slice_get w.nodes c.0 ≡ Some n) (g : IsStar deck w) (o : Turnout) (h : IsStep deck w c n o) where
+  grown : all_lists (placed w c n o) ≡ lists_after (all_lists w) o.step.fixed
+  unfolding placed
+  grown = lists-grown w.fixed c o.step.fixed
+
+  count : length (set w.nodes c.0 o.step.node) ≡ length w.nodes
+  count = length-set w.nodes c.0 o.step.node
+
+  here : c.0 < length w.nodes
+  here = slice_get-within w.nodes c.0 n at
+
+  node_at : (s : ℕ) (k : Node) → slice_get (set w.nodes c.0 o.step.node) s ≡ Some k → IsMember deck o.medium.words (lists_after (all_lists w) o.step.fixed) s k
+  node_at s k f = go (s == c.0) refl
+    where
+      go : (b : Bool) → (s == c.0) ≡ b → IsMember deck o.medium.words (lists_after (all_lists w) o.step.fixed) s k
+      go true e =
+          let same : s ≡ c.0 = eqb-true s c.0 e in
+          let is : o.step.node ≡ k = some_value o.step.node k (sym (slice_get-set w.nodes c.0 n o.step.node at) ∙ (ap (slice_get (set w.nodes c.0 o.step.node)) (sym same) ∙ f)) in
+          subst (λ (z : Node). IsMember deck o.medium.words (lists_after (all_lists w) o.step.fixed) s z) is
+          (subst (λ (z : ℕ). IsMember deck o.medium.words (lists_after (all_lists w) o.step.fixed) z o.step.node) (sym same) h.member)
+      go false e =
+          let ne : s ≢ c.0 = eqb-false s c.0 e in
+          member-other deck c.0 w.medium.words o.medium.words (all_lists w) (lists_after (all_lists w) o.step.fixed) s k ne h.moves (g.node s k (sym (slice_get-set_other w.nodes c.0 s o.step.node ne) ∙ f))
+
+  beyond : (s : ℕ) → length (set w.nodes c.0 o.step.node) ≤ s → (s ≢ c.0) × (length w.nodes ≤ s)
+  beyond s past = (λ e. absurd (omega (arith, past, count, here, e)), omega (arith, past, count))
+
+  pub framed : IsStar deck (placed w c n o)
+  unfolding placed
+  framed = record {
+    mode = h.mode;
+    removed = h.removed;
+    words = h.moves.count ∙ g.words;
+    inboxes = h.inboxes ∙ g.inboxes;
+    systems = count ∙ g.systems;
+    managed = h.moves.managed;
+    nobody = λ e s past. (h.moves.interest e s (beyond s past).0 ∙ (g.nobody e s (beyond s past).1).0, h.moves.managers e s (beyond s past).0 ∙ (g.nobody e s (beyond s past).1).1);
+    free = λ e none. ap (under deck.entries e) grown ∙ h.moves.free e none;
+    node = λ s k f. subst (λ L. IsMember deck o.medium.words L s k) (sym grown) (node_at s k f);
+  }

@@ -1,0 +1,98 @@
+-- What a task does by itself leaves its system's part in star mode, and the lists of all lock entries.
+use Rattle.std.proofs.Common.{◌≡◌, ℕ, false, cond, List, [], ◌∷◌, ◌++◌, Option, Some, None, refl, ap, ◌∙◌}
+use Rattle.std.specs.Prelude.{is_some, slice_get}
+use Rattle.contention_mgr.specs.Manager.{entry_of_res, entry_wanted}
+use Rattle.grs_base.specs.State.{State, is_systems}
+use Rattle.grs_base.specs.declared.resource.Res.{Res}
+use Rattle.grs_base.specs.declared.resource.Res.TheVariants.{Step as StepRes, System, Systems}
+use Rattle.grs_base.specs.declared.resource.TaskId.{TaskId}
+use Rattle.grs_legal.specs.declared.meaning.Meaning.{Meaning}
+use Rattle.grs_legal.specs.declared.meaning.Meaning.TheVariants as lines
+use Rattle.grs_node.specs.Node.{Node, Step, with_tasks, only, post, decide, ask, take_line, end_step, ready_step, phase_step, task_step, has_most, wait}
+use Rattle.grs_node.specs.Star.{StarPart, is_entry}
+use Rattle.grs_wire.specs.Wants.{res_wanted}
+use Rattle.grs_wire.specs.declared.request.Req.{Req}
+use Rattle.grs_wire.specs.declared.request.Want.{Want}
+use Rattle.grs_wire.specs.declared.request.Want.TheVariants.{Enq, Deq, Release, Look}
+use Rattle.grs_wire.proofs.WantLaws.{by_test}
+use Rattle.ring_mode.specs.Ring.{is_for_all}
+use Rattle.task_state.specs.View.{state_of, record_of, with_line, with_phase}
+use Rattle.task_state.specs.declared.state.Phase.{Phase}
+use Rattle.task_state.specs.declared.state.Phase.TheVariants as phases
+use Rattle.task_state.specs.declared.state.Rec.{Rec}
+use Rattle.grs_world.proofs.star.Members.{lists_after}
+use Rattle.grs_world.proofs.star.Under.{under, under-other}
+
+-- A system of this part, this outbox and what it knows of removed ones, after a step that fixes nothing under a lock entry.
+pub record IsQuiet (part : Option StarPart) (box : List Req) (set : ℕ) (st : Step) : Type 0 where
+  pub star : st.node.star ≡ part
+  pub outbox : st.node.outbox ≡ box
+  pub known : st.node.known ≡ set
+  pub lists : (entries e : ℕ) (L : State) → under entries e (lists_after L st.fixed) ≡ under entries e L
+
+-- a resource of one system is of no lock entry
+res-local : (entries e : ℕ) (r : Res) → is_systems r ≡ false → is_entry e (entry_of_res entries r) ≡ false
+res-local entries e (StepRes s j q r) h = refl
+res-local entries e (System s q r) h = refl
+res-local entries e (Systems q r) h = absurd (cc)
+
+want-local : (entries e : ℕ) (w : Want) → is_for_all (res_wanted w) ≡ false → is_entry e (entry_wanted entries w) ≡ false
+want-local entries e (Enq r c ret full) h = res-local entries e r h
+want-local entries e (Deq r have) h = res-local entries e r h
+want-local entries e (Release r) h = res-local entries e r h
+want-local entries e (Look first count f) h = absurd (cc)
+
+module _ (p : StarPart) (n : Node) (is : n.star ≡ Some p) where
+  abbrev Keeps : Step → Type 0
+  Keeps st = IsQuiet n.star n.outbox n.known st
+
+  by_only : (k : Node) → k.star ≡ n.star → k.outbox ≡ n.outbox → k.known ≡ n.known → Keeps (only k)
+  by_only k s o z = record { star = s; outbox = o; known = z; lists = λ entries e L. refl }
+
+  by_post : (k : Node) (t : TaskId) (w : Want) (unit : Option ℕ) → k.star ≡ n.star → k.outbox ≡ n.outbox → k.known ≡ n.known → Keeps (post k t w unit)
+  unfolding post
+  by_post k t w unit s o z = record {
+    star = s;
+    outbox = ap (λ x. cond (is_some x) k.outbox (k.outbox ++ record { task = t; want = w } ∷ [])) (s ∙ is) ∙ o;
+    known = z;
+    lists = λ entries e L. refl;
+  }
+
+  by_decide : (k : Node) (t : TaskId) (w : Want) (unit : Option ℕ) → k.star ≡ n.star → k.outbox ≡ n.outbox → k.known ≡ n.known → is_for_all (res_wanted w) ≡ false → Keeps (decide k t w unit)
+  unfolding decide
+  by_decide k t w unit s o z alone = record { star = s; outbox = o; known = z; lists = λ entries e L. under-other entries e L t w (want-local entries e w alone) }
+
+  by_ask : (k : Node) (t : TaskId) (w : Want) (unit : Option ℕ) → k.star ≡ n.star → k.outbox ≡ n.outbox → k.known ≡ n.known → Keeps (ask k t w unit)
+  unfolding ask
+  by_ask k t w unit s o z = by_test Keeps (is_for_all (res_wanted w)) (post k t w unit) (decide k t w unit) (λ h. by_post k t w unit s o z) (λ h. by_decide k t w unit s o z h)
+
+  by_line : (limit : ℕ) (k : Node) (t : TaskId) (l : Meaning) → k.star ≡ n.star → k.outbox ≡ n.outbox → k.known ≡ n.known → Keeps (take_line limit k t l)
+  unfolding take_line
+  by_line limit k t (lines.Enq r c ret unit) s o z = by_ask k t (Enq r c ret (has_most limit k.tasks t)) unit s o z
+  by_line limit k t (lines.Deq r have) s o z = by_ask k t (Deq r have) None s o z
+  by_line limit k t (lines.Wait r) s o z = by_only (with_tasks k (wait k.tasks t r (record_of (state_of k.tasks t).records r))) s o z
+  by_line limit k t lines.Nothing s o z = by_only k s o z
+
+  by_end : (k : Node) (t : TaskId) (code : ℕ) (xs : List Rec) → k.star ≡ n.star → k.outbox ≡ n.outbox → k.known ≡ n.known → Keeps (end_step k t code xs)
+  unfolding end_step
+  by_end k t code [] s o z = record { star = s; outbox = o; known = z; lists = λ entries e L. refl }
+  by_end k t code (x ∷ xs) s o z = by_ask k t (Release x.res) None s o z
+
+  by_ready : (limit : ℕ) (t : TaskId) (l : Option Meaning) → Keeps (ready_step limit n t l)
+  unfolding ready_step
+  by_ready limit t None = by_end (with_tasks n (with_phase n.tasks t (phases.Ending 0))) t 0 (state_of (with_phase n.tasks t (phases.Ending 0)) t).records refl refl refl
+  by_ready limit t (Some l) = by_line limit (with_tasks n (with_line n.tasks t)) t l refl refl refl
+
+  by_phase : (limit : ℕ) (t : TaskId) (ls : List Meaning) (ph : Phase) → Keeps (phase_step limit n t ls ph)
+  unfolding phase_step
+  by_phase limit t ls phases.Ready = by_ready limit t (slice_get ls (state_of n.tasks t).line)
+  by_phase limit t ls (phases.Ending c) = by_end n t c (state_of n.tasks t).records refl refl refl
+  by_phase limit t ls phases.ToSend = by_only n refl refl refl
+  by_phase limit t ls phases.Sent = by_only n refl refl refl
+  by_phase limit t ls phases.HeldAnswer = by_only n refl refl refl
+  by_phase limit t ls (phases.HeldLine r) = by_only n refl refl refl
+  by_phase limit t ls phases.Ended = by_only n refl refl refl
+
+  pub task-quiet : (limit : ℕ) (t : TaskId) (o : Option (List Meaning)) → IsQuiet n.star n.outbox n.known (task_step limit n t o)
+  task-quiet limit t None = by_only n refl refl refl
+  task-quiet limit t (Some ls) = by_phase limit t ls (state_of n.tasks t).phase

@@ -1,0 +1,162 @@
+-- The systems of a run in star mode together: whose hands each request is in, and how an event of one system is placed.
+use Rattle.std.proofs.Common.{◌≡◌, ◌≢◌, ◌⊎◌, ◌<◌, ℕ, Bool, true, false, List, [], ◌∷◌, ◌++◌, length, Some, refl, ap, sym, ◌∙◌, subst, append-nil}
+use Rattle.std.specs.Prelude.{set, slice_get, ◌==◌}
+use Rattle.std.proofs.lemmas.Bool.{eqb-true, eqb-false}
+use Rattle.std.proofs.lemmas.List.{length-set}
+use Rattle.contention_mgr.specs.Manager.{entry_wanted}
+use Rattle.grs_base.specs.State.{list_of, is_systems}
+use Rattle.grs_base.specs.declared.resource.Res.{Res}
+use Rattle.grs_base.specs.declared.resource.Res.TheVariants.{Step as StepRes, System, Systems}
+use Rattle.grs_base.specs.declared.resource.TaskId.{TaskId}
+use Rattle.grs_base.specs.declared.resource.SysId.{SysId}
+use Rattle.grs_medium.specs.Medium.{inbox}
+use Rattle.grs_legal.specs.Asks.{lines_of}
+use Rattle.grs_node.specs.Node.{Node, finish_quiet, may_go}
+use Rattle.grs_node.specs.Star.{StarPart}
+use Rattle.grs_wire.specs.declared.deck.Deck.{Deck}
+use Rattle.grs_wire.specs.declared.medium.Mail.{Mail}
+use Rattle.grs_wire.specs.declared.deck.Choice.TheVariants as choices
+use Rattle.grs_wire.specs.declared.request.Fixed.{Fixed}
+use Rattle.grs_wire.specs.declared.request.Fixed.TheVariants as fixing
+use Rattle.grs_wire.specs.declared.request.Req.{Req}
+use Rattle.grs_wire.specs.History.{replay}
+use Rattle.grs_known.specs.Items.{RunItem, goes_round, mine, lists, items, history}
+use Rattle.grs_known.proofs.known.Histories.{IsHistory, MayFollow, made_item, items-append, replayed, follows, wants-round}
+use Rattle.grs_known.proofs.known.ItemLaws.{lists-push}
+use Rattle.grs_known.proofs.lists.Facts.{slice_get-set, slice_get-set_other, some_value}
+use Rattle.grs_world.specs.Kept.{kept}
+use Rattle.grs_world.specs.World.{World, Turnout, fixed_by, placed}
+use Rattle.grs_world.proofs.system.Says.{askers, stand_apart}
+use Rattle.grs_world.proofs.star.Elements.{AreNear, is_near_res, near-want}
+use Rattle.grs_world.proofs.star.OwnEvents.{Task, idle_task, local_task, system-task}
+use Rattle.grs_world.proofs.star.Tasks.{task-quiet}
+use Rattle.grs_world.proofs.star.Members.{IsMember, IsStar, IsStep, has_manager, all_lists, framed}
+use Rattle.grs_world.proofs.star.Runs.{kept_lists}
+use Rattle.grs_world.proofs.star.Systems.{IsSystem, requests_in, system-other}
+
+-- a request is one of these
+abbrev pub IsIn : Req → List Req → Type 0
+IsIn q [] = ⊥
+IsIn q (x ∷ xs) = (q ≡ x) ⊎ IsIn q xs
+
+-- A request in the hands of system m is the one that a task of another system sent and that isn't settled; it is of an
+-- entry that m manages.
+pub record IsHand (deck : Deck) (words : List ℕ) (count : ℕ) (later : ℕ → List RunItem) (out : ℕ → List Req) (m : ℕ) (q : Req) : Type 0 where
+  pub apart : q.task.system.0 ≢ m
+  pub below : q.task.system.0 < count
+  pub among : IsIn q (out q.task.system.0)
+  pub idle : mine q.task (later q.task.system.0) ≡ []
+  pub entry : ℕ
+  pub at : entry_wanted deck.entries q.want ≡ Some entry
+  pub managed : has_manager words entry m ≡ true
+
+abbrev pub AllHands : Deck → List ℕ → ℕ → (ℕ → List RunItem) → (ℕ → List Req) → ℕ → List Req → Type 0
+AllHands deck words count later out m [] = Unit {0}
+AllHands deck words count later out m (q ∷ qs) = IsHand deck words count later out m q × AllHands deck words count later out m qs
+
+-- The requests in its hands are such, each of another task.
+pub record Hands (deck : Deck) (words : List ℕ) (count : ℕ) (later : ℕ → List RunItem) (out : ℕ → List Req) (m : ℕ) (qs : List Req) : Type 0 where
+  pub each : AllHands deck words count later out m qs
+  pub apart : stand_apart (askers qs) ≡ true
+
+-- What is in a system's hands: what it holds, and then what comes.
+abbrev pub in_hands : StarPart → List Mail → List Req
+in_hands p ms = p.held ++ requests_in ms
+
+-- What holds of the world.
+pub record IsWhole (deck : Deck) (w : World) : Type 0 where
+  pub roles : IsStar deck w
+  pub right : IsHistory deck (items w.fixed)
+  pub later : ℕ → List RunItem
+  pub out : ℕ → List Req
+  -- each element is of a system with interest in its entry
+  pub near : AreNear deck w.medium.words (all_lists w)
+  pub system : (s : ℕ) (n : Node) → slice_get w.nodes s ≡ Some n → IsSystem deck w.medium.words (items w.fixed) s n (inbox w.medium s) (later s) (out s)
+  pub hands : (m : ℕ) (n : Node) (p : StarPart) → slice_get w.nodes m ≡ Some n → n.star ≡ Some p → Hands deck w.medium.words (length w.nodes) later out m (in_hands p (inbox w.medium m))
+
+-- one item more
+pub items-one : (xs : List (SysId × Fixed)) (c : SysId) (f : Fixed) → items (xs ++ fixed_by c (f ∷ [])) ≡ items xs ++ made_item c (items xs) f ∷ []
+items-one xs c f = items-append xs (fixed_by c (f ∷ []))
+
+pub items-none : (xs : List (SysId × Fixed)) (c : SysId) → items (xs ++ fixed_by c []) ≡ items xs
+items-none xs c = ap items (append-nil xs)
+
+-- ---- the world after an event of system c, where the items become these
+module _ (deck : Deck) (w : World) (c : SysId) (n : Node) (at : slice_get w.nodes c.0 ≡ Some n) (g : IsStar deck w) (o : Turnout) (step : IsStep deck w c n o) (T : List RunItem) (grown : items (w.fixed ++ fixed_by c o.step.fixed) ≡ T) (later : ℕ → List RunItem) (out : ℕ → List Req) where
+  abbrev words : List ℕ
+  words = o.medium.words
+
+  -- by systems: that of the event, and the others
+  by_system : (P : ℕ → Node → Type 0) → P c.0 o.step.node → ((s : ℕ) (k : Node) → s ≢ c.0 → slice_get w.nodes s ≡ Some k → P s k) → (s : ℕ) (k : Node) → slice_get (set w.nodes c.0 o.step.node) s ≡ Some k → P s k
+  by_system P own others s k f = go (s == c.0) refl
+    where
+      go : (b : Bool) → (s == c.0) ≡ b → P s k
+      go true e =
+          let same : s ≡ c.0 = eqb-true s c.0 e in
+          let is : o.step.node ≡ k = some_value o.step.node k (sym (slice_get-set w.nodes c.0 n o.step.node at) ∙ (ap (slice_get (set w.nodes c.0 o.step.node)) (sym same) ∙ f)) in
+          subst (P s) is (subst (λ z. P z o.step.node) (sym same) own)
+      go false e = let ne : s ≢ c.0 = eqb-false s c.0 e in others s k ne (sym (slice_get-set_other w.nodes c.0 s o.step.node ne) ∙ f)
+
+  pub whole-placed : IsHistory deck T → AreNear deck o.medium.words (lists T) →
+      IsSystem deck o.medium.words T c.0 o.step.node (inbox o.medium c.0) (later c.0) (out c.0) →
+      ((s : ℕ) (k : Node) → s ≢ c.0 → slice_get w.nodes s ≡ Some k → IsSystem deck o.medium.words T s k (inbox o.medium s) (later s) (out s)) →
+      ((p : StarPart) → o.step.node.star ≡ Some p → Hands deck o.medium.words (length w.nodes) later out c.0 (in_hands p (inbox o.medium c.0))) →
+      ((m : ℕ) (k : Node) (p : StarPart) → m ≢ c.0 → slice_get w.nodes m ≡ Some k → k.star ≡ Some p → Hands deck o.medium.words (length w.nodes) later out m (in_hands p (inbox o.medium m))) →
+      IsWhole deck (placed w c n o)
+  unfolding placed
+  whole-placed right near own others hands_own hands_others = record {
+    roles = framed deck w c n at g o step;
+    right = subst (IsHistory deck) (sym grown) right;
+    later = later;
+    out = out;
+    near = subst (λ U. AreNear deck o.medium.words (lists U)) (sym grown) near;
+    system = λ s k f. subst (λ U. IsSystem deck o.medium.words U s k (inbox o.medium s) (later s) (out s)) (sym grown) (by_system (λ u z. IsSystem deck o.medium.words T u z (inbox o.medium u) (later u) (out u)) own others s k f);
+    hands = λ m k p f is. subst (λ count. Hands deck o.medium.words count later out m (in_hands p (inbox o.medium m))) (sym (length-set w.nodes c.0 o.step.node))
+        (by_system (λ u z. (q : StarPart) → z.star ≡ Some q → Hands deck o.medium.words (length w.nodes) later out u (in_hands q (inbox o.medium u))) hands_own (λ u z ne found q star. hands_others u z q ne found star) m k f p is);
+  }
+
+-- So what is kept is what the history says.
+pub kept-whole : (deck : Deck) (w : World) → IsWhole deck w → (s : SysId) (r : Res) → is_systems r ≡ true → kept deck w s r ≡ list_of (replay deck.limit (history (items w.fixed))) r
+kept-whole deck w g s r all = kept_lists deck w g.roles s r all ∙ ap (λ st. list_of st r) (replayed deck (items w.fixed) g.right)
+
+-- ---- events of a system c
+module _ (deck : Deck) (w : World) (g : IsWhole deck w) (c : SysId) (n : Node) (at : slice_get w.nodes c.0 ≡ Some n) where
+  abbrev T : List RunItem
+  T = items w.fixed
+
+  -- its own item is another system's to the others
+  others-item : (f : Req) (m : MayFollow deck T (made_item c T (fixing.Asked f))) → f.task.system.0 ≡ c.0 → (s : ℕ) (k : Node) → s ≢ c.0 → slice_get w.nodes s ≡ Some k →
+      IsSystem deck w.medium.words (T ++ made_item c T (fixing.Asked f) ∷ []) s k (inbox w.medium s) (g.later s) (g.out s)
+  others-item f m home s k ne found = system-other deck w.medium.words T s k (inbox w.medium s) (g.later s) (g.out s) (made_item c T (fixing.Asked f)) m.ask (λ e. ne (sym e ∙ (ap (λ (q : Req). q.task.system.0) (sym asker) ∙ home))) (g.system s k found)
+    where
+      asker : f ≡ m.ask.req
+      asker = let e : fixing.Asked f ≡ fixing.Asked m.ask.req = m.ask.asked in cc
+
+  -- a task goes on by itself
+  pub whole-task : (t : TaskId) → may_go deck n t ≡ true → IsStep deck w c n (record { medium = w.medium; step = finish_quiet deck n (choices.Task t) }) → IsWhole deck (placed w c n (record { medium = w.medium; step = finish_quiet deck n (choices.Task t) }))
+  unfolding finish_quiet
+  whole-task t goes step = by_task (system-task deck w.medium.words T g.right c.0 n (inbox w.medium c.0) (g.later c.0) (g.out c.0) (g.system c.0 n at) c t goes)
+    where
+      same_star : (finish_quiet deck n (choices.Task t)).node.star ≡ n.star
+      same_star = by_part (g.roles.node c.0 n at)
+        where
+          by_part : IsMember deck w.medium.words (all_lists w) c.0 n → (finish_quiet deck n (choices.Task t)).node.star ≡ n.star
+          by_part m = (task-quiet m.part n m.star deck.limit t (lines_of deck t)).star
+
+      no_entry : (u : TaskId) (r : Res) → is_systems r ≡ false → is_near_res deck w.medium.words r u ≡ true
+      no_entry u (StepRes z j q r) e = refl
+      no_entry u (System z q r) e = refl
+      no_entry u (Systems q r) e = absurd (cc)
+
+      near-local : (q : Req) → goes_round (fixing.Asked q) ≡ false → AreNear deck w.medium.words (lists (T ++ made_item c T (fixing.Asked q) ∷ []))
+      near-local q away = subst (AreNear deck w.medium.words) (sym (lists-push T (made_item c T (fixing.Asked q)))) (near-want deck w.medium.words (lists T) q.task q.want (λ r wanted. no_entry q.task r (sym (wants-round q.want r wanted) ∙ away)) g.near)
+
+      by_task : Task deck w.medium.words T g.right c.0 n (inbox w.medium c.0) (g.later c.0) (g.out c.0) (g.system c.0 n at) c (finish_quiet deck n (choices.Task t)) → IsWhole deck (placed w c n (record { medium = w.medium; step = finish_quiet deck n (choices.Task t) }))
+      by_task (idle_task none_fixed z) =
+          whole-placed deck w c n at g.roles (record { medium = w.medium; step = finish_quiet deck n (choices.Task t) }) step T (ap (λ fs. items (w.fixed ++ fixed_by c fs)) none_fixed ∙ items-none w.fixed c) g.later g.out
+          g.right g.near z.system (λ s k ne found. g.system s k found) (λ p is. g.hands c.0 n p at (sym same_star ∙ is)) (λ m k p ne found is. g.hands m k p found is)
+      by_task (local_task q one_fixed mine_q away m z) =
+          let item : RunItem = made_item c T (fixing.Asked q) in
+          let home : q.task.system.0 ≡ c.0 = eqb-true q.task.system.0 c.0 mine_q in
+          whole-placed deck w c n at g.roles (record { medium = w.medium; step = finish_quiet deck n (choices.Task t) }) step (T ++ item ∷ []) (ap (λ fs. items (w.fixed ++ fixed_by c fs)) one_fixed ∙ items-one w.fixed c (fixing.Asked q)) g.later g.out
+          (follows deck T item g.right m) (near-local q away) z.system (others-item q m home) (λ p is. g.hands c.0 n p at (sym same_star ∙ is)) (λ k j p ne found is. g.hands k j p found is)

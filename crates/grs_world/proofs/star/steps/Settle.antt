@@ -1,0 +1,141 @@
+-- A manager settles the request that it holds first: it answers by its own lists of the entry, which are the history's.
+use Rattle.std.proofs.Common.{◌≡◌, ◌++◌, true, cond, List, [], ◌∷◌, length, Option, Some, None, refl, ap, sym, ◌∙◌, subst}
+use Rattle.std.specs.Prelude.{drop, slice_get}
+use Rattle.contention_mgr.specs.Manager.{Managed, plain, items_of, kept_for, entry_of_res, entry_wanted, after_request, rank_for}
+use Rattle.grs_base.specs.Lists.{owns}
+use Rattle.grs_base.specs.State.{list_of}
+use Rattle.grs_base.specs.declared.resource.SysId.{SysId}
+use Rattle.grs_base.specs.declared.resource.TaskId.{TaskId}
+use Rattle.grs_known.specs.Items.{RunItem, history, items, lists}
+use Rattle.grs_known.proofs.known.Histories.{MayFollow, made_item}
+use Rattle.grs_known.proofs.known.ItemLaws.{lists-push}
+use Rattle.grs_known.proofs.lists.Facts.{some_value}
+use Rattle.grs_known.proofs.lists.Owners.{is_among, new-owns}
+use Rattle.grs_medium.specs.Apply.{row, mail_row}
+use Rattle.grs_medium.specs.Inboxes.{with_mail}
+use Rattle.grs_medium.specs.Medium.{MediumState, awake}
+use Rattle.grs_node.specs.Node.{Node, prepare, finish, finish_call, finish_star, with_star}
+use Rattle.grs_node.specs.Star.{StarPart, answer_for, first_held, lists_for, owners_by, quiet_step, rank_of, serves, settle_by, settled_by, settled_first}
+use Rattle.grs_node.specs.declared.star.Need.TheVariants.{Asks, Idle}
+use Rattle.grs_wire.specs.Wants.{answer_to, new_owners, res_wanted}
+use Rattle.grs_wire.specs.declared.deck.Choice.TheVariants as choices
+use Rattle.grs_wire.specs.declared.deck.Deck.{Deck}
+use Rattle.grs_wire.specs.declared.medium.Act.TheVariants as acts
+use Rattle.grs_wire.specs.declared.medium.Mail.TheVariants as mails
+use Rattle.grs_wire.specs.declared.medium.Reply.TheVariants as replies
+use Rattle.grs_wire.specs.declared.request.Answer.{Answer}
+use Rattle.grs_wire.specs.declared.request.Fixed.TheVariants as fixes
+use Rattle.grs_wire.specs.declared.request.Req.{Req}
+use Rattle.grs_wire.specs.declared.request.Want.{Want}
+use Rattle.grs_wire.specs.declared.request.Want.TheVariants.{Enq, Deq, Release, Look}
+use Rattle.grs_wire.proofs.WantLaws.{by_test}
+use Rattle.grs_world.specs.World.{World, chosen, fixed_by}
+use Rattle.grs_world.proofs.run.News.{ToldNews, told-news}
+use Rattle.task_state.specs.Replies.{tell_all, tell_new}
+use Rattle.grs_world.proofs.star.Members.{IsMember, all_lists}
+use Rattle.grs_world.proofs.star.Settling.{follows-now, hand, manager-after, same_req, whole-settled}
+use Rattle.grs_world.proofs.star.Systems.{gives_want}
+use Rattle.grs_world.proofs.star.Under.{under, answer-under, entry-same, owners-under, res-entry}
+use Rattle.grs_world.proofs.star.Worlds.{IsHand, IsWhole, items-one}
+use Rattle.grs_world.proofs.star.steps.Outcome.{Comes, ComesBy, ComesOf, comes-called, comes-finished, comes-needs, comes-none}
+
+-- what gives something up puts nothing into a list
+rank-plain : (o : Option Managed) (t : TaskId) (w : Want) → gives_want w ≡ true → rank_for o t w ≡ 0
+rank-plain None t w gives = refl
+rank-plain (Some m) t (Enq r c ret full) gives = absurd (cc)
+rank-plain (Some m) t (Deq r have) gives = refl
+rank-plain (Some m) t (Release r) gives = refl
+rank-plain (Some m) t (Look first count f) gives = absurd (cc)
+
+first-of : (qs : List Req) (q : Req) → slice_get qs 0 ≡ Some q → qs ≡ q ∷ drop 1 qs
+first-of [] q is = absurd (cc)
+first-of (z ∷ qs) q is = ap (λ y. y ∷ qs) (some_value z q is)
+
+module _ (deck : Deck) (w : World) (g : IsWhole deck w) (c : SysId) (n : Node) (at : slice_get w.nodes c.0 ≡ Some n) where
+  abbrev me : IsMember deck w.medium.words (all_lists w) c.0 n
+  me = g.roles.node c.0 n at
+
+  abbrev p : StarPart
+  p = me.part
+
+  abbrev T : List RunItem
+  T = items w.fixed
+
+  -- ---- the request that it holds first
+  module _ (q : Req) (first : first_held p ≡ Some q) where
+    abbrev item : RunItem
+    item = made_item c T (fixes.Asked q)
+
+    held : p.held ≡ q ∷ drop 1 p.held
+    held = first-of p.held q first
+
+    abbrev its : IsHand deck w.medium.words (length w.nodes) g.later g.out c.0 q
+    its = hand deck w g c n at p me.star q (drop 1 p.held) held
+
+    abbrev follow : MayFollow deck T item
+    follow = follows-now deck w g c n at p me.star q (drop 1 p.held) held
+
+    wanted : res_wanted q.want ≡ Some follow.ask.res
+    wanted = ap (λ (z : Req). res_wanted z.want) (same_req deck w g c n at p me.star q (drop 1 p.held) held) ∙ follow.ask.wanted
+
+    of_entry : entry_of_res deck.entries follow.ask.res ≡ Some its.entry
+    of_entry = res-entry deck.entries q.want follow.ask.res its.entry wanted its.at
+
+    -- its lists of the entry are what all lists have of it
+    lists-here : lists_for p q.want ≡ under deck.entries its.entry (lists T)
+    lists-here =
+        ap (λ o. plain (items_of (kept_for p.manager.entries o))) (ap (λ k. entry_wanted k q.want) me.fits.entries ∙ its.at)
+        ∙ me.fits.lists its.entry (me.fits.roles its.entry ∙ its.managed)
+
+    -- so they answer the same, and give the same tasks control
+    same-answer : answer_for p q ≡ answer_to (lists T) q.task q.want
+    same-answer = ap (λ z. answer_to z q.task q.want) lists-here ∙ answer-under deck.entries its.entry (lists T) q.task q.want follow.ask.res wanted (entry-same its.entry (entry_wanted deck.entries q.want) its.at)
+
+    same-owners : owners_by p q ≡ new_owners (lists T) q.task q.want
+    same-owners = ap (λ z. new_owners z q.task q.want) lists-here ∙ owners-under deck.entries its.entry (lists T) q.task q.want follow.ask.res wanted (entry-same its.entry (entry_wanted deck.entries q.want) its.at)
+
+    own : (u : TaskId) → is_among u (owners_by p q) ≡ true → owns (list_of (lists (T ++ item ∷ [])) follow.ask.res) u ≡ true
+    own u among = ap (λ z. owns (list_of z follow.ask.res) u) (lists-push T item) ∙ new-owns (lists T) q.task q.want follow.ask.res u wanted (sym (ap (is_among u) same-owners) ∙ among)
+
+    -- the system then
+    abbrev after : StarPart
+    after = record p { manager = after_request p.manager q.task q.want; held = drop 1 p.held }
+
+    node-is : record n { tasks = tell_new n.tasks (res_wanted q.want) (owners_by p q); star = Some after } ≡ record n { tasks = tell_all n.tasks follow.ask.res (owners_by p q); star = Some after }
+    unfolding tell_new
+    node-is = ap (λ o. record n { tasks = tell_new n.tasks o (owners_by p q); star = Some after }) wanted
+
+    news : ToldNews deck c.0 (history (items (w.fixed ++ fixed_by c (fixes.Asked q ∷ [])))) n.tasks.told (tell_new n.tasks (res_wanted q.want) (owners_by p q)).told
+    news =
+        subst (λ xs. ToldNews deck c.0 (history xs) n.tasks.told (tell_new n.tasks (res_wanted q.want) (owners_by p q)).told) (sym (items-one w.fixed c (fixes.Asked q)))
+        (subst (λ (k : Node). ToldNews deck c.0 (history (T ++ item ∷ [])) n.tasks.told k.tasks.told) (sym node-is)
+        (told-news (manager-after deck w g c n at p me.star q (drop 1 p.held) held follow.ask.res (owners_by p q) own of_entry (Some after)).told))
+
+    -- the medium, where this answer is sent
+    abbrev answered : Answer → MediumState
+    answered a = record w.medium { inboxes = with_mail w.medium.inboxes q.task.system.0 (mails.Answered q.task a (rank_of p q)); rest = awake w.medium c }
+
+    by-history : Comes deck w c n (record { medium = answered (answer_to (lists T) q.task q.want); step = with_star n (settled_first n.tasks p q) })
+    by-history step = record {
+      whole = whole-settled deck w g c n at p me.star q (drop 1 p.held) held (rank_of p q) (rank-plain _ q.task q.want) (awake w.medium c) follow.ask.res wanted (owners_by p q) own of_entry after refl _ node-is step;
+      news = news;
+    }
+
+    comes-settled : serves p q ≡ true → ComesOf deck w g c n at choices.Settle (row w.medium c (acts.Settle q.task.system (mails.Answered q.task (answer_for p q) (rank_of p q))))
+    unfolding row mail_row finish finish_call finish_star
+    comes-settled serving =
+        comes-finished deck w g c n at (answered (answer_for p q)) choices.Settle replies.Settled
+        (subst (λ o. Comes deck w c n (record { medium = answered (answer_for p q); step = with_star n (settled_by n.tasks p o) })) (sym first)
+        (subst (λ b. Comes deck w c n (record { medium = answered (answer_for p q); step = with_star n (cond b (settled_first n.tasks p q) (quiet_step n.tasks p)) })) (sym serving)
+        (subst (λ a. Comes deck w c n (record { medium = answered a; step = with_star n (settled_first n.tasks p q) })) (sym same-answer) by-history)))
+
+  by_first : (o : Option Req) → first_held p ≡ o → ComesBy deck w g c n at choices.Settle (settle_by p o)
+  by_first None e = comes-none deck w g c n at choices.Settle
+  by_first (Some q) e =
+      by_test (ComesBy deck w g c n at choices.Settle) (serves p q) (Asks (acts.Settle q.task.system (mails.Answered q.task (answer_for p q) (rank_of p q)))) Idle
+      (λ h. comes-called deck w g c n at choices.Settle (acts.Settle q.task.system (mails.Answered q.task (answer_for p q) (rank_of p q))) (comes-settled q e h))
+      (λ h. comes-none deck w g c n at choices.Settle)
+
+  pub outcome-settle : Comes deck w c n (chosen deck w.medium c n choices.Settle)
+  unfolding chosen prepare
+  outcome-settle = comes-needs deck w g c n at choices.Settle (by_first (first_held p) refl)

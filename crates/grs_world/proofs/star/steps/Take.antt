@@ -1,0 +1,251 @@
+-- A system in star mode takes the first mail of its inbox.
+use Rattle.std.proofs.Common.{◌≡◌, ◌≢◌, ◌<◌, inl, inr, ℕ, Bool, true, false, cond, not, ◌&&◌, ◌||◌, List, [], ◌∷◌, ◌++◌, length, Some, refl, ap, sym, ◌∙◌, subst, arith, append_assoc}
+use Rattle.std.specs.Prelude.{drop, filter, slice_get, ◌==◌}
+use Rattle.std.proofs.lemmas.Bool.{and_parts, eqb-true, eq-eqb}
+use Rattle.std.proofs.lemmas.List.{get_or-set_same, get_or-set_other}
+use Rattle.grs_base.specs.Same.{same_task}
+use Rattle.grs_base.specs.declared.resource.Res.{Res}
+use Rattle.grs_base.specs.declared.resource.SysId.{SysId}
+use Rattle.grs_base.specs.declared.resource.TaskId.{TaskId}
+use Rattle.grs_base.proofs.SameLaws.{same_task-exact}
+use Rattle.grs_medium.specs.Apply.{row, take_row, take_from}
+use Rattle.grs_medium.specs.Inboxes.{without_first}
+use Rattle.grs_medium.specs.Medium.{MediumState, inbox, awake}
+use Rattle.grs_node.specs.Node.{Node, prepare, finish, finish_call, finish_star, with_star, is_of_deck, is_for_deck, take_mail}
+use Rattle.grs_node.specs.Star.{StarPart, StarStep, entry_for, is_entry, manages, quiet_step, took_mail}
+use Rattle.grs_wire.specs.declared.deck.Choice.TheVariants as choices
+use Rattle.grs_wire.specs.declared.deck.Deck.{Deck}
+use Rattle.grs_wire.specs.declared.medium.Act.TheVariants as acts
+use Rattle.grs_wire.specs.declared.medium.Mail.{Mail}
+use Rattle.grs_wire.specs.declared.medium.Mail.TheVariants.{Request, Answered, Granted}
+use Rattle.grs_wire.specs.declared.medium.Reply.TheVariants as replies
+use Rattle.grs_wire.specs.declared.request.Answer.{Answer}
+use Rattle.grs_wire.specs.declared.request.Req.{Req}
+use Rattle.grs_wire.proofs.WantLaws.{by_test}
+use Rattle.star_client.specs.Client.{after_mail}
+use Rattle.task_state.specs.Replies.{tell_control}
+use Rattle.task_state.specs.View.{TasksView}
+use Rattle.grs_known.specs.Items.{RunItem, mine, history, items}
+use Rattle.grs_known.proofs.lists.Facts.{slice_get-within, some_value}
+use Rattle.grs_known.proofs.lists.Owners.{is_among}
+use Rattle.grs_known.proofs.lists.Truths.{and_on, no_truth, false_by, not_true, or_false, task_swap}
+use Rattle.grs_world.specs.World.{World, Turnout, chosen}
+use Rattle.grs_world.proofs.run.News.{ToldNews, told-news}
+use Rattle.grs_world.proofs.system.Says.{askers, stand_apart, none}
+use Rattle.grs_world.proofs.star.Answering.{others_of, without_asker, mine-others}
+use Rattle.grs_world.proofs.star.Mailed.{TookAnswer, learns, leaves, took-request, took-control, took-answer, strange-answer, strange-control}
+use Rattle.grs_world.proofs.star.Members.{IsMember, all_lists}
+use Rattle.grs_world.proofs.star.OwnEvents.{Goes}
+use Rattle.grs_world.proofs.star.Systems.{IsSystem, is_late, late-none, requests_in}
+use Rattle.grs_world.proofs.star.Worlds.{IsIn, IsHand, AllHands, Hands, IsWhole, in_hands, items-none, whole-placed}
+use Rattle.grs_world.proofs.star.steps.Outcome.{Comes, ComesOf, comes-quiet, comes-needs, comes-called, comes-finished}
+
+-- ---- what is open at one system, with something else in its place
+abbrev pub in_place : {A : Type 0} → (ℕ → A) → ℕ → A → ℕ → A
+in_place f s a u = cond (u == s) a (f u)
+
+place-here : {A : Type 0} (f : ℕ → A) (s : ℕ) (a : A) → in_place f s a s ≡ a
+place-here f s a = ap (λ b. cond b a (f s)) (eq-eqb s s refl)
+
+place-other : {A : Type 0} (f : ℕ → A) (s : ℕ) (a : A) (u : ℕ) → u ≢ s → in_place f s a u ≡ f u
+place-other f s a u ne = go (u == s) refl
+  where
+    go : (b : Bool) → (u == s) ≡ b → cond (u == s) a (f u) ≡ f u
+    go true e = absurd (ne (eqb-true u s e))
+    go false e = ap (λ b. cond b a (f u)) e
+
+-- ---- a request of a task that isn't answered stays in whose hands it is
+in-filter : (f : Req → Bool) (q : Req) (qs : List Req) → f q ≡ true → IsIn q qs → IsIn q (filter f qs)
+in-filter f q [] kept h = h
+in-filter f q (x ∷ qs) kept (inl e) = subst (λ b. IsIn q (cond b (x ∷ filter f qs) (filter f qs))) (sym (ap f (sym e) ∙ kept)) (inl e)
+in-filter f q (x ∷ qs) kept (inr h) = go (f x) (in-filter f q qs kept h)
+  where
+    go : (b : Bool) → IsIn q (filter f qs) → IsIn q (cond b (x ∷ filter f qs) (filter f qs))
+    go true k = inr k
+    go false k = k
+
+module _ (deck : Deck) (words : List ℕ) (count : ℕ) (later : ℕ → List RunItem) (out : ℕ → List Req) (c : ℕ) (t : TaskId) (late : is_late t (later c) ≡ true) where
+  abbrev later' : ℕ → List RunItem
+  later' = in_place later c (others_of t (later c))
+
+  abbrev out' : ℕ → List Req
+  out' = in_place out c (without_asker t (out c))
+
+  hand-stays : (m : ℕ) (q : Req) → IsHand deck words count later out m q → IsHand deck words count later' out' m q
+  hand-stays m q h = record { apart = h.apart; below = h.below; among = among (q.task.system.0 == c) refl; idle = idle (q.task.system.0 == c) refl; entry = h.entry; at = h.at; managed = h.managed }
+    where
+      -- it is of another task
+      other : q.task.system.0 ≡ c → same_task t q.task ≡ false
+      other home = false_by (same_task t q.task) (λ e. no_truth (is_late t (later c)) late (late-none t (later c) (ap (λ z. mine z (later c)) (same_task-exact t q.task e) ∙ (ap (λ u. mine q.task (later u)) (sym home) ∙ h.idle))))
+
+      among : (b : Bool) → (q.task.system.0 == c) ≡ b → IsIn q (cond b (without_asker t (out c)) (out q.task.system.0))
+      among false e = h.among
+      among true e =
+          let home : q.task.system.0 ≡ c = eqb-true q.task.system.0 c e in
+          in-filter (λ z. not (same_task t z.task)) q (out c) (ap not (other home)) (subst (λ u. IsIn q (out u)) home h.among)
+
+      idle : (b : Bool) → (q.task.system.0 == c) ≡ b → mine q.task (cond b (others_of t (later c)) (later q.task.system.0)) ≡ []
+      idle false e = h.idle
+      idle true e =
+          let home : q.task.system.0 ≡ c = eqb-true q.task.system.0 c e in
+          mine-others t q.task (later c) (task_swap t q.task (other home)) ∙ (ap (λ u. mine q.task (later u)) (sym home) ∙ h.idle)
+
+  hands-stay : (m : ℕ) (qs : List Req) → AllHands deck words count later out m qs → AllHands deck words count later' out' m qs
+  hands-stay m [] h = tt
+  hands-stay m (q ∷ qs) h = (hand-stays m q h.0, hands-stay m qs h.1)
+
+-- ---- one request fewer in a system's hands
+all-fewer : (deck : Deck) (words : List ℕ) (count : ℕ) (later : ℕ → List RunItem) (out : ℕ → List Req) (m : ℕ) (xs : List Req) (q : Req) (ys : List Req) → AllHands deck words count later out m (xs ++ q ∷ ys) → AllHands deck words count later out m (xs ++ ys)
+all-fewer deck words count later out m [] q ys h = h.1
+all-fewer deck words count later out m (x ∷ xs) q ys h = (h.0, all-fewer deck words count later out m xs q ys h.1)
+
+among-fewer : (t : TaskId) (xs : List Req) (q : Req) (ys : List Req) → is_among t (askers (xs ++ q ∷ ys)) ≡ false → is_among t (askers (xs ++ ys)) ≡ false
+among-fewer t [] q ys h = (or_false (same_task t q.task) (is_among t (askers ys)) h).1
+among-fewer t (x ∷ xs) q ys h =
+    let both = or_false (same_task t x.task) (is_among t (askers (xs ++ q ∷ ys))) h in
+    ap (λ b. b || is_among t (askers (xs ++ ys))) both.0 ∙ among-fewer t xs q ys both.1
+
+apart-fewer : (xs : List Req) (q : Req) (ys : List Req) → stand_apart (askers (xs ++ q ∷ ys)) ≡ true → stand_apart (askers (xs ++ ys)) ≡ true
+apart-fewer [] q ys h = (and_parts (not (is_among q.task (askers ys))) (stand_apart (askers ys)) h).1
+apart-fewer (x ∷ xs) q ys h =
+    let both = and_parts (not (is_among x.task (askers (xs ++ q ∷ ys)))) (stand_apart (askers (xs ++ q ∷ ys))) h in
+    and_on (not (is_among x.task (askers (xs ++ ys)))) (stand_apart (askers (xs ++ ys))) (ap not (among-fewer x.task xs q ys (not_true (is_among x.task (askers (xs ++ q ∷ ys))) both.0))) (apart-fewer xs q ys both.1)
+
+-- ---- the first mail of the inbox is taken
+module _ (deck : Deck) (w : World) (g : IsWhole deck w) (c : SysId) (n : Node) (at : slice_get w.nodes c.0 ≡ Some n) (mail : Mail) (rest : List Mail) (is : inbox w.medium c.0 ≡ mail ∷ rest) where
+  abbrev T : List RunItem
+  T = items w.fixed
+
+  abbrev took : MediumState
+  took = record w.medium { inboxes = without_first w.medium.inboxes c.0; rest = awake w.medium c }
+
+  -- what the event comes to, where the system has these tasks and this part afterwards
+  abbrev to : TasksView → StarPart → Turnout
+  to v q = record { medium = took; step = record { node = record n { tasks = v; star = Some q }; fixed = [] } }
+
+  here_box : c.0 < length w.medium.inboxes
+  here_box = let k = slice_get-within w.nodes c.0 n at in omega (arith, k, g.roles.systems, g.roles.inboxes)
+
+  own_box : inbox took c.0 ≡ rest
+  own_box = get_or-set_same w.medium.inboxes c.0 (drop 1 (inbox w.medium c.0)) [] here_box ∙ ap (drop 1) is
+
+  other_box : (s : ℕ) → s ≢ c.0 → inbox took s ≡ inbox w.medium s
+  other_box s ne = get_or-set_other w.medium.inboxes c.0 s (drop 1 (inbox w.medium c.0)) [] ne
+
+  -- these are open afterwards, at other systems the same
+  took-mail : (later : ℕ → List RunItem) (out : ℕ → List Req) → ((s : ℕ) → s ≢ c.0 → later s ≡ g.later s) → ((s : ℕ) → s ≢ c.0 → out s ≡ g.out s) →
+      ((m : ℕ) (qs : List Req) → AllHands deck w.medium.words (length w.nodes) g.later g.out m qs → AllHands deck w.medium.words (length w.nodes) later out m qs) → (v : TasksView) (q : StarPart) →
+      Goes deck w.medium.words T c.0 (record n { tasks = v; star = Some q }) rest (later c.0) (out c.0) n.tasks.told → Hands deck w.medium.words (length w.nodes) g.later g.out c.0 (in_hands q rest) →
+      Comes deck w c n (to v q)
+  took-mail later out same_later same_out stay v q goes own step = record {
+    whole = whole-placed deck w c n at g.roles (to v q) step T (items-none w.fixed c) later out g.right g.near
+        (subst (λ ms. IsSystem deck w.medium.words T c.0 (record n { tasks = v; star = Some q }) ms (later c.0) (out c.0)) (sym own_box) goes.system)
+        (λ s k ne found. subst (λ ms. IsSystem deck w.medium.words T s k ms (later s) (out s)) (sym (other_box s ne))
+        (subst (λ xs. IsSystem deck w.medium.words T s k (inbox w.medium s) xs (out s)) (sym (same_later s ne))
+        (subst (λ qs. IsSystem deck w.medium.words T s k (inbox w.medium s) (g.later s) qs) (sym (same_out s ne)) (g.system s k found))))
+        (λ p found. subst (λ z. Hands deck w.medium.words (length w.nodes) later out c.0 (in_hands z (inbox took c.0))) (some_value q p found)
+        (subst (λ ms. Hands deck w.medium.words (length w.nodes) later out c.0 (in_hands q ms)) (sym own_box) (kept c.0 (in_hands q rest) own)))
+        (λ m k p ne found star. subst (λ ms. Hands deck w.medium.words (length w.nodes) later out m (in_hands p ms)) (sym (other_box m ne)) (kept m (in_hands p (inbox w.medium m)) (g.hands m k p found star)));
+    news = subst (λ U. ToldNews deck c.0 (history U) n.tasks.told v.told) (sym (items-none w.fixed c)) (told-news goes.told);
+  }
+    where
+      kept : (m : ℕ) (qs : List Req) → Hands deck w.medium.words (length w.nodes) g.later g.out m qs → Hands deck w.medium.words (length w.nodes) later out m qs
+      kept m qs h = record { each = stay m qs h.each; apart = h.apart }
+
+  -- the same is open afterwards
+  took-same : (v : TasksView) (q : StarPart) → Goes deck w.medium.words T c.0 (record n { tasks = v; star = Some q }) rest (g.later c.0) (g.out c.0) n.tasks.told →
+      Hands deck w.medium.words (length w.nodes) g.later g.out c.0 (in_hands q rest) → Comes deck w c n (to v q)
+  took-same v q goes own step = took-mail g.later g.out (λ s ne. refl) (λ s ne. refl) (λ m qs h. h) v q goes own step
+
+  -- the answer to a task's request was learned
+  took-learned : (t : TaskId) (v : TasksView) (q : StarPart) → is_late t (g.later c.0) ≡ true →
+      Goes deck w.medium.words T c.0 (record n { tasks = v; star = Some q }) rest (others_of t (g.later c.0)) (without_asker t (g.out c.0)) n.tasks.told →
+      Hands deck w.medium.words (length w.nodes) g.later g.out c.0 (in_hands q rest) → Comes deck w c n (to v q)
+  took-learned t v q late goes own step =
+      let xs = others_of t (g.later c.0) in
+      let qs = without_asker t (g.out c.0) in
+      took-mail (in_place g.later c.0 xs) (in_place g.out c.0 qs) (place-other g.later c.0 xs) (place-other g.out c.0 qs) (hands-stay deck w.medium.words (length w.nodes) g.later g.out c.0 t late) v q
+      (subst (λ ys. Goes deck w.medium.words T c.0 (record n { tasks = v; star = Some q }) rest ys (in_place g.out c.0 qs c.0) n.tasks.told) (sym (place-here g.later c.0 xs))
+      (subst (λ rs. Goes deck w.medium.words T c.0 (record n { tasks = v; star = Some q }) rest xs rs n.tasks.told) (sym (place-here g.out c.0 qs)) goes)) own step
+
+-- ---- by the mail
+module _ (deck : Deck) (w : World) (g : IsWhole deck w) (c : SysId) (n : Node) (at : slice_get w.nodes c.0 ≡ Some n) (p : StarPart) (star : n.star ≡ Some p) (rest : List Mail) where
+  abbrev words : List ℕ
+  words = w.medium.words
+
+  abbrev count : ℕ
+  count = length w.nodes
+
+  hands_now : (mail : Mail) → inbox w.medium c.0 ≡ mail ∷ rest → Hands deck w.medium.words (length w.nodes) g.later g.out c.0 (in_hands p (mail ∷ rest))
+  hands_now mail is = subst (λ ms. Hands deck words count g.later g.out c.0 (in_hands p ms)) is (g.hands c.0 n p at star)
+
+  system_now : (mail : Mail) → inbox w.medium c.0 ≡ mail ∷ rest → IsSystem deck w.medium.words (items w.fixed) c.0 n (mail ∷ rest) (g.later c.0) (g.out c.0)
+  system_now mail is = subst (λ ms. IsSystem deck words (items w.fixed) c.0 n ms (g.later c.0) (g.out c.0)) is (g.system c.0 n at)
+
+  -- a request isn't in the inbox any more
+  no_request : (e : ℕ) (from : SysId) (q : Req) (is : inbox w.medium c.0 ≡ Request e from q ∷ rest) (k : StarPart) → Goes deck w.medium.words (items w.fixed) c.0 (record n { tasks = n.tasks; star = Some k }) rest (g.later c.0) (g.out c.0) n.tasks.told
+  no_request e from q is k = record { system = took-request deck words (items w.fixed) c.0 n e from q rest (g.later c.0) (g.out c.0) (Some k) (system_now (Request e from q) is); told = none }
+
+  -- it is held last: the same requests are in the system's hands, in the same order
+  holds_request : (e : ℕ) (from : SysId) (q : Req) (is : inbox w.medium c.0 ≡ Request e from q ∷ rest) → Comes deck w c n (to deck w g c n at (Request e from q) rest is n.tasks (record p { held = p.held ++ q ∷ [] }))
+  holds_request e from q is = took-same deck w g c n at (Request e from q) rest is n.tasks (record p { held = p.held ++ q ∷ [] }) (no_request e from q is (record p { held = p.held ++ q ∷ [] }))
+      (subst (Hands deck words count g.later g.out c.0) (sym (append_assoc p.held (q ∷ []) (requests_in rest))) (hands_now (Request e from q) is))
+
+  -- it has no effect
+  drops_request : (e : ℕ) (from : SysId) (q : Req) (is : inbox w.medium c.0 ≡ Request e from q ∷ rest) → Comes deck w c n (to deck w g c n at (Request e from q) rest is n.tasks p)
+  drops_request e from q is =
+      let h = hands_now (Request e from q) is in
+      took-same deck w g c n at (Request e from q) rest is n.tasks p (no_request e from q is p) (record { each = all-fewer deck words count g.later g.out c.0 p.held q (requests_in rest) h.each; apart = apart-fewer p.held q (requests_in rest) h.apart })
+
+  -- an answer
+  takes_answer : (t : TaskId) (answer : Answer) (rank : ℕ) (is : inbox w.medium c.0 ≡ Answered t answer rank ∷ rest) → is_of_deck deck t ≡ true → Comes deck w c n (to deck w g c n at (Answered t answer rank) rest is (after_mail n.tasks (Answered t answer rank)) p)
+  takes_answer t answer rank is of_deck = go (took-answer deck words (items w.fixed) g.right c.0 n rest (g.later c.0) (g.out c.0) t answer rank h of_deck (Some p))
+    where
+      h : IsSystem deck w.medium.words (items w.fixed) c.0 n (Answered t answer rank ∷ rest) (g.later c.0) (g.out c.0)
+      h = system_now (Answered t answer rank) is
+
+      go : TookAnswer deck w.medium.words (items w.fixed) g.right c.0 n rest (g.later c.0) (g.out c.0) t answer rank h (record n { tasks = after_mail n.tasks (Answered t answer rank); star = Some p }) →
+          Comes deck w c n (to deck w g c n at (Answered t answer rank) rest is (after_mail n.tasks (Answered t answer rank)) p)
+      go (learns late z) = took-learned deck w g c n at (Answered t answer rank) rest is t (after_mail n.tasks (Answered t answer rank)) p late z (hands_now (Answered t answer rank) is)
+      go (leaves z) = took-same deck w g c n at (Answered t answer rank) rest is (after_mail n.tasks (Answered t answer rank)) p z (hands_now (Answered t answer rank) is)
+
+  drops_answer : (t : TaskId) (answer : Answer) (rank : ℕ) (is : inbox w.medium c.0 ≡ Answered t answer rank ∷ rest) → is_of_deck deck t ≡ false → Comes deck w c n (to deck w g c n at (Answered t answer rank) rest is n.tasks p)
+  drops_answer t answer rank is strange =
+      took-same deck w g c n at (Answered t answer rank) rest is n.tasks p
+      (record { system = strange-answer deck words (items w.fixed) g.right c.0 n rest (g.later c.0) (g.out c.0) t answer rank (system_now (Answered t answer rank) is) strange (Some p); told = none })
+      (hands_now (Answered t answer rank) is)
+
+  -- control
+  takes_control : (t : TaskId) (r : Res) (is : inbox w.medium c.0 ≡ Granted t r ∷ rest) → is_of_deck deck t ≡ true → Comes deck w c n (to deck w g c n at (Granted t r) rest is (tell_control n.tasks r t) p)
+  takes_control t r is of_deck = took-same deck w g c n at (Granted t r) rest is (tell_control n.tasks r t) p
+      (took-control deck words (items w.fixed) g.right c.0 n rest (g.later c.0) (g.out c.0) t r (system_now (Granted t r) is) of_deck (Some p)) (hands_now (Granted t r) is)
+
+  drops_control : (t : TaskId) (r : Res) (is : inbox w.medium c.0 ≡ Granted t r ∷ rest) → Comes deck w c n (to deck w g c n at (Granted t r) rest is n.tasks p)
+  drops_control t r is = took-same deck w g c n at (Granted t r) rest is n.tasks p
+      (record { system = strange-control deck words (items w.fixed) g.right c.0 n rest (g.later c.0) (g.out c.0) t r (system_now (Granted t r) is) (Some p); told = none }) (hands_now (Granted t r) is)
+
+  -- whatever the mail is
+  abbrev Takes : StarStep → Type 0
+  Takes st = Comes deck w c n (record { medium = record w.medium { inboxes = without_first w.medium.inboxes c.0; rest = awake w.medium c }; step = with_star n st })
+
+  takes : (mail : Mail) → inbox w.medium c.0 ≡ mail ∷ rest → Takes (take_mail deck n.tasks p mail)
+  unfolding took_mail after_mail
+  takes (Request e from q) is = by_test Takes (is_for_deck deck (Request e from q)) (took_mail n.tasks p (Request e from q)) (quiet_step n.tasks p)
+      (λ h. by_test (λ k. Takes (quiet_step n.tasks k)) (is_entry e (entry_for p q.want) && manages p e) (record p { held = p.held ++ q ∷ [] }) p (λ f. holds_request e from q is) (λ f. drops_request e from q is))
+      (λ h. drops_request e from q is)
+  takes (Answered t answer rank) is = by_test Takes (is_of_deck deck t) (took_mail n.tasks p (Answered t answer rank)) (quiet_step n.tasks p) (λ h. takes_answer t answer rank is h) (λ h. drops_answer t answer rank is h)
+  takes (Granted t r) is = by_test Takes (is_of_deck deck t) (took_mail n.tasks p (Granted t r)) (quiet_step n.tasks p) (λ h. takes_control t r is h) (λ h. drops_control t r is)
+
+-- ---- the event
+module _ (deck : Deck) (w : World) (g : IsWhole deck w) (c : SysId) (n : Node) (at : slice_get w.nodes c.0 ≡ Some n) where
+  abbrev me : IsMember deck w.medium.words (all_lists w) c.0 n
+  me = g.roles.node c.0 n at
+
+  by_inbox : (ms : List Mail) → inbox w.medium c.0 ≡ ms → ComesOf deck w g c n at choices.Take (take_from w.medium c ms)
+  unfolding finish finish_call finish_star
+  by_inbox [] is = comes-finished deck w g c n at w.medium choices.Take replies.Empty (comes-quiet deck w g c n at w.medium refl refl)
+  by_inbox (mail ∷ rest) is = comes-finished deck w g c n at (record w.medium { inboxes = without_first w.medium.inboxes c.0; rest = awake w.medium c }) choices.Take (replies.Taken mail) (takes deck w g c n at me.part me.star rest mail is)
+
+  pub outcome-take : Comes deck w c n (chosen deck w.medium c n choices.Take)
+  unfolding chosen prepare row take_row
+  outcome-take = comes-needs deck w g c n at choices.Take (comes-called deck w g c n at choices.Take acts.Take (by_inbox (inbox w.medium c.0) refl))

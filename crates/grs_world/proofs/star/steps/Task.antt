@@ -1,0 +1,39 @@
+-- A task of a system in star mode goes on by itself.
+use Rattle.std.proofs.Common.{◌≡◌, ◌++◌, Some, ap, sym, ◌∙◌, subst, true}
+use Rattle.std.specs.Prelude.{slice_get}
+use Rattle.grs_base.specs.declared.resource.SysId.{SysId}
+use Rattle.grs_base.specs.declared.resource.TaskId.{TaskId}
+use Rattle.grs_medium.specs.Medium.{inbox}
+use Rattle.grs_node.specs.Node.{Node, Step, prepare, finish, finish_quiet, may_go}
+use Rattle.grs_node.specs.declared.prepared.Prepared.TheVariants.{Quiet, Nothing}
+use Rattle.grs_wire.specs.declared.deck.Choice.TheVariants as choices
+use Rattle.grs_wire.specs.declared.deck.Deck.{Deck}
+use Rattle.grs_wire.specs.declared.request.Fixed.TheVariants as fixing
+use Rattle.grs_wire.proofs.WantLaws.{by_test}
+use Rattle.grs_known.specs.Items.{history, items}
+use Rattle.grs_world.specs.World.{World, carry_out, chosen, fixed_by}
+use Rattle.grs_world.proofs.run.News.{ToldNews, told-news}
+use Rattle.grs_world.proofs.star.OwnEvents.{Task, idle_task, local_task, system-task}
+use Rattle.grs_world.proofs.star.Worlds.{IsWhole, items-none, items-one, whole-task}
+use Rattle.grs_world.proofs.star.steps.Outcome.{Comes, comes-none}
+
+module _ (deck : Deck) (w : World) (g : IsWhole deck w) (c : SysId) (n : Node) (at : slice_get w.nodes c.0 ≡ Some n) where
+  -- what it tells agrees
+  task-news : (st : Step) → Task deck w.medium.words (items w.fixed) g.right c.0 n (inbox w.medium c.0) (g.later c.0) (g.out c.0) (g.system c.0 n at) c st → ToldNews deck c.0 (history (items (w.fixed ++ fixed_by c st.fixed))) n.tasks.told st.node.tasks.told
+  task-news st (idle_task none_fixed z) = subst (λ U. ToldNews deck c.0 (history U) n.tasks.told st.node.tasks.told) (sym (ap (λ fs. items (w.fixed ++ fixed_by c fs)) none_fixed ∙ items-none w.fixed c)) (told-news z.told)
+  task-news st (local_task q one_fixed mine_q away m z) =
+      subst (λ U. ToldNews deck c.0 (history U) n.tasks.told st.node.tasks.told) (sym (ap (λ fs. items (w.fixed ++ fixed_by c fs)) one_fixed ∙ items-one w.fixed c (fixing.Asked q))) (told-news z.told)
+
+  goes-on : (t : TaskId) → may_go deck n t ≡ true → Comes deck w c n (record { medium = w.medium; step = finish_quiet deck n (choices.Task t) })
+  goes-on t goes step = record {
+    whole = whole-task deck w g c n at t goes step;
+    news = task-news (finish_quiet deck n (choices.Task t)) (system-task deck w.medium.words (items w.fixed) g.right c.0 n (inbox w.medium c.0) (g.later c.0) (g.out c.0) (g.system c.0 n at) c t goes);
+  }
+
+  by_itself : (t : TaskId) → may_go deck n t ≡ true → Comes deck w c n (carry_out deck w.medium c n (choices.Task t) Quiet)
+  unfolding carry_out finish
+  by_itself t goes = goes-on t goes
+
+  pub outcome-task : (t : TaskId) → Comes deck w c n (chosen deck w.medium c n (choices.Task t))
+  unfolding chosen prepare
+  outcome-task t = by_test (λ p. Comes deck w c n (carry_out deck w.medium c n (choices.Task t) p)) (may_go deck n t) Quiet Nothing (λ h. by_itself t h) (λ h. comes-none deck w g c n at (choices.Task t))

@@ -1,0 +1,192 @@
+-- A manager tells an owner of another system that it owns.
+use Rattle.std.proofs.Common.{◌≡◌, ◌≢◌, ℕ, Bool, true, false, not, List, [], ◌∷◌, ◌++◌, length, Option, Some, None, refl, ap, sym, ◌∙◌, subst, arith}
+use Rattle.std.specs.Prelude.{◌==◌, is_some, slice_get}
+use Rattle.std.specs.Option.{option_map}
+use Rattle.std.proofs.lemmas.Bool.{and_parts, eqb-true, eqb-false, eq-eqb}
+use Rattle.std.proofs.lemmas.List.{get_or-set_same, get_or-set_other}
+use Rattle.contention_mgr.specs.Manager.{Ranked, Managed, plain, items_of, first_untold, owner_of, entry_of_res, managed_at}
+use Rattle.contention_mgr.proofs.LawProofs.{first_is_untold}
+use Rattle.contention_mgr.proofs.OwnLemmas.{first_untold_owns}
+use Rattle.grs_base.specs.Lists.{owns}
+use Rattle.grs_base.specs.State.{State, list_of}
+use Rattle.grs_base.specs.declared.resource.Res.{Res}
+use Rattle.grs_base.specs.declared.resource.SysId.{SysId}
+use Rattle.grs_base.specs.declared.resource.TaskId.{TaskId}
+use Rattle.grs_legal.specs.Asks.{lines_of}
+use Rattle.grs_medium.specs.Apply.{row, mail_row}
+use Rattle.grs_medium.specs.Inboxes.{with_mail}
+use Rattle.grs_medium.specs.Medium.{MediumState, inbox, awake}
+use Rattle.grs_node.specs.Node.{Node, prepare, finish, finish_call, finish_star, with_star}
+use Rattle.grs_node.specs.Star.{StarPart, to_tell, told_by, tell_by, quiet_step}
+use Rattle.grs_wire.specs.declared.deck.Choice.TheVariants as choices
+use Rattle.grs_wire.specs.declared.deck.Deck.{Deck}
+use Rattle.grs_wire.specs.declared.medium.Act.TheVariants as acts
+use Rattle.grs_wire.specs.declared.medium.Mail.{Mail}
+use Rattle.grs_wire.specs.declared.medium.Mail.TheVariants.{Request, Answered, Granted}
+use Rattle.grs_wire.specs.declared.medium.Reply.TheVariants as replies
+use Rattle.lock_structure.specs.Laws.{is_interested}
+use Rattle.grs_known.specs.Items.{RunItem, lists, items}
+use Rattle.grs_known.proofs.known.Histories.{owns-may}
+use Rattle.grs_known.proofs.lists.All.{owns-has}
+use Rattle.grs_known.proofs.lists.Facts.{slice_get-within, some_value}
+use Rattle.grs_known.proofs.lists.Truths.{and_on, false_by, not_true}
+use Rattle.grs_world.specs.World.{World, Turnout, chosen}
+use Rattle.grs_world.proofs.system.Says.{is_home_at}
+use Rattle.grs_world.proofs.run.News.{still-told}
+use Rattle.grs_world.proofs.star.Elements.{near-has}
+use Rattle.grs_world.proofs.star.Members.{IsPart, has_manager, one-manages}
+use Rattle.grs_world.proofs.star.Systems.{IsSystem, IsAway, near_at, requests_in, system-granted}
+use Rattle.grs_world.proofs.star.Under.{under, in_entry, entry-is, list-under, under-has}
+use Rattle.grs_world.proofs.star.Worlds.{IsWhole, Hands, in_hands, items-none, whole-placed}
+use Rattle.grs_world.proofs.star.steps.Outcome.{Comes, ComesBy, ComesOf, part, comes-called, comes-finished, comes-needs, comes-none}
+
+-- ---- who is told
+-- A task of another system than s, which owns a resource of an entry that s manages.
+record IsOwner (deck : Deck) (words : List ℕ) (L : State) (s e : ℕ) (t : TaskId) (r : Res) : Type 0 where
+  pub apart : t.system.0 ≢ s
+  pub at : entry_of_res deck.entries r ≡ Some e
+  pub owned : owns (list_of L r) t ≡ true
+  pub managed : has_manager words e s ≡ true
+
+module _ (deck : Deck) (words : List ℕ) (L : State) (s : ℕ) (p : StarPart) (k : IsPart deck words L s p) (e : ℕ) where
+  -- the owner who is found first in an entry is one
+  module _ (m : Managed) (is : managed_at p.manager e ≡ Some m) (y : Ranked) (first : first_untold p.manager.system.0 m.items ≡ Some y) where
+    kept : plain m.items ≡ under deck.entries e L
+    kept = ap (λ o. plain (items_of o)) (sym is) ∙ k.lists e (ap is_some is)
+
+    by_manager : owns (list_of (under deck.entries e L) y.res) y.elem.task ≡ true
+    by_manager = ap (λ z. owns (list_of z y.res) y.elem.task) (sym kept) ∙ first_untold_owns p.manager.system.0 p.manager.system.0 m y (k.well e m is).untold first
+
+    here : in_entry deck.entries e y.res ≡ true
+    here = under-has deck.entries e L y.res y.elem.task (owns-has (list_of (under deck.entries e L) y.res) y.elem.task by_manager)
+
+    elsewhere : (p.manager.system.0 == y.elem.task.system.0) ≡ false
+    elsewhere = not_true (p.manager.system.0 == y.elem.task.system.0) (and_parts y.untold (not (p.manager.system.0 == y.elem.task.system.0)) (first_is_untold p.manager.system.0 m.items y first).2).1
+
+    is-owner : IsOwner deck words L s e y.elem.task y.res
+    is-owner = record {
+      apart = λ same. eqb-false p.manager.system.0 y.elem.task.system.0 elsewhere (k.home ∙ sym same);
+      at = entry-is e (entry_of_res deck.entries y.res) here;
+      owned = ap (λ es. owns es y.elem.task) (sym (list-under deck.entries e L y.res here)) ∙ by_manager;
+      managed = sym (k.roles e) ∙ ap is_some is;
+    }
+
+  first-owns : (x : TaskId × Res) → to_tell p e ≡ Some x → IsOwner deck words L s e x.0 x.1
+  first-owns x = by_entry (managed_at p.manager e) refl
+    where
+      by_first : (m : Managed) → managed_at p.manager e ≡ Some m → (o : Option Ranked) → first_untold p.manager.system.0 m.items ≡ o → option_map owner_of o ≡ Some x → IsOwner deck words L s e x.0 x.1
+      by_first m is None first h = absurd (cc)
+      by_first m is (Some y) first h = subst (λ (z : TaskId × Res). IsOwner deck words L s e z.0 z.1) (some_value (owner_of y) x h) (is-owner m is y first)
+
+      by_entry : (o : Option Managed) → managed_at p.manager e ≡ o → option_map owner_of (first_untold p.manager.system.0 (items_of o)) ≡ Some x → IsOwner deck words L s e x.0 x.1
+      by_entry None is h = absurd (cc)
+      by_entry (Some m) is h = by_first m is (first_untold p.manager.system.0 m.items) refl h
+
+-- control is none of the requests
+requests-granted : (ms : List Mail) (t : TaskId) (r : Res) → requests_in ms ≡ requests_in (ms ++ Granted t r ∷ [])
+requests-granted [] t r = refl
+requests-granted (Request e from q ∷ ms) t r = ap (λ zs. q ∷ zs) (requests-granted ms t r)
+requests-granted (Answered u a rank ∷ ms) t r = requests-granted ms t r
+requests-granted (Granted u q ∷ ms) t r = requests-granted ms t r
+
+module _ (deck : Deck) (w : World) (g : IsWhole deck w) (c : SysId) (n : Node) (at : slice_get w.nodes c.0 ≡ Some n) where
+  abbrev T : List RunItem
+  T = items w.fixed
+
+  abbrev words : List ℕ
+  words = w.medium.words
+
+  abbrev p : StarPart
+  p = part deck w g c n at
+
+  -- ---- the world once control was sent to an owner
+  module _ (entry : ℕ) (t : TaskId) (r : Res) (owner : IsOwner deck w.medium.words (lists (items w.fixed)) c.0 entry t r) (flags : ℕ) where
+    abbrev sent_on : MediumState
+    sent_on = record w.medium { inboxes = with_mail w.medium.inboxes t.system.0 (Granted t r); rest = flags }
+
+    its_box : (k : Node) → slice_get w.nodes t.system.0 ≡ Some k → inbox sent_on t.system.0 ≡ inbox w.medium t.system.0 ++ Granted t r ∷ []
+    its_box k found = get_or-set_same w.medium.inboxes t.system.0 (inbox w.medium t.system.0 ++ Granted t r ∷ []) [] (let there = slice_get-within w.nodes t.system.0 k found in omega (arith, there, g.roles.systems, g.roles.inboxes))
+
+    other_box : (u : ℕ) → u ≢ t.system.0 → inbox sent_on u ≡ inbox w.medium u
+    other_box u ne = get_or-set_other w.medium.inboxes t.system.0 u (inbox w.medium t.system.0 ++ Granted t r ∷ []) [] ne
+
+    own_box : inbox sent_on c.0 ≡ inbox w.medium c.0
+    own_box = other_box c.0 (λ same. owner.apart (sym same))
+
+    known : is_some (lines_of deck t) ≡ true
+    known = (and_parts (is_some (lines_of deck t)) _ (owns-may deck T r t g.right.asks owner.owned)).0
+
+    home : is_home_at deck t.system.0 t ≡ true
+    home = and_on (t.system.0 == t.system.0) (is_some (lines_of deck t)) (eq-eqb t.system.0 t.system.0 refl) known
+
+    interested : is_interested w.medium.words entry t.system.0 ≡ true
+    interested = sym (ap (near_at words t.system.0) owner.at) ∙ near-has deck words (lists T) r t g.near (owns-has (list_of (lists T) r) t owner.owned)
+
+    away : IsAway deck w.medium.words t.system.0 t r
+    away = record { home = home; entry = entry; at = owner.at; away = (false_by (has_manager words entry t.system.0) (λ mine. absurd (owner.apart (one-manages words entry t.system.0 c.0 mine owner.managed))), interested) }
+
+    granted : (k : Node) → slice_get w.nodes t.system.0 ≡ Some k → IsSystem deck w.medium.words (items w.fixed) t.system.0 k (inbox sent_on t.system.0) (g.later t.system.0) (g.out t.system.0)
+    granted k found = subst (λ ms. IsSystem deck words T t.system.0 k ms (g.later t.system.0) (g.out t.system.0)) (sym (its_box k found))
+        (system-granted deck words T t.system.0 k (inbox w.medium t.system.0) (g.later t.system.0) (g.out t.system.0) (g.system t.system.0 k found) g.right t r home owner.owned away)
+
+    others : (u : ℕ) (k : Node) → slice_get w.nodes u ≡ Some k → IsSystem deck w.medium.words (items w.fixed) u k (inbox sent_on u) (g.later u) (g.out u)
+    others u k found = go (u == t.system.0) refl
+      where
+        go : (b : Bool) → (u == t.system.0) ≡ b → IsSystem deck w.medium.words (items w.fixed) u k (inbox sent_on u) (g.later u) (g.out u)
+        go true e =
+            let same : u ≡ t.system.0 = eqb-true u t.system.0 e in
+            subst (λ z. IsSystem deck words T z k (inbox sent_on z) (g.later z) (g.out z)) (sym same) (granted k (ap (slice_get w.nodes) (sym same) ∙ found))
+        go false e = subst (λ ms. IsSystem deck words T u k ms (g.later u) (g.out u)) (sym (other_box u (eqb-false u t.system.0 e))) (g.system u k found)
+
+    same_requests : (u : ℕ) (k : Node) → slice_get w.nodes u ≡ Some k → requests_in (inbox w.medium u) ≡ requests_in (inbox sent_on u)
+    same_requests u k found = go (u == t.system.0) refl
+      where
+        go : (b : Bool) → (u == t.system.0) ≡ b → requests_in (inbox w.medium u) ≡ requests_in (inbox sent_on u)
+        go true e =
+            let same : u ≡ t.system.0 = eqb-true u t.system.0 e in
+            subst (λ z. requests_in (inbox w.medium z) ≡ requests_in (inbox sent_on z)) (sym same) (requests-granted (inbox w.medium t.system.0) t r ∙ ap requests_in (sym (its_box k (ap (slice_get w.nodes) (sym same) ∙ found))))
+        go false e = ap requests_in (sym (other_box u (eqb-false u t.system.0 e)))
+
+    -- the manager's part is another afterwards, and holds the same requests
+    module _ (q : StarPart) (held : q.held ≡ p.held) where
+      abbrev after : Turnout
+      after = record { medium = sent_on; step = with_star n (quiet_step n.tasks q) }
+
+      own : IsSystem deck w.medium.words (items w.fixed) c.0 (with_star n (quiet_step n.tasks q)).node (inbox sent_on c.0) (g.later c.0) (g.out c.0)
+      own = subst (λ ms. IsSystem deck words T c.0 (record n { star = Some q }) ms (g.later c.0) (g.out c.0)) (sym own_box) (with_part (g.system c.0 n at))
+        where
+          with_part : IsSystem deck w.medium.words (items w.fixed) c.0 n (inbox w.medium c.0) (g.later c.0) (g.out c.0) → IsSystem deck w.medium.words (items w.fixed) c.0 (record n { star = Some q }) (inbox w.medium c.0) (g.later c.0) (g.out c.0)
+          with_part h = record { at = h.at; late = h.late; sent = h.sent; near = h.near; coming = h.coming; answered = h.answered; fits = h.fits }
+
+      hands_own : (k : StarPart) → Some q ≡ Some k → Hands deck w.medium.words (length w.nodes) g.later g.out c.0 (in_hands k (inbox sent_on c.0))
+      hands_own k is =
+          subst (Hands deck words (length w.nodes) g.later g.out c.0) (ap (λ ms. p.held ++ requests_in ms) (sym own_box) ∙ (ap (λ qs. qs ++ requests_in (inbox sent_on c.0)) (sym held) ∙ ap (λ (z : StarPart). in_hands z (inbox sent_on c.0)) (some_value q k is)))
+          (g.hands c.0 n p at (g.roles.node c.0 n at).star)
+
+      tells : Comes deck w c n after
+      tells step = record {
+        whole = whole-placed deck w c n at g.roles after step T (items-none w.fixed c) g.later g.out g.right g.near own
+            (λ u k ne found. others u k found)
+            hands_own
+            (λ m k v ne found is. subst (Hands deck words (length w.nodes) g.later g.out m) (ap (λ zs. v.held ++ zs) (same_requests m k found)) (g.hands m k v found is));
+        news = still-told refl;
+      }
+
+  -- ---- the event
+  sends : (entry : ℕ) (x : TaskId × Res) → to_tell (part deck w g c n at) entry ≡ Some x → ComesOf deck w g c n at (choices.Tell entry) (row w.medium c (acts.Tell x.0.system (Granted x.0 x.1)))
+  unfolding row mail_row finish finish_call finish_star
+  sends entry x is =
+      comes-finished deck w g c n at (sent_on entry x.0 x.1 owner (awake w.medium c)) (choices.Tell entry) replies.Told
+      (subst (λ o. Comes deck w c n (record { medium = sent_on entry x.0 x.1 owner (awake w.medium c); step = with_star n (quiet_step n.tasks (told_by p o)) })) (sym is)
+      (tells entry x.0 x.1 owner (awake w.medium c) (told_by p (Some x)) refl))
+    where
+      owner : IsOwner deck w.medium.words (lists (items w.fixed)) c.0 entry x.0 x.1
+      owner = first-owns deck words (lists T) c.0 p (g.roles.node c.0 n at).fits entry x is
+
+  by_owner : (entry : ℕ) (o : Option (TaskId × Res)) → to_tell (part deck w g c n at) entry ≡ o → ComesBy deck w g c n at (choices.Tell entry) (tell_by o)
+  by_owner entry None is = comes-none deck w g c n at (choices.Tell entry)
+  by_owner entry (Some x) is = comes-called deck w g c n at (choices.Tell entry) (acts.Tell x.0.system (Granted x.0 x.1)) (sends entry x is)
+
+  pub outcome-tell : (entry : ℕ) → Comes deck w c n (chosen deck w.medium c n (choices.Tell entry))
+  unfolding chosen prepare
+  outcome-tell entry = comes-needs deck w g c n at (choices.Tell entry) (by_owner entry (to_tell p entry) refl)
