@@ -5,6 +5,7 @@ pub mod Fronts
 pub mod ItemLaws
 pub mod Knowing
 pub mod Coming
+pub mod Blank
 pub mod Pasts
 pub mod Reading
 pub mod Fitting

@@ -3,8 +3,6 @@ pub mod Laps
 pub mod LapsTold
 pub mod Came
 pub mod KeptPlaces
-pub mod Behind
-pub mod News
 pub mod Answered
 pub mod OfEvents
 pub mod Growing

@@ -8,8 +8,6 @@ pub mod Runs
 pub mod Ghosts
 pub mod Ranked
 pub mod Answering
-pub mod News
-pub mod Busy
 pub mod Systems
 pub mod OwnEvents
 pub mod Mailed

@@ -18,11 +18,11 @@ use Rattle.grs_wire.specs.declared.told.ToldLine.TheVariants as lines
 use Rattle.grs_wire.proofs.MaskLaws.{has-without_same, has-without_other}
 use Rattle.rsa_message.specs.Message.{left_by, cleared, stamped}
 use Rattle.grs_world.specs.Laps.{OnlyLeft, LeftHome, answers}
-use Rattle.grs_world.proofs.system.Askers.{among-front}
+use Rattle.grs_known.proofs.system.Askers.{among-front}
 use Rattle.grs_known.proofs.lists.Facts.{all-more, list_any-push, take-drop}
 use Rattle.grs_known.proofs.lists.Owners.{is_among}
-use Rattle.grs_world.proofs.system.Says.{ToldBy, Clears, askers, is_line_of}
-use Rattle.grs_world.proofs.system.Says as says
+use Rattle.grs_known.proofs.system.Says.{ToldBy, Clears, askers, is_line_of}
+use Rattle.grs_known.proofs.system.Says as says
 use Rattle.grs_known.proofs.lists.Truths.{no_truth, or_other, or_false}
 
 -- ---- the lines told

@@ -31,7 +31,7 @@ use Rattle.grs_world.specs.World.{World, Turnout, carry_out, chosen, placed, cou
 use Rattle.grs_world.proofs.run.InRing.{AreRing, all_ring, finished-ring}
 use Rattle.grs_world.proofs.run.Runs.{GoodWorld, run-push}
 use Rattle.grs_world.proofs.run.Sound.{good_run}
-use Rattle.grs_world.proofs.system.Says.{is_home_at, own_requests}
+use Rattle.grs_known.proofs.system.Says.{is_home_at, own_requests}
 
 -- What came of an event of a system: nothing that its tasks or the message would show, a task that went on, or its
 -- Turn.

@@ -18,7 +18,7 @@ use Rattle.grs_known.proofs.lists.Owners.{is_among}
 use Rattle.grs_known.proofs.lists.Truths.{false_by, or_false}
 use Rattle.grs_world.specs.World.{fixed_by}
 use Rattle.grs_world.proofs.system.AtNode.{Seen, seen-other}
-use Rattle.grs_world.proofs.system.Says.{askers, own_asked, own_requests}
+use Rattle.grs_known.proofs.system.Says.{askers, own_asked, own_requests}
 
 -- what was fixed, without its entries
 abbrev pub fixeds : List RunItem → List Fixed

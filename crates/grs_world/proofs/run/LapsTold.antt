@@ -39,14 +39,14 @@ use Rattle.grs_world.proofs.run.Growing.{fixeds}
 use Rattle.grs_world.proofs.run.InRing.{all_ring}
 use Rattle.grs_world.proofs.run.Laps.{goes}
 use Rattle.grs_world.proofs.run.Messages.{given-later}
-use Rattle.grs_world.proofs.run.News.{told-fewer}
+use Rattle.grs_known.proofs.told.News.{told-fewer}
 use Rattle.grs_world.proofs.run.Outcomes.{turn_told}
 use Rattle.grs_world.proofs.run.Runs.{GoodWorld, run-push}
 use Rattle.grs_world.proofs.run.Sound.{good_run}
-use Rattle.grs_world.proofs.system.Askers.{among-front, askers-append}
+use Rattle.grs_known.proofs.system.Askers.{among-front, askers-append}
 use Rattle.grs_world.proofs.system.AtNode.{QuietStep, keeps, fixes}
 use Rattle.grs_world.proofs.system.Quiet.{quiet}
-use Rattle.grs_world.proofs.system.Says.{ToldBy, askers, own_asked, own_requests, is_line_of}
+use Rattle.grs_known.proofs.system.Says.{ToldBy, askers, own_asked, own_requests, is_line_of}
 
 -- ---- the entries of the message, one of them
 home_of : (before behind : List RingEntry) (e : RingEntry) → AllHome (before ++ e ∷ behind) → IsHome e.from e.body

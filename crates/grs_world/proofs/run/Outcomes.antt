@@ -13,12 +13,12 @@ use Rattle.grs_known.proofs.known.Histories.{AllAsk, IsHistory, made_item, asks-
 use Rattle.grs_known.proofs.lists.Facts.{all-behind, filter-cons_left}
 use Rattle.grs_world.proofs.message.Stands.{Bodies}
 use Rattle.grs_world.proofs.run.Growing.{fixeds, Grows, same, more, grows-history, grows-rounds, asks-rounds}
-use Rattle.grs_world.proofs.run.News.{ToldNews, told-news, still-told}
+use Rattle.grs_known.proofs.told.News.{ToldNews, told-news, still-told}
 use Rattle.grs_world.proofs.run.Putting.{PutIn, put-all}
 use Rattle.grs_world.proofs.run.Reading.{read_all, read-entries, all-rounds, ReadTo, reading}
 use Rattle.grs_world.proofs.system.AtNode.{Seen, QuietStep, keeps, fixes}
 use Rattle.grs_world.proofs.system.Puts.{put, put_told}
-use Rattle.grs_world.proofs.system.Says.{own_requests, ToldBy}
+use Rattle.grs_known.proofs.system.Says.{own_requests, ToldBy}
 
 -- What an event of a system comes to: what it fixed, of which this went with the message; where the system stands; and
 -- what was told.

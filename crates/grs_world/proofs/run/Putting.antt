@@ -11,10 +11,10 @@ use Rattle.grs_known.proofs.known.Histories.{IsHistory, made_item, asks-behind, 
 use Rattle.grs_known.proofs.lists.Facts.{filter-cons_kept, map-append}
 use Rattle.grs_known.proofs.lists.Owners.{is_among}
 use Rattle.grs_world.proofs.run.Growing.{fixeds, Grows, same, more, grows-history, grows-rounds, own_requests-append, asks-rounds, idle-asks}
-use Rattle.grs_world.proofs.system.Askers.{apart-before, askers-append}
+use Rattle.grs_known.proofs.system.Askers.{apart-before, askers-append}
 use Rattle.grs_world.proofs.system.AtNode.{Seen}
 use Rattle.grs_world.proofs.system.Puts.{MayPut, may_home, may_put, seen-put}
-use Rattle.grs_world.proofs.system.Says.{askers, stand_apart, own_requests}
+use Rattle.grs_known.proofs.system.Says.{askers, stand_apart, own_requests}
 
 module _ (deck : Deck) (c : SysId) (P before later : List RunItem) (right : IsHistory deck P) (whole : rounds P ≡ before ++ later) (n : Node) where
   -- What is put in: each request is an item at the end.

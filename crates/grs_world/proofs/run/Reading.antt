@@ -17,12 +17,12 @@ use Rattle.grs_known.proofs.known.Histories.{IsAsk, AllAsk, IsHistory, goes-ask,
 use Rattle.grs_known.proofs.lists.Facts.{all-middle}
 use Rattle.grs_world.proofs.message.Stands.{Bodies, none, more, body_of}
 use Rattle.grs_world.proofs.run.Growing.{fixeds, asks-rounds}
-use Rattle.grs_world.proofs.run.News.{told-then, told-fewer}
-use Rattle.grs_world.proofs.system.Askers.{among-back}
+use Rattle.grs_known.proofs.told.News.{told-then, told-fewer}
+use Rattle.grs_known.proofs.system.Askers.{among-back}
 use Rattle.grs_world.proofs.system.AtNode.{Seen}
 use Rattle.grs_world.proofs.system.Processed.{after_read, Reads, read}
-use Rattle.grs_world.proofs.system.Says.{own_asked, own_requests, ToldBy}
-use Rattle.grs_world.proofs.system.Says as told
+use Rattle.grs_known.proofs.system.Says.{own_asked, own_requests, ToldBy}
+use Rattle.grs_known.proofs.system.Says as told
 
 -- ---- what the node does
 abbrev pub read_item : Node → Fixed → Node

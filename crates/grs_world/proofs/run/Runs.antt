@@ -24,10 +24,10 @@ use Rattle.grs_world.specs.Agree.{Agrees, AgreesBy, AllAgree, Moment, moment, li
 use Rattle.grs_world.specs.World.{World, Turnout, placed, counted, fixed_by, told_by, happens, run_from, run, hist, first_world}
 use Rattle.grs_world.proofs.message.Stands.{Stands, waits_for}
 use Rattle.grs_world.proofs.run.Growing.{fixeds, grows-items, grows-history, grows-rounds, grows-seen, grows-requests, own_requests-append}
-use Rattle.grs_world.proofs.run.News.{LinesAgree, ToldNews, filter-ours}
+use Rattle.grs_known.proofs.told.News.{LinesAgree, ToldNews, filter-ours}
 use Rattle.grs_world.proofs.run.Outcomes.{Outcome}
 use Rattle.grs_world.proofs.system.AtNode.{Seen}
-use Rattle.grs_world.proofs.system.Says.{AgreesBehind, is_line_of, own_requests}
+use Rattle.grs_known.proofs.system.Says.{AgreesBehind, is_line_of, own_requests}
 
 -- ---- what was told
 lines_of_told-append : (xs ys : List Told) → lines_of_told (xs ++ ys) ≡ lines_of_told xs ++ lines_of_told ys

@@ -41,7 +41,7 @@ use Rattle.grs_world.proofs.system.AtNode.{Seen}
 use Rattle.grs_world.proofs.system.Begun.{first_seen}
 use Rattle.grs_world.proofs.system.First.{first_told}
 use Rattle.grs_world.proofs.system.Quiet.{quiet}
-use Rattle.grs_world.proofs.system.Says.{own_requests}
+use Rattle.grs_known.proofs.system.Says.{own_requests}
 
 -- ---- one event
 module _ (deck : Deck) (es : List Event) (e : Event) (g : GoodWorld deck es (run deck es)) (ring : AreRing (run deck es).nodes) where

@@ -43,15 +43,15 @@ use Rattle.grs_known.proofs.lists.Facts.{filter-append, filter-cons_kept, all-fi
 use Rattle.grs_known.proofs.lists.Owners.{is_among}
 use Rattle.grs_known.proofs.lists.Truths.{and_on, no_truth, not_true, task_swap}
 use Rattle.grs_known.proofs.tasks.Invariant.{IsTask}
-use Rattle.grs_world.proofs.system.Askers.{apart-push}
-use Rattle.grs_world.proofs.system.Asking.{line_asked, unasked_by, IsAskedFor, IsOpenBy, Opens, IsReq, IsAskedBy, task-open}
+use Rattle.grs_known.proofs.system.Askers.{apart-push}
+use Rattle.grs_known.proofs.system.Asking.{line_asked, unasked_by, IsAskedFor, IsOpenBy, Opens, IsReq, IsAskedBy, task-open}
 use Rattle.grs_world.proofs.system.AtNode.{opens_of, Seen}
-use Rattle.grs_world.proofs.system.Did.{Did, did-none, did-phase, did-outstanding}
-use Rattle.grs_world.proofs.system.Events.{Settles, Decides, settles, enq-settles, deq-settles, release-settles}
-use Rattle.grs_world.proofs.system.Good.{IsGood, here-kept, here-other, ours-home}
-use Rattle.grs_world.proofs.system.Ours.{IsOurs, IsHere}
+use Rattle.grs_known.proofs.system.Did.{Did, did-none, did-phase, did-outstanding}
+use Rattle.grs_known.proofs.system.Events.{Settles, Decides, settles, enq-settles, deq-settles, release-settles}
+use Rattle.grs_known.proofs.system.Good.{IsGood, here-kept, here-other, ours-home}
+use Rattle.grs_known.proofs.system.Ours.{IsOurs, IsHere}
 use Rattle.grs_world.proofs.system.Puts.{MayPut, may_put, seen-put, put}
-use Rattle.grs_world.proofs.system.Says.{is_home_at, askers, stand_apart, ToldBy, none}
+use Rattle.grs_known.proofs.system.Says.{is_home_at, askers, stand_apart, ToldBy, none}
 use Rattle.grs_world.proofs.star.Ghosts.{ghosted, IsAt, without-box}
 use Rattle.grs_world.proofs.star.Ranked.{ranked-settles}
 

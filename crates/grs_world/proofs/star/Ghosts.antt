@@ -30,13 +30,13 @@ use Rattle.task_state.specs.declared.state.Rec.{Rec}
 use Rattle.grs_known.specs.Items.{RunItem, goes_round, is_of, rounds, mine, history}
 use Rattle.grs_known.proofs.known.Histories.{IsHistory, IsAsk, MayFollow, made_item}
 use Rattle.grs_known.proofs.lists.Facts.{filter-append}
-use Rattle.grs_world.proofs.system.Askers.{apart-front}
-use Rattle.grs_world.proofs.system.Asking.{Opens, IsAskedBy, are_sent}
+use Rattle.grs_known.proofs.system.Askers.{apart-front}
+use Rattle.grs_known.proofs.system.Asking.{Opens, IsAskedBy, are_sent}
 use Rattle.grs_world.proofs.system.AtNode.{opens_of, Seen, QuietStep, keeps, fixes, seen-other, mine-left, not-ours}
-use Rattle.grs_world.proofs.system.Good.{IsGood, here-kept}
-use Rattle.grs_world.proofs.system.Ours.{IsOurs}
+use Rattle.grs_known.proofs.system.Good.{IsGood, here-kept}
+use Rattle.grs_known.proofs.system.Ours.{IsOurs}
 use Rattle.grs_world.proofs.system.Quiet.{quiet}
-use Rattle.grs_world.proofs.system.Says.{is_home_at, askers, stand_apart, Clears, ToldBy, none, more}
+use Rattle.grs_known.proofs.system.Says.{is_home_at, askers, stand_apart, Clears, ToldBy, none, more}
 
 abbrev pub ghosted : Node → Node
 ghosted n = record n { star = None; outbox = []; shared = [] }

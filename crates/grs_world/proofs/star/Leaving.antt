@@ -36,14 +36,14 @@ use Rattle.grs_known.proofs.lists.Facts.{filter-append, filter-cons_kept, all-mi
 use Rattle.grs_known.proofs.lists.Truths.{and_on, no_truth, or_first, or_second}
 use Rattle.grs_known.proofs.tasks.Invariant.{has_res}
 use Rattle.grs_world.proofs.system.AtNode.{opens_of}
-use Rattle.grs_world.proofs.system.Asking.{IsReq, IsAskedBy, IsAskedFor, IsOpenBy}
-use Rattle.grs_world.proofs.system.Ours.{IsHere}
+use Rattle.grs_known.proofs.system.Asking.{IsReq, IsAskedBy, IsAskedFor, IsOpenBy}
+use Rattle.grs_known.proofs.system.Ours.{IsHere}
 use Rattle.grs_world.proofs.system.Puts.{home-task}
-use Rattle.grs_world.proofs.system.Says.{is_home_at}
-use Rattle.grs_world.proofs.star.Busy.{busy-idle, busy-behind}
+use Rattle.grs_known.proofs.system.Says.{is_home_at}
+use Rattle.grs_known.proofs.system.Busy.{busy-idle, busy-behind}
 use Rattle.grs_world.proofs.star.Ghosts.{ghosted}
 use Rattle.grs_world.proofs.star.Members.{has_manager}
-use Rattle.grs_world.proofs.star.News.{blank}
+use Rattle.grs_known.proofs.known.Blank.{blank}
 use Rattle.grs_world.proofs.star.OwnEvents.{late-in, given-entry}
 use Rattle.grs_world.proofs.star.Systems.{IsSystem, IsLate, AllLate, AllFit, Away, near_at, is_near, is_late, news_of, here, behind-late}
 use Rattle.grs_world.proofs.star.Under.{entry-same}

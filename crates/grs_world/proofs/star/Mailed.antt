@@ -43,12 +43,12 @@ use Rattle.grs_known.proofs.lists.Owners.{is_among}
 use Rattle.grs_known.proofs.lists.Truths.{and_on, and_off, no_truth, false_by}
 use Rattle.grs_world.proofs.system.AtNode.{opens_of}
 use Rattle.grs_world.proofs.system.Puts.{home-task}
-use Rattle.grs_world.proofs.system.Says.{is_home_at, askers, stand_apart, none}
+use Rattle.grs_known.proofs.system.Says.{is_home_at, askers, stand_apart, none}
 use Rattle.grs_world.proofs.star.Answering.{Taken, takes-control, takes-answer, others_of, without_asker, apart-filter, mine-others, mine-none}
 use Rattle.grs_world.proofs.star.Ghosts.{ghosted, IsAt, told-free}
-use Rattle.grs_world.proofs.star.News.{blank, coming-same, coming-late, no-answer}
+use Rattle.grs_known.proofs.known.Blank.{blank, coming-same, coming-late, no-answer}
 use Rattle.grs_world.proofs.star.OwnEvents.{Goes, late-in}
-use Rattle.grs_world.proofs.system.Asking.{IsOpenBy, are_sent}
+use Rattle.grs_known.proofs.system.Asking.{IsOpenBy, are_sent}
 use Rattle.grs_world.proofs.star.Systems.{gives, gives_want, gives-none, is_plain_answer, any-answer, IsSystem, IsLate, AllLate, is_late, news_of, late-none, late-one, here, behind-late, is_near}
 
 -- only the first of its requests is no longer in the inbox

@@ -42,13 +42,13 @@ use Rattle.grs_known.proofs.lists.Owners.{is_among}
 use Rattle.grs_known.proofs.lists.Parts.{part, is_res_of, systems-other}
 use Rattle.grs_known.proofs.lists.Truths.{and_on, no_truth, false_by}
 use Rattle.grs_world.proofs.system.AtNode.{part-other}
-use Rattle.grs_world.proofs.system.Ours.{IsOurs}
+use Rattle.grs_known.proofs.system.Ours.{IsOurs}
 use Rattle.grs_world.proofs.system.Puts.{MayPut}
-use Rattle.grs_world.proofs.system.Says.{is_home_at, askers, ToldBy}
+use Rattle.grs_known.proofs.system.Says.{is_home_at, askers, ToldBy}
 use Rattle.grs_world.proofs.star.Answering.{Taken, decides-own, may_own, sent, tells-owners}
 use Rattle.grs_world.proofs.star.Ghosts.{IsAt, TaskStep, idles, does, task-goes, told-free}
 use Rattle.grs_world.proofs.star.Members.{has_manager}
-use Rattle.grs_world.proofs.star.News.{blank, coming-other, coming-decided}
+use Rattle.grs_known.proofs.known.Blank.{blank, coming-other, coming-decided}
 use Rattle.grs_world.proofs.star.Systems.{IsSystem, IsLate, AllLate, AllFit, Keeps, is_near, is_late, news_of, late-none, here, behind-late, right-late, system-words}
 use Rattle.grs_world.proofs.star.Under.{res-entry}
 

@@ -21,13 +21,13 @@ use Rattle.task_state.proofs.ViewLaws.{length-on_record, state_of-same, told-sta
 use Rattle.grs_known.specs.Items.{RunItem, history}
 use Rattle.grs_known.specs.Past.{Past, past_of}
 use Rattle.grs_known.proofs.tasks.Invariant.{Each, IsRec, IsTask, key, has_res, is_distinct}
-use Rattle.grs_world.proofs.system.Asking.{Opens, unasked, unasked-told, IsAskedFor, IsOpenBy, IsOpen}
-use Rattle.grs_world.proofs.system.Did.{Did}
-use Rattle.grs_world.proofs.system.Events.{Settles}
-use Rattle.grs_world.proofs.system.Good.{IsGood}
-use Rattle.grs_world.proofs.system.Ours.{IsOurs, changed-state}
-use Rattle.grs_world.proofs.system.Says.{ToldBy, none}
-use Rattle.grs_world.proofs.system.Turns.{quiet_settles}
+use Rattle.grs_known.proofs.system.Asking.{Opens, unasked, unasked-told, IsAskedFor, IsOpenBy, IsOpen}
+use Rattle.grs_known.proofs.system.Did.{Did}
+use Rattle.grs_known.proofs.system.Events.{Settles}
+use Rattle.grs_known.proofs.system.Good.{IsGood}
+use Rattle.grs_known.proofs.system.Ours.{IsOurs, changed-state}
+use Rattle.grs_known.proofs.system.Says.{ToldBy, none}
+use Rattle.grs_known.proofs.system.Turns.{quiet_settles}
 
 abbrev ranked : ℕ → Rec → Rec
 ranked k y = record y { rank = k }

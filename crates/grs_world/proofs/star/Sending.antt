@@ -42,11 +42,11 @@ use Rattle.grs_known.proofs.lists.Facts.{slice_get-within, slice_get-past, some_
 use Rattle.grs_known.proofs.lists.Owners.{is_among}
 use Rattle.grs_known.proofs.lists.Truths.{false_by, no_truth, or_first, or_second}
 use Rattle.grs_world.specs.World.{World}
-use Rattle.grs_world.proofs.run.News.{ToldNews, told-news, still-told}
-use Rattle.grs_world.proofs.system.Askers.{apart-push}
-use Rattle.grs_world.proofs.system.Ours.{IsOurs}
-use Rattle.grs_world.proofs.system.Says.{is_home_at, askers}
-use Rattle.grs_world.proofs.system.Telling.{told-phase}
+use Rattle.grs_known.proofs.told.News.{ToldNews, told-news, still-told}
+use Rattle.grs_known.proofs.system.Askers.{apart-push}
+use Rattle.grs_known.proofs.system.Ours.{IsOurs}
+use Rattle.grs_known.proofs.system.Says.{is_home_at, askers}
+use Rattle.grs_known.proofs.system.Telling.{told-phase}
 use Rattle.grs_world.proofs.star.Elements.{AreNear, is_near_res, near-has, near-want, near-words}
 use Rattle.grs_world.proofs.star.Members.{IsStep, has_manager, managed-is}
 use Rattle.grs_world.proofs.star.OwnEvents.{may-follow, system-decided, system-sent}

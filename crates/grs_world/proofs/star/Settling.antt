@@ -33,8 +33,8 @@ use Rattle.task_state.specs.declared.state.Asked.{Asked}
 use Rattle.grs_known.specs.Items.{RunItem, lists, history, mine, is_of, items}
 use Rattle.grs_known.proofs.known.Histories.{IsHistory, IsAsk, MayFollow, made_item, follows}
 use Rattle.grs_known.proofs.lists.Owners.{is_among}
-use Rattle.grs_world.proofs.system.Asking.{IsReq, IsAskedBy}
-use Rattle.grs_world.proofs.system.Says.{none, is_home_at, askers, stand_apart}
+use Rattle.grs_known.proofs.system.Asking.{IsReq, IsAskedBy}
+use Rattle.grs_known.proofs.system.Says.{none, is_home_at, askers, stand_apart}
 use Rattle.grs_world.proofs.star.Answering.{Taken, tells-owners, asker-settled}
 use Rattle.grs_world.proofs.star.Ghosts.{told-free}
 use Rattle.grs_known.proofs.lists.Facts.{some_value, filter-append, filter-cons_left, slice_get-there}

@@ -35,14 +35,14 @@ use Rattle.grs_known.proofs.lists.Facts.{map-append, list_any-push, filter-appen
 use Rattle.grs_known.proofs.lists.Owners.{is_among}
 use Rattle.grs_known.proofs.lists.Truths.{and_on, no_truth, false_by, or_second, or_off}
 use Rattle.grs_world.proofs.system.AtNode.{not-ours}
-use Rattle.grs_world.proofs.system.Ours.{IsOurs, IsHere}
+use Rattle.grs_known.proofs.system.Ours.{IsOurs, IsHere}
 use Rattle.grs_world.proofs.system.Puts.{home-task}
 use Rattle.grs_world.proofs.system.AtNode.{opens_of}
-use Rattle.grs_world.proofs.system.Says.{is_home_at, askers}
+use Rattle.grs_known.proofs.system.Says.{is_home_at, askers}
 use Rattle.grs_world.proofs.star.Answering.{Settled, asker-settled}
 use Rattle.grs_world.proofs.star.Ghosts.{ghosted, IsAt, at-other}
 use Rattle.grs_world.proofs.star.Members.{has_manager}
-use Rattle.grs_world.proofs.star.News.{blank, right-blank, coming-other, coming-sent, coming-granted}
+use Rattle.grs_known.proofs.known.Blank.{blank, right-blank, coming-other, coming-sent, coming-granted}
 
 -- ---- what comes, by the mail
 abbrev pub news1 : Mail → News

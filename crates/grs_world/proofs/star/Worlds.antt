@@ -26,7 +26,7 @@ use Rattle.grs_known.proofs.known.ItemLaws.{lists-push}
 use Rattle.grs_known.proofs.lists.Facts.{slice_get-set, slice_get-set_other, some_value}
 use Rattle.grs_world.specs.Kept.{kept}
 use Rattle.grs_world.specs.World.{World, Turnout, fixed_by, placed}
-use Rattle.grs_world.proofs.system.Says.{askers, stand_apart}
+use Rattle.grs_known.proofs.system.Says.{askers, stand_apart}
 use Rattle.grs_world.proofs.star.Elements.{AreNear, is_near_res, near-want}
 use Rattle.grs_world.proofs.star.OwnEvents.{Task, idle_task, local_task, system-task}
 use Rattle.grs_world.proofs.star.Tasks.{task-quiet}

@@ -24,10 +24,10 @@ use Rattle.grs_known.proofs.known.ItemLaws.{lists-push}
 use Rattle.grs_known.proofs.lists.Facts.{filter-append, filter-cons_left}
 use Rattle.grs_known.proofs.lists.Parts.{part, is_res_of, own-one_system, after_want-part, part-want_other}
 use Rattle.grs_known.proofs.lists.Truths.{false_by, or_other}
-use Rattle.grs_world.proofs.system.Asking.{Opens}
-use Rattle.grs_world.proofs.system.Good.{IsGood, here-kept, here-other}
-use Rattle.grs_world.proofs.system.Ours.{IsOurs, Holds}
-use Rattle.grs_world.proofs.system.Says.{is_home_at, askers, stand_apart, ToldBy}
+use Rattle.grs_known.proofs.system.Asking.{Opens}
+use Rattle.grs_known.proofs.system.Good.{IsGood, here-kept, here-other}
+use Rattle.grs_known.proofs.system.Ours.{IsOurs, Holds}
+use Rattle.grs_known.proofs.system.Says.{is_home_at, askers, stand_apart, ToldBy}
 
 -- what is open at a system: its unseen items, its requests that were sent, and those that wait
 abbrev pub opens_of : List RunItem → List Req → Node → Opens

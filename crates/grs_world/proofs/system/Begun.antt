@@ -13,9 +13,9 @@ use Rattle.grs_node.specs.Node.{first_node}
 use Rattle.grs_known.proofs.lists.Facts.{slice_get-within, some_of}
 use Rattle.grs_world.proofs.system.AtNode.{Seen}
 use Rattle.grs_world.proofs.system.First.{first_told}
-use Rattle.grs_world.proofs.system.Good.{IsGood}
-use Rattle.grs_world.proofs.system.Ours.{IsHere, script_at}
-use Rattle.grs_world.proofs.system.Says.{is_home_at, askers, stand_apart}
+use Rattle.grs_known.proofs.system.Good.{IsGood}
+use Rattle.grs_known.proofs.system.Ours.{IsHere, script_at}
+use Rattle.grs_known.proofs.system.Says.{is_home_at, askers, stand_apart}
 
 new_tasks-blank : (n i : ℕ) → get_or (new_tasks n) i new_task ≡ new_task
 new_tasks-blank zero i = grind (arith)

@@ -42,14 +42,14 @@ use Rattle.grs_known.proofs.lists.Facts.{filter-cons_kept, filter-cons_left, som
 use Rattle.grs_known.proofs.lists.Owners.{is_among}
 use Rattle.grs_known.proofs.lists.Truths.{false_by, not_true}
 use Rattle.grs_known.proofs.tasks.Invariant.{IsTask}
-use Rattle.grs_world.proofs.system.Askers.{among-front}
-use Rattle.grs_world.proofs.system.Asking.{line_asked, unasked_by, IsAskedFor, IsOpenBy, IsReq, Opens, are_sent, task-open}
+use Rattle.grs_known.proofs.system.Askers.{among-front}
+use Rattle.grs_known.proofs.system.Asking.{line_asked, unasked_by, IsAskedFor, IsOpenBy, IsReq, Opens, are_sent, task-open}
 use Rattle.grs_world.proofs.system.AtNode.{opens_of, Seen, after-asked, not-ours}
-use Rattle.grs_world.proofs.system.Did.{Did, did-none, did-phase, did-outstanding}
-use Rattle.grs_world.proofs.system.Events.{Settles, Decides, settles, enq-settles, deq-settles, release-settles}
-use Rattle.grs_world.proofs.system.Good.{IsGood, here-kept}
-use Rattle.grs_world.proofs.system.Ours.{IsOurs, IsHere}
-use Rattle.grs_world.proofs.system.Says.{is_home_at, askers, stand_apart, own_asked, ToldBy, none}
+use Rattle.grs_known.proofs.system.Did.{Did, did-none, did-phase, did-outstanding}
+use Rattle.grs_known.proofs.system.Events.{Settles, Decides, settles, enq-settles, deq-settles, release-settles}
+use Rattle.grs_known.proofs.system.Good.{IsGood, here-kept}
+use Rattle.grs_known.proofs.system.Ours.{IsOurs, IsHere}
+use Rattle.grs_known.proofs.system.Says.{is_home_at, askers, stand_apart, own_asked, ToldBy, none}
 
 -- a request is told by itself
 same_ctl-itself : (c : Ctl) → same_ctl c c ≡ true

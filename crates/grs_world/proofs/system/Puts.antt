@@ -36,14 +36,14 @@ use Rattle.grs_known.proofs.lists.Truths.{or_first}
 use Rattle.grs_known.proofs.tasks.Asked.{next-asked}
 use Rattle.grs_known.proofs.tasks.Invariant.{IsTask}
 use Rattle.grs_known.proofs.tasks.Steps.{next-ending}
-use Rattle.grs_world.proofs.system.Asking.{line_asked, unasked, unasked_by, IsAskedFor, IsOpenBy, Opens, IsReq, IsAskedBy, are_sent, task-open}
+use Rattle.grs_known.proofs.system.Asking.{line_asked, unasked, unasked_by, IsAskedFor, IsOpenBy, Opens, IsReq, IsAskedBy, are_sent, task-open}
 use Rattle.grs_world.proofs.system.AtNode.{opens_of, Seen, mine-left, seen-more}
-use Rattle.grs_world.proofs.system.Did.{did-none, did-phase}
-use Rattle.grs_world.proofs.system.Good.{IsGood, here-kept, here-other}
-use Rattle.grs_world.proofs.system.Ours.{IsOurs, IsHere}
-use Rattle.grs_world.proofs.system.Says.{is_home_at, askers, stand_apart, none}
-use Rattle.grs_world.proofs.system.Telling.{told-phase}
-use Rattle.grs_world.proofs.system.Turns.{quiet_settles}
+use Rattle.grs_known.proofs.system.Did.{did-none, did-phase}
+use Rattle.grs_known.proofs.system.Good.{IsGood, here-kept, here-other}
+use Rattle.grs_known.proofs.system.Ours.{IsOurs, IsHere}
+use Rattle.grs_known.proofs.system.Says.{is_home_at, askers, stand_apart, none}
+use Rattle.grs_known.proofs.system.Telling.{told-phase}
+use Rattle.grs_known.proofs.system.Turns.{quiet_settles}
 
 asked-middle : (t : TaskId) (o : Option Asked) (xs : List Req) (q : Req) (ys : List Req) → IsAskedBy t o (xs ++ q ∷ ys) → same_task t q.task ≡ true → IsReq q o
 asked-middle t o [] q ys h e = h.0 e

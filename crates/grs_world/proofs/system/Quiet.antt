@@ -62,16 +62,16 @@ use Rattle.grs_known.proofs.tasks.Others.{task-leaving, task-told}
 use Rattle.grs_known.proofs.tasks.Records.{found, not_found}
 use Rattle.grs_known.proofs.tasks.Speaking.{has-speaks}
 use Rattle.grs_known.proofs.tasks.Steps.{task-skipped, task-waited, task-held, task-ending, next-ending, task-ended}
-use Rattle.grs_world.proofs.system.Askers.{among-front, apart-push}
-use Rattle.grs_world.proofs.system.Asking.{line_asked, unasked, IsAtLines, IsAskedFor, IsOpenBy, Opens, IsReq, IsAskedBy, asked-none, sent-absent, held-none, stays-open, task-open}
+use Rattle.grs_known.proofs.system.Askers.{among-front, apart-push}
+use Rattle.grs_known.proofs.system.Asking.{line_asked, unasked, IsAtLines, IsAskedFor, IsOpenBy, Opens, IsReq, IsAskedBy, asked-none, sent-absent, held-none, stays-open, task-open}
 use Rattle.grs_world.proofs.system.AtNode.{opens_of, Seen, QuietStep, keeps, fixes, part-same}
-use Rattle.grs_world.proofs.system.Did.{Did, did-none, did-line, did-phase, did-outstanding, did-telling}
-use Rattle.grs_world.proofs.system.Events.{Settles, Decides, task-closed, enq-settles, deq-settles, release-settles}
-use Rattle.grs_world.proofs.system.Good.{IsGood, Untold, here-kept, here-other, home-ours, ours-home}
+use Rattle.grs_known.proofs.system.Did.{Did, did-none, did-line, did-phase, did-outstanding, did-telling}
+use Rattle.grs_known.proofs.system.Events.{Settles, Decides, task-closed, enq-settles, deq-settles, release-settles}
+use Rattle.grs_known.proofs.system.Good.{IsGood, Untold, here-kept, here-other, home-ours, ours-home}
 use Rattle.grs_world.proofs.system.Meant.{is_own, lines_own}
-use Rattle.grs_world.proofs.system.Ours.{IsOurs, IsHere, ours-line, agrees-ours}
-use Rattle.grs_world.proofs.system.Says.{is_home_at, askers, stand_apart, ToldBy, none, more}
-use Rattle.grs_world.proofs.system.Turns.{quiet_settles, state-is, plain-task}
+use Rattle.grs_known.proofs.system.Ours.{IsOurs, IsHere, ours-line, agrees-ours}
+use Rattle.grs_known.proofs.system.Says.{is_home_at, askers, stand_apart, ToldBy, none, more}
+use Rattle.grs_known.proofs.system.Turns.{quiet_settles, state-is, plain-task}
 
 -- one request more behind the open ones
 asked-push_own : (t : TaskId) (o : Option Asked) (qs : List Req) (q : Req) → is_among t (askers qs) ≡ false → IsReq q o → IsAskedBy t o (qs ++ q ∷ [])

@@ -30,7 +30,7 @@ use Rattle.grs_wire.specs.declared.medium.Reply.TheVariants as replies
 use Rattle.grs_wire.specs.declared.request.Req.{Req}
 use Rattle.grs_wire.proofs.WantLaws.{by_test}
 use Rattle.grs_world.specs.World.{World, chosen}
-use Rattle.grs_world.proofs.run.News.{still-told}
+use Rattle.grs_known.proofs.told.News.{still-told}
 use Rattle.lock_structure.specs.Laws.{is_interested, manager_at}
 use Rattle.lock_structure.specs.Words.{left_words, word_at}
 use Rattle.lock_structure.proofs.LawProofs.{leave_manages, leave_parts, manager_is_kept}

@@ -15,7 +15,7 @@ use Rattle.grs_wire.specs.declared.deck.Deck.{Deck}
 use Rattle.grs_wire.specs.declared.medium.Act.{Act}
 use Rattle.grs_wire.specs.declared.medium.Reply.{Reply}
 use Rattle.grs_world.specs.World.{World, Turnout, carry_out, fixed_by, idle, placed}
-use Rattle.grs_world.proofs.run.News.{ToldNews, still-told}
+use Rattle.grs_known.proofs.told.News.{ToldNews, still-told}
 use Rattle.grs_world.proofs.star.Elements.{AreNear}
 use Rattle.grs_world.proofs.star.Events.{heard}
 use Rattle.grs_world.proofs.star.Members.{IsStep, all_lists}

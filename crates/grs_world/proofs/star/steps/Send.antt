@@ -47,11 +47,11 @@ use Rattle.grs_known.proofs.known.ItemLaws.{lists-push}
 use Rattle.grs_known.proofs.lists.Owners.{is_among, new-owns}
 use Rattle.grs_known.proofs.lists.Truths.{and_on}
 use Rattle.grs_world.specs.World.{World, carry_out, chosen}
-use Rattle.grs_world.proofs.system.Asking.{IsAskedFor, IsOpenBy, are_sent}
+use Rattle.grs_known.proofs.system.Asking.{IsAskedFor, IsOpenBy, are_sent}
 use Rattle.grs_world.proofs.system.AtNode.{opens_of}
-use Rattle.grs_world.proofs.system.Ours.{IsOurs}
+use Rattle.grs_known.proofs.system.Ours.{IsOurs}
 use Rattle.grs_world.proofs.system.Puts.{home-task}
-use Rattle.grs_world.proofs.system.Says.{is_home_at, askers}
+use Rattle.grs_known.proofs.system.Says.{is_home_at, askers}
 use Rattle.grs_world.proofs.star.Events.{begun_part}
 use Rattle.grs_world.proofs.star.Ghosts.{ghosted}
 use Rattle.grs_world.proofs.star.Members.{IsPart, IsMember, manager-here, all_lists}

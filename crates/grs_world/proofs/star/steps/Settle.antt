@@ -30,7 +30,7 @@ use Rattle.grs_wire.specs.declared.request.Want.{Want}
 use Rattle.grs_wire.specs.declared.request.Want.TheVariants.{Enq, Deq, Release, Look}
 use Rattle.grs_wire.proofs.WantLaws.{by_test}
 use Rattle.grs_world.specs.World.{World, chosen, fixed_by}
-use Rattle.grs_world.proofs.run.News.{ToldNews, told-news}
+use Rattle.grs_known.proofs.told.News.{ToldNews, told-news}
 use Rattle.task_state.specs.Replies.{tell_all, tell_new}
 use Rattle.grs_world.proofs.star.Members.{IsMember, all_lists}
 use Rattle.grs_world.proofs.star.Settling.{follows-now, hand, manager-after, same_req, whole-settled}

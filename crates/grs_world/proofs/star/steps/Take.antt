@@ -30,8 +30,8 @@ use Rattle.grs_known.proofs.lists.Facts.{slice_get-within, some_value}
 use Rattle.grs_known.proofs.lists.Owners.{is_among}
 use Rattle.grs_known.proofs.lists.Truths.{and_on, no_truth, false_by, not_true, or_false, task_swap}
 use Rattle.grs_world.specs.World.{World, Turnout, chosen}
-use Rattle.grs_world.proofs.run.News.{ToldNews, told-news}
-use Rattle.grs_world.proofs.system.Says.{askers, stand_apart, none}
+use Rattle.grs_known.proofs.told.News.{ToldNews, told-news}
+use Rattle.grs_known.proofs.system.Says.{askers, stand_apart, none}
 use Rattle.grs_world.proofs.star.Answering.{others_of, without_asker, mine-others}
 use Rattle.grs_world.proofs.star.Mailed.{TookAnswer, learns, leaves, took-request, took-control, took-answer, strange-answer, strange-control}
 use Rattle.grs_world.proofs.star.Members.{IsMember, all_lists}

@@ -12,7 +12,7 @@ use Rattle.grs_wire.specs.declared.request.Fixed.TheVariants as fixing
 use Rattle.grs_wire.proofs.WantLaws.{by_test}
 use Rattle.grs_known.specs.Items.{history, items}
 use Rattle.grs_world.specs.World.{World, carry_out, chosen, fixed_by}
-use Rattle.grs_world.proofs.run.News.{ToldNews, told-news}
+use Rattle.grs_known.proofs.told.News.{ToldNews, told-news}
 use Rattle.grs_world.proofs.star.OwnEvents.{Task, idle_task, local_task, system-task}
 use Rattle.grs_world.proofs.star.Worlds.{IsWhole, items-none, items-one, whole-task}
 use Rattle.grs_world.proofs.star.steps.Outcome.{Comes, comes-none}

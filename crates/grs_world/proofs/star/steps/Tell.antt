@@ -31,8 +31,8 @@ use Rattle.grs_known.proofs.lists.All.{owns-has}
 use Rattle.grs_known.proofs.lists.Facts.{slice_get-within, some_value}
 use Rattle.grs_known.proofs.lists.Truths.{and_on, false_by, not_true}
 use Rattle.grs_world.specs.World.{World, Turnout, chosen}
-use Rattle.grs_world.proofs.system.Says.{is_home_at}
-use Rattle.grs_world.proofs.run.News.{still-told}
+use Rattle.grs_known.proofs.system.Says.{is_home_at}
+use Rattle.grs_known.proofs.told.News.{still-told}
 use Rattle.grs_world.proofs.star.Elements.{near-has}
 use Rattle.grs_world.proofs.star.Members.{IsPart, has_manager, one-manages}
 use Rattle.grs_world.proofs.star.Systems.{IsSystem, IsAway, near_at, requests_in, system-granted}

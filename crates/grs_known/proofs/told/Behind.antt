@@ -23,7 +23,7 @@ use Rattle.grs_legal.specs.Legal.{line_entries}
 use Rattle.grs_legal.specs.declared.meaning.Meaning.{Meaning}
 use Rattle.grs_legal.specs.declared.meaning.Meaning.TheVariants as meanings
 use Rattle.grs_known.specs.Told.{AgreesOf, CodeAgrees, TellsWait, TellsWaitOf, tells_control, is_code_before, is_code_of, is_post_of, is_end_of}
-use Rattle.grs_world.proofs.system.Says.{AgreesBehind, is_line_of}
+use Rattle.grs_known.proofs.system.Says.{AgreesBehind, is_line_of}
 
 -- a line told to a task is of the task's system
 line-home : (n : ℕ) (t u : TaskId) → t.system.0 ≡ n → same_task t u ≡ true → (u.system.0 == n) ≡ true

@@ -19,7 +19,7 @@ use Rattle.task_state.specs.declared.state.TaskState.{TaskState}
 use Rattle.task_state.specs.View.{TasksView, is_task, state_of, with_state, with_line, with_phase, with_outstanding, with_record, without_record, with_exclusive, telling, on_record, with_last, without_first, code_in}
 use Rattle.task_state.proofs.ViewLaws.{state_of-same, told-state, state_of-telling, told-telling}
 use Rattle.task_state.specs.Replies.{is_queued, is_changed, is_granted, phase_after, tell_code, record_enq, answered, new_record}
-use Rattle.grs_world.proofs.system.Ours.{IsChanged, changed-state, changed-telling, changed-then, changed-none}
+use Rattle.grs_known.proofs.system.Ours.{IsChanged, changed-state, changed-telling, changed-then, changed-none}
 use Rattle.grs_known.proofs.tasks.Asked.{told_after}
 use Rattle.grs_known.proofs.tasks.Decided.{enq_records}
 

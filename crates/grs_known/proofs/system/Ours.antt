@@ -17,7 +17,7 @@ use Rattle.task_state.proofs.ViewLaws.{state_of-other, is_task-state, state_of-t
 use Rattle.task_state.proofs.Stays.{system-state, system-telling}
 use Rattle.grs_known.specs.Told.{AgreesOf, LineAgrees}
 use Rattle.grs_known.proofs.tasks.Invariant.{IsTask}
-use Rattle.grs_world.proofs.system.Asking.{unasked, IsOpen, Opens, IsAskedBy, are_sent}
+use Rattle.grs_known.proofs.system.Asking.{unasked, IsOpen, Opens, IsAskedBy, are_sent}
 use Rattle.task_state.specs.Replies.{is_leaving}
 use Rattle.grs_known.specs.Items.{RunItem, mine}
 use Rattle.grs_known.specs.Known.{Known, outstanding}

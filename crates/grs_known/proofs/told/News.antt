@@ -12,8 +12,8 @@ use Rattle.grs_wire.specs.declared.told.ToldLine.TheVariants.{Coded, Shown, Post
 use Rattle.grs_known.proofs.lists.Facts.{filter-append, filter-cons_kept}
 use Rattle.grs_known.proofs.lists.Owners.{is_among}
 use Rattle.grs_known.proofs.lists.Truths.{and_on}
-use Rattle.grs_world.proofs.run.Behind.{line-behind}
-use Rattle.grs_world.proofs.system.Says.{askers, AgreesBehind, Clears, is_line_of, ToldBy, none, more}
+use Rattle.grs_known.proofs.told.Behind.{line-behind}
+use Rattle.grs_known.proofs.system.Says.{askers, AgreesBehind, Clears, is_line_of, ToldBy, none, more}
 
 -- ---- steps, one after the other
 pub told-then : {deck : Deck} {s : ℕ} {opens : List Req} {P : List HistEntry} {T0 T1 T2 : List ToldLine} → ToldBy deck s opens P T0 T1 → ToldBy deck s opens P T1 T2 → ToldBy deck s opens P T0 T2

@@ -13,12 +13,12 @@ use Rattle.task_state.specs.View.{TasksView, state_of}
 use Rattle.grs_known.specs.Items.{RunItem, mine, history}
 use Rattle.grs_known.specs.Past.{Past}
 use Rattle.grs_known.proofs.tasks.Invariant.{IsTask}
-use Rattle.grs_world.proofs.system.Says.{ToldBy}
-use Rattle.grs_world.proofs.system.Asking.{unasked, unasked-none, Opens, IsAskedBy, are_sent}
-use Rattle.grs_world.proofs.system.Did.{Did}
-use Rattle.grs_world.proofs.system.Events.{Settles}
-use Rattle.grs_world.proofs.system.Good.{IsGood, Untold, here-kept}
-use Rattle.grs_world.proofs.system.Ours.{IsOurs, IsHere, holds-changed}
+use Rattle.grs_known.proofs.system.Says.{ToldBy}
+use Rattle.grs_known.proofs.system.Asking.{unasked, unasked-none, Opens, IsAskedBy, are_sent}
+use Rattle.grs_known.proofs.system.Did.{Did}
+use Rattle.grs_known.proofs.system.Events.{Settles}
+use Rattle.grs_known.proofs.system.Good.{IsGood, Untold, here-kept}
+use Rattle.grs_known.proofs.system.Ours.{IsOurs, IsHere, holds-changed}
 
 -- a step that changes one task alone, and tells no more than lines to it
 pub quiet_settles : (deck : Deck) (s : ℕ) (os os' : Opens) (P : List RunItem) (v : TasksView) (good : IsGood deck s os P v) (t : TaskId) (ls : List Meaning) (ours : IsOurs deck s v t ls) (w : TasksView) (x : TaskState) (T : List ToldLine) →

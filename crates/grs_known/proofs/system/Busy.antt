@@ -31,8 +31,8 @@ use Rattle.grs_known.proofs.lists.Own.{has_task-own}
 use Rattle.grs_known.proofs.lists.Truths.{or_first, or_second}
 use Rattle.grs_known.proofs.tasks.Invariant.{has_res, key}
 use Rattle.grs_known.proofs.tasks.Keys.{has_res-own}
-use Rattle.grs_world.proofs.system.Asking.{Opens, records-unasked}
-use Rattle.grs_world.proofs.system.Ours.{IsHere}
+use Rattle.grs_known.proofs.system.Asking.{Opens, records-unasked}
+use Rattle.grs_known.proofs.system.Ours.{IsHere}
 
 -- a request that isn't answered yet is for this resource
 abbrev pub IsAbout : Res → Option Asked → Type 0

@@ -25,10 +25,10 @@ use Rattle.grs_known.proofs.lists.Facts.{some_of}
 use Rattle.grs_known.proofs.tasks.Asked.{told_after}
 use Rattle.grs_known.proofs.tasks.Invariant.{IsTask}
 use Rattle.grs_known.proofs.tasks.Others.{task-told}
-use Rattle.grs_world.proofs.system.Asking.{unasked, Opens, IsAskedBy, are_sent}
-use Rattle.grs_world.proofs.system.Ours.{IsOurs, Holds, IsHere}
-use Rattle.grs_world.proofs.system.Says.{is_home_at}
-use Rattle.grs_world.proofs.system.Telling.{IsHome}
+use Rattle.grs_known.proofs.system.Asking.{unasked, Opens, IsAskedBy, are_sent}
+use Rattle.grs_known.proofs.system.Ours.{IsOurs, Holds, IsHere}
+use Rattle.grs_known.proofs.system.Says.{is_home_at}
+use Rattle.grs_known.proofs.system.Telling.{IsHome}
 
 -- The tasks of system s, where the run has these items.
 pub record IsGood (deck : Deck) (s : ℕ) (os : Opens) (P : List RunItem) (v : TasksView) : Type 0 where

@@ -6,7 +6,7 @@ use Rattle.grs_base.specs.declared.resource.TaskId.{TaskId}
 use Rattle.grs_base.proofs.ListLaws.{same_task-sym}
 use Rattle.grs_wire.specs.declared.request.Req.{Req}
 use Rattle.grs_known.proofs.lists.Owners.{is_among}
-use Rattle.grs_world.proofs.system.Says.{askers, stand_apart}
+use Rattle.grs_known.proofs.system.Says.{askers, stand_apart}
 use Rattle.grs_known.proofs.lists.Truths.{and_on, not_true, or_false, task_swap}
 
 pub among-front : (t : TaskId) (xs ys : List Req) → is_among t (askers (xs ++ ys)) ≡ false → is_among t (askers xs) ≡ false

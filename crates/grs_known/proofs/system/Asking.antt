@@ -28,7 +28,7 @@ use Rattle.grs_known.specs.Items.{RunItem}
 use Rattle.grs_known.specs.Past.{Past, may_leave}
 use Rattle.grs_known.proofs.known.Knows.{IsOutstanding, stays-asked}
 use Rattle.grs_known.proofs.lists.Truths.{false_by, no_truth}
-use Rattle.grs_world.proofs.system.Says.{askers}
+use Rattle.grs_known.proofs.system.Says.{askers}
 
 -- the line at which a task is seen that has asked this at line n
 abbrev pub line_asked : Want → ℕ → ℕ

@@ -31,9 +31,9 @@ use Rattle.grs_known.proofs.tasks.Others.{is_told_to, task-told}
 use Rattle.grs_known.proofs.lists.Owners.{is_among}
 use Rattle.grs_known.proofs.tasks.Records.{found, found_has}
 use Rattle.grs_known.proofs.tasks.Granted.{latest-on, task-coded, task-posted, task-marked, task-passed}
-use Rattle.grs_world.proofs.system.Says.{AgreesBehind, Clears, ToldBy, more, is_line_of}
-use Rattle.grs_world.proofs.system.Asking.{unasked, unasked-told, unasked-none, records-unasked, held-none, unheld, Opens, IsOpenBy, open-told, IsAskedBy, asked-none, sent-kept}
-use Rattle.grs_world.proofs.system.Ours.{IsOurs, Holds, IsHere, IsChanged, changed-state, changed-telling, changed-then, changed-none, holds-changed, ours-line, agrees-ours}
+use Rattle.grs_known.proofs.system.Says.{AgreesBehind, Clears, ToldBy, more, is_line_of}
+use Rattle.grs_known.proofs.system.Asking.{unasked, unasked-told, unasked-none, records-unasked, held-none, unheld, Opens, IsOpenBy, open-told, IsAskedBy, asked-none, sent-kept}
+use Rattle.grs_known.proofs.system.Ours.{IsOurs, Holds, IsHere, IsChanged, changed-state, changed-telling, changed-then, changed-none, holds-changed, ours-line, agrees-ours}
 use Rattle.grs_known.proofs.known.Histories.{IsHistory}
 use Rattle.grs_known.proofs.known.Knows.{Knows, knows-closed, speaks-known, speaks_of-known, knows-control}
 use Rattle.grs_known.proofs.lists.Truths.{or_second}

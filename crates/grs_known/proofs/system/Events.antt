@@ -44,12 +44,12 @@ use Rattle.grs_known.proofs.tasks.Decided.{enq_records, task-enq, task-deq}
 use Rattle.grs_known.proofs.tasks.Invariant.{IsTask, with_control}
 use Rattle.grs_known.proofs.tasks.Speaking.{speaks-control}
 use Rattle.grs_known.proofs.tasks.Steps.{task-released}
-use Rattle.grs_world.proofs.system.Asking.{unasked, unasked-none, Opens, IsAtLines, IsOpenBy, asked-absent, sent-absent}
-use Rattle.grs_world.proofs.system.Did.{Did, did-answered_enq, did-answered_deq, did-answered_release}
-use Rattle.grs_world.proofs.system.Good.{IsGood, Untold, home-ours, task-told_after}
-use Rattle.grs_world.proofs.system.Ours.{IsOurs, IsHere, holds-changed, ours-line, agrees-ours}
-use Rattle.grs_world.proofs.system.Says.{askers, ToldBy, none, more}
-use Rattle.grs_world.proofs.system.Telling.{learned_all, LearnedAll, StillOwns}
+use Rattle.grs_known.proofs.system.Asking.{unasked, unasked-none, Opens, IsAtLines, IsOpenBy, asked-absent, sent-absent}
+use Rattle.grs_known.proofs.system.Did.{Did, did-answered_enq, did-answered_deq, did-answered_release}
+use Rattle.grs_known.proofs.system.Good.{IsGood, Untold, home-ours, task-told_after}
+use Rattle.grs_known.proofs.system.Ours.{IsOurs, IsHere, holds-changed, ours-line, agrees-ours}
+use Rattle.grs_known.proofs.system.Says.{askers, ToldBy, none, more}
+use Rattle.grs_known.proofs.system.Telling.{learned_all, LearnedAll, StillOwns}
 
 -- the tasks after a step, what they were told agreeing
 pub record Settles (deck : Deck) (s : ℕ) (os : Opens) (P : List RunItem) (T0 : List ToldLine) (v : TasksView) : Type 0 where
