@@ -2,7 +2,8 @@
 -- item by item, is right.
 use Rattle.std.proofs.Common.{◌≡◌, Bool, true, false, cond, ◌&&◌, ◌||◌, List, [], ◌∷◌, ◌++◌, Option, Some, None, refl, ap, sym, ◌∙◌, subst, arith}
 use Rattle.std.specs.Prelude.{filter, is_some}
-use Rattle.std.proofs.lemmas.Bool.{and_parts, cases_Bool}
+use Rattle.std.proofs.lemmas.Bool.{and_parts, cases_Bool, and_right}
+use Rattle.std.proofs.lemmas.List.Elements.{filter-append}
 use Rattle.grs_base.specs.Same.{same_res}
 use Rattle.grs_base.specs.Lists.{owns}
 use Rattle.grs_base.specs.State.{State, list_of, is_systems}
@@ -23,10 +24,10 @@ use Rattle.grs_known.specs.Items.{RunItem, is_of, gives_back, goes_round, wants_
 use Rattle.grs_known.specs.Change.{systems_part}
 use Rattle.grs_known.specs.Known.{Known, all_but_last, last_of, outstanding, Still, IsRight}
 use Rattle.grs_known.specs.Reading.{gives_among, Keeps, all_known, all_but}
-use Rattle.grs_known.proofs.lists.Facts.{filter-append, filter-cons_kept, filter-cons_left}
+use Rattle.grs_known.proofs.lists.Facts.{filter-cons_kept, filter-cons_left}
 use Rattle.grs_known.proofs.lists.Owners.{is_among}
 use Rattle.grs_known.proofs.lists.Parts.{answer_to-part}
-use Rattle.grs_known.proofs.lists.Truths.{and_off, false_by, no_truth}
+use Rattle.grs_known.proofs.lists.Truths.{false_by, no_truth}
 use Rattle.grs_known.proofs.known.Fitting.{made-behind}
 use Rattle.grs_known.proofs.known.Fronts.{pushed}
 use Rattle.grs_known.proofs.known.Histories.{AllAsk, IsHistory, asks-front, asks-behind, live-asks, owns-may}
@@ -110,7 +111,7 @@ keeps-due t r wide k T front (x ∷ xs) whole right due = go (is_of t x.fixed) r
 
     go : (b : Bool) → is_of t x.fixed ≡ b → (c : Bool) → goes_round x.fixed ≡ c → mine t (cond c (x ∷ rounds xs) (rounds xs)) ≡ one (outstanding t k T) → (mine t (rounds xs) ≡ one (outstanding t k T) → Keeps t r k xs) → Keeps t r k (x ∷ xs)
     go false e c f d ih = keeps-more t r k x xs (ap (λ b. b && gives_back r x.fixed) e) (ih (sym (skip c e) ∙ d))
-    go true e false f d ih = keeps-more t r k x xs (and_off (is_of t x.fixed) (gives_back r x.fixed) (gives-round r wide x.fixed f)) (ih d)
+    go true e false f d ih = keeps-more t r k x xs (and_right (is_of t x.fixed) (gives_back r x.fixed) (gives-round r wide x.fixed f)) (ih d)
     go true e true f d ih =
         let out = one-some (outstanding t k T) x (mine t (rounds xs)) (sym (filter-cons_kept (λ z. is_of t z.fixed) x (rounds xs) e) ∙ d) in
         let last = behind_some k.behind (last_of (mine t T)) x out.0 in

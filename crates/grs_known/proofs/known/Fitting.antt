@@ -1,6 +1,7 @@
 -- The reply in a task's outstanding item fits its past by what is known.
 use Rattle.std.proofs.Common.{◌≡◌, zero, suc, Bool, true, false, cond, ◌&&◌, ◌||◌, List, [], ◌∷◌, ◌++◌, Option, Some, None, refl, ap, sym, ◌∙◌, subst, append_assoc, append-nil}
 use Rattle.std.specs.List.{list_any}
+use Rattle.std.proofs.lemmas.Bool.{or_parts}
 use Rattle.grs_base.specs.Lists.{standing_of, can_have}
 use Rattle.grs_base.specs.State.{list_of, deq_reply}
 use Rattle.grs_base.specs.declared.resource.Res.{Res}
@@ -20,7 +21,7 @@ use Rattle.grs_known.specs.Known.{all_but_last, last_of, learned, Still}
 use Rattle.grs_known.specs.Past.{own_elements, own_after, past_of, has_own, Fits, ReplyFits}
 use Rattle.grs_known.proofs.lists.Own.{has_task-own}
 use Rattle.grs_known.proofs.lists.Requests.{queued-absent}
-use Rattle.grs_known.proofs.lists.Truths.{false_by, or_false}
+use Rattle.grs_known.proofs.lists.Truths.{false_by}
 use Rattle.grs_known.proofs.known.Knowing.{all_but_last-push}
 use Rattle.grs_known.proofs.known.Pasts.{elements_are_of_items}
 
@@ -67,7 +68,7 @@ made-behind F (x ∷ xs) ys made = subst (λ G. AllMade G ys) (append_assoc F (x
 
 live-front : (t : TaskId) (xs ys : List RunItem) → list_any (λ y. removes_system_of t y.fixed) (xs ++ ys) ≡ false → list_any (λ y. removes_system_of t y.fixed) xs ≡ false
 live-front t [] ys e = refl
-live-front t (x ∷ xs) ys e = let l = or_false _ _ e in ap (λ b. b || list_any (λ y. removes_system_of t y.fixed) xs) l.0 ∙ live-front t xs ys l.1
+live-front t (x ∷ xs) ys e = let l = or_parts _ _ e in ap (λ b. b || list_any (λ y. removes_system_of t y.fixed) xs) l.0 ∙ live-front t xs ys l.1
 
 head_same : (a b : HistEntry) (hs : List HistEntry) → a ∷ hs ≡ b ∷ [] → a ≡ b
 head_same a b hs e = cc

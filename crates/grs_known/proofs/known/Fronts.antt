@@ -2,6 +2,7 @@
 use Rattle.std.proofs.Common.{◌≡◌, Bool, true, false, cond, List, [], ◌∷◌, ◌++◌, Option, Some, refl, sym, subst, append_assoc, append-nil, inl, inr}
 use Rattle.std.specs.Prelude.{◌⊎◌}
 use Rattle.std.specs.List.{list_any}
+use Rattle.std.proofs.lemmas.Bool.{or_parts}
 use Rattle.grs_base.specs.Lists.{owns}
 use Rattle.grs_base.specs.State.{list_of}
 use Rattle.grs_base.specs.declared.resource.Res.{Res}
@@ -10,7 +11,6 @@ use Rattle.grs_known.specs.Items.{RunItem, is_of, removes_system_of, mine, lists
 use Rattle.grs_known.specs.Known.{Still}
 use Rattle.grs_known.specs.Laws.{first_mine, FrontOwnersStay}
 use Rattle.grs_known.proofs.known.Control.{owns-other, still-other, still-own}
-use Rattle.grs_known.proofs.lists.Truths.{or_false}
 
 pub pushed : (front : List RunItem) (x : RunItem) (xs : List RunItem) → front ++ (x ∷ xs) ≡ (front ++ x ∷ []) ++ xs
 pushed front x xs = sym (append_assoc front (x ∷ []) xs)
@@ -23,7 +23,7 @@ still-rest t r front (x ∷ xs) o live none h = go (is_of t x.fixed) refl none (
     go : (b : Bool) → is_of t x.fixed ≡ b → cond b (x ∷ mine t xs) (mine t xs) ≡ [] → (list_any (λ y. removes_system_of t y.fixed) xs ≡ false → mine t xs ≡ [] → Still r t (front ++ x ∷ []) o → Still r t ((front ++ x ∷ []) ++ xs) o) → Still r t (front ++ x ∷ xs) o
     go true e f more = absurd (cc)
     go false e f more =
-        let l = or_false (removes_system_of t x.fixed) (list_any (λ y. removes_system_of t y.fixed) xs) live in
+        let l = or_parts (removes_system_of t x.fixed) (list_any (λ y. removes_system_of t y.fixed) xs) live in
         subst (λ T. Still r t T o) (sym (pushed front x xs)) (more l.1 f (still-other t front x e l.0 r o h))
 
 pub front_owners_stay : FrontOwnersStay
@@ -31,7 +31,7 @@ front_owners_stay t r front [] made live few h = subst (λ T. owns (list_of (lis
 front_owners_stay t r front (x ∷ xs) made live few h = go (is_of t x.fixed) refl few (λ l f o. front_owners_stay t r (front ++ x ∷ []) xs made.1 l f o)
   where
     l : (removes_system_of t x.fixed ≡ false) × (list_any (λ y. removes_system_of t y.fixed) xs ≡ false)
-    l = or_false (removes_system_of t x.fixed) (list_any (λ y. removes_system_of t y.fixed) xs) live
+    l = or_parts (removes_system_of t x.fixed) (list_any (λ y. removes_system_of t y.fixed) xs) live
 
     tail_none : (ys : List RunItem) → (x ∷ ys ≡ []) ⊎ ((y : RunItem) × (x ∷ ys ≡ y ∷ [])) → ys ≡ []
     tail_none ys (inl e) = absurd (cc)

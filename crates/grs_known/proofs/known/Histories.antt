@@ -3,6 +3,8 @@
 use Rattle.std.proofs.Common.{◌≡◌, Bool, true, false, ◌&&◌, ◌||◌, List, [], ◌∷◌, ◌++◌, Some, refl, ap, sym, ◌∙◌, subst, append-nil, append_assoc}
 use Rattle.std.specs.Prelude.{ℕ, is_some}
 use Rattle.std.specs.List.{list_all, list_any}
+use Rattle.std.proofs.lemmas.Option.{same_Some}
+use Rattle.std.proofs.lemmas.Bool.{and_from}
 use Rattle.grs_base.specs.Lists.{owns, has_task}
 use Rattle.grs_base.specs.State.{State, list_of, is_systems}
 use Rattle.grs_base.specs.declared.resource.Res.{Res}
@@ -21,9 +23,7 @@ use Rattle.grs_wire.specs.declared.request.Want.{Want}
 use Rattle.grs_wire.specs.declared.request.Want.TheVariants as wants
 use Rattle.grs_known.specs.Items.{RunItem, wants_round, goes_round, removes_system_of, lists, lists_from, Made, AllMade, Counts, AllCount, history, items, items_from}
 use Rattle.grs_known.proofs.lists.All.{all-want, has_task-all, owns-has}
-use Rattle.grs_known.proofs.lists.Facts.{some_value}
 use Rattle.grs_known.proofs.lists.Parts.{is_res_of}
-use Rattle.grs_known.proofs.lists.Truths.{and_on}
 use Rattle.grs_known.proofs.known.ItemLaws.{lists_are_replayed}
 use Rattle.grs_known.proofs.known.Pasts.{history-append}
 
@@ -109,9 +109,9 @@ count-front limit F (x ∷ xs) ys a = (a.0, count-front limit (F ++ x ∷ []) xs
 
 -- ---- what such items are
 pub wants-round : (w : Want) (r : Res) → res_wanted w ≡ Some r → wants_round w ≡ is_systems r
-wants-round (wants.Enq q c ret full) r e = ap is_systems (some_value q r e)
-wants-round (wants.Deq q have) r e = ap is_systems (some_value q r e)
-wants-round (wants.Release q) r e = ap is_systems (some_value q r e)
+wants-round (wants.Enq q c ret full) r e = ap is_systems (same_Some q r e)
+wants-round (wants.Deq q have) r e = ap is_systems (same_Some q r e)
+wants-round (wants.Release q) r e = ap is_systems (same_Some q r e)
 wants-round (wants.Look first count f) r e = absurd (cc)
 
 pub goes-ask : (deck : Deck) (x : RunItem) (a : IsAsk deck x) → goes_round x.fixed ≡ is_systems a.res
@@ -139,7 +139,7 @@ elements-ask deck s (x ∷ xs) a h = elements-ask deck (after_fixed s x.fixed) x
   where
     by_ask : IsAsk deck x → list_all (λ h. may_have deck h.0 h.1.task) (after_fixed s x.fixed) ≡ true
     by_ask i = subst (λ f. list_all (λ h. may_have deck h.0 h.1.task) (after_fixed s f) ≡ true) (sym i.asked)
-        (all-want (may_have deck) s i.req.task i.req.want (λ r e. and_on _ _ i.known (subst (λ q. (is_systems q || is_res_of i.req.task.system.0 q) ≡ true) (some_value i.res r (sym i.wanted ∙ e)) i.place)) h)
+        (all-want (may_have deck) s i.req.task i.req.want (λ r e. and_from _ _ i.known (subst (λ q. (is_systems q || is_res_of i.req.task.system.0 q) ≡ true) (same_Some i.res r (sym i.wanted ∙ e)) i.place)) h)
 
 -- who has an element may have it, and so may an owner
 pub has-may : (deck : Deck) (T : List RunItem) (r : Res) (t : TaskId) → AllAsk deck T → has_task (list_of (lists T) r) t ≡ true → may_have deck r t ≡ true

@@ -3,6 +3,7 @@
 use Rattle.std.proofs.Common.{◌≡◌, true, false, List, [], ◌∷◌, ◌++◌, Option, Some, None, refl, ap, sym, ◌∙◌, subst}
 use Rattle.std.specs.Prelude.{is_some}
 use Rattle.std.specs.List.{list_any}
+use Rattle.std.proofs.lemmas.Bool.{or_left}
 use Rattle.grs_base.specs.Lists.{owns}
 use Rattle.grs_base.specs.State.{list_of}
 use Rattle.grs_base.specs.declared.resource.Res.{Res}
@@ -15,7 +16,7 @@ use Rattle.task_state.specs.Replies.{is_leaving}
 use Rattle.grs_known.specs.Items.{RunItem, is_of, removes_system_of, gives_back, lists, Made, history, tells}
 use Rattle.grs_known.specs.Known.{Known, outstanding, Still, IsRight, falls_behind, learns_item, learns_control}
 use Rattle.grs_known.specs.Past.{Past, past_by, past_of, after_entry, after_entries, Fits, Speaks, SpeaksOf, may_leave}
-use Rattle.grs_known.proofs.lists.Truths.{false_by, no_truth, or_first}
+use Rattle.grs_known.proofs.lists.Truths.{false_by, no_truth}
 use Rattle.grs_known.proofs.known.Fitting.{reply_fits}
 use Rattle.grs_known.proofs.known.Histories.{IsHistory, live-asks}
 use Rattle.grs_known.proofs.known.Knowing.{outstanding-other, learned-other, right-other, outstanding-own, learned-own, right-own, right-answer, given-told, right-control}
@@ -92,7 +93,7 @@ entry-learned deck T x t k h g right is one = record {
   knows = record { right = right-answer t k T x is right; request = tt };
   past = past_grows t k T x is ∙ ap (λ hs. after_entries hs (past_of t k T)) one;
   fits = reply_fits t k T x h g.made (live-asks deck t T g.asks) is one right;
-  control = λ r e. given-told t k T x is right r (ap (list_any (tells r)) one ∙ or_first (tells r h) false e);
+  control = λ r e. given-told t k T x is right r (ap (list_any (tells r)) one ∙ or_left (tells r h) false e);
 }
 
 -- one that its system decides at once

@@ -3,6 +3,7 @@ use Rattle.std.proofs.Common.{◌≡◌, Bool, true, false, cond, List, [], ◌�
 use Rattle.std.specs.Prelude.{filter}
 use Rattle.std.specs.List.{list_any}
 use Rattle.std.proofs.lemmas.List.Elements.{filter-append}
+use Rattle.std.proofs.lemmas.Bool.{or_parts}
 use Rattle.grs_base.specs.Lists.{is_apart, owns}
 use Rattle.grs_base.specs.State.{list_of}
 use Rattle.grs_base.specs.declared.resource.Ctl.{Ctl}
@@ -18,7 +19,6 @@ use Rattle.grs_known.proofs.lists.Elements.{apart-fixed, own-fixed, own-fixed_ot
 use Rattle.grs_known.proofs.known.ItemLaws.{lists-push, lists_are_replayed, entries_are_of_items}
 use Rattle.grs_known.proofs.known.Knowing.{learned-longer, all_is_known}
 use Rattle.grs_known.proofs.lists.Entries.{line_entries-from, last_entry-push}
-use Rattle.grs_known.proofs.lists.Truths.{or_false}
 
 -- ---- elements
 own_after-append : (ks : List (Res × Ctl)) (hs gs : List HistEntry) → own_after ks (hs ++ gs) ≡ own_after (own_after ks hs) gs
@@ -29,7 +29,7 @@ own-behind : (t : TaskId) (T xs : List RunItem) → ((r : Res) → is_apart (lis
     own_elements (lists_from (lists T) xs) t ≡ own_after (own_elements (lists T) t) (history (mine t xs))
 own-behind t T [] apart made live = refl
 own-behind t T (x ∷ xs) apart made live =
-    let l = or_false (removes_system_of t x.fixed) (list_any (λ y. removes_system_of t y.fixed) xs) live in
+    let l = or_parts (removes_system_of t x.fixed) (list_any (λ y. removes_system_of t y.fixed) xs) live in
     let pushed : after_fixed (lists T) x.fixed ≡ lists (T ++ x ∷ []) = sym (lists-push T x) in
     ap (λ s. own_elements (lists_from s xs) t) pushed
     ∙ own-behind t (T ++ x ∷ []) xs (λ r. subst (λ s. is_apart (list_of s r) ≡ true) pushed (apart-fixed (lists T) x.fixed apart r)) made.1 l.1

@@ -1,6 +1,8 @@
 -- What a system in the ring learns by its table is right.
 use Rattle.std.proofs.Common.{◌≡◌, Bool, true, false, cond, ◌&&◌, List, [], ◌∷◌, ◌++◌, Some, None, refl, ap, sym, ◌∙◌, subst, append_assoc, append-nil}
 use Rattle.std.specs.List.{list_any}
+use Rattle.std.proofs.lemmas.List.Elements.{filter-append}
+use Rattle.std.proofs.lemmas.Bool.{or_parts}
 use Rattle.grs_base.specs.Same.{same_task}
 use Rattle.grs_base.specs.Lists.{owns}
 use Rattle.grs_base.specs.State.{list_of, is_systems}
@@ -14,10 +16,9 @@ use Rattle.grs_known.specs.Items.{RunItem, is_of, removes_system_of, gives_back,
 use Rattle.grs_known.specs.Known.{Known, last_of, outstanding, Still, IsRight, learns_item}
 use Rattle.grs_known.specs.Change.{systems_part}
 use Rattle.grs_known.specs.Reading.{gives_among, all_known, all_but, learns_mine, gained, learns_gained, TableAnswers, OwnersStayOn, ReadingIsRight}
-use Rattle.grs_known.proofs.lists.Facts.{filter-append, filter-cons_kept}
+use Rattle.grs_known.proofs.lists.Facts.{filter-cons_kept}
 use Rattle.grs_known.proofs.lists.Owners.{is_among, is_among-any, new-owns}
 use Rattle.grs_known.proofs.lists.Parts.{part, answer_to-part, new_owners-part}
-use Rattle.grs_known.proofs.lists.Truths.{or_false}
 use Rattle.grs_known.proofs.known.Control.{owns-other, still-own}
 use Rattle.grs_known.proofs.known.Fronts.{pushed, still-rest}
 use Rattle.grs_known.proofs.known.ItemLaws.{lists-push, replies_are_answers}
@@ -37,17 +38,17 @@ module _ (t : TaskId) (r : Res) (front : List RunItem) (x : RunItem) (xs : List 
 owns-rest : (t : TaskId) (r : Res) (front rest : List RunItem) → AllMade front rest → list_any (λ x. removes_system_of t x.fixed) rest ≡ false → gives_among t r rest ≡ false → owns (list_of (lists front) r) t ≡ true → owns (list_of (lists (front ++ rest)) r) t ≡ true
 owns-rest t r front [] made live none h = subst (λ T. owns (list_of (lists T) r) t ≡ true) (sym (append-nil front)) h
 owns-rest t r front (x ∷ xs) made live none h =
-    let l = or_false _ _ live in
-    let n = or_false _ _ none in
+    let l = or_parts _ _ live in
+    let n = or_parts _ _ none in
     subst (λ T. owns (list_of (lists T) r) t ≡ true) (sym (pushed front x xs)) (owns-rest t r (front ++ x ∷ []) xs made.1 l.1 n.1 (owns-next t r front x xs made l.0 n.0 h))
 
 still-last : (t : TaskId) (r : Res) (front mid : List RunItem) (x : RunItem) (rest : List RunItem) → AllMade front (mid ++ x ∷ rest) → list_any (λ y. removes_system_of t y.fixed) (mid ++ x ∷ rest) ≡ false → gives_among t r mid ≡ false → is_of t x.fixed ≡ true → mine t rest ≡ [] →
     owns (list_of (lists front) r) t ≡ true → Still r t (front ++ (mid ++ x ∷ rest)) (Some x)
 still-last t r front [] x rest made live none own last h =
-    subst (λ T. Still r t T (Some x)) (sym (pushed front x rest)) (still-rest t r (front ++ x ∷ []) rest (Some x) (or_false _ _ live).1 last (still-own t front x own made.0 r h))
+    subst (λ T. Still r t T (Some x)) (sym (pushed front x rest)) (still-rest t r (front ++ x ∷ []) rest (Some x) (or_parts _ _ live).1 last (still-own t front x own made.0 r h))
 still-last t r front (y ∷ ys) x rest made live none own last h =
-    let l = or_false _ _ live in
-    let n = or_false _ _ none in
+    let l = or_parts _ _ live in
+    let n = or_parts _ _ none in
     subst (λ T. Still r t T (Some x)) (sym (pushed front y (ys ++ x ∷ rest))) (still-last t r (front ++ y ∷ []) ys x rest made.1 l.1 n.1 own last (owns-next t r front y (ys ++ x ∷ rest) made l.0 n.0 h))
 
 outstanding-last : (t : TaskId) (k : Known) (front mid : List RunItem) (x : RunItem) (rest : List RunItem) → k.behind ≡ true → is_of t x.fixed ≡ true → mine t rest ≡ [] → outstanding t k (front ++ (mid ++ x ∷ rest)) ≡ Some x

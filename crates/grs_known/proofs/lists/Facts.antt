@@ -3,6 +3,7 @@ use Rattle.std.proofs.Common.{◌≡◌, ◌≢◌, ◌<◌, ◌≤◌, ◌+◌,
 use Rattle.std.specs.Prelude.{filter, slice_get, get_or, set, is_some}
 use Rattle.std.specs.List.{list_all, list_any}
 use Rattle.std.proofs.lemmas.Bool.{cases_Bool, and_parts}
+use Rattle.std.proofs.lemmas.List.Elements.{filter-append}
 
 -- ---- places
 -- the item at a place is the last of those up to it
@@ -11,30 +12,10 @@ take-more [] n x h = cc
 take-more (y ∷ xs) zero x h = grind (arith, h)
 take-more (y ∷ xs) (suc n) x h = grind (arith, take-more xs n x h)
 
-pub take-whole : {X : Type 0} (xs : List X) → take (length xs) xs ≡ xs
-take-whole [] = refl
-take-whole (x ∷ xs) = ap (λ zs. x ∷ zs) (take-whole xs)
-
-pub slice_get-within : {X : Type 0} (xs : List X) (n : ℕ) (x : X) → slice_get xs n ≡ Some x → n < length xs
-slice_get-within [] n x h = absurd (cc)
-slice_get-within (y ∷ xs) zero x h = omega arith
-slice_get-within (y ∷ xs) (suc n) x h = omega (arith, slice_get-within xs n x h)
-
 pub slice_get-past : {X : Type 0} (xs : List X) (n : ℕ) → slice_get xs n ≡ None → length xs ≤ n
 slice_get-past [] n h = omega arith
 slice_get-past (y ∷ xs) zero h = absurd (cc)
 slice_get-past (y ∷ xs) (suc n) h = omega (arith, slice_get-past xs n h)
-
-pub slice_get-none : {X : Type 0} (xs : List X) (n : ℕ) → length xs ≤ n → slice_get xs n ≡ None
-slice_get-none [] n h = refl
-slice_get-none (y ∷ xs) zero h = absurd (omega arith)
-slice_get-none (y ∷ xs) (suc n) h = slice_get-none xs n (omega arith)
-
--- the item at a place that is there
-pub slice_get-there : {X : Type 0} (xs : List X) (i : ℕ) (d : X) → i < length xs → slice_get xs i ≡ Some (get_or xs i d)
-slice_get-there [] i d h = absurd (omega (arith, h))
-slice_get-there (x ∷ xs) zero d h = refl
-slice_get-there (x ∷ xs) (suc i) d h = slice_get-there xs i d (omega (arith, h))
 
 pub slice_get-append : {X : Type 0} (xs ys : List X) (i : ℕ) (x : X) → slice_get xs i ≡ Some x → slice_get (xs ++ ys) i ≡ Some x
 slice_get-append [] ys i x h = cc
@@ -58,11 +39,6 @@ slice_get-set_other (z ∷ xs) (suc i) zero y ne = refl
 slice_get-set_other (z ∷ xs) (suc i) (suc j) y ne = slice_get-set_other xs i j y (λ e. ne (ap suc e))
 
 -- ---- first parts, and what is behind them
-pub take-front : {X : Type 0} (n : ℕ) (xs ys : List X) → n ≤ length xs → take n (xs ++ ys) ≡ take n xs
-take-front zero xs ys h = grind (arith)
-take-front (suc n) [] ys h = absurd (omega (arith, h))
-take-front (suc n) (x ∷ xs) ys h = ap (λ zs. x ∷ zs) (take-front n xs ys (omega (arith, h)))
-
 -- a first part, taken again
 pub take-taken : {X : Type 0} (k : ℕ) (xs : List X) → take (length (take k xs)) xs ≡ take k xs
 take-taken zero xs = refl
@@ -75,29 +51,7 @@ take-none xs = grind (arith)
 pub drop-none : {X : Type 0} (xs : List X) → drop 0 xs ≡ xs
 drop-none xs = grind (arith)
 
-pub take-drop : {X : Type 0} (k : ℕ) (xs : List X) → take k xs ++ drop k xs ≡ xs
-take-drop zero xs = ap (λ ys. ys ++ drop 0 xs) (take-none xs) ∙ drop-none xs
-take-drop (suc k) [] = refl
-take-drop (suc k) (x ∷ xs) = ap (λ ys. x ∷ ys) (take-drop k xs)
-
--- the two parts of a list
-pub take-seam : {X : Type 0} (xs ys : List X) → take (length xs) (xs ++ ys) ≡ xs
-take-seam [] ys = refl
-take-seam (x ∷ xs) ys = ap (λ z. x ∷ z) (take-seam xs ys)
-
-pub drop-seam : {X : Type 0} (xs ys : List X) → drop (length xs) (xs ++ ys) ≡ ys
-drop-seam [] ys = refl
-drop-seam (x ∷ xs) ys = drop-seam xs ys
-
-pub map-append : {X Y : Type 0} (f : X → Y) (xs ys : List X) → map f (xs ++ ys) ≡ map f xs ++ map f ys
-map-append f [] ys = refl
-map-append f (x ∷ xs) ys = ap (λ zs. f x ∷ zs) (map-append f xs ys)
-
 -- ---- filters
-pub filter-append : {X : Type 0} (p : X → Bool) (xs ys : List X) → filter p (xs ++ ys) ≡ filter p xs ++ filter p ys
-filter-append p [] ys = refl
-filter-append p (x ∷ xs) ys = grind (arith, filter-append p xs ys)
-
 -- what an item adds to a filtered list
 pub filter-push_kept : {X : Type 0} (p : X → Bool) (xs : List X) (x : X) → p x ≡ true → filter p (xs ++ x ∷ []) ≡ filter p xs ++ x ∷ []
 filter-push_kept p xs x h = grind (arith, h, filter-append p xs (x ∷ []))
@@ -158,6 +112,3 @@ all-behind p (x ∷ xs) ys h = all-behind p xs ys (and_parts (p x) (list_all p (
 pub some_of : {X : Type 0} (o : Option X) → is_some o ≡ true → (x : X) × (o ≡ Some x)
 some_of None h = absurd (cc)
 some_of (Some x) h = (x, refl)
-
-pub some_value : {X : Type 0} (x y : X) → Some x ≡ Some y → x ≡ y
-some_value x y e = cc

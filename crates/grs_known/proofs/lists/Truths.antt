@@ -11,22 +11,6 @@ pub false_by : (b : Bool) → (b ≡ true → b ≡ false) → b ≡ false
 false_by true h = h refl
 false_by false h = refl
 
-pub and_on : (a b : Bool) → a ≡ true → b ≡ true → (a && b) ≡ true
-and_on true b e f = f
-and_on false b e f = cc
-
-pub and_off : (a b : Bool) → b ≡ false → (a && b) ≡ false
-and_off true b e = e
-and_off false b e = refl
-
-pub or_first : (a b : Bool) → a ≡ true → (a || b) ≡ true
-or_first true b e = refl
-or_first false b e = cc
-
-pub or_second : (a b : Bool) → b ≡ true → (a || b) ≡ true
-or_second true b e = refl
-or_second false b e = e
-
 pub or_off : (a b : Bool) → b ≡ false → (a || b) ≡ a
 or_off true b e = refl
 or_off false b e = e
@@ -34,14 +18,6 @@ or_off false b e = e
 pub or_other : (a b : Bool) → (a || b) ≡ true → a ≡ false → b ≡ true
 or_other true b e f = cc
 or_other false b e f = e
-
-pub or_false : (a b : Bool) → (a || b) ≡ false → (a ≡ false) × (b ≡ false)
-or_false true b e = cc
-or_false false b e = (refl, e)
-
-pub not_true : (b : Bool) → not b ≡ true → b ≡ false
-not_true true e = cc
-not_true false e = refl
 
 pub task_swap : (t u : TaskId) → same_task t u ≡ false → same_task u t ≡ false
 task_swap t u e = false_by (same_task u t) (λ h. no_truth (same_task t u) (subst (λ (z : TaskId). same_task z u ≡ true) (same_task-exact u t h) (same_task-itself u)) e)

@@ -1,6 +1,7 @@
 -- A task that has an element on a resource has the request on record, or asks for just that resource.
 use Rattle.std.proofs.Common.{◌≡◌, ◌⊎◌, inl, inr, Bool, true, false, cond, not, ◌||◌, List, [], ◌∷◌, ◌++◌, map, Option, Some, None, refl, ap, sym, ◌∙◌, subst}
 use Rattle.std.specs.Prelude.{filter}
+use Rattle.std.proofs.lemmas.Bool.{or_left, or_right}
 use Rattle.grs_base.specs.Same.{same_res}
 use Rattle.grs_base.specs.Lists.{has_task}
 use Rattle.grs_base.specs.State.{State, list_of}
@@ -28,16 +29,10 @@ use Rattle.grs_known.proofs.known.Histories.{IsHistory, live-asks}
 use Rattle.grs_known.proofs.known.Knows.{speaks-known}
 use Rattle.grs_known.proofs.known.Pasts.{past_grows, elements_are_of_items}
 use Rattle.grs_known.proofs.lists.Own.{has_task-own}
-use Rattle.grs_known.proofs.lists.Truths.{or_first, or_second}
 use Rattle.grs_known.proofs.tasks.Invariant.{has_res, key}
 use Rattle.grs_known.proofs.tasks.Keys.{has_res-own}
 use Rattle.grs_known.proofs.system.Asking.{Opens, records-unasked}
 use Rattle.grs_known.proofs.system.Ours.{IsHere}
-
--- a request that isn't answered yet is for this resource
-abbrev pub IsAbout : Res → Option Asked → Type 0
-IsAbout r None = ⊥
-IsAbout r (Some a) = res_wanted a.req.want ≡ Some r
 
 -- who has an element behind an entry had it before, or the entry is of that resource
 own-made : (r q : Res) (ks : List (Res × Ctl)) → has_own r (map (made_exclusive q) ks) ≡ has_own r ks
@@ -57,11 +52,11 @@ own-push r q c [] h = go (same_res r q) refl h
 own-push r q c (k ∷ ks) h = go (same_res r k.0) refl h (own-push r q c ks)
   where
     go : (b : Bool) → same_res r k.0 ≡ b → (b || has_own r (ks ++ (q, c) ∷ [])) ≡ true → (has_own r (ks ++ (q, c) ∷ []) ≡ true → (has_own r ks ≡ true) ⊎ (q ≡ r)) → (has_own r (k ∷ ks) ≡ true) ⊎ (q ≡ r)
-    go true e f more = inl (or_first (same_res r k.0) (has_own r ks) e)
+    go true e f more = inl (or_left (same_res r k.0) (has_own r ks) e)
     go false e f more = by_more (more f)
       where
         by_more : (has_own r ks ≡ true) ⊎ (q ≡ r) → (has_own r (k ∷ ks) ≡ true) ⊎ (q ≡ r)
-        by_more (inl z) = inl (or_second (same_res r k.0) (has_own r ks) z)
+        by_more (inl z) = inl (or_right (same_res r k.0) (has_own r ks) z)
         by_more (inr z) = inr z
 
 own-left : (r q : Res) (ks : List (Res × Ctl)) → has_own r (filter (λ k. not (same_res q k.0)) ks) ≡ true → has_own r ks ≡ true
@@ -69,12 +64,12 @@ own-left r q [] h = h
 own-left r q (k ∷ ks) h = go (same_res q k.0) h (own-left r q ks)
   where
     go : (b : Bool) → has_own r (cond (not b) (k ∷ filter (λ z. not (same_res q z.0)) ks) (filter (λ z. not (same_res q z.0)) ks)) ≡ true → (has_own r (filter (λ z. not (same_res q z.0)) ks) ≡ true → has_own r ks ≡ true) → has_own r (k ∷ ks) ≡ true
-    go true e more = or_second (same_res r k.0) (has_own r ks) (more e)
+    go true e more = or_right (same_res r k.0) (has_own r ks) (more e)
     go false e more = by_first (same_res r k.0) refl e
       where
         by_first : (c : Bool) → same_res r k.0 ≡ c → (c || has_own r (filter (λ z. not (same_res q z.0)) ks)) ≡ true → has_own r (k ∷ ks) ≡ true
-        by_first true f g = or_first (same_res r k.0) (has_own r ks) f
-        by_first false f g = or_second (same_res r k.0) (has_own r ks) (more g)
+        by_first true f g = or_left (same_res r k.0) (has_own r ks) f
+        by_first false f g = or_right (same_res r k.0) (has_own r ks) (more g)
 
 own-effect : (e : Effect) (r q : Res) (c : Ctl) (ks : List (Res × Ctl)) → has_own r (own_by_effect e q c ks) ≡ true → (has_own r ks ≡ true) ⊎ (q ≡ r)
 own-effect Nothing r q c ks h = inl h

@@ -1,6 +1,7 @@
 -- A request of a task of the system, decided: the system stays good, and what it tells agrees.
 use Rattle.std.proofs.Common.{◌≡◌, ℕ, suc, Bool, true, false, cond, List, [], ◌∷◌, ◌++◌, Option, Some, None, refl, ap, sym, ◌∙◌, subst, arith}
 use Rattle.std.specs.Prelude.{is_some, ◌==◌}
+use Rattle.std.proofs.lemmas.Bool.{and_from, or_right}
 use Rattle.grs_base.specs.Same.{same_res, same_task}
 use Rattle.grs_base.specs.Lists.{owns}
 use Rattle.grs_base.specs.State.{list_of}
@@ -38,7 +39,7 @@ use Rattle.grs_known.proofs.known.Due.{one}
 use Rattle.grs_known.proofs.known.Histories.{IsHistory, replayed}
 use Rattle.grs_known.proofs.known.Knows.{Knows, KnowsEntry, knows-closed, speaks-known}
 use Rattle.grs_known.proofs.lists.Owners.{is_among}
-use Rattle.grs_known.proofs.lists.Truths.{and_on, no_truth, or_second}
+use Rattle.grs_known.proofs.lists.Truths.{no_truth}
 use Rattle.grs_known.proofs.tasks.Asked.{told_after, Asks, of_new_line}
 use Rattle.grs_known.proofs.tasks.Decided.{enq_records, task-enq, task-deq}
 use Rattle.grs_known.proofs.tasks.Invariant.{IsTask, with_control}
@@ -150,8 +151,8 @@ module _ (deck : Deck) (s : ℕ) (os os' : Opens) (P P' : List RunItem) (v : Tas
 
       by_control : told_as code ≡ code → (b : Bool) → gets_control ret code ≡ b → AgreesOf deck.limit (lines_of deck t) (history P') v.told (Coded t (suc n) 0 verbs.Enq code)
       by_control e true g =
-          let owned = ap (λ z. owns (list_of z r) t) (sym (replayed deck P' d.right)) ∙ d.learns.control r (and_on (same_res r r) (gets_control ret code) (same_res-itself r) g) in
-          enq-agrees (with_control r (after_entry enq p)) (speaks-control deck.limit t (after_entry enq p) (history P') (decided-speaks enq d) r owned) refl e (λ f. or_second ((after_entry enq p).owns r) (same_res r r) (same_res-itself r))
+          let owned = ap (λ z. owns (list_of z r) t) (sym (replayed deck P' d.right)) ∙ d.learns.control r (and_from (same_res r r) (gets_control ret code) (same_res-itself r) g) in
+          enq-agrees (with_control r (after_entry enq p)) (speaks-control deck.limit t (after_entry enq p) (history P') (decided-speaks enq d) r owned) refl e (λ f. or_right ((after_entry enq p).owns r) (same_res r r) (same_res-itself r))
       by_control e false g = enq-agrees (after_entry enq p) (decided-speaks enq d) refl e (λ f. no_truth (gets_control ret code) f g)
 
       pub enq-settles : Settles deck s os' P' v.told (tell_new (replied v0 t (Enq r c ret full) unit (answers.Coded code)) (Some r) ts)

@@ -2,7 +2,7 @@
 use Rattle.std.proofs.Common.{◌≡◌, ℕ, Bool, true, false, cond, ◌&&◌, List, [], ◌∷◌, ◌++◌, Option, Some, None, refl, ap, sym, ◌∙◌, subst, arith, inl, inr}
 use Rattle.std.specs.Prelude.{◌⊎◌, ◌==◌}
 use Rattle.std.specs.List.{list_any}
-use Rattle.std.proofs.lemmas.Bool.{and_parts, and_from, eqb-true, eq-eqb}
+use Rattle.std.proofs.lemmas.Bool.{and_parts, and_from, eqb-true, eq-eqb, or_right}
 use Rattle.grs_base.specs.Same.{same_res, same_task}
 use Rattle.grs_base.specs.declared.resource.Res.{Res}
 use Rattle.grs_base.specs.declared.resource.TaskId.{TaskId}
@@ -36,7 +36,6 @@ use Rattle.grs_known.proofs.system.Asking.{unasked, unasked-told, unasked-none, 
 use Rattle.grs_known.proofs.system.Ours.{IsOurs, Holds, IsHere, IsChanged, changed-state, changed-telling, changed-then, changed-none, holds-changed, ours-line, agrees-ours}
 use Rattle.grs_known.proofs.known.Histories.{IsHistory}
 use Rattle.grs_known.proofs.known.Knows.{Knows, knows-closed, speaks-known, speaks_of-known, knows-control}
-use Rattle.grs_known.proofs.lists.Truths.{or_second}
 use Rattle.grs_known.proofs.lists.Facts.{any-last}
 
 -- a record with control told
@@ -241,7 +240,7 @@ module _ (deck : Deck) (s : ℕ) (os : Opens) (P : List RunItem) (right : IsHist
           let m : Learned deck s os P T0 t ls v w = learned-by v w l z agreed (λ u. refl) (ours-line deck s v t ls ours) (agrees-ours deck t ls (history P) v.told l ours.lines (both.1 deck.limit (history P) (speaks_of-known deck P t r x.outstanding known right knows stays))) tt
           changed told is here in
           learned-then v w _ m (passes w z (v.told ++ l ∷ []) (record { lines = ours.lines; home = ours.home; here = changed.here t ∙ ours.here }) is told here
-          (or_second (k.known.owns r) (same_res r r) (same_res-itself r))
+          (or_right (k.known.owns r) (same_res r r) (same_res-itself r))
           (any-last (tells_control t ls p.asked r) v.told l (and_from (same_task t t) _ (same_task-itself t) latest)) m.agreed)
 
       -- an untold record is told
@@ -308,7 +307,7 @@ learned_all deck s os P right T0 r [] v home h agreed = record { here = λ u. re
 learned_all deck s os P right T0 r (t ∷ ts) v home h agreed =
     let m : LearnedAll deck s os P T0 v (tell_control v r t) = one (is_task v t) refl (home t (grind (arith, same_task-itself t))) in
     let n = learned_all deck s os P right T0 r ts (tell_control v r t)
-    (λ u e. let hu = home u (or_second (same_task u t) (is_among u ts) e) in (λ z. let o = hu.0 (sym (m.here u) ∙ z) in record { lines = o.lines; ours = record { lines = o.ours.lines; home = o.ours.home; here = z } }, hu.1))
+    (λ u e. let hu = home u (or_right (same_task u t) (is_among u ts) e) in (λ z. let o = hu.0 (sym (m.here u) ∙ z) in record { lines = o.lines; ours = record { lines = o.ours.lines; home = o.ours.home; here = z } }, hu.1))
     m.holds m.agreed in
     record { here = λ u. n.here u ∙ m.here u; system = n.system ∙ m.system; holds = n.holds; agreed = n.agreed }
   where

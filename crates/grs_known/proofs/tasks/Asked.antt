@@ -3,8 +3,9 @@ use Rattle.std.proofs.Common.{◌≡◌, ◌-◌, ◌+◌, ℕ, zero, suc, Bool,
 use Rattle.std.specs.Prelude.{slice_get, unwrap_or}
 use Rattle.std.specs.List.{list_any, list_all}
 use Rattle.std.proofs.Math.Seq.{drop-length}
-use Rattle.std.proofs.lemmas.Bool.{and_parts, and_from}
+use Rattle.std.proofs.lemmas.Bool.{and_parts, and_from, not-true, or_right}
 use Rattle.std.proofs.lemmas.Bool.Decides.{nat_tests}
+use Rattle.std.proofs.lemmas.Option.{slice_get_within}
 use Rattle.grs_base.specs.Same.{same_task}
 use Rattle.grs_base.specs.declared.resource.Ctl.{Ctl}
 use Rattle.grs_base.specs.declared.resource.Res.{Res}
@@ -33,8 +34,7 @@ use Rattle.grs_known.proofs.lists.Lines.{asks-more, asks_of-at, passed-none, pas
 use Rattle.grs_known.proofs.tasks.Invariant.{Each, key, has_res, is_distinct, IsEntryOn, IsEcb, IsRec, WaitsFor, may_pass, Passed, IsNext, IsInPhase, IsTask, is_post_before, has_ended, code_bound}
 use Rattle.grs_known.proofs.tasks.Granted.{codes_later, lt_suc}
 use Rattle.grs_known.proofs.tasks.Keys.{each-kept}
-use Rattle.grs_known.proofs.lists.Truths.{not_true, or_second}
-use Rattle.grs_known.proofs.lists.Facts.{all-kept, any-kept, all-more, any-more, none-more, slice_get-end, slice_get-within, take-more}
+use Rattle.grs_known.proofs.lists.Facts.{all-kept, any-kept, all-more, any-more, none-more, slice_get-end, take-more}
 
 -- what was told after a code: WAIT isn't told
 abbrev pub told_after : List ToldLine → TaskId → ℕ → Verb → Code → List ToldLine
@@ -81,12 +81,12 @@ posts-after T t k n verb c h =
 -- codes told so far are of lines up to the one that was answered
 codes-after : (T : List ToldLine) (t : TaskId) (k : ℕ) (verb : Verb) (c : Code) → list_all (is_code_before t k) T ≡ true → list_all (is_code_before t (code_bound (phase_after c) k)) (told_after T t k verb c) ≡ true
 codes-after T t k verb Wait h = h
-codes-after T t k verb C00 h = all-more (is_code_before t (suc k)) T _ (codes_later t k T h) (or_second (not (same_task t t)) _ (lt_suc k))
-codes-after T t k verb C04 h = all-more (is_code_before t (suc k)) T _ (codes_later t k T h) (or_second (not (same_task t t)) _ (lt_suc k))
-codes-after T t k verb C08 h = all-more (is_code_before t (suc k)) T _ (codes_later t k T h) (or_second (not (same_task t t)) _ (lt_suc k))
-codes-after T t k verb C14 h = all-more (is_code_before t (suc k)) T _ (codes_later t k T h) (or_second (not (same_task t t)) _ (lt_suc k))
-codes-after T t k verb C18 h = all-more (is_code_before t (suc k)) T _ (codes_later t k T h) (or_second (not (same_task t t)) _ (lt_suc k))
-codes-after T t k verb (End n) h = all-more (is_code_before t (suc k)) T _ (codes_later t k T h) (or_second (not (same_task t t)) _ (lt_suc k))
+codes-after T t k verb C00 h = all-more (is_code_before t (suc k)) T _ (codes_later t k T h) (or_right (not (same_task t t)) _ (lt_suc k))
+codes-after T t k verb C04 h = all-more (is_code_before t (suc k)) T _ (codes_later t k T h) (or_right (not (same_task t t)) _ (lt_suc k))
+codes-after T t k verb C08 h = all-more (is_code_before t (suc k)) T _ (codes_later t k T h) (or_right (not (same_task t t)) _ (lt_suc k))
+codes-after T t k verb C14 h = all-more (is_code_before t (suc k)) T _ (codes_later t k T h) (or_right (not (same_task t t)) _ (lt_suc k))
+codes-after T t k verb C18 h = all-more (is_code_before t (suc k)) T _ (codes_later t k T h) (or_right (not (same_task t t)) _ (lt_suc k))
+codes-after T t k verb (End n) h = all-more (is_code_before t (suc k)) T _ (codes_later t k T h) (or_right (not (same_task t t)) _ (lt_suc k))
 
 -- a conjunction of which the second part is kept
 and_kept : (a b c : Bool) → (b ≡ true → c ≡ true) → (a && b) ≡ true → (a && c) ≡ true
@@ -117,7 +117,7 @@ none_behind : {X : Type 0} (p : X → Bool) (x : X) → p x ≡ false → (m : �
 none_behind p x e zero [] h = grind (arith, e)
 none_behind p x e (suc zero) [] h = refl
 none_behind p x e (suc (suc m)) [] h = refl
-none_behind p x e zero (y ∷ ys) h = ap not (none-more p (y ∷ ys) x (not_true (list_any p (y ∷ ys)) h) e)
+none_behind p x e zero (y ∷ ys) h = ap not (none-more p (y ∷ ys) x (not-true (list_any p (y ∷ ys)) h) e)
 none_behind p x e (suc m) (y ∷ ys) h = none_behind p x e m ys h
 
 module _ (ls : List Meaning) (E : List HistEntry) (h : HistEntry) (t : TaskId) where
@@ -239,7 +239,7 @@ module _ (ls : List Meaning) (p : Past) (T : List ToldLine) (leaving : Res → B
       keys = keys;
       owned = owned;
       distinct = distinct;
-      within = slice_get-within ls n l k.at;
+      within = slice_get_within ls n l k.at;
       count = λ u. count_new;
       records = recs;
       codes = codes-after T t (suc n) verb c k.before.codes;

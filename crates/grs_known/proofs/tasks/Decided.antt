@@ -2,7 +2,7 @@
 use Rattle.std.proofs.Common.{◌≡◌, ℕ, suc, Bool, true, false, cond, not, ◌&&◌, List, [], ◌∷◌, ◌++◌, map, Option, Some, None, ◌||◌, refl, ap, sym, ◌∙◌, subst, arith, inl, inr}
 use Rattle.std.specs.Prelude.{filter, ◌⊎◌, slice_get}
 use Rattle.std.specs.List.{list_any, list_all}
-use Rattle.std.proofs.lemmas.Bool.{and_parts, and_from, cases_Bool, eq-eqb}
+use Rattle.std.proofs.lemmas.Bool.{and_parts, and_from, cases_Bool, eq-eqb, and_right, or_left, or_right}
 use Rattle.std.proofs.lemmas.Bool.Decides.{nat_tests}
 use Rattle.grs_base.specs.Same.{same_res, same_task}
 use Rattle.grs_base.specs.declared.resource.Res.{Res}
@@ -35,7 +35,7 @@ use Rattle.grs_known.specs.Told.{entry_of_line, queued_last, tells_control, is_c
 use Rattle.grs_known.proofs.tasks.Invariant.{Each, key, has_res, is_distinct, IsEntryOn, IsEcb, IsRec, IsDue, IsTask, is_post_before}
 use Rattle.grs_known.proofs.tasks.Keys.{has_res-own, has_own-other, has_own-exclusive, keys-push, distinct-push, keys-exclusive, distinct-exclusive, keys-without, distinct-without, other-without, each-without, each-push, each-exclusive}
 use Rattle.grs_known.proofs.tasks.Asked.{told_after, Asks, recs-asked, of_new_line, latest_new, task-asked}
-use Rattle.grs_known.proofs.lists.Truths.{no_truth, false_by, and_off, or_first, or_second}
+use Rattle.grs_known.proofs.lists.Truths.{no_truth, false_by}
 use Rattle.grs_known.proofs.lists.Facts.{list_any-push, any-last, none-more}
 
 -- no ECB of a line after all those posted was posted
@@ -138,8 +138,8 @@ module _ (ls : List Meaning) (p : Past) (T : List ToldLine) (t : TaskId) (n code
       given false b e = absurd (cc)
 
       go : (a b w : Bool) → (w ≡ true → has_own q p.own ≡ true) → ((w && true) || (same_res q r && (is_granted code && a))) ≡ true → has_own q (own_by_effect (cond a Append (cond b MakeExclusive Nothing)) r c p.own) ≡ true
-      go true b true f e = list_any-push (λ z. same_res q z.0) p.own (r, c) ∙ or_first (has_own q p.own) (same_res q r) (f refl)
-      go true b false f e = list_any-push (λ z. same_res q z.0) p.own (r, c) ∙ or_second (has_own q p.own) (same_res q r) (and_parts (same_res q r) (is_granted code && true) e).0
+      go true b true f e = list_any-push (λ z. same_res q z.0) p.own (r, c) ∙ or_left (has_own q p.own) (same_res q r) (f refl)
+      go true b false f e = list_any-push (λ z. same_res q z.0) p.own (r, c) ∙ or_right (has_own q p.own) (same_res q r) (and_parts (same_res q r) (is_granted code && true) e).0
       go false true true f e = has_own-exclusive q r p.own ∙ f refl
       go false false true f e = f refl
       go false b false f e = absurd (given (same_res q r) (is_granted code) e)
@@ -160,7 +160,7 @@ module _ (ls : List Meaning) (p : Past) (T : List ToldLine) (t : TaskId) (n code
   apart q has = go (is_queued ret code) refl
     where
       go : (b : Bool) → is_queued ret code ≡ b → (same_res q r && b) ≡ false
-      go false e = and_off (same_res q r) false refl
+      go false e = and_right (same_res q r) false refl
       go true e = by_res q r _ (λ same. no_truth (has_res q xs) has (ap (λ z. has_res z xs) same ∙ absent e)) (λ other. ap (λ b. b && true) other)
 
   old_recs : Each IsNew xs
@@ -168,7 +168,7 @@ module _ (ls : List Meaning) (p : Past) (T : List ToldLine) (t : TaskId) (n code
       (λ q has. owned_still (p.owns q) false _ refl (given (same_res q r) (is_granted code) (is_queued ret code) (apart q has))) (λ q has e. refl) apart k.before.records
     where
       given : (a b c : Bool) → (a && c) ≡ false → (a && (b && c)) ≡ false
-      given true b c e = and_off b c e
+      given true b c e = and_right b c e
       given false b c e = refl
 
   rec_new : is_queued ret code ≡ true → IsNew new_rec
@@ -213,7 +213,7 @@ module _ (ls : List Meaning) (p : Past) (T : List ToldLine) (leaving : Res → B
       (λ q has. owned_still (p.owns q) _ false (ap (λ b. b && is_granted code) (other-without q r xs k.before.distinct has)) refl) (λ q has e. others q (other-without q r xs k.before.distinct has)) (λ q has. refl)
       (each-without (IsRec ls p.asked T p.owns leaving t n phases.Ready) r xs k.before.records)
   recs_left false g = recs-asked ls p.asked deq t T p.owns (owns_told deq p.owns) leaving n (suc n) verbs.Deq code (phase_after code) xs
-      (λ q has. owned_still (p.owns q) _ false (and_off (same_res q r) (is_granted code) g) refl)
+      (λ q has. owned_still (p.owns q) _ false (and_right (same_res q r) (is_granted code) g) refl)
       (λ q has e. by_res q r _ (λ same. no_truth (p.owns q) e (ap p.owns same ∙ fits g)) (λ apart. others q apart)) (λ q has. refl) k.before.records
 
   keys_left : (b : Bool) → map key (cond b (without_first xs r) xs) ≡ cond b (filter (λ z. not (same_res r z.0)) p.own) p.own
@@ -226,7 +226,7 @@ module _ (ls : List Meaning) (p : Past) (T : List ToldLine) (leaving : Res → B
       and_true : (b : Bool) → (b && true) ≡ b
       and_true true = refl
       and_true false = refl
-  owned_deq q false o = k.before.owned q (sym (owned_still (p.owns q) (same_res q r && false) false (and_off (same_res q r) false refl) refl) ∙ o)
+  owned_deq q false o = k.before.owned q (sym (owned_still (p.owns q) (same_res q r && false) false (and_right (same_res q r) false refl) refl) ∙ o)
 
   distinct_left : (b : Bool) → is_distinct (cond b (without_first xs r) xs) ≡ true
   distinct_left true = distinct-without r xs k.before.distinct

@@ -2,8 +2,9 @@
 use Rattle.std.proofs.Common.{◌≡◌, ◌-◌, ◌+◌, ℕ, suc, Bool, true, false, not, ◌||◌, List, [], ◌∷◌, ◌++◌, map, length, take, Option, Some, None, refl, ap, sym, ◌∙◌, subst, arith, inl, inr}
 use Rattle.std.specs.Prelude.{slice_get, IfSome, nat_lt}
 use Rattle.std.specs.List.{list_any, list_all}
-use Rattle.std.proofs.lemmas.Bool.{and_from, lt-ltb}
+use Rattle.std.proofs.lemmas.Bool.{and_from, lt-ltb, or_left, or_right}
 use Rattle.std.proofs.lemmas.Bool.Decides.{nat_tests}
+use Rattle.std.proofs.lemmas.Option.{same_Some}
 use Rattle.grs_base.specs.Same.{same_res, same_task}
 use Rattle.grs_base.specs.Lists.{owns}
 use Rattle.grs_base.specs.State.{State, list_of}
@@ -37,8 +38,8 @@ use Rattle.grs_known.proofs.tasks.Invariant.{key, has_res, Each, IsEntryOn, IsEc
 use Rattle.grs_known.proofs.tasks.Others.{recs-told, phase-told, passed-control, phase-control}
 use Rattle.grs_known.proofs.tasks.Records.{recs-marked, keys-told, distinct-told, recs-coded, recs-posted}
 use Rattle.grs_known.proofs.tasks.Keys.{has_res-own, each-kept}
-use Rattle.grs_known.proofs.lists.Truths.{no_truth, or_first, or_second}
-use Rattle.grs_known.proofs.lists.Facts.{all-kept, all-more, none-more, some_value, take-more}
+use Rattle.grs_known.proofs.lists.Truths.{no_truth}
+use Rattle.grs_known.proofs.lists.Facts.{all-kept, all-more, none-more, take-more}
 
 -- A line agrees with each history of which a past speaks, or speaks where one resource is concerned.
 abbrev pub AgreesPast : List Meaning → Past → List ToldLine → TaskId → ToldLine → Type 0
@@ -51,7 +52,7 @@ AgreesPastOf ls p T t r l = (limit : ℕ) (P : List HistEntry) → SpeaksOf limi
 tells_waited : (s : State) (t : TaskId) (r : Res) (o : Option HistEntry) (h : HistEntry) → o ≡ Some h → code_of h ≡ Wait → IsEntryOn r o → owns (list_of s r) t ≡ true → TellsEnq s t C00 o
 tells_waited s t r None h e w on own = absurd on
 tells_waited s t r (Some (Enq u q c ret code)) h e w on own =
-    let is_wait : code ≡ Wait = ap code_of (some_value (Enq u q c ret code) h e) ∙ w in
+    let is_wait : code ≡ Wait = ap code_of (same_Some (Enq u q c ret code) h e) ∙ w in
     (rw is_wait refl, λ g. subst (λ z. owns (list_of s z) t ≡ true) (sym on.0) own)
 tells_waited s t r (Some (Deq u q have code)) h e w on own = absurd on
 tells_waited s t r (Some (Release u q)) h e w on own = absurd on
@@ -61,7 +62,7 @@ tells_waited s t r (Some (Remove by target)) h e w on own = absurd on
 -- an owner of a resource owns what an entry of it asked for
 owns-on : (has : Res → Bool) (r : Res) (o : Option HistEntry) (h : HistEntry) → o ≡ Some h → IsEntryOn r o → has r ≡ true → owns_entry has h ≡ true
 owns-on has r None h e on own = absurd on
-owns-on has r (Some (Enq u q c ret code)) h e on own = subst (λ z. owns_entry has z ≡ true) (some_value (Enq u q c ret code) h e) (subst (λ z. has z ≡ true) (sym on.0) own)
+owns-on has r (Some (Enq u q c ret code)) h e on own = subst (λ z. owns_entry has z ≡ true) (same_Some (Enq u q c ret code) h e) (subst (λ z. has z ≡ true) (sym on.0) own)
 owns-on has r (Some (Deq u q have code)) h e on own = absurd on
 owns-on has r (Some (Release u q)) h e on own = absurd on
 owns-on has r (Some (Look u place filter rows)) h e on own = absurd on
@@ -121,7 +122,7 @@ module _ (ls : List Meaning) (p : Past) (T : List ToldLine) (leaving : Res → B
   on_entry o h = subst (λ q. IsEntryOn q o) (sym (same_res-exact r y.res same)) h
 
   now_owns : also r p.owns r ≡ true
-  now_owns = or_second (p.owns r) (same_res r r) (same_res-itself r)
+  now_owns = or_right (p.owns r) (same_res r r) (same_res-itself r)
 
   -- held by its last answer, it is told that
   pub task-coded : (n code : ℕ) (xs : List Rec) (o : Option Asked) (ws : List Row) →
@@ -134,7 +135,7 @@ module _ (ls : List Meaning) (p : Past) (T : List ToldLine) (leaving : Res → B
       let on_n : IsEntryOn r (entry_of_line ls p.asked n) = subst (λ k. IsEntryOn r (entry_of_line ls p.asked k)) at on in
       let of_line : entry_of_line ls p.asked y.line ≡ Some h.phase.last = ap (λ k. entry_of_line ls p.asked k) at ∙ h.phase.of_line in
       let codes_at : list_all (is_code_before t y.line) T ≡ true = subst (λ k. list_all (is_code_before t k) T ≡ true) (sym at) h.codes in
-      let last_code : is_code_before t (suc n) (Coded t y.line 0 verbs.Enq C00) ≡ true = or_second (not (same_task t t)) _ (subst (λ k. nat_lt k (suc n) ≡ true) (sym at) (lt_suc n)) in
+      let last_code : is_code_before t (suc n) (Coded t y.line 0 verbs.Enq C00) ≡ true = or_right (not (same_task t t)) _ (subst (λ k. nat_lt k (suc n) ≡ true) (sym at) (lt_suc n)) in
       let latest : queued_last ls p.asked r n ≡ true = subst (λ k. queued_last ls p.asked r k ≡ true) at (latest-on ls p.asked T p.owns leaving t r y n phases.HeldAnswer same rec) in
       let control : tells_control t ls p.asked r (Coded t n 0 verbs.Enq C00) ≡ true = and_from (same_task t t) _ (same_task-itself t) latest in (
         record {
@@ -177,7 +178,7 @@ module _ (ls : List Meaning) (p : Past) (T : List ToldLine) (leaving : Res → B
           count = h.count;
           records = recs-posted ls p.asked T p.owns leaving t r y.line on (latest-on ls p.asked T p.owns leaving t r y x.line x.phase same rec) x.line x.phase x.records h.records;
           codes = all-more (is_code_before t (code_bound x.phase x.line)) T _ h.codes refl;
-          posts = all-more (is_post_before t (suc x.line)) T _ h.posts (or_second (not (same_task t t)) _ (lt-ltb y.line (suc x.line) (omega (arith, rec.high))));
+          posts = all-more (is_post_before t (suc x.line)) T _ h.posts (or_right (not (same_task t t)) _ (lt-ltb y.line (suc x.line) (omega (arith, rec.high))));
           phase = phase-told ls (with_control r p) T t x.line x.phase (Post t y.line) refl (phase-control r p ls T t x.line x.phase h.phase);
           emptied = λ e. absurd (grind (arith, e, going));
         },
@@ -227,7 +228,7 @@ wait_passes ls p q m (Some (lines.Enq r c ret unit)) at w count own h = absurd w
 wait_passes ls p q m (Some (lines.Deq r have)) at w count own h = absurd w
 wait_passes ls p q m (Some lines.Nothing) at w count own h = absurd w
 wait_passes ls p q m (Some (lines.Wait r)) at w count own h =
-    passed-line ls p m (lines.Wait r) at refl (count ∙ ap length (asks-same ls m _ at refl)) (or_first (p.owns r) _ (subst (λ z. p.owns z ≡ true) (sym w) own)) h
+    passed-line ls p m (lines.Wait r) at refl (count ∙ ap length (asks-same ls m _ at refl)) (or_left (p.owns r) _ (subst (λ z. p.owns z ≡ true) (sym w) own)) h
 
 tells_wait : (ls : List Meaning) (E : List HistEntry) (T : List ToldLine) (s : State) (t : TaskId) (q : Res) (o : Option Meaning) → IsWaitFor q o → owns (list_of s q) t ≡ true → list_any (tells_control t ls E q) T ≡ true → TellsWait t ls E T s C00 o
 tells_wait ls E T s t q None w own control = absurd w
@@ -252,7 +253,7 @@ task-passed ls p T leaving t q n code xs o ws h own control =
         within = h.within;
         count = λ e. h.count refl;
         records = recs-told ls p.asked T p.owns leaving t n phases.Ready (Coded t n 0 verbs.Wait C00) xs (λ k. refl) (recs-phase ls p.asked T p.owns leaving t n (phases.HeldLine q) phases.Ready refl xs h.records);
-        codes = all-more (is_code_before t (suc n)) T _ (codes_later t n T h.codes) (or_second (not (same_task t t)) _ (lt_suc n));
+        codes = all-more (is_code_before t (suc n)) T _ (codes_later t n T h.codes) (or_right (not (same_task t t)) _ (lt_suc n));
         posts = all-more (is_post_before t (suc n)) T _ h.posts refl;
         phase = record {
           going = record { no_code = h.phase.going.no_code; no_end = none-more (is_end_of t) T _ h.phase.going.no_end refl };

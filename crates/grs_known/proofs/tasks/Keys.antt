@@ -1,7 +1,8 @@
 -- The records of a task as its own elements.
 use Rattle.std.proofs.Common.{◌≡◌, Bool, true, false, cond, not, ◌||◌, List, [], ◌∷◌, ◌++◌, map, refl, ap, sym, ◌∙◌, subst, arith}
 use Rattle.std.specs.Prelude.{filter}
-use Rattle.std.proofs.lemmas.Bool.{cases_Bool}
+use Rattle.std.proofs.lemmas.Bool.{cases_Bool, or_left, or_right}
+use Rattle.std.proofs.lemmas.List.{map-append}
 use Rattle.grs_base.specs.Same.{same_res}
 use Rattle.grs_base.specs.declared.resource.Res.{Res}
 use Rattle.grs_base.specs.declared.resource.Ctl.{Ctl}
@@ -11,8 +12,7 @@ use Rattle.task_state.specs.declared.state.Rec.{Rec}
 use Rattle.task_state.specs.View.{without_first, on_record}
 use Rattle.grs_known.specs.Past.{has_own, made_exclusive}
 use Rattle.grs_known.proofs.tasks.Invariant.{Each, key, has_res, is_distinct}
-use Rattle.grs_known.proofs.lists.Facts.{map-append}
-use Rattle.grs_known.proofs.lists.Truths.{no_truth, false_by, or_first, or_second}
+use Rattle.grs_known.proofs.lists.Truths.{no_truth, false_by}
 
 pub same_res-sym : (a b : Res) → same_res a b ≡ same_res b a
 same_res-sym a b = go (same_res a b) refl
@@ -95,7 +95,7 @@ other-without q r xs d has = false_by (same_res q r) (λ e. no_truth (has_res q 
 -- what holds of each record, from what else does
 pub each-kept : (P Q : Rec → Type 0) (xs : List Rec) → ((x : Rec) → has_res x.res xs ≡ true → P x → Q x) → Each P xs → Each Q xs
 each-kept P Q [] f h = tt
-each-kept P Q (x ∷ xs) f h = (f x (or_first (same_res x.res x.res) (has_res x.res xs) (same_res-itself x.res)) h.0, each-kept P Q xs (λ y e. f y (or_second (same_res y.res x.res) (has_res y.res xs) e)) h.1)
+each-kept P Q (x ∷ xs) f h = (f x (or_left (same_res x.res x.res) (has_res x.res xs) (same_res-itself x.res)) h.0, each-kept P Q xs (λ y e. f y (or_right (same_res y.res x.res) (has_res y.res xs) e)) h.1)
 
 pub each-without : (P : Rec → Type 0) (r : Res) (xs : List Rec) → Each P xs → Each P (without_first xs r)
 each-without P r [] h = h

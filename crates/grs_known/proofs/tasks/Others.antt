@@ -2,6 +2,7 @@
 use Rattle.std.proofs.Common.{◌≡◌, ◌-◌, ℕ, Bool, true, false, not, ◌||◌, List, [], ◌∷◌, ◌++◌, length, take, refl, sym, ◌∙◌, arith}
 use Rattle.std.proofs.lemmas.Option.{IfSome_then}
 use Rattle.std.proofs.Common.{inl, inr}
+use Rattle.std.proofs.lemmas.Bool.{or_left, or_right}
 use Rattle.grs_base.specs.Same.{same_res, same_task}
 use Rattle.grs_base.specs.declared.resource.Res.{Res}
 use Rattle.grs_base.specs.declared.resource.TaskId.{TaskId}
@@ -20,7 +21,6 @@ use Rattle.task_state.specs.declared.state.TaskState.{TaskState}
 use Rattle.grs_known.specs.Told.{tells_control, is_code_before, is_code_of, is_post_of, is_end_of}
 use Rattle.grs_known.proofs.tasks.Invariant.{Each, has_res, IsRec, IsDue, WaitsFor, may_pass, owns_entry, with_control, Passed, IsFree, IsInPhase, IsTask, is_post_before}
 use Rattle.grs_known.proofs.tasks.Keys.{each-kept}
-use Rattle.grs_known.proofs.lists.Truths.{or_first, or_second}
 use Rattle.grs_known.proofs.lists.Facts.{all-kept, all-more, any-more, none-more}
 
 -- a task that is told control of one resource more stands in its phase as before
@@ -32,7 +32,7 @@ module _ (r : Res) (p : Past) where
     where
       more : (a b c : Bool) → (a || c) ≡ true → ((a || b) || c) ≡ true
       more true b c e = refl
-      more false b c e = or_second b c e
+      more false b c e = or_right b c e
   pass-control lines.Nothing h = refl
 
   pub passed-control : (ls : List Meaning) (n : ℕ) → Passed ls p n → Passed ls (with_control r p) n
@@ -42,9 +42,9 @@ module _ (r : Res) (p : Past) where
   free-control f = IfSome_then p.last f (λ h k w. owned h (k w))
     where
       owned : (h : HistEntry) → owns_entry p.owns h ≡ true → owns_entry (with_control r p).owns h ≡ true
-      owned (Enq u q c ret code) e = or_first (p.owns q) (same_res q r) e
-      owned (Deq u q have code) e = or_first (p.owns q) (same_res q r) e
-      owned (Release u q) e = or_first (p.owns q) (same_res q r) e
+      owned (Enq u q c ret code) e = or_left (p.owns q) (same_res q r) e
+      owned (Deq u q have code) e = or_left (p.owns q) (same_res q r) e
+      owned (Release u q) e = or_left (p.owns q) (same_res q r) e
       owned (Look u place filter rows) e = e
       owned (Remove by target) e = e
 

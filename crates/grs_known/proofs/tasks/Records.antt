@@ -2,7 +2,7 @@
 use Rattle.std.proofs.Common.{◌≡◌, ℕ, suc, Bool, true, false, cond, ◌||◌, List, [], ◌∷◌, ◌++◌, map, Option, Some, None, refl, ap, sym, ◌∙◌, subst, arith, inl, inr}
 use Rattle.std.specs.Prelude.{slice_get, ◌==◌}
 use Rattle.std.specs.List.{list_any}
-use Rattle.std.proofs.lemmas.Bool.{and_from, eqb-true}
+use Rattle.std.proofs.lemmas.Bool.{and_from, eqb-true, and_right, or_right}
 use Rattle.grs_base.specs.Same.{same_res, same_task}
 use Rattle.grs_base.specs.declared.resource.Res.{Res}
 use Rattle.grs_base.specs.declared.resource.TaskId.{TaskId}
@@ -19,7 +19,7 @@ use Rattle.task_state.specs.View.{record_place, record_of, on_record}
 use Rattle.grs_known.specs.Told.{entry_of_line, queued_last, tells_control, is_code_of, is_post_of}
 use Rattle.grs_known.proofs.tasks.Invariant.{Each, key, has_res, is_distinct, IsEntryOn, IsRec, IsDue, WaitsFor, also}
 use Rattle.grs_known.proofs.tasks.Keys.{same_res-sym}
-use Rattle.grs_known.proofs.lists.Truths.{no_truth, false_by, and_off, or_off, or_second}
+use Rattle.grs_known.proofs.lists.Truths.{no_truth, false_by, or_off}
 use Rattle.grs_known.proofs.lists.Facts.{any-last, any-more, none-more}
 
 -- what is known of the record that is found
@@ -89,7 +89,7 @@ module _ (ls : List Meaning) (E : List HistEntry) (T U : List ToldLine) (owns le
             latest = h.0.latest;
             low = h.0.low;
             high = h.0.high;
-            known = sym (or_second (owns y.res) (same_res y.res r) (turned r y.res true s));
+            known = sym (or_right (owns y.res) (same_res y.res r) (turned r y.res true s));
             control = λ c stays. subst (λ q. list_any (tells_control t ls E q) U ≡ true) same (told (subst (λ q. leaving q ≡ false) (sym same) stays));
             due = λ u. absurd (cc);
           }
@@ -131,7 +131,7 @@ module _ (ls : List Meaning) (E : List HistEntry) (T : List ToldLine) (owns leav
       (λ s. any-last (tells_control t ls E r) T (Post t k) (and_from (same_task t t) _ (same_task-itself t) latest)) (λ q. any-more (tells_control t ls E q) T (Post t k)) due xs h
     where
       other : (y : Rec) → IsRec ls E T owns leaving t line ph y → same_res r y.res ≡ false → is_post_of t y.line (Post t k) ≡ false
-      other y z apart = and_off (same_task t t) (k == y.line) (false_by (k == y.line) (λ e. absurd (other_line line ph y z apart (sym (eqb-true k y.line e)))))
+      other y z apart = and_right (same_task t t) (k == y.line) (false_by (k == y.line) (λ e. absurd (other_line line ph y z apart (sym (eqb-true k y.line e)))))
 
       due : (y : Rec) → IsRec ls E T owns leaving t line ph y → same_res r y.res ≡ false → WaitsFor ls E T t line ph y → WaitsFor ls E (T ++ Post t k ∷ []) t line ph y
       due y z apart (inl a) = inl a

@@ -2,7 +2,9 @@
 use Rattle.std.proofs.Common.{◌≡◌, ℕ, suc, Bool, true, false, cond, not, ◌||◌, List, [], ◌∷◌, ◌++◌, map, length, take, Option, Some, None, refl, ap, sym, ◌∙◌, subst, arith, inl, inr, add-one}
 use Rattle.std.specs.Prelude.{filter, slice_get, is_some, unwrap_or, nat_lt}
 use Rattle.std.specs.List.{list_any, list_all}
-use Rattle.std.proofs.lemmas.Bool.{cases_Bool, lt-ltb, ltb-true}
+use Rattle.std.proofs.lemmas.Bool.{cases_Bool, lt-ltb, ltb-true, or_right}
+use Rattle.std.proofs.lemmas.Option.{slice_get_past, slice_get_within}
+use Rattle.std.proofs.Math.Seq.{take-length}
 use Rattle.grs_base.specs.Same.{same_res, same_task}
 use Rattle.grs_base.specs.declared.resource.Res.{Res}
 use Rattle.grs_base.specs.declared.resource.Ctl.{Ctl}
@@ -34,8 +36,7 @@ use Rattle.grs_known.proofs.tasks.Granted.{AgreesPast, codes_later, lt_suc, pass
 use Rattle.grs_known.proofs.tasks.Keys.{has_own-other, keys-without, distinct-without, other-without, each-kept, each-without}
 use Rattle.grs_known.proofs.tasks.Decided.{owned_still, owned-left}
 use Rattle.grs_known.proofs.tasks.Speaking.{queued-speaks, next-speaks}
-use Rattle.grs_known.proofs.lists.Truths.{or_second}
-use Rattle.grs_known.proofs.lists.Facts.{all-kept, all-more, none-more, slice_get-none, slice_get-past, slice_get-within, take-whole}
+use Rattle.grs_known.proofs.lists.Facts.{all-kept, all-more, none-more, slice_get-past}
 
 none-filtered : (r : Res) (ks : List (Res × Ctl)) → list_any (λ k. same_res r k.0) (filter (λ k. not (same_res r k.0)) ks) ≡ false
 none-filtered r [] = refl
@@ -46,7 +47,7 @@ pass-released : (p : Past) (t : TaskId) (r : Res) (l : Meaning) → may_pass p l
 pass-released p t r (lines.Enq q c ret unit) h = refl
 pass-released p t r (lines.Deq q have) h = refl
 pass-released p t r (lines.Wait q) h = by_res q r _
-    (λ same. or_second (owns_told (Release t r) p.owns q) _ (ap not (ap (λ z. has_own z (filter (λ k. not (same_res r k.0)) p.own)) same ∙ none-filtered r p.own)))
+    (λ same. or_right (owns_told (Release t r) p.owns q) _ (ap not (ap (λ z. has_own z (filter (λ k. not (same_res r k.0)) p.own)) same ∙ none-filtered r p.own)))
     (λ apart. rw (owned_still (p.owns q) (same_res q r) false apart refl, has_own-other q r p.own apart) h)
 pass-released p t r lines.Nothing h = refl
 
@@ -112,7 +113,7 @@ module _ (ls : List Meaning) (p : Past) (T : List ToldLine) (leaving : Res → B
     keys = k.keys;
     owned = k.owned;
     distinct = k.distinct;
-    within = slice_get-within ls n l at;
+    within = slice_get_within ls n l at;
     count = λ e. count_same;
     records = recs-line ls p.asked T p.owns leaving t n phases.Ready xs k.records;
     codes = codes_later t (suc n) T k.codes;
@@ -127,10 +128,10 @@ module _ (ls : List Meaning) (p : Past) (T : List ToldLine) (leaving : Res → B
     keys = k.keys;
     owned = k.owned;
     distinct = k.distinct;
-    within = slice_get-within ls n l at;
+    within = slice_get_within ls n l at;
     count = λ e. count_same;
     records = recs-told ls p.asked T p.owns leaving t (suc n) phases.Ready (Coded t (suc n) 0 verbs.Wait c) xs (λ j. refl) (recs-line ls p.asked T p.owns leaving t n phases.Ready xs k.records);
-    codes = all-more (is_code_before t (suc (suc n))) T _ (codes_later t (suc n) T k.codes) (or_second (not (same_task t t)) _ (lt_suc (suc n)));
+    codes = all-more (is_code_before t (suc (suc n))) T _ (codes_later t (suc n) T k.codes) (or_right (not (same_task t t)) _ (lt_suc (suc n)));
     posts = all-more (is_post_before t (suc (suc n))) T _ (all-posts_later t (suc n) T k.posts) refl;
     phase = record { going = record { no_code = k.phase.going.no_code; no_end = none-more (is_end_of t) T _ k.phase.going.no_end refl }; free = k.phase.free; passed = passed_line lets };
     emptied = λ e. absurd (cc);
@@ -142,7 +143,7 @@ module _ (ls : List Meaning) (p : Past) (T : List ToldLine) (leaving : Res → B
     keys = k.keys;
     owned = k.owned;
     distinct = k.distinct;
-    within = slice_get-within ls n l at;
+    within = slice_get_within ls n l at;
     count = λ e. count_same;
     records = recs-line ls p.asked T p.owns leaving t n (phases.HeldLine r) xs k.records;
     codes = k.codes;
@@ -191,7 +192,7 @@ module _ (ls : List Meaning) (p : Past) (T : List ToldLine) (leaving : Res → B
 
       no_line : (e : Option ℕ) → end_among p.asked ≡ e → cond (is_some e) None (slice_get (asks_of ls) (length p.asked)) ≡ None
       no_line (Some m) e = refl
-      no_line None e = slice_get-none (asks_of ls) (length p.asked) (omega (arith, k.count refl, ap (λ m. length (asks_of (take m ls))) (k.phase.all_lines e).0, ap (λ zs. length (asks_of zs)) (take-whole ls)))
+      no_line None e = slice_get_past (asks_of ls) (length p.asked) (omega (arith, k.count refl, ap (λ m. length (asks_of (take m ls))) (k.phase.all_lines e).0, ap (λ zs. length (asks_of zs)) (take-length ls)))
 
   pub next-ending : (r : Res) → slice_get (map (λ (y : Rec). y.res) xs) 0 ≡ Some r → IsNext ls p (AsksRelease r)
   next-ending r first = record { next = next-release ∙ ap release_next first; free = k.phase.free; passed = by_end (end_among p.asked) refl }
@@ -200,7 +201,7 @@ module _ (ls : List Meaning) (p : Past) (T : List ToldLine) (leaving : Res → B
       by_end (Some m) f = refl
       by_end None f =
           let a = k.phase.all_lines f in
-          subst (λ zs. list_all (may_pass p) (passed_behind (length p.asked) zs) ≡ true) (ap (λ m. take m ls) a.0 ∙ take-whole ls) a.1
+          subst (λ zs. list_all (may_pass p) (passed_behind (length p.asked) zs) ≡ true) (ap (λ m. take m ls) a.0 ∙ take-length ls) a.1
 
 -- a task with nothing on record has ended
 pub task-ended : (ls : List Meaning) (p : Past) (T : List ToldLine) (leaving : Res → Bool) (t : TaskId) (n c code : ℕ) (o : Option Asked) (ws : List Row) →

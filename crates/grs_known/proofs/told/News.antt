@@ -2,16 +2,16 @@
 use Rattle.std.proofs.Common.{◌≡◌, ℕ, true, false, List, [], ◌∷◌, ◌++◌, refl, ap, sym, ◌∙◌, subst, append-nil, append_assoc}
 use Rattle.std.specs.Prelude.{filter}
 use Rattle.std.specs.List.{list_all}
-use Rattle.std.proofs.lemmas.Bool.{and_parts}
+use Rattle.std.proofs.lemmas.Bool.{and_parts, and_from}
+use Rattle.std.proofs.lemmas.List.Elements.{filter-append}
 use Rattle.grs_base.specs.declared.resource.TaskId.{TaskId}
 use Rattle.grs_wire.specs.declared.deck.Deck.{Deck}
 use Rattle.grs_wire.specs.declared.history.HistEntry.{HistEntry}
 use Rattle.grs_wire.specs.declared.request.Req.{Req}
 use Rattle.grs_wire.specs.declared.told.ToldLine.{ToldLine}
 use Rattle.grs_wire.specs.declared.told.ToldLine.TheVariants.{Coded, Shown, Post, Ended, Desk}
-use Rattle.grs_known.proofs.lists.Facts.{filter-append, filter-cons_kept}
+use Rattle.grs_known.proofs.lists.Facts.{filter-cons_kept}
 use Rattle.grs_known.proofs.lists.Owners.{is_among}
-use Rattle.grs_known.proofs.lists.Truths.{and_on}
 use Rattle.grs_known.proofs.told.Behind.{line-behind}
 use Rattle.grs_known.proofs.system.Says.{askers, AgreesBehind, Clears, is_line_of, ToldBy, none, more}
 
@@ -43,7 +43,7 @@ lines-push deck P before (m ∷ ls) l all one = (all.0, lines-push deck P (befor
 
 pub all-append : (s : ℕ) (ls ms : List ToldLine) → list_all (is_line_of s) ls ≡ true → list_all (is_line_of s) ms ≡ true → list_all (is_line_of s) (ls ++ ms) ≡ true
 all-append s [] ms a b = b
-all-append s (l ∷ ls) ms a b = and_on (is_line_of s l) _ (and_parts _ _ a).0 (all-append s ls ms (and_parts _ _ a).1 b)
+all-append s (l ∷ ls) ms a b = and_from (is_line_of s l) _ (and_parts _ _ a).0 (all-append s ls ms (and_parts _ _ a).1 b)
 
 pub filter-ours : (s : ℕ) (ls : List ToldLine) → list_all (is_line_of s) ls ≡ true → filter (is_line_of s) ls ≡ ls
 filter-ours s [] a = refl
@@ -68,7 +68,7 @@ told-news {deck = deck} {s = s} {P = P} {T0 = T0} (more U l by_now ours agrees c
     record {
       lines = m.lines ++ l ∷ [];
       is = ap (λ z. z ++ l ∷ []) m.is ∙ append_assoc T0 m.lines (l ∷ []);
-      ours = all-append s m.lines (l ∷ []) m.ours (and_on (is_line_of s l) true ours refl);
+      ours = all-append s m.lines (l ∷ []) m.ours (and_from (is_line_of s l) true ours refl);
       agree = λ before e. lines-push deck P before m.lines l (m.agree before e)
           (line-behind deck s P U (before ++ m.lines) l ours
           (m.is ∙ (ap (λ z. z ++ m.lines) e ∙ (ap (λ z. filter (is_line_of s) before ++ z) (sym (filter-ours s m.lines m.ours)) ∙ sym (filter-append (is_line_of s) before m.lines)))) agrees);

@@ -4,20 +4,20 @@ use Rattle.std.proofs.lemmas.List.{at_drop_more}
 use Rattle.std.proofs.lemmas.Bool.{and_parts, ltb-true}
 use Rattle.std.proofs.lemmas.Bool.Decides.{nat_tests}
 use Rattle.std.specs.Prelude.{◌&&◌, not, nat_lt, slice_get}
+use Rattle.std.proofs.lemmas.Option.{slice_get_past, slice_get-get_or}
 use Rattle.grs_wire.specs.Masks.{has}
 use Rattle.grs_wire.specs.declared.deck.Deck.{Deck}
 use Rattle.grs_wire.specs.declared.deck.Event.{Event}
 use Rattle.grs_node.specs.Node.{Node, first_node}
 use Rattle.grs_world.specs.World.{World, chosen, placed, counted, happens_at, happens, run_from}
 use Rattle.grs_world.specs.Running.{is_live, node_at}
-use Rattle.grs_known.proofs.lists.Facts.{slice_get-none, slice_get-there}
 
 -- an event of a system that is there and wasn't removed
 pub happens-live : (deck : Deck) (w : World) (e : Event) → is_live w e.system ≡ true → happens deck w e ≡ placed w e.system (node_at deck w.nodes e.system) (chosen deck w.medium e.system (node_at deck w.nodes e.system) e.choice)
 unfolding happens happens_at placed
 happens-live deck w e h =
     let both = and_parts (nat_lt e.system.0 (length w.nodes)) (not (has w.medium.removed e.system.0)) h in
-    ap (λ o. happens_at deck w e o) (slice_get-there w.nodes e.system.0 (first_node deck e.system.0) (ltb-true _ _ both.0)) ∙ by_removed (has w.medium.removed e.system.0) both.1
+    ap (λ o. happens_at deck w e o) (slice_get-get_or w.nodes e.system.0 (first_node deck e.system.0) (ltb-true _ _ both.0)) ∙ by_removed (has w.medium.removed e.system.0) both.1
   where
     by_removed : (b : Bool) → not b ≡ true → cond b (counted w) (placed w e.system (node_at deck w.nodes e.system) (chosen deck w.medium e.system (node_at deck w.nodes e.system) e.choice)) ≡ placed w e.system (node_at deck w.nodes e.system) (chosen deck w.medium e.system (node_at deck w.nodes e.system) e.choice)
     by_removed true k = cc
@@ -33,9 +33,9 @@ happens-idle deck w e h = by_place (nat_lt e.system.0 (length w.nodes)) refl
     by_removed n false k = cc
 
     by_place : (b : Bool) → nat_lt e.system.0 (length w.nodes) ≡ b → happens_at deck w e (slice_get w.nodes e.system.0) ≡ counted w
-    by_place false past = ap (λ o. happens_at deck w e o) (slice_get-none w.nodes e.system.0 (grind (arith, nat_tests, past)))
+    by_place false past = ap (λ o. happens_at deck w e o) (slice_get_past w.nodes e.system.0 (grind (arith, nat_tests, past)))
     by_place true there =
-        ap (λ o. happens_at deck w e o) (slice_get-there w.nodes e.system.0 (first_node deck e.system.0) (ltb-true _ _ there))
+        ap (λ o. happens_at deck w e o) (slice_get-get_or w.nodes e.system.0 (first_node deck e.system.0) (ltb-true _ _ there))
         ∙ by_removed (node_at deck w.nodes e.system) (has w.medium.removed e.system.0) (ap (λ b. b && not (has w.medium.removed e.system.0)) (sym there) ∙ h)
 
 pub ruleset happening = (happens-live, happens-idle)

@@ -4,6 +4,7 @@ use Rattle.std.specs.Prelude.{filter, ◌==◌}
 use Rattle.std.specs.List.{list_any}
 use Rattle.std.proofs.lemmas.List.Folds.{list_any-append}
 use Rattle.std.proofs.Math.Nat.{mod-eq_of_lt, mod-add-mod}
+use Rattle.std.proofs.lemmas.Bool.{or_left, or_right}
 use native.Mathlib.Decide.{ℕ_discrete}
 use Rattle.grs_base.specs.declared.resource.SysId.{SysId}
 use Rattle.grs_wire.specs.declared.medium.RingEntry.{RingEntry}
@@ -16,7 +17,6 @@ use Rattle.rsa_message.specs.Message.{Message, is_at, first_after, or_else, is_u
 use Rattle.rsa_message.proofs.OrderLaws.{is_at-exact}
 use Rattle.grs_world.specs.Laps.{OnlyLeft, LastAtHome}
 use Rattle.grs_world.proofs.message.LapsRound.{Ahead, home, inside_round, after_some, first_found, first_inside}
-use Rattle.grs_known.proofs.lists.Truths.{or_first, or_second}
 use Rattle.grs_world.proofs.message.Stands.{has-others}
 
 -- Whoever has still to process an entry: the message comes to it before it has gone once round from the system that
@@ -160,11 +160,11 @@ Passes n test es = (u : ℕ) → u < n → any_unseen (record { 0 = u }) es ≡ 
 
 passes_head : (n : ℕ) (test : SysId → Bool) (e : RingEntry) (es : List RingEntry) → Passes n test (e ∷ es) → (u : ℕ) → u < n → has e.mask u ≡ true → test (record { 0 = u }) ≡ true
 unfolding any_unseen
-passes_head n test e es due u low here = due u low (or_first _ (list_any (is_unseen (record { 0 = u })) es) here)
+passes_head n test e es due u low here = due u low (or_left _ (list_any (is_unseen (record { 0 = u })) es) here)
 
 passes_tail : (n : ℕ) (test : SysId → Bool) (e : RingEntry) (es : List RingEntry) → Passes n test (e ∷ es) → Passes n test es
 unfolding any_unseen
-passes_tail n test e es due u low here = due u low (or_second (has e.mask u) _ here)
+passes_tail n test e es due u low here = due u low (or_right (has e.mask u) _ here)
 
 cleared_onward : (n : ℕ) (c h : SysId) (test : SysId → Bool) → or_else (first_after n c test) c ≡ h → (es : List RingEntry) → Passes n test (cleared c es)
     → AllAwaited n c es → AllAwaited n h (cleared c es)
@@ -195,11 +195,11 @@ joined n h (x ∷ xs) ys a b = (a.0, joined n h xs ys a.1 b)
 
 passes_front : (n : ℕ) (test : SysId → Bool) (xs ys : List RingEntry) → Passes n test (xs ++ ys) → Passes n test xs
 unfolding any_unseen
-passes_front n test xs ys due u low here = due u low (list_any-append (is_unseen (record { 0 = u })) xs ys ∙ or_first _ _ here)
+passes_front n test xs ys due u low here = due u low (list_any-append (is_unseen (record { 0 = u })) xs ys ∙ or_left _ _ here)
 
 passes_back : (n : ℕ) (test : SysId → Bool) (xs ys : List RingEntry) → Passes n test (xs ++ ys) → Passes n test ys
 unfolding any_unseen
-passes_back n test xs ys due u low here = due u low (list_any-append (is_unseen (record { 0 = u })) xs ys ∙ or_second (list_any (is_unseen (record { 0 = u })) xs) _ here)
+passes_back n test xs ys due u low here = due u low (list_any-append (is_unseen (record { 0 = u })) xs ys ∙ or_right (list_any (is_unseen (record { 0 = u })) xs) _ here)
 
 -- ---- a Turn
 due_all : (n live rest : ℕ) (es : List RingEntry) → live ≡ others n 0 → Passes n (is_due es live rest) es

@@ -2,7 +2,7 @@
 use Rattle.std.proofs.Common.{ℕ, zero, suc, ◌≡◌, ◌≢◌, ◌+◌, ◌-◌, ◌<◌, ◌≤◌, Bool, true, false, cond, not, eqb, leb, ◌&&◌, List, [], ◌∷◌, ◌++◌, length, drop, map, Option, Some, None, ap, sym, ◌∙◌, refl, subst, arith, eqb-true, leb-true, leb-false, le-leb}
 use Rattle.std.specs.Prelude.{filter, ◌==◌}
 use Rattle.std.proofs.Math.Seq.{drop-nil}
-use Rattle.std.proofs.lemmas.Bool.{eqb-false, lt-leb}
+use Rattle.std.proofs.lemmas.Bool.{eqb-false, lt-leb, and_right}
 use Rattle.grs_base.specs.declared.resource.SysId.{SysId}
 use Rattle.grs_wire.specs.Masks.{has, without, with_also, only, others}
 use Rattle.grs_wire.specs.declared.medium.RingBody.{RingBody}
@@ -14,7 +14,6 @@ use Rattle.grs_wire.specs.declared.request.Req.{Req}
 use Rattle.grs_wire.proofs.MaskLaws.{has-without_same, has-without_other, has-zero, has-with_same, has-with_other}
 use Rattle.grs_wire.proofs.WantLaws.{by_test}
 use Rattle.rsa_message.specs.Message.{cleared, left_by, stamped, unseen, first_number}
-use Rattle.grs_known.proofs.lists.Truths.{and_off}
 
 -- what was fixed, as an entry of the message
 abbrev pub body_of : Fixed → Option RingBody
@@ -130,7 +129,7 @@ waits_new live seen n within j s l = go (has live s) refl
     go false e = refl
 
 pub waits_seen : (live : ℕ) (seen : ℕ → ℕ) (j s : ℕ) → j < seen s → waits_for live seen j s ≡ false
-waits_seen live seen j s h = and_off (has live s) (leb (seen s) j) (lt-leb (seen s) j h)
+waits_seen live seen j s h = and_right (has live s) (leb (seen s) j) (lt-leb (seen s) j h)
 
 pub waits_live : (live : ℕ) (seen : ℕ → ℕ) (s : ℕ) → has live s ≡ true → (j : ℕ) → waits_for live seen j s ≡ leb (seen s) j
 waits_live live seen s h j = rw h refl

@@ -2,6 +2,8 @@
 use Rattle.std.proofs.Common.{◌≡◌, Bool, true, false, cond, ◌||◌, ℕ, suc, List, [], ◌∷◌, ◌++◌, map, take, drop, refl, ap, sym, ◌∙◌, subst, append-nil, append_assoc}
 use Rattle.std.specs.Prelude.{filter, not, ◌==◌}
 use Rattle.std.specs.List.{list_all, list_any}
+use Rattle.std.proofs.lemmas.List.{take-append-drop}
+use Rattle.std.proofs.lemmas.Bool.{or_parts}
 use native.Mathlib.Decide.{ℕ_discrete}
 use Rattle.grs_base.specs.Same.{same_task}
 use Rattle.grs_base.specs.declared.resource.SysId.{SysId}
@@ -19,11 +21,11 @@ use Rattle.grs_wire.proofs.MaskLaws.{has-without_same, has-without_other}
 use Rattle.rsa_message.specs.Message.{left_by, cleared, stamped}
 use Rattle.grs_world.specs.Laps.{OnlyLeft, LeftHome, answers}
 use Rattle.grs_known.proofs.system.Askers.{among-front}
-use Rattle.grs_known.proofs.lists.Facts.{all-more, list_any-push, take-drop}
+use Rattle.grs_known.proofs.lists.Facts.{all-more, list_any-push}
 use Rattle.grs_known.proofs.lists.Owners.{is_among}
 use Rattle.grs_known.proofs.system.Says.{ToldBy, Clears, askers, is_line_of}
 use Rattle.grs_known.proofs.system.Says as says
-use Rattle.grs_known.proofs.lists.Truths.{no_truth, or_other, or_false}
+use Rattle.grs_known.proofs.lists.Truths.{no_truth, or_other}
 
 -- ---- the lines told
 -- On the way from T0 to T a system told these lines, and who is told an answer has none of these requests.
@@ -101,7 +103,7 @@ left_stamped : (t : TaskId) (c : SysId) (number mask : ℕ) (qs : List Req) → 
 unfolding stamped
 left_stamped t c number mask [] none = tt
 left_stamped t c number mask (q ∷ qs) none =
-    let parts = or_false (same_task t q.task) (is_among t (askers qs)) none in
+    let parts = or_parts (same_task t q.task) (is_among t (askers qs)) none in
     (λ p body same. no_truth (same_task t q.task) (is_same p body same) parts.0, left_stamped t c (suc number) mask qs parts.1)
   where
     is_same : (p : Req) → Request q ≡ Request p → p.task ≡ t → same_task t q.task ≡ true
@@ -110,6 +112,6 @@ left_stamped t c number mask (q ∷ qs) none =
 -- So it is behind a Turn of a system whose requests that wait to be put in are of other tasks.
 pub left_turned : (t : TaskId) (c : SysId) (number mask k : ℕ) (outbox : List Req) (es : List RingEntry) → LeftHome t es → is_among t (askers outbox) ≡ false → LeftHome t (cleared c es ++ stamped number c mask (take k outbox))
 left_turned t c number mask k outbox es left none =
-    let some : is_among t (askers (take k outbox)) ≡ false = among-front t (take k outbox) (drop k outbox) (subst (λ qs. is_among t (askers qs) ≡ false) (sym (take-drop k outbox)) none) in
+    let some : is_among t (askers (take k outbox)) ≡ false = among-front t (take k outbox) (drop k outbox) (subst (λ qs. is_among t (askers qs) ≡ false) (sym (take-append-drop k outbox)) none) in
     left_home t (cleared c es ++ stamped number c mask (take k outbox))
     (left_append t (cleared c es) (stamped number c mask (take k outbox)) (left_cleared t c es (each_left t es left)) (left_stamped t c number mask (take k outbox) some))

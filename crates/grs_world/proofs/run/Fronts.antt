@@ -1,6 +1,7 @@
 -- Each system's table is that of a front of the history, as it is counted by what was fixed.
 use Rattle.std.proofs.Common.{◌≡◌, ◌-◌, cond, Bool, true, false, ℕ, zero, suc, List, [], ◌∷◌, ◌++◌, length, take, Option, Some, None, refl, ap, sym, ◌∙◌, subst, arith, append-nil, ne_eqb}
 use Rattle.std.specs.Prelude.{slice_get, unwrap_or, ◌==◌}
+use Rattle.std.proofs.Math.Seq.{take-append_seam, take-length}
 use Rattle.grs_base.specs.State.{State}
 use Rattle.grs_base.specs.declared.resource.SysId.{SysId}
 use Rattle.grs_node.specs.Node.{Node}
@@ -16,7 +17,6 @@ use Rattle.grs_known.specs.Change.{systems_part}
 use Rattle.grs_known.proofs.known.Histories.{items-append, count-front}
 use Rattle.grs_known.proofs.known.ItemLaws.{items_are_history, lists_are_replayed}
 use Rattle.grs_known.proofs.known.Reading.{table-is}
-use Rattle.grs_known.proofs.lists.Facts.{take-seam, take-whole}
 use Rattle.grs_world.specs.Tables.{before_number, processed, TablesAreFronts}
 use Rattle.grs_world.specs.World.{World, run}
 use Rattle.grs_world.proofs.message.Stands.{Bodies, waits_live, first_number-seen}
@@ -81,11 +81,11 @@ module _ (deck : Deck) (es : List Event) where
       let given = given-later w.medium s g.before (g.later s.0) (items w.fixed) (g.whole s.0) (g.systems s.0 n at).0 g.message in
       let none : g.later s.0 ≡ [] = none_due (g.later s.0) (unseen s w.medium.message.entries) f given in
       let all : rounds (items w.fixed) ≡ g.before s.0 = g.whole s.0 ∙ ap (λ zs. g.before s.0 ++ zs) none ∙ append-nil (g.before s.0) in
-      record { count = length (rounds (items w.fixed)); is = g.message.next ∙ ap suc (length-fixeds (rounds (items w.fixed))); front = sym all ∙ sym (take-whole (rounds (items w.fixed))) }
+      record { count = length (rounds (items w.fixed)); is = g.message.next ∙ ap suc (length-fixeds (rounds (items w.fixed))); front = sym all ∙ sym (take-length (rounds (items w.fixed))) }
   stops s n g at (Some number) f = record {
     count = seen_at g.before s.0;
     is = first_number-seen s (seen_at g.before s.0) (waits_live (live w.medium) (seen_at g.before) s.0 (g.systems s.0 n at).0) (omega arith) g.message.stands number f;
-    front = sym (take-seam (g.before s.0) (g.later s.0)) ∙ ap (take (seen_at g.before s.0)) (sym (g.whole s.0));
+    front = sym (take-append_seam (g.before s.0) (g.later s.0)) ∙ ap (take (seen_at g.before s.0)) (sym (g.whole s.0));
   }
 
   table_is : (s : SysId) (n : Node) (g : GoodWorld deck es w) → slice_get w.nodes s.0 ≡ Some n → n.shared ≡ systems_part (replay deck.limit (answered (processed w s)))

@@ -1,7 +1,9 @@
 -- What an event of a system fixes, behind the items of the run: the history goes on, and the other systems stand as they did.
 use Rattle.std.proofs.Common.{◌≡◌, ◌≢◌, cond, Bool, true, false, ℕ, List, [], ◌∷◌, ◌++◌, map, refl, ap, sym, ◌∙◌, subst, append-nil, append_assoc}
 use Rattle.std.specs.Prelude.{◌==◌}
-use Rattle.std.proofs.lemmas.Bool.{eqb-true, eqb-false}
+use Rattle.std.proofs.lemmas.Bool.{eqb-true, eqb-false, or_parts}
+use Rattle.std.proofs.lemmas.List.Elements.{filter-append}
+use Rattle.std.proofs.lemmas.List.{map-append}
 use Rattle.grs_base.specs.Same.{same_task}
 use Rattle.grs_base.specs.declared.resource.SysId.{SysId}
 use Rattle.grs_base.specs.declared.resource.TaskId.{TaskId}
@@ -13,9 +15,9 @@ use Rattle.grs_wire.specs.declared.request.Fixed.TheVariants.{Asked}
 use Rattle.grs_wire.specs.declared.request.Req.{Req}
 use Rattle.grs_known.specs.Items.{RunItem, is_of, goes_round, rounds, mine, items}
 use Rattle.grs_known.proofs.known.Histories.{IsAsk, AllAsk, IsHistory, MayFollow, made_item, follows, items-append}
-use Rattle.grs_known.proofs.lists.Facts.{filter-append, filter-cons_left, map-append}
+use Rattle.grs_known.proofs.lists.Facts.{filter-cons_left}
 use Rattle.grs_known.proofs.lists.Owners.{is_among}
-use Rattle.grs_known.proofs.lists.Truths.{false_by, or_false}
+use Rattle.grs_known.proofs.lists.Truths.{false_by}
 use Rattle.grs_world.specs.World.{fixed_by}
 use Rattle.grs_world.proofs.system.AtNode.{Seen, seen-other}
 use Rattle.grs_known.proofs.system.Says.{askers, own_asked, own_requests}
@@ -96,5 +98,5 @@ idle-asks deck s t home (x ∷ xs) a e = go a.0 (idle-asks deck s t home xs a.1)
         apart f = ap (is_of t) i.asked ∙ f
 
         by_own : (b : Bool) → (i.req.task.system.0 == s) ≡ b → is_among t (askers (cond b (i.req ∷ []) [] ++ own_requests s xs)) ≡ false → mine t (x ∷ xs) ≡ []
-        by_own true f d = let parts = or_false (same_task t i.req.task) (is_among t (askers (own_requests s xs))) d in filter-cons_left (λ z. is_of t z.fixed) x xs (apart parts.0) ∙ ih parts.1
+        by_own true f d = let parts = or_parts (same_task t i.req.task) (is_among t (askers (own_requests s xs))) d in filter-cons_left (λ z. is_of t z.fixed) x xs (apart parts.0) ∙ ih parts.1
         by_own false f d = filter-cons_left (λ z. is_of t z.fixed) x xs (apart (false_by (same_task t i.req.task) (λ k. absurd (eqb-false i.req.task.system.0 s f (ap (λ (z : TaskId). z.system.0) (sym (same_task-exact t i.req.task k)) ∙ home))))) ∙ ih d

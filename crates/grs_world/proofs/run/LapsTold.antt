@@ -3,7 +3,9 @@
 use Rattle.std.proofs.Common.{◌≡◌, ◌+◌, cond, Bool, true, false, ◌||◌, ℕ, List, [], ◌∷◌, ◌++◌, length, take, drop, Some, refl, ap, sym, ◌∙◌, subst, append-nil}
 use Rattle.std.specs.Prelude.{slice_get, ◌==◌}
 use Rattle.std.specs.List.{list_all, list_any}
-use Rattle.std.proofs.lemmas.Bool.{and_parts, eqb-true, eq-eqb}
+use Rattle.std.proofs.lemmas.Bool.{and_parts, eqb-true, eq-eqb, or_left, or_right}
+use Rattle.std.proofs.Math.Seq.{drop-append_seam}
+use Rattle.std.proofs.lemmas.List.Elements.{filter-append}
 use Rattle.grs_base.specs.Same.{same_task}
 use Rattle.grs_base.specs.declared.resource.SysId.{SysId}
 use Rattle.grs_base.specs.declared.resource.TaskId.{TaskId}
@@ -25,9 +27,9 @@ use Rattle.grs_medium.specs.Medium.{live}
 use Rattle.rsa_message.specs.Message.{Message, is_at, is_unseen, unseen}
 use Rattle.rsa_message.proofs.OrderLaws.{is_at-exact}
 use Rattle.grs_known.specs.Items.{RunItem, items}
-use Rattle.grs_known.proofs.lists.Facts.{drop-seam, filter-append, filter-cons_kept}
+use Rattle.grs_known.proofs.lists.Facts.{filter-cons_kept}
 use Rattle.grs_known.proofs.lists.Owners.{is_among}
-use Rattle.grs_known.proofs.lists.Truths.{no_truth, or_first, or_second, or_other}
+use Rattle.grs_known.proofs.lists.Truths.{no_truth, or_other}
 use Rattle.grs_world.specs.Laps.{LeftHome, answers, AnsweredLast}
 use Rattle.grs_world.specs.World.{World, Turnout, told_by, placed, happens, run, told, first_world}
 use Rattle.grs_world.proofs.message.LapsMessage.{EndsAtHome, AllEndAtHome, left_at_home}
@@ -67,7 +69,7 @@ among_bodies s (x ∷ xs) [] behind e q (stands.more is b) body home = at x.fixe
     at (Asked p) k =
         let same : p ≡ q = cc in
         subst (λ (z : Req). is_among q.task (askers (own_asked s (Asked z) ++ own_requests s xs)) ≡ true) (sym same)
-        (ap (λ c. is_among q.task (askers (cond c (q ∷ []) [] ++ own_requests s xs))) (eq-eqb q.task.system.0 s home) ∙ or_first (same_task q.task q.task) (is_among q.task (askers (own_requests s xs))) (same_task-itself q.task))
+        (ap (λ c. is_among q.task (askers (cond c (q ∷ []) [] ++ own_requests s xs))) (eq-eqb q.task.system.0 s home) ∙ or_left (same_task q.task q.task) (is_among q.task (askers (own_requests s xs))) (same_task-itself q.task))
     at (LocalLook t g) k = absurd (cc)
     at (Purged target) k = absurd (cc)
 among_bodies s (x ∷ xs) (y ∷ before) behind e q (stands.more is b) body home =
@@ -75,7 +77,7 @@ among_bodies s (x ∷ xs) (y ∷ before) behind e q (stands.more is b) body home
   where
     later : (ts : List TaskId) → is_among q.task (askers (own_requests s xs)) ≡ true → is_among q.task (ts ++ askers (own_requests s xs)) ≡ true
     later [] h = h
-    later (t ∷ ts) h = or_second (same_task q.task t) _ (later ts h)
+    later (t ∷ ts) h = or_right (same_task q.task t) _ (later ts h)
 
 -- ---- the lines told
 answers_told : (t : TaskId) (k : ℕ) (c : SysId) (ls : List ToldLine) → list_any (λ x. answers t x.line) (told_by k c ls) ≡ list_any (answers t) ls
@@ -159,8 +161,8 @@ module _ (deck : Deck) (ring : deck.star ≡ false) (es : List Event) (e : Event
     -- What was told in the event are these lines.
     told_now : (k : Node) (ls : List ToldLine) → k.tasks.told ≡ n.tasks.told ++ ls → (t : TaskId) → list_any (λ x. answers t x.line) (drop (length w.told) (w.told ++ told_by (w.events + 1) e.system (drop (length n.tasks.told) k.tasks.told))) ≡ true → list_any (answers t) ls ≡ true
     told_now k ls is t a =
-        let new : drop (length n.tasks.told) k.tasks.told ≡ ls = ap (drop (length n.tasks.told)) is ∙ drop-seam n.tasks.told ls in
-        let all : drop (length w.told) (w.told ++ told_by (w.events + 1) e.system (drop (length n.tasks.told) k.tasks.told)) ≡ told_by (w.events + 1) e.system ls = drop-seam w.told _ ∙ ap (told_by (w.events + 1) e.system) new in
+        let new : drop (length n.tasks.told) k.tasks.told ≡ ls = ap (drop (length n.tasks.told)) is ∙ drop-append_seam n.tasks.told ls in
+        let all : drop (length w.told) (w.told ++ told_by (w.events + 1) e.system (drop (length n.tasks.told) k.tasks.told)) ≡ told_by (w.events + 1) e.system ls = drop-append_seam w.told _ ∙ ap (told_by (w.events + 1) e.system) new in
         sym (answers_told t (w.events + 1) e.system ls) ∙ (sym (ap (list_any (λ x. answers t x.line)) all) ∙ a)
 
     by_step : {H : List HistEntry} (step : Step) → ToldBy deck e.system.0 (own_requests e.system.0 (g.later e.system.0) ++ step.node.outbox) H n.tasks.told step.node.tasks.told → Right (placed w e.system n (record { medium = w.medium; step = step }))
@@ -193,7 +195,7 @@ answered_last deck ring es e t a =
     let g = good_run deck ring es in
     let w = run deck es in
     let all : Right deck ring es e (happens deck w e) = each_event deck w e (Right deck ring es e) g.message.no_turn (all_ring deck ring es)
-    (λ u none. nobody u (sym (ap (list_any (λ x. answers u x.line)) (ap (drop (length w.told)) (sym (append-nil w.told)) ∙ drop-seam w.told [])) ∙ none))
+    (λ u none. nobody u (sym (ap (list_any (λ x. answers u x.line)) (ap (drop (length w.told)) (sym (append-nil w.told)) ∙ drop-append_seam w.told [])) ∙ none))
     (λ n o at c. right deck ring es e g n at o c) in
     subst (Right deck ring es e) (sym (run-push deck es (first_world deck) e)) all t a
   where

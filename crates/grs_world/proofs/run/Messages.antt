@@ -1,6 +1,8 @@
 -- What a call leaves of what the message has to hold.
 use Rattle.std.proofs.Common.{◌≡◌, ◌≢◌, ◌≤◌, ◌<◌, ◌+◌, ◌-◌, cond, Bool, true, false, eqb, leb, ◌&&◌, ℕ, suc, List, [], ◌∷◌, ◌++◌, length, map, drop, refl, ap, sym, ◌∙◌, subst, arith, append-nil, length-append}
 use Rattle.std.proofs.lemmas.Bool.{eqb-true}
+use Rattle.std.proofs.Math.Seq.{drop-append_seam}
+use Rattle.std.proofs.lemmas.List.{map-append}
 use Rattle.grs_base.specs.declared.resource.SysId.{SysId}
 use Rattle.grs_medium.specs.Medium.{MediumState, live}
 use Rattle.grs_wire.specs.Masks.{has}
@@ -13,7 +15,6 @@ use Rattle.grs_world.proofs.run.Runs.{GoodMessage, seen_at, message_log, updated
 use Rattle.grs_world.proofs.message.Stands.{Stands, none, gone, kept, Bodies, Stands-cleared, Stands-append, Stands-stamped, unseen-drop, waits_for, waits_new, waits_seen, waits_live}
 use Rattle.grs_world.proofs.run.Growing.{fixeds}
 use Rattle.grs_known.specs.Items.{RunItem, rounds}
-use Rattle.grs_known.proofs.lists.Facts.{drop-seam, map-append}
 
 Stands-same : (U V : ℕ → ℕ → Bool) → ((j s : ℕ) → U j s ≡ V j s) → {k : ℕ} {qs : List Fixed} {es : List RingEntry} → Stands U k qs es → Stands V k qs es
 Stands-same U V same none = none
@@ -37,7 +38,7 @@ pub given-later : (m : MediumState) (c : SysId) (before : ℕ → List RunItem) 
 given-later m c before later T whole alive g =
     let z : seen_at before c.0 - 0 ≡ seen_at before c.0 = omega arith in
     let parts : drop (seen_at before c.0 - 0) (message_log T) ≡ fixeds later =
-    ap (λ k. drop k (message_log T)) z ∙ (ap (drop (seen_at before c.0)) (log-parts (before c.0) later T whole) ∙ (ap (λ k. drop k (fixeds (before c.0) ++ fixeds later)) (sym (length-fixeds (before c.0))) ∙ drop-seam (fixeds (before c.0)) (fixeds later))) in
+    ap (λ k. drop k (message_log T)) z ∙ (ap (drop (seen_at before c.0)) (log-parts (before c.0) later T whole) ∙ (ap (λ k. drop k (fixeds (before c.0) ++ fixeds later)) (sym (length-fixeds (before c.0))) ∙ drop-append_seam (fixeds (before c.0)) (fixeds later))) in
     subst (λ qs. Bodies qs (unseen c m.message.entries)) parts (unseen-drop c (seen_at before c.0) (waits_live (live m) (seen_at before) c.0 alive) g.stands)
 
 -- Nothing happens to the message.

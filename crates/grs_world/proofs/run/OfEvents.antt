@@ -2,7 +2,7 @@
 use Rattle.std.proofs.Common.{◌≡◌, ◌+◌, ◌-◌, cond, Bool, true, false, ℕ, List, [], ◌∷◌, ◌++◌, length, Option, Some, None, refl, ap, sym, ◌∙◌, subst, arith, append-nil, append_assoc, length-append}
 use Rattle.std.specs.Prelude.{slice_get, nat_lt}
 use Rattle.std.specs.List.{list_all}
-use Rattle.std.proofs.lemmas.Bool.{and_parts, eq-eqb, lt-ltb}
+use Rattle.std.proofs.lemmas.Bool.{and_parts, eq-eqb, lt-ltb, and_from}
 use Rattle.std.proofs.lemmas.List.Folds.{list_all-append}
 use Rattle.grs_node.specs.Node.{Node}
 use Rattle.grs_wire.specs.Masks.{has}
@@ -14,13 +14,12 @@ use Rattle.grs_world.specs.Agree.{is_event_of, is_of_event}
 use Rattle.grs_world.specs.World.{World, Turnout, told_by, told_in, chosen, counted, placed, happens_at, happens, run, first_world}
 use Rattle.grs_known.proofs.lists.Facts.{all-kept, slice_get-append, slice_get-end}
 use Rattle.grs_world.proofs.run.Runs.{run-push}
-use Rattle.grs_known.proofs.lists.Truths.{and_on}
 
 -- A line of an event is one of it behind further events too.
 of-longer : (es : List Event) (e : Event) (x : Told) → is_of_event es x ≡ true → is_of_event (es ++ e ∷ []) x ≡ true
 of-longer es e x h =
     let parts = and_parts (nat_lt 0 x.event) (is_event_of x.system (slice_get es (x.event - 1))) h in
-    and_on (nat_lt 0 x.event) (is_event_of x.system (slice_get (es ++ e ∷ []) (x.event - 1))) parts.0 (go (slice_get es (x.event - 1)) refl parts.1)
+    and_from (nat_lt 0 x.event) (is_event_of x.system (slice_get (es ++ e ∷ []) (x.event - 1))) parts.0 (go (slice_get es (x.event - 1)) refl parts.1)
   where
     go : (o : Option Event) → slice_get es (x.event - 1) ≡ o → is_event_of x.system o ≡ true → is_event_of x.system (slice_get (es ++ e ∷ []) (x.event - 1)) ≡ true
     go None at f = absurd cc
@@ -32,7 +31,7 @@ of-last es e k [] count = refl
 of-last es e k (l ∷ ls) count =
     let place : k + 1 - 1 ≡ length es = omega (arith, count) in
     let at : slice_get (es ++ e ∷ []) (k + 1 - 1) ≡ Some e = ap (slice_get (es ++ e ∷ [])) place ∙ slice_get-end es e [] in
-    and_on _ _ (and_on (nat_lt 0 (k + 1)) _ (lt-ltb 0 (k + 1) (omega arith)) (subst (λ o. is_event_of e.system o ≡ true) (sym at) (eq-eqb e.system.0 e.system.0 refl))) (of-last es e k ls count)
+    and_from _ _ (and_from (nat_lt 0 (k + 1)) _ (lt-ltb 0 (k + 1) (omega arith)) (subst (λ o. is_event_of e.system o ≡ true) (sym at) (eq-eqb e.system.0 e.system.0 refl))) (of-last es e k ls count)
 
 -- What holds of a run.
 record OfEvents (es : List Event) (w : World) : Type 0 where
@@ -57,7 +56,7 @@ module _ (deck : Deck) where
       went_on n o = record {
         count = one_more;
         told = list_all-append (is_of_event (es ++ e ∷ [])) w.told (told_by (w.events + 1) e.system (told_in n o.step))
-            ∙ and_on _ _ older (of-last es e w.events (told_in n o.step) g.count);
+            ∙ and_from _ _ older (of-last es e w.events (told_in n o.step) g.count);
       }
 
       by_removed : (n : Node) (removed : Bool) → OfEvents (es ++ e ∷ []) (cond removed (counted w) (placed w e.system n (chosen deck w.medium e.system n e.choice)))

@@ -1,6 +1,7 @@
 -- Requests of a system's outbox are put into the message.
 use Rattle.std.proofs.Common.{◌≡◌, cond, false, List, [], ◌∷◌, ◌++◌, map, refl, ap, sym, ◌∙◌, subst, append-nil, append_assoc}
 use Rattle.std.proofs.lemmas.Bool.{eq-eqb}
+use Rattle.std.proofs.lemmas.List.{map-append}
 use Rattle.grs_base.specs.declared.resource.SysId.{SysId}
 use Rattle.grs_node.specs.Node.{Node}
 use Rattle.grs_wire.specs.declared.deck.Deck.{Deck}
@@ -8,7 +9,7 @@ use Rattle.grs_wire.specs.declared.request.Fixed.TheVariants.{Asked}
 use Rattle.grs_wire.specs.declared.request.Req.{Req}
 use Rattle.grs_known.specs.Items.{RunItem, goes_round, rounds, mine}
 use Rattle.grs_known.proofs.known.Histories.{IsHistory, made_item, asks-behind, AllAsk}
-use Rattle.grs_known.proofs.lists.Facts.{filter-cons_kept, map-append}
+use Rattle.grs_known.proofs.lists.Facts.{filter-cons_kept}
 use Rattle.grs_known.proofs.lists.Owners.{is_among}
 use Rattle.grs_world.proofs.run.Growing.{fixeds, Grows, same, more, grows-history, grows-rounds, own_requests-append, asks-rounds, idle-asks}
 use Rattle.grs_known.proofs.system.Askers.{apart-before, askers-append}

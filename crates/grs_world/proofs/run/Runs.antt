@@ -3,6 +3,10 @@ use Rattle.std.proofs.Common.{◌≡◌, ◌≢◌, ◌≤◌, ◌+◌, ◌-◌,
 use Rattle.std.specs.Prelude.{filter, slice_get, set, ◌==◌}
 use Rattle.std.specs.List.{list_all}
 use Rattle.std.proofs.lemmas.Bool.{and_parts, eqb-true, eq-eqb, eqb-false}
+use Rattle.std.proofs.Math.Seq.{drop-append_seam, take-length}
+use Rattle.std.proofs.lemmas.List.Elements.{filter-append}
+use Rattle.std.proofs.lemmas.Option.{same_Some}
+use Rattle.std.proofs.lemmas.List.{take-append-le, map-append}
 use Rattle.grs_base.specs.declared.resource.SysId.{SysId}
 use Rattle.grs_base.specs.declared.resource.TaskId.{TaskId}
 use Rattle.grs_medium.specs.Medium.{MediumState, live}
@@ -18,7 +22,7 @@ use Rattle.grs_wire.specs.declared.told.ToldLine.TheVariants as lines
 use Rattle.grs_known.specs.Items.{RunItem, rounds, history, items}
 use Rattle.grs_known.proofs.known.Histories.{IsHistory}
 use Rattle.grs_known.proofs.known.ItemLaws.{items_are_history}
-use Rattle.grs_known.proofs.lists.Facts.{drop-seam, filter-append, slice_get-set, slice_get-set_other, some_value, take-front, take-whole, map-append}
+use Rattle.grs_known.proofs.lists.Facts.{slice_get-set, slice_get-set_other}
 use Rattle.grs_known.proofs.lists.Truths.{false_by}
 use Rattle.grs_world.specs.Agree.{Agrees, AgreesBy, AllAgree, Moment, moment, lines_of_told}
 use Rattle.grs_world.specs.World.{World, Turnout, placed, counted, fixed_by, told_by, happens, run_from, run, hist, first_world}
@@ -68,8 +72,8 @@ pub agree-longer : (deck : Deck) (es : List Event) (e : Event) (before xs : List
 agree-longer deck es e before [] n a = tt
 agree-longer deck es e before (x ∷ xs) n a =
     let same : moment deck (es ++ e ∷ []) x.event before ≡ moment deck es x.event before =
-    ap (λ us. between deck us (take (x.event - 1) (es ++ e ∷ [])) before) (take-front x.event es (e ∷ []) n.0)
-    ∙ ap (λ us. between deck (take x.event es) us before) (take-front (x.event - 1) es (e ∷ []) (omega (arith, n.0))) in
+    ap (λ us. between deck us (take (x.event - 1) (es ++ e ∷ [])) before) (take-append-le x.event es (e ∷ []) n.0)
+    ∙ ap (λ us. between deck (take x.event es) us before) (take-append-le (x.event - 1) es (e ∷ []) (omega (arith, n.0))) in
     (subst (λ m. Agrees deck m x) (sym same) a.0, agree-longer deck es e (before ++ x ∷ []) xs n.1 a.1)
 
 of_system : (c : SysId) (t : TaskId) → (t.system.0 == c.0) ≡ true → c ≡ t.system
@@ -88,7 +92,7 @@ agree-new : (deck : Deck) (es : List Event) (n : ℕ) (c : SysId) (before : List
 agree-new deck es n c before [] e ours a = tt
 agree-new deck es n c before (l ∷ ls) e ours a =
     let x : Told = record { event = n; system = c; line = l } in (
-      told-agrees deck (moment deck es n before) n c l (and_parts _ _ ours).0 (subst (λ us. AgreesBehind deck (hist deck us) (lines_of_told before) l) (sym (ap (λ m. take m es) e ∙ take-whole es)) a.0),
+      told-agrees deck (moment deck es n before) n c l (and_parts _ _ ours).0 (subst (λ us. AgreesBehind deck (hist deck us) (lines_of_told before) l) (sym (ap (λ m. take m es) e ∙ take-length es)) a.0),
       agree-new deck es n c (before ++ x ∷ []) ls e (and_parts _ _ ours).1 (subst (λ T. LinesAgree deck (hist deck es) T ls) (sym (lines_of_told-append before (x ∷ []))) a.1),
     )
 
@@ -132,7 +136,7 @@ pub by_node : (ns : List Node) (s : ℕ) (n m : Node) → slice_get ns s ≡ Som
 by_node ns s n m at P here there u k e = go (eqb u s) refl
   where
     go : (b : Bool) → eqb u s ≡ b → P u k
-    go true f = subst (λ i. P i k) (sym (eqb-true u s f)) (subst (P s) (some_value m k (sym (slice_get-set ns s n m at) ∙ subst (λ i. slice_get (set ns s m) i ≡ Some k) (eqb-true u s f) e)) here)
+    go true f = subst (λ i. P i k) (sym (eqb-true u s f)) (subst (P s) (same_Some m k (sym (slice_get-set ns s n m at) ∙ subst (λ i. slice_get (set ns s m) i ≡ Some k) (eqb-true u s f) e)) here)
     go false f = let ne : u ≢ s = eqb-false u s f in there u k ne (sym (slice_get-set_other ns s u m ne) ∙ e)
 
 -- ---- the parts
@@ -194,7 +198,7 @@ told-after deck es e n at g o T items_now news is =
     let w : World = run deck es in
     let s : ℕ = e.system.0 in
     let after : List ToldLine = o.step.node.tasks.told in
-    let lines_are : drop (length n.tasks.told) after ≡ news.lines = ap (drop (length n.tasks.told)) news.is ∙ drop-seam n.tasks.told news.lines in
+    let lines_are : drop (length n.tasks.told) after ≡ news.lines = ap (drop (length n.tasks.told)) news.is ∙ drop-append_seam n.tasks.told news.lines in
     let told_is : w.told ++ told_by (w.events + 1) e.system (drop (length n.tasks.told) after) ≡ w.told ++ told_by (w.events + 1) e.system news.lines = ap (λ ls. w.told ++ told_by (w.events + 1) e.system ls) lines_are in
     let all_lines : lines_of_told (w.told ++ told_by (w.events + 1) e.system (drop (length n.tasks.told) after)) ≡ lines_of_told w.told ++ news.lines =
     ap lines_of_told told_is ∙ (lines_of_told-append w.told (told_by (w.events + 1) e.system news.lines) ∙ ap (λ z. lines_of_told w.told ++ z) (lines-told_by (w.events + 1) e.system news.lines)) in
@@ -249,7 +253,7 @@ module _ (deck : Deck) (es : List Event) (e : Event) (g : GoodWorld deck es (run
 
     systems-now : live m ≡ live (run deck es).medium → (u : ℕ) (k : Node) → slice_get (set (run deck es).nodes e.system.0 st.node) u ≡ Some k → (has (live m) u ≡ true) × Seen deck u o.items (before_now u) (later_now u) (own_requests u (later_now u)) k
     systems-now alive = by_system g.before (λ u. g.later u ++ o.new) s before' later' (λ u b l. (k : Node) → slice_get (set w.nodes s st.node) u ≡ Some k → (has (live m) u ≡ true) × Seen deck u o.items b l (own_requests u l) k)
-        (λ k f. (subst (λ l. has l s ≡ true) (sym alive) (g.systems s n at).0, subst (λ (z : Node). Seen deck s o.items before' later' (own_requests s later') z) (some_value st.node k (sym (slice_get-set w.nodes s n st.node at) ∙ f)) o.seen))
+        (λ k f. (subst (λ l. has l s ≡ true) (sym alive) (g.systems s n at).0, subst (λ (z : Node). Seen deck s o.items before' later' (own_requests s later') z) (same_Some st.node k (sym (slice_get-set w.nodes s n st.node at) ∙ f)) o.seen))
         (λ u ne k f.
         let was = g.systems u k (sym (slice_get-set_other w.nodes s u st.node ne) ∙ f) in
         let requests : own_requests u (g.later u) ≡ own_requests u (g.later u ++ o.new) = sym (own_requests-append u (g.later u) o.new ∙ ap (λ zs. own_requests u (g.later u) ++ zs) (grows-requests u ne o.grows) ∙ append-nil (own_requests u (g.later u))) in

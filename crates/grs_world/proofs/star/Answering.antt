@@ -3,7 +3,8 @@
 use Rattle.std.proofs.Common.{◌≡◌, ◌-◌, ℕ, suc, Bool, true, false, cond, not, ◌||◌, List, [], ◌∷◌, ◌++◌, Option, Some, None, refl, ap, sym, ◌∙◌, subst, arith, append-nil}
 use Rattle.std.specs.Prelude.{filter, is_some}
 use Rattle.std.specs.List.{list_all, list_any}
-use Rattle.std.proofs.lemmas.Bool.{and_parts}
+use Rattle.std.proofs.lemmas.Bool.{and_parts, and_from, not-true}
+use Rattle.std.proofs.lemmas.List.Elements.{filter-append}
 use Rattle.grs_base.specs.Same.{same_res, same_task}
 use Rattle.grs_base.specs.Lists.{owns}
 use Rattle.grs_base.specs.State.{State, list_of, enq_code, deq_reply}
@@ -39,9 +40,9 @@ use Rattle.grs_known.specs.Past.{Past, past_of, may_leave}
 use Rattle.grs_known.proofs.known.Due.{one, one-none, one-some}
 use Rattle.grs_known.proofs.known.Histories.{IsHistory, MayFollow, made_item, follows, owns-may}
 use Rattle.grs_known.proofs.known.Knows.{known-all, owns-still, entry-learned, entry-decided}
-use Rattle.grs_known.proofs.lists.Facts.{filter-append, filter-cons_kept, all-filter, list_all-push}
+use Rattle.grs_known.proofs.lists.Facts.{filter-cons_kept, all-filter, list_all-push}
 use Rattle.grs_known.proofs.lists.Owners.{is_among}
-use Rattle.grs_known.proofs.lists.Truths.{and_on, no_truth, not_true, task_swap}
+use Rattle.grs_known.proofs.lists.Truths.{no_truth, task_swap}
 use Rattle.grs_known.proofs.tasks.Invariant.{IsTask}
 use Rattle.grs_known.proofs.system.Askers.{apart-push}
 use Rattle.grs_known.proofs.system.Asking.{line_asked, unasked_by, IsAskedFor, IsOpenBy, Opens, IsReq, IsAskedBy, task-open}
@@ -168,7 +169,7 @@ apart-filter keep (q ∷ qs) h = go (keep q) (apart-filter keep qs both.1)
     both = and_parts (not (is_among q.task (askers qs))) (stand_apart (askers qs)) h
 
     go : (b : Bool) → stand_apart (askers (filter keep qs)) ≡ true → stand_apart (askers (cond b (q ∷ filter keep qs) (filter keep qs))) ≡ true
-    go true k = and_on (not (is_among q.task (askers (filter keep qs)))) (stand_apart (askers (filter keep qs))) (ap not (among-filter keep q.task qs (not_true (is_among q.task (askers qs)) both.0))) k
+    go true k = and_from (not (is_among q.task (askers (filter keep qs)))) (stand_apart (askers (filter keep qs))) (ap not (among-filter keep q.task qs (not-true (is_among q.task (askers qs)) both.0))) k
     go false k = k
 
 -- ---- The answer comes.
@@ -369,7 +370,7 @@ module _ (deck : Deck) (s : ℕ) (T later : List RunItem) (out : List Req) (n : 
     };
     held = k.held;
     shared = refl;
-    homes = list_all-push (λ z. is_home_at deck s z.task) out (request_of t a) ∙ and_on (list_all (λ z. is_home_at deck s z.task) out) (is_home_at deck s t) (sym (ap (list_all (λ z. is_home_at deck s z.task)) (append-nil out)) ∙ k.homes) (ours-home deck s n.tasks t ls ours);
+    homes = list_all-push (λ z. is_home_at deck s z.task) out (request_of t a) ∙ and_from (list_all (λ z. is_home_at deck s z.task) out) (is_home_at deck s t) (sym (ap (list_all (λ z. is_home_at deck s z.task)) (append-nil out)) ∙ k.homes) (ours-home deck s n.tasks t ls ours);
     apart = apart-push out (request_of t a) (sym (ap (λ qs. stand_apart (askers qs)) (append-nil out)) ∙ k.apart) free;
   }
 

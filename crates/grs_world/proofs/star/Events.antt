@@ -2,8 +2,9 @@
 use Rattle.std.proofs.Common.{◌≡◌, ◌≢◌, ◌<◌, ℕ, Bool, true, false, cond, not, ◌&&◌, ◌||◌, List, [], ◌∷◌, ◌++◌, length, Option, Some, None, refl, ap, sym, ◌∙◌, subst, arith}
 use Rattle.std.specs.Prelude.{drop, ◌==◌, is_some, slice_get, slice_set, unwrap_or}
 use Rattle.std.specs.List.{list_any}
-use Rattle.std.proofs.lemmas.Bool.{and_parts, eqb-true, eq-eqb}
+use Rattle.std.proofs.lemmas.Bool.{and_parts, eqb-true, eq-eqb, ne_eqb}
 use Rattle.std.proofs.lemmas.List.{length-set, set-get_or}
+use Rattle.std.proofs.Math.Bool.{or-false, and-true, and-false}
 use Rattle.contention_mgr.specs.Manager.{Ranked, plain, items_of, no_elements, entry_wanted, managed_at, kept_for, after_request}
 use Rattle.contention_mgr.proofs.ManagerLaws.{entries_are_well_kept}
 use Rattle.grs_base.specs.Limits.{most_systems}
@@ -58,25 +59,6 @@ unfolding apply
 heard m c call none known =
     ap (λ b. cond b (replies.Removed, m) (cond (call.known == m.removed) (row m c call.act) (replies.Stale m.removed, m))) (ap (λ z. has z c.0) none ∙ has-zero c.0)
     ∙ ap (λ b. cond b (row m c call.act) (replies.Stale m.removed, m)) (eq-eqb call.known m.removed (known ∙ sym none))
-
-or_false : (b : Bool) → (b || false) ≡ b
-or_false true = refl
-or_false false = refl
-
-and_true : (b : Bool) → (b && true) ≡ b
-and_true true = refl
-and_true false = refl
-
-and_none : (b : Bool) → (b && false) ≡ false
-and_none true = refl
-and_none false = refl
-
-off : (a b : ℕ) → a ≢ b → (a == b) ≡ false
-off a b ne = go (a == b) refl
-  where
-    go : (c : Bool) → (a == b) ≡ c → c ≡ false
-    go true f = absurd (ne (eqb-true a b f))
-    go false f = refl
 
 module _ (deck : Deck) (some : 0 < deck.entries) (w : World) (c : SysId) (few : c.0 < most_systems) (n : Node) (at : slice_get w.nodes c.0 ≡ Some n) (g : IsStar deck w) (me : IsMember deck w.medium.words (all_lists w) c.0 n) where
   abbrev words : List ℕ
@@ -133,9 +115,6 @@ module _ (deck : Deck) (some : 0 < deck.entries) (w : World) (c : SysId) (few : 
   finished : (m : MediumState) (choice : Choice) (reply : Reply) → Leads (record { medium = m; step = finish_star deck n (Some me.part) choice reply }) → Leads (record { medium = m; step = finish_star deck n n.star choice reply })
   finished m choice reply h = subst (λ o. Leads (record { medium = m; step = finish_star deck n o choice reply })) (sym me.star) h
 
-  same_boxes : length w.medium.inboxes ≡ length w.medium.inboxes
-  same_boxes = refl
-
   -- ---- Rest
   good_rest : LeadsBy choices.Rest (row w.medium c acts.Rest)
   unfolding row rest_row finish finish_call finish_star
@@ -191,7 +170,7 @@ module _ (deck : Deck) (some : 0 < deck.entries) (w : World) (c : SysId) (few : 
   }
     where
       other : (e : ℕ) → e ≢ x → is_entry e (entry_wanted deck.entries q.want) ≡ false
-      other e ne = ap (is_entry e) is ∙ off x e (λ f. ne (sym f))
+      other e ne = ap (is_entry e) is ∙ ne_eqb x e (λ f. ne (sym f))
 
       nobody : (e : ℕ) → e ≡ x → manager_at w.medium.words e ≡ None → ⊥
       nobody e same none = absurd (let f : true ≡ false = sym (ap (λ i. has_manager words i c.0) same ∙ mine) ∙ ap (λ o. is_manager o (record { 0 = c.0 })) none in cc)
@@ -294,14 +273,14 @@ module _ (deck : Deck) (some : 0 < deck.entries) (w : World) (c : SysId) (few : 
       count = length-set words x _;
       managed = submit_keeps_all_managed words x c there few g.managed;
       managers = λ e u ne. ap (λ o. is_manager o (record { 0 = u })) (manages_now e) ∙ by_entry e u ne (e == x) refl (manager_at words x) refl;
-      interest = λ e u ne. joins e u ∙ (ap (λ b. is_interested words e u || ((e == x) && b)) (off u c.0 ne) ∙ (ap (λ b. is_interested words e u || b) (and_none (e == x)) ∙ or_false (is_interested words e u)));
+      interest = λ e u ne. joins e u ∙ (ap (λ b. is_interested words e u || ((e == x) && b)) (ne_eqb u c.0 ne) ∙ (ap (λ b. is_interested words e u || b) (and-false (e == x)) ∙ or-false (is_interested words e u)));
       lists = λ e h j. lists e j;
       free = λ e none. frees e (e == x) refl (sym (manages_now e) ∙ none) (lists e (ap (λ o. is_manager o (record { 0 = c.0 })) none));
     }
       where
         by_entry : (e u : ℕ) → u ≢ c.0 → (b : Bool) → (e == x) ≡ b → (o : Option SysId) → manager_at w.medium.words x ≡ o → is_manager (cond b (Some (unwrap_or o c)) (manager_at w.medium.words e)) (record { 0 = u }) ≡ has_manager w.medium.words e u
         by_entry e u ne false f o k = refl
-        by_entry e u ne true f None k = off c.0 u (λ z. ne (sym z)) ∙ sym (ap (λ i. has_manager words i u) (eqb-true e x f) ∙ ap (λ z. is_manager z (record { 0 = u })) k)
+        by_entry e u ne true f None k = ne_eqb c.0 u (λ z. ne (sym z)) ∙ sym (ap (λ i. has_manager words i u) (eqb-true e x f) ∙ ap (λ z. is_manager z (record { 0 = u })) k)
         by_entry e u ne true f (Some s) k = sym (ap (λ i. has_manager words i u) (eqb-true e x f) ∙ ap (λ z. is_manager z (record { 0 = u })) k)
 
         frees : (e : ℕ) (b : Bool) → (e == x) ≡ b → cond b (Some (unwrap_or (manager_at w.medium.words x) c)) (manager_at w.medium.words e) ≡ None → under deck.entries e L' ≡ under deck.entries e (all_lists w) → under deck.entries e L' ≡ []
@@ -317,7 +296,7 @@ module _ (deck : Deck) (some : 0 < deck.entries) (w : World) (c : SysId) (few : 
             or_true : (a : Bool) → (a || true) ≡ true
             or_true true = refl
             or_true false = refl
-        go false = or_false (is_interested words e c.0)
+        go false = or-false (is_interested words e c.0)
 
     -- where another system manages it
     role_stays : (s : SysId) → manager_at w.medium.words x ≡ Some s → (e : ℕ) → has_manager joined_words e c.0 ≡ has_manager w.medium.words e c.0
@@ -362,7 +341,7 @@ module _ (deck : Deck) (some : 0 < deck.entries) (w : World) (c : SysId) (few : 
         subst (λ o. Leads (record { medium = med joined_words w.medium.inboxes (awake w.medium c); step = with_star n (begin_at n.tasks p t o (entry_asked p o)) })) (sym opened)
         (subst (λ o. Leads (record { medium = med joined_words w.medium.inboxes (awake w.medium c); step = with_star n (begin_at n.tasks p t (Some a) o) })) (sym f)
         (step joined_words w.medium.inboxes (awake w.medium c) (decide_own n.tasks q t a).tasks (decide_own n.tasks q t a).part (fixes.Asked (request_of t a) ∷ []) refl
-        (submits L' (λ e h. under-other deck.entries e L t a.req.want (ap (is_entry e) here ∙ off x e (λ same. no_truth (has_manager joined_words e c.0) (ap (λ i. has_manager joined_words i c.0) (sym same) ∙ (sym ((begun_part is).roles x) ∙ managing)) h))))
+        (submits L' (λ e h. under-other deck.entries e L t a.req.want (ap (is_entry e) here ∙ ne_eqb x e (λ same. no_truth (has_manager joined_words e c.0) (ap (λ i. has_manager joined_words i c.0) (sym same) ∙ (sym ((begun_part is).roles x) ∙ managing)) h))))
         (part-settled deck joined_words L c.0 q t a.req.want x q.held (begun_part is) here managing)))
 
     by_route : (t : TaskId) (a : Asked) → (state_of n.tasks t).outstanding ≡ Some a → entry_for me.part a.req.want ≡ Some x → manages me.part x ≡ false → (o : Option SysId) → manager_at w.medium.words x ≡ o →
@@ -453,7 +432,7 @@ module _ (deck : Deck) (some : 0 < deck.entries) (w : World) (c : SysId) (few : 
         count = length-set words x _;
         managed = leave_keeps_all_managed words x c there_leave g.managed;
         managers = λ e u ne. ap (λ o. is_manager o (record { 0 = u })) (manages_left e) ∙ by_manager e u ne (e == x) (manager_at words e) refl;
-        interest = λ e u ne. parts e u ∙ (ap (λ b. is_interested words e u && not ((e == x) && b)) (off u c.0 ne) ∙ (ap (λ b. is_interested words e u && not b) (and_none (e == x)) ∙ and_true (is_interested words e u)));
+        interest = λ e u ne. parts e u ∙ (ap (λ b. is_interested words e u && not ((e == x) && b)) (ne_eqb u c.0 ne) ∙ (ap (λ b. is_interested words e u && not b) (and-false (e == x)) ∙ and-true (is_interested words e u)));
         lists = λ e h j. refl;
         free = λ e none. frees e (e == x) refl (is_manager (manager_at words e) c) refl (sym (manages_left e) ∙ none);
       }
@@ -464,7 +443,7 @@ module _ (deck : Deck) (some : 0 < deck.entries) (w : World) (c : SysId) (few : 
           by_manager e u ne true (Some s) h = go (s.0 == c.0) refl
             where
               go : (d : Bool) → (s.0 == c.0) ≡ d → is_manager (cond d None (Some s)) (record { 0 = u }) ≡ (s.0 == u)
-              go true f = sym (off s.0 u (λ same. ne (sym same ∙ eqb-true s.0 c.0 f)))
+              go true f = sym (ne_eqb s.0 u (λ same. ne (sym same ∙ eqb-true s.0 c.0 f)))
               go false f = refl
 
           frees : (e : ℕ) (b : Bool) → (e == x) ≡ b → (d : Bool) → is_manager (manager_at w.medium.words e) c ≡ d → cond (b && d) None (manager_at w.medium.words e) ≡ None → under deck.entries e (all_lists w) ≡ []
@@ -489,8 +468,8 @@ module _ (deck : Deck) (some : 0 < deck.entries) (w : World) (c : SysId) (few : 
               go false f = f
 
           interest_left : (e : ℕ) (b : Bool) → (is_interested w.medium.words e c.0 && not (b && true)) ≡ cond b false (is_interested w.medium.words e c.0)
-          interest_left e true = and_none (is_interested words e c.0)
-          interest_left e false = and_true (is_interested words e c.0)
+          interest_left e true = and-false (is_interested words e c.0)
+          interest_left e false = and-true (is_interested words e c.0)
 
       good_left : Leads (record { medium = cond (leave_changes (word_at w.medium.words x) c) (med words_left w.medium.inboxes (awake w.medium c)) w.medium; step = finish_star deck n (Some me.part) (choices.Leave x) replies.Left })
       unfolding finish_star

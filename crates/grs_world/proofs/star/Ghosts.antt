@@ -5,6 +5,7 @@ use Rattle.std.proofs.Common.{◌≡◌, ◌≢◌, ℕ, Bool, true, false, cond
 use Rattle.std.specs.Prelude.{slice_get, ◌==◌}
 use Rattle.std.specs.List.{list_all}
 use Rattle.std.proofs.lemmas.Bool.{cases_Bool}
+use Rattle.std.proofs.lemmas.List.Elements.{filter-append}
 use Rattle.grs_base.specs.declared.resource.SysId.{SysId}
 use Rattle.grs_base.specs.declared.resource.TaskId.{TaskId}
 use Rattle.grs_legal.specs.Asks.{lines_of}
@@ -29,7 +30,6 @@ use Rattle.task_state.specs.declared.state.Phase.TheVariants as phases
 use Rattle.task_state.specs.declared.state.Rec.{Rec}
 use Rattle.grs_known.specs.Items.{RunItem, goes_round, is_of, rounds, mine, history}
 use Rattle.grs_known.proofs.known.Histories.{IsHistory, IsAsk, MayFollow, made_item}
-use Rattle.grs_known.proofs.lists.Facts.{filter-append}
 use Rattle.grs_known.proofs.system.Askers.{apart-front}
 use Rattle.grs_known.proofs.system.Asking.{Opens, IsAskedBy, are_sent}
 use Rattle.grs_world.proofs.system.AtNode.{opens_of, Seen, QuietStep, keeps, fixes, seen-other, mine-left, not-ours}

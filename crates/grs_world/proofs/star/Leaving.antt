@@ -2,8 +2,10 @@
 use Rattle.std.proofs.Common.{◌≡◌, ◌≢◌, ◌⊎◌, inl, inr, ◌<◌, ℕ, zero, suc, Bool, true, false, cond, ◌||◌, List, [], ◌∷◌, ◌++◌, length, Option, Some, None, refl, ap, sym, ◌∙◌, subst, arith, append-nil, append_assoc}
 use Rattle.std.specs.Prelude.{get_or, nat_lt, ◌==◌}
 use Rattle.std.specs.List.{list_all, list_any}
-use Rattle.std.proofs.lemmas.Bool.{and_parts}
+use Rattle.std.proofs.lemmas.Bool.{and_parts, and_from, or_left, or_right, or_parts}
 use Rattle.std.proofs.lemmas.Bool.Decides.{nat_tests}
+use Rattle.std.proofs.lemmas.List.Elements.{filter-append}
+use Rattle.std.proofs.lemmas.List.Folds.{list_any_at}
 use Rattle.contention_mgr.specs.Manager.{entry_of_res, entry_wanted}
 use Rattle.grs_base.specs.Same.{same_res, same_task}
 use Rattle.grs_base.specs.Lists.{has_task}
@@ -32,8 +34,8 @@ use Rattle.grs_known.proofs.known.Due.{one, one-some}
 use Rattle.grs_known.proofs.known.Histories.{IsHistory}
 use Rattle.grs_known.proofs.known.Knows.{IsOutstanding}
 use Rattle.grs_known.proofs.lists.All.{owns-has}
-use Rattle.grs_known.proofs.lists.Facts.{filter-append, filter-cons_kept, all-middle}
-use Rattle.grs_known.proofs.lists.Truths.{and_on, no_truth, or_first, or_second}
+use Rattle.grs_known.proofs.lists.Facts.{filter-cons_kept, all-middle}
+use Rattle.grs_known.proofs.lists.Truths.{no_truth, false_by}
 use Rattle.grs_known.proofs.tasks.Invariant.{has_res}
 use Rattle.grs_world.proofs.system.AtNode.{opens_of}
 use Rattle.grs_known.proofs.system.Asking.{IsReq, IsAskedBy, IsAskedFor, IsOpenBy}
@@ -50,21 +52,7 @@ use Rattle.grs_world.proofs.star.Under.{entry-same}
 
 -- none of these tasks is busy, so neither is one of them
 any-at : {X : Type 0} (f : X → Bool) (xs : List X) (i : ℕ) (d : X) → list_any f xs ≡ false → i < length xs → f (get_or xs i d) ≡ false
-any-at f [] i d h l = absurd (omega (arith, l))
-any-at f (x ∷ xs) zero d h l = go (f x) refl h
-  where
-    go : (b : Bool) → f x ≡ b → (b || list_any f xs) ≡ false → f x ≡ false
-    go true e k = absurd (cc)
-    go false e k = e
-any-at f (x ∷ xs) (suc i) d h l = any-at f xs i d (go (f x) h) (omega (arith, l))
-  where
-    go : (b : Bool) → (b || list_any f xs) ≡ false → list_any f xs ≡ false
-    go true k = absurd (cc)
-    go false k = k
-
-or_parts : (a b : Bool) → (a || b) ≡ false → (a ≡ false) × (b ≡ false)
-or_parts true b h = absurd (cc)
-or_parts false b h = (refl, h)
+any-at f xs i d h l = false_by (f (get_or xs i d)) (λ e. no_truth (list_any f xs) (list_any_at f xs i d l e) h)
 
 -- control that comes is there now by what is known here, or once the answer came
 granted-still : (t : TaskId) (k : Known) (T : List RunItem) (front : List Mail) (r : Res) (rest : List Mail) → Coming t k T (news_of (front ++ Granted t r ∷ rest)) → Still r t T (outstanding t k T) ⊎ Still r t T None
@@ -90,8 +78,8 @@ records-in deck x r [] is h = absurd (cc)
 records-in deck x r (y ∷ ys) is h = go (same_res r y.res) refl h (records-in deck x r ys is)
   where
     go : (b : Bool) → same_res r y.res ≡ b → (b || has_res r ys) ≡ true → (has_res r ys ≡ true → list_any (λ z. is_entry x (entry_of_res deck.entries z.res)) ys ≡ true) → list_any (λ z. is_entry x (entry_of_res deck.entries z.res)) (y ∷ ys) ≡ true
-    go true e f more = or_first (is_entry x (entry_of_res deck.entries y.res)) _ (entry-same x (entry_of_res deck.entries y.res) (ap (entry_of_res deck.entries) (sym (same_res-exact r y.res e)) ∙ is))
-    go false e f more = or_second (is_entry x (entry_of_res deck.entries y.res)) _ (more f)
+    go true e f more = or_left (is_entry x (entry_of_res deck.entries y.res)) _ (entry-same x (entry_of_res deck.entries y.res) (ap (entry_of_res deck.entries) (sym (same_res-exact r y.res e)) ∙ is))
+    go false e f more = or_right (is_entry x (entry_of_res deck.entries y.res)) _ (more f)
 
 asked-middle : (t : TaskId) (o : Option Asked) (xs : List Req) (q : Req) (ys : List Req) → IsAskedBy t o (xs ++ q ∷ ys) → same_task t q.task ≡ true → IsReq q o
 asked-middle t o [] q ys h e = h.0 e
@@ -237,7 +225,7 @@ module _ (deck : Deck) (words words' : List ℕ) (T : List RunItem) (right : IsH
   near-kept done [] e z = refl
   near-kept done (q ∷ todo) e z =
       let both = and_parts (is_near deck words s q) (list_all (is_near deck words s) todo) z in
-      and_on (is_near deck words' s q) (list_all (is_near deck words' s) todo) (go (entry_wanted deck.entries q.want) refl both.0) (near-kept (done ++ q ∷ []) todo (e ∙ sym (append_assoc done (q ∷ []) todo)) both.1)
+      and_from (is_near deck words' s q) (list_all (is_near deck words' s) todo) (go (entry_wanted deck.entries q.want) refl both.0) (near-kept (done ++ q ∷ []) todo (e ∙ sym (append_assoc done (q ∷ []) todo)) both.1)
     where
       all : out ++ [] ≡ done ++ q ∷ todo
       all = append-nil out ∙ e

@@ -1,8 +1,8 @@
 -- What taking a mail does to what holds of a system.
-use Rattle.std.proofs.Common.{◌≡◌, ℕ, Bool, true, false, cond, not, ◌&&◌, ◌||◌, List, [], ◌∷◌, ◌++◌, Option, Some, None, refl, ap, sym, ◌∙◌, subst, append-nil}
+use Rattle.std.proofs.Common.{◌≡◌, ℕ, Bool, true, false, cond, not, ◌&&◌, ◌||◌, List, [], ◌∷◌, ◌++◌, Option, Some, None, refl, ap, sym, ◌∙◌, subst, append-nil, arith}
 use Rattle.std.specs.Prelude.{is_some, nat_le, ◌==◌}
 use Rattle.std.specs.List.{list_all, list_any}
-use Rattle.std.proofs.lemmas.Bool.{and_parts, eqb-true, eq-eqb}
+use Rattle.std.proofs.lemmas.Bool.{and_parts, eqb-true, eq-eqb, and_from, and_right}
 use Rattle.grs_base.specs.Lists.{deq_code, standing_of}
 use Rattle.grs_base.specs.Same.{same_task}
 use Rattle.grs_base.specs.State.{State, list_of}
@@ -40,7 +40,7 @@ use Rattle.grs_known.proofs.known.ItemLaws.{replies_are_answers}
 use Rattle.grs_known.proofs.known.Knows.{IsOutstanding}
 use Rattle.grs_known.proofs.lists.Facts.{all-filter}
 use Rattle.grs_known.proofs.lists.Owners.{is_among}
-use Rattle.grs_known.proofs.lists.Truths.{and_on, and_off, no_truth, false_by}
+use Rattle.grs_known.proofs.lists.Truths.{no_truth, false_by}
 use Rattle.grs_world.proofs.system.AtNode.{opens_of}
 use Rattle.grs_world.proofs.system.Puts.{home-task}
 use Rattle.grs_known.proofs.system.Says.{is_home_at, askers, stand_apart, none}
@@ -90,7 +90,7 @@ module _ (deck : Deck) (words : List ℕ) (T : List RunItem) (right : IsHistory 
       where
         go : (b : Bool) → is_task n.tasks t ≡ b → Goes deck words T s (record n { tasks = tell_control n.tasks r t; star = o }) ms later out n.tasks.told
         go true e =
-            let home : is_home_at deck s t ≡ true = and_on (t.system.0 == s) (is_some (lines_of deck t)) (eq-eqb t.system.0 s (sym (is_task-system n.tasks t e) ∙ h.at.good.system)) of_deck in
+            let home : is_home_at deck s t ≡ true = and_from (t.system.0 == s) (is_some (lines_of deck t)) (eq-eqb t.system.0 s (sym (is_task-system n.tasks t e) ∙ h.at.good.system)) of_deck in
             let k : Taken deck s T later out n.tasks.told (tell_control n.tasks r t) = takes-control deck s T later out right n h.at t r of_deck (still home) in
             record {
               system = went (tell_control n.tasks r t) o (record { good = k.good; held = h.at.held; shared = refl; homes = h.at.homes; apart = h.at.apart });
@@ -102,13 +102,7 @@ module _ (deck : Deck) (words : List ℕ) (T : List RunItem) (right : IsHistory 
 
   -- ---- an answer
   same_code-itself : (st : Standing) (have : Bool) → is_code_of (deq_codes have) (deq_code st have) ≡ true
-  same_code-itself Exclusive have = refl
-  same_code-itself OnlyShared have = refl
-  same_code-itself AmongShared have = refl
-  same_code-itself Waits true = refl
-  same_code-itself Waits false = refl
-  same_code-itself Absent true = refl
-  same_code-itself Absent false = refl
+  same_code-itself st have = grind arith
 
   gets : (S : State) (t : TaskId) (w : Want) → gives_want w ≡ true → can_get w (answer_to S t w) ≡ true
   gets S t (Enq r c ret full) e = absurd (cc)
@@ -248,9 +242,9 @@ module _ (deck : Deck) (words : List ℕ) (T : List RunItem) (right : IsHistory 
         -- one that isn't heard answers what gives nothing up
         must_hear : gives x.fixed ≡ true → is_heard n.tasks t answer rank ≡ true
         must_hear gave =
-            and_on (has_sent n.tasks t) (nat_le rank last_number && is_awaited answer (state_of n.tasks t).outstanding)
-            (and_on (is_task n.tasks t) (is_sent (state_of n.tasks t).phase) (h.at.good.here t home) (sent-among t (state_of n.tasks t).phase out (here deck s T later out n h.at t home).sent among))
-            (and_on (nat_le rank last_number) (is_awaited answer (state_of n.tasks t).outstanding) (subst (λ z. nat_le z last_number ≡ true) (sym plain) refl)
+            and_from (has_sent n.tasks t) (nat_le rank last_number && is_awaited answer (state_of n.tasks t).outstanding)
+            (and_from (is_task n.tasks t) (is_sent (state_of n.tasks t).phase) (h.at.good.here t home) (sent-among t (state_of n.tasks t).phase out (here deck s T later out n h.at t home).sent among))
+            (and_from (nat_le rank last_number) (is_awaited answer (state_of n.tasks t).outstanding) (subst (λ z. nat_le z last_number ≡ true) (sym plain) refl)
             (ap (is_awaited answer) is ∙ (ap (can_get a.req.want) replies ∙ gets item.lists t a.req.want (sym (ap gives fixed) ∙ gave))))
           where
             among : is_among t (askers out) ≡ true
@@ -300,7 +294,7 @@ module _ (deck : Deck) (words : List ℕ) (T : List RunItem) (right : IsHistory 
 
     -- a task that isn't of the deck is none of the system's
     pub strange-answer : is_of_deck deck t ≡ false → (o : Option StarPart) → IsSystem deck words T s (record n { star = o }) ms later out
-    strange-answer strange o = unheard_away (and_off (t.system.0 == s) (is_of_deck deck t) strange) o
+    strange-answer strange o = unheard_away (and_right (t.system.0 == s) (is_of_deck deck t) strange) o
 
     -- What taking the answer comes to: its item is learned, and its request is no longer open; or it has no effect.
     pub data TookAnswer (n' : Node) : Type 0 where
@@ -318,7 +312,7 @@ module _ (deck : Deck) (words : List ℕ) (T : List RunItem) (right : IsHistory 
         at_home e =
             let both = and_parts (has_sent n.tasks t) (nat_le rank last_number && is_awaited answer (state_of n.tasks t).outstanding) e in
             let there = (and_parts (is_task n.tasks t) (is_sent (state_of n.tasks t).phase) both.0).0 in
-            and_on (t.system.0 == s) (is_some (lines_of deck t)) (eq-eqb t.system.0 s (sym (is_task-system n.tasks t there) ∙ h.at.good.system)) of_deck
+            and_from (t.system.0 == s) (is_some (lines_of deck t)) (eq-eqb t.system.0 s (sym (is_task-system n.tasks t there) ∙ h.at.good.system)) of_deck
 
         go : (b : Bool) → is_heard n.tasks t answer rank ≡ b → (d : Bool) → is_home_at deck s t ≡ d → TookAnswer (record n { tasks = cond (is_heard n.tasks t answer rank) (settled_any_ranked n.tasks t answer rank (state_of n.tasks t).outstanding) n.tasks; star = o })
         go true e d f =

@@ -5,6 +5,8 @@ use Rattle.std.specs.Prelude.{set, slice_get, ◌==◌}
 use Rattle.std.specs.List.{All}
 use Rattle.std.proofs.lemmas.Bool.{eqb-true, eqb-false, eq-eqb}
 use Rattle.std.proofs.lemmas.List.{length-set}
+use Rattle.std.proofs.lemmas.Option.{slice_get_within, same_Some}
+use Rattle.grs_known.proofs.lists.Truths.{false_by}
 use Rattle.contention_mgr.specs.Laws.{AreWellKept}
 use Rattle.contention_mgr.specs.Manager.{plain, items_of, managed_at}
 use Rattle.grs_base.specs.State.{State}
@@ -19,7 +21,7 @@ use Rattle.lock_structure.specs.Laws.{IsManaged, is_interested, manager_at}
 use Rattle.grs_known.specs.Items.{lists, lists_from, items, items_from}
 use Rattle.grs_known.proofs.known.Histories.{items-append}
 use Rattle.grs_known.proofs.known.ItemLaws.{lists_from-append}
-use Rattle.grs_known.proofs.lists.Facts.{slice_get-set, slice_get-set_other, slice_get-within, some_value}
+use Rattle.grs_known.proofs.lists.Facts.{slice_get-set, slice_get-set_other}
 use Rattle.grs_world.specs.World.{World, Turnout, fixed_by, placed}
 use Rattle.grs_world.proofs.star.Under.{under}
 
@@ -36,7 +38,7 @@ manager-here words e m h = ap (λ o. is_manager o (record { 0 = m.0 })) h ∙ eq
 
 -- an entry has one manager
 pub one-manages : (words : List ℕ) (e m k : ℕ) → has_manager words e m ≡ true → has_manager words e k ≡ true → m ≡ k
-one-manages words e m k mine other = ap (λ (z : SysId). z.0) (some_value (record { 0 = m }) (record { 0 = k }) (sym (managed-is words e m (manager_at words e) refl mine) ∙ managed-is words e k (manager_at words e) refl other))
+one-manages words e m k mine other = ap (λ (z : SysId). z.0) (same_Some (record { 0 = m }) (record { 0 = k }) (sym (managed-is words e m (manager_at words e) refl mine) ∙ managed-is words e k (manager_at words e) refl other))
 
 -- What holds of a system's part in star mode, by the words and by all lists.
 pub record IsPart (deck : Deck) (words : List ℕ) (L : State) (s : ℕ) (p : StarPart) : Type 0 where
@@ -133,18 +135,13 @@ member-other deck c words words' L L' u n ne m k = record {
     interest = λ e. k.fits.interest e ∙ sym (m.interest e u ne);
     lists = λ e h.
         let mine : has_manager words e u ≡ true = sym (k.fits.roles e) ∙ h in
-        k.fits.lists e h ∙ sym (m.lists e (apart words e mine) (apart words' e (m.managers e u ne ∙ mine)));
+        k.fits.lists e h ∙ sym (m.lists e (alone words e mine) (alone words' e (m.managers e u ne ∙ mine)));
     well = k.fits.well;
   };
 }
   where
-    -- an entry has one manager
-    apart : (ws : List ℕ) (e : ℕ) → has_manager ws e u ≡ true → has_manager ws e c ≡ false
-    apart ws e h = ap (λ o. is_manager o (record { 0 = c })) (managed-is ws e u (manager_at ws e) refl h) ∙ other (u == c) refl
-      where
-        other : (b : Bool) → (u == c) ≡ b → b ≡ false
-        other true f = absurd (ne (eqb-true u c f))
-        other false f = refl
+    alone : (ws : List ℕ) (e : ℕ) → has_manager ws e u ≡ true → has_manager ws e c ≡ false
+    alone ws e h = false_by (has_manager ws e c) (λ mine. absurd (ne (one-manages ws e u c h mine)))
 
 -- the world after the event
 module _ (deck : Deck) (w : World) (c : SysId) (n : Node) (at : slice_get w.nodes c.0 ≡ Some n) (g : IsStar deck w) (o : Turnout) (h : IsStep deck w c n o) where
@@ -156,7 +153,7 @@ module _ (deck : Deck) (w : World) (c : SysId) (n : Node) (at : slice_get w.node
   count = length-set w.nodes c.0 o.step.node
 
   here : c.0 < length w.nodes
-  here = slice_get-within w.nodes c.0 n at
+  here = slice_get_within w.nodes c.0 n at
 
   node_at : (s : ℕ) (k : Node) → slice_get (set w.nodes c.0 o.step.node) s ≡ Some k → IsMember deck o.medium.words (lists_after (all_lists w) o.step.fixed) s k
   node_at s k f = go (s == c.0) refl
@@ -164,7 +161,7 @@ module _ (deck : Deck) (w : World) (c : SysId) (n : Node) (at : slice_get w.node
       go : (b : Bool) → (s == c.0) ≡ b → IsMember deck o.medium.words (lists_after (all_lists w) o.step.fixed) s k
       go true e =
           let same : s ≡ c.0 = eqb-true s c.0 e in
-          let is : o.step.node ≡ k = some_value o.step.node k (sym (slice_get-set w.nodes c.0 n o.step.node at) ∙ (ap (slice_get (set w.nodes c.0 o.step.node)) (sym same) ∙ f)) in
+          let is : o.step.node ≡ k = same_Some o.step.node k (sym (slice_get-set w.nodes c.0 n o.step.node at) ∙ (ap (slice_get (set w.nodes c.0 o.step.node)) (sym same) ∙ f)) in
           subst (λ (z : Node). IsMember deck o.medium.words (lists_after (all_lists w) o.step.fixed) s z) is
           (subst (λ (z : ℕ). IsMember deck o.medium.words (lists_after (all_lists w) o.step.fixed) z o.step.node) (sym same) h.member)
       go false e =

@@ -2,7 +2,8 @@
 use Rattle.std.proofs.Common.{◌≡◌, ℕ, Bool, true, false, cond, ◌&&◌, ◌||◌, List, [], ◌∷◌, ◌++◌, Option, Some, None, refl, ap, sym, ◌∙◌, subst}
 use Rattle.std.specs.Prelude.{is_some, ◌==◌}
 use Rattle.std.specs.List.{list_all, list_any}
-use Rattle.std.proofs.lemmas.Bool.{and_parts}
+use Rattle.std.proofs.lemmas.Bool.{and_parts, and_from}
+use Rattle.std.proofs.lemmas.Option.{same_Some}
 use Rattle.contention_mgr.specs.Manager.{entry_of_res, entry_wanted}
 use Rattle.grs_base.specs.Same.{same_task}
 use Rattle.grs_base.specs.Lists.{owns}
@@ -37,10 +38,10 @@ use Rattle.grs_known.specs.Laws.{is_given_back}
 use Rattle.grs_known.proofs.known.Due.{one}
 use Rattle.grs_known.proofs.known.Histories.{IsHistory, MayFollow, made_item, follows}
 use Rattle.grs_known.proofs.known.Knowing.{outstanding-own}
-use Rattle.grs_known.proofs.lists.Facts.{list_all-push, some_value}
+use Rattle.grs_known.proofs.lists.Facts.{list_all-push}
 use Rattle.grs_known.proofs.lists.Owners.{is_among}
 use Rattle.grs_known.proofs.lists.Parts.{part, is_res_of, systems-other}
-use Rattle.grs_known.proofs.lists.Truths.{and_on, no_truth, false_by}
+use Rattle.grs_known.proofs.lists.Truths.{no_truth, false_by}
 use Rattle.grs_world.proofs.system.AtNode.{part-other}
 use Rattle.grs_known.proofs.system.Ours.{IsOurs}
 use Rattle.grs_world.proofs.system.Puts.{MayPut}
@@ -85,7 +86,7 @@ late-calm deck words s r e [] is mine h = refl
 late-calm deck words s r e (x ∷ xs) is mine h = ap (λ b. b || list_any (λ y. gives_back r y.fixed) xs) (ap (gives_back r) h.0.asked ∙ false_by (gives_up r h.0.req.want) (λ g. calm g)) ∙ late-calm deck words s r e xs is mine h.1
   where
     calm : gives_up r h.0.req.want ≡ true → gives_up r h.0.req.want ≡ false
-    calm g = no_truth (has_manager words e s) mine (ap (λ i. has_manager words i s) (some_value e h.0.entry (sym is ∙ (sym (given-entry deck r h.0.req.want g) ∙ h.0.at))) ∙ h.0.away.0)
+    calm g = no_truth (has_manager words e s) mine (ap (λ i. has_manager words i s) (same_Some e h.0.entry (sym is ∙ (sym (given-entry deck r h.0.req.want g) ∙ h.0.at))) ∙ h.0.away.0)
 
 pub late-in : (deck : Deck) (words : List ℕ) (s : ℕ) (t : TaskId) (y : RunItem) (ys xs : List RunItem) → mine t xs ≡ y ∷ ys → AllLate deck words s xs → IsLate deck words s y
 late-in deck words s t y ys [] e h = absurd (cc)
@@ -140,7 +141,7 @@ module _ (deck : Deck) (words : List ℕ) (T : List RunItem) (right : IsHistory 
           let item : RunItem = made_item c T (fixing.Asked q) in
           let T' : List RunItem = T ++ item ∷ [] in
           let asker : q ≡ m.ask.req = cc in
-          let home : is_home_at deck s q.task ≡ true = and_on (q.task.system.0 == s) (is_some (lines_of deck q.task)) mine_q (subst (λ (z : Req). is_some (lines_of deck z.task) ≡ true) (sym asker) m.ask.known) in
+          let home : is_home_at deck s q.task ≡ true = and_from (q.task.system.0 == s) (is_some (lines_of deck q.task)) mine_q (subst (λ (z : Req). is_some (lines_of deck z.task) ≡ true) (sym asker) m.ask.known) in
           local_task q one_fixed mine_q away m (record {
             system = after-task T' (finish_quiet deck n (choices.Task t)).node at (coming-own c q mine_q (λ e f. absurd (want-round deck q.want e away f)) (false_by (is_late q.task later) (late_item q m at home away)));
             told = told;
@@ -177,7 +178,7 @@ module _ (deck : Deck) (words : List ℕ) (T : List RunItem) (right : IsHistory 
           at = sent deck s T later out n h.at t ls ours a is free;
           late = z.late;
           sent = λ u none. h.sent u (front_none u out none);
-          near = list_all-push (is_near deck words' s) out (request_of t a) ∙ and_on (list_all (is_near deck words' s) out) (is_near deck words' s (request_of t a)) z.near near;
+          near = list_all-push (is_near deck words' s) out (request_of t a) ∙ and_from (list_all (is_near deck words' s) out) (is_near deck words' s (request_of t a)) z.near near;
           coming = h.coming;
           answered = h.answered;
           fits = z.fits;
@@ -212,7 +213,7 @@ module _ (deck : Deck) (words : List ℕ) (T : List RunItem) (right : IsHistory 
               late = h.late;
               sent = h.sent;
               near = h.near;
-              coming = coming-own c (request_of t a) (and_parts (t.system.0 == s) (is_some (lines_of deck t)) home).0 (λ e f. ap (λ i. has_manager words i s) (some_value e entry (sym f ∙ of_entry)) ∙ mine_entry) (late-none t later (h.sent t free));
+              coming = coming-own c (request_of t a) (and_parts (t.system.0 == s) (is_some (lines_of deck t)) home).0 (λ e f. ap (λ i. has_manager words i s) (same_Some e entry (sym f ∙ of_entry)) ∙ mine_entry) (late-none t later (h.sent t free));
               answered = h.answered;
               fits = h.fits;
             };

@@ -5,7 +5,7 @@ use Rattle.std.specs.Option.{option_map_or}
 use Rattle.std.proofs.lemmas.Bool.{eqb-true, eqb-false}
 use Rattle.std.proofs.lemmas.List.{length-set, get_or-set_same, get_or-set_other}
 use Rattle.std.proofs.lemmas.Nat.{mod_below}
-use Rattle.std.proofs.lemmas.Option.{unwrap_or-slice_get}
+use Rattle.std.proofs.lemmas.Option.{unwrap_or-slice_get, slice_get_within}
 use Rattle.contention_mgr.specs.Laws.{AreWellKept}
 use Rattle.contention_mgr.specs.Manager.{Managed, ManagerView, plain, items_of, settled, told, entry_of_res, entry_wanted, are_of, kept_at, kept_for, managed_at, with_entry, after_request, after_telling}
 use Rattle.contention_mgr.proofs.LawProofs.{lists_follow, telling_keeps_lists}
@@ -21,7 +21,7 @@ use Rattle.grs_wire.specs.declared.deck.Deck.{Deck}
 use Rattle.grs_wire.specs.declared.request.Req.{Req}
 use Rattle.grs_wire.specs.declared.request.Want.{Want}
 use Rattle.grs_wire.specs.declared.request.Want.TheVariants.{Enq, Deq, Release, Look}
-use Rattle.grs_known.proofs.lists.Facts.{some_of, slice_get-within}
+use Rattle.grs_known.proofs.lists.Facts.{some_of}
 use Rattle.grs_world.proofs.star.Members.{IsPart, has_manager}
 use Rattle.grs_world.proofs.star.Under.{under, under-want, under-other, entry-same}
 use Rattle.lock_structure.specs.Laws.{is_interested}
@@ -47,14 +47,14 @@ manages-within p x h = go (slice_get p.manager.entries x) refl h
   where
     go : (o : Option (Option Managed)) → slice_get p.manager.entries x ≡ o → is_some (unwrap_or o None) ≡ true → x < length p.manager.entries
     go None e f = absurd (cc)
-    go (Some m) e f = slice_get-within p.manager.entries x m e
+    go (Some m) e f = slice_get_within p.manager.entries x m e
 
 pub interest-within : (p : StarPart) (x : ℕ) → has_interest p x ≡ true → x < length p.interest
 interest-within p x h = go (slice_get p.interest x) refl (unwrap_or-slice_get p.interest x false ∙ h)
   where
     go : (o : Option Bool) → slice_get p.interest x ≡ o → unwrap_or (slice_get p.interest x) false ≡ true → x < length p.interest
     go None e f = absurd (let g : false ≡ true = sym (ap (λ o. unwrap_or o false) e) ∙ f in cc)
-    go (Some b) e f = slice_get-within p.interest x b e
+    go (Some b) e f = slice_get_within p.interest x b e
 
 -- ---- one entry changed
 kept-set : (es : List (Option Managed)) (x e : ℕ) (o : Option Managed) → x < length es → kept_at (slice_set es x o) e ≡ cond (e == x) o (kept_at es e)
@@ -70,10 +70,6 @@ interest-set bs x e b inside = go (e == x) refl
     go : (c : Bool) → (e == x) ≡ c → slice_index_or (slice_set bs x b) e false ≡ cond c b (slice_index_or bs e false)
     go true f = ap (λ k. slice_index_or (slice_set bs x b) k false) (eqb-true e x f) ∙ get_or-set_same bs x b false inside
     go false f = get_or-set_other bs x e b false (eqb-false e x f)
-
-cond-same : {X : Type 0} (b : Bool) (x : X) → cond b x x ≡ x
-cond-same true x = refl
-cond-same false x = refl
 
 -- ---- a part whose manager keeps something else of an entry that it manages
 abbrev keeping : StarPart → ℕ → Managed → List Req → StarPart

@@ -2,6 +2,7 @@
 use Rattle.std.proofs.Common.{◌≡◌, ◌<◌, ◌≤◌, ◌+◌, ◌%◌, ℕ, zero, suc, true, false, cond, List, [], ◌∷◌, length, Option, Some, None, refl, ap, sym, ◌∙◌, subst, arith}
 use Rattle.std.specs.Prelude.{is_some, slice_get, replicate, slice_index_or}
 use Rattle.std.proofs.lemmas.List.{length-replicate}
+use Rattle.std.proofs.lemmas.Option.{slice_get_within}
 use Rattle.contention_mgr.specs.Manager.{plain, items_of, entry_of_res, kept_at, kept_for}
 use Rattle.contention_mgr.proofs.ManagerLaws.{well_kept_begins}
 use Rattle.grs_base.specs.Limits.{is_entries}
@@ -22,7 +23,7 @@ use Rattle.grs_wire.proofs.WantLaws.{by_test}
 use Rattle.lock_structure.specs.Laws.{IsManaged, is_interested, manager_at}
 use Rattle.lock_structure.specs.Words.{word_at}
 use Rattle.lock_structure.proofs.LawProofs.{words_begin, empty_is_managed}
-use Rattle.grs_known.proofs.lists.Facts.{slice_get-within, slice_get-past}
+use Rattle.grs_known.proofs.lists.Facts.{slice_get-past}
 use Rattle.grs_world.specs.Kept.{kept, kept_in, at_manager, at_node, managed_list, manager_at as kept_manager}
 use Rattle.grs_world.specs.World.{World, run, run_from, first_world, first_nodes, happens, happens_at, counted, placed, chosen}
 use Rattle.grs_world.proofs.run.Sound.{first_is}
@@ -41,7 +42,7 @@ module _ (deck : Deck) (star : IsStarDeck deck) (some : 0 < deck.entries) (w : W
   unfolding happens_at
   good_at None at = counted-star deck w g
   good_at (Some n) at =
-      let here = slice_get-within w.nodes e.system.0 n at in
+      let here = slice_get_within w.nodes e.system.0 n at in
       by_test (IsStar deck) (has w.medium.removed e.system.0) (counted w) (placed w e.system n (chosen deck w.medium e.system n e.choice))
       (λ h. counted-star deck w g)
       (λ h. framed deck w e.system n at g (chosen deck w.medium e.system n e.choice) (good_choice deck some w e.system (omega (arith, here, g.systems, star.few)) n at g (g.node e.system.0 n at) e.choice))
@@ -142,7 +143,7 @@ words_go deck star es =
     by_node g e s (Some n) at = let k = g.node s n at in sym (k.fits.interest e) ∙ sym (ap (λ o. interest_by o e) k.star)
 
     by_place : IsStar deck (run deck es) → (e : ℕ) (o : Option ℕ) → slice_get (run deck es).medium.words e ≡ o → IsManaged (word_at (run deck es).medium.words e)
-    by_place g e (Some x) h = g.managed e 0 (slice_get-within (run deck es).medium.words e x h)
+    by_place g e (Some x) h = g.managed e 0 (slice_get_within (run deck es).medium.words e x h)
     by_place g e None h = subst IsManaged (sym (word_past (run deck es).medium.words e (slice_get-past (run deck es).medium.words e h))) empty_is_managed
 
 -- ---- what is kept are the lists after all that was fixed

@@ -2,8 +2,9 @@
 use Rattle.std.proofs.Common.{◌≡◌, ◌≢◌, ◌<◌, ◌||◌, ◌&&◌, inl, inr, ℕ, Bool, true, false, cond, List, [], ◌∷◌, ◌++◌, length, Option, Some, None, refl, ap, sym, ◌∙◌, subst, arith, append_assoc}
 use Rattle.std.specs.Prelude.{◌==◌, slice_get, unwrap_or}
 use Rattle.std.specs.List.{All}
-use Rattle.std.proofs.lemmas.Bool.{eqb-true, eqb-false, eq-eqb}
+use Rattle.std.proofs.lemmas.Bool.{eqb-true, eqb-false, eq-eqb, or_left, or_right}
 use Rattle.std.proofs.lemmas.List.{get_or-set_same, get_or-set_other}
+use Rattle.std.proofs.lemmas.Option.{slice_get_within, same_Some}
 use Rattle.contention_mgr.specs.Manager.{entry_wanted, entry_of_res}
 use Rattle.grs_base.specs.Limits.{most_systems}
 use Rattle.grs_base.specs.Lists.{owns}
@@ -38,9 +39,9 @@ use Rattle.task_state.specs.declared.state.Phase.TheVariants as phases
 use Rattle.grs_known.specs.Items.{RunItem, mine, lists, history, items}
 use Rattle.grs_known.proofs.known.Histories.{MayFollow, made_item, follows}
 use Rattle.grs_known.proofs.known.ItemLaws.{lists-push}
-use Rattle.grs_known.proofs.lists.Facts.{slice_get-within, slice_get-past, some_value}
+use Rattle.grs_known.proofs.lists.Facts.{slice_get-past}
 use Rattle.grs_known.proofs.lists.Owners.{is_among}
-use Rattle.grs_known.proofs.lists.Truths.{false_by, no_truth, or_first, or_second}
+use Rattle.grs_known.proofs.lists.Truths.{false_by, no_truth}
 use Rattle.grs_world.specs.World.{World}
 use Rattle.grs_known.proofs.told.News.{ToldNews, told-news, still-told}
 use Rattle.grs_known.proofs.system.Askers.{apart-push}
@@ -69,7 +70,7 @@ words-stay words = record { managed = λ e m h. h; keeps = λ s. record { away =
 module _ (words : List ℕ) (x : ℕ) (c : SysId) (there : x < length words) (few : c.0 < most_systems) (managed : All IsManaged words) where
   -- the caller has interest
   pub submit-near : is_interested (submitted_words words x c) x c.0 ≡ true
-  submit-near = submit_joins words x c there few managed x c.0 ∙ or_second (is_interested words x c.0) ((x == x) && (c.0 == c.0)) (ap (λ b. b && (c.0 == c.0)) (eq-eqb x x refl) ∙ eq-eqb c.0 c.0 refl)
+  submit-near = submit_joins words x c there few managed x c.0 ∙ or_right (is_interested words x c.0) ((x == x) && (c.0 == c.0)) (ap (λ b. b && (c.0 == c.0)) (eq-eqb x x refl) ∙ eq-eqb c.0 c.0 refl)
 
   manager_now : (e : ℕ) → manager_at (submitted_words words x c) e ≡ cond (e == x) (Some (unwrap_or (manager_at words x) c)) (manager_at words e)
   manager_now = submit_manages words x c there few
@@ -84,7 +85,7 @@ module _ (words : List ℕ) (x : ℕ) (c : SysId) (there : x < length words) (fe
           ap (λ o. is_manager (Some (unwrap_or o c)) (record { 0 = m })) was ∙ eq-eqb m m refl
 
   still_near : (e s : ℕ) → is_interested words e s ≡ true → is_interested (submitted_words words x c) e s ≡ true
-  still_near e s h = submit_joins words x c there few managed e s ∙ or_first (is_interested words e s) ((e == x) && (s == c.0)) h
+  still_near e s h = submit_joins words x c there few managed e s ∙ or_left (is_interested words e s) ((e == x) && (s == c.0)) h
 
   still_away : (e s : ℕ) → Away words s e → has_manager (submitted_words words x c) e s ≡ false
   still_away e s a = false_by (has_manager (submitted_words words x c) e s) (λ h. absurd (by_entry (e == x) refl (sym (ap (λ o. is_manager o (record { 0 = s })) (manager_now e)) ∙ h)))
@@ -121,7 +122,7 @@ manager-near words managed e s h = go (slice_get words e) refl
     fits k = subst (λ o. ManagedBy o (interest (word_at words e))) named k
 
     go : (o : Option ℕ) → slice_get words e ≡ o → is_interested words e s ≡ true
-    go (Some x) f = fits (managed e 0 (slice_get-within words e x f))
+    go (Some x) f = fits (managed e 0 (slice_get_within words e x f))
     go None f = fits (subst IsManaged (sym (word_past words e (slice_get-past words e f))) empty_is_managed)
 
 -- ---- requests in hands
@@ -140,8 +141,8 @@ in-last q (x ∷ qs) = inr (in-last q qs)
 
 in-among : (q : Req) (qs : List Req) → IsIn q qs → is_among q.task (askers qs) ≡ true
 in-among q [] h = absurd h
-in-among q (x ∷ qs) (inl e) = or_first (same_task q.task x.task) (is_among q.task (askers qs)) (ap (λ (z : Req). same_task q.task z.task) (sym e) ∙ same_task-itself q.task)
-in-among q (x ∷ qs) (inr h) = or_second (same_task q.task x.task) (is_among q.task (askers qs)) (in-among q qs h)
+in-among q (x ∷ qs) (inl e) = or_left (same_task q.task x.task) (is_among q.task (askers qs)) (ap (λ (z : Req). same_task q.task z.task) (sym e) ∙ same_task-itself q.task)
+in-among q (x ∷ qs) (inr h) = or_right (same_task q.task x.task) (is_among q.task (askers qs)) (in-among q qs h)
 
 all-push : (deck : Deck) (words : List ℕ) (count : ℕ) (later : ℕ → List RunItem) (out : ℕ → List Req) (m : ℕ) (zs : List Req) (q : Req) → AllHands deck words count later out m zs → IsHand deck words count later out m q → AllHands deck words count later out m (zs ++ q ∷ [])
 all-push deck words count later out m [] q h k = (k, tt)
@@ -208,7 +209,7 @@ module _ (deck : Deck) (w : World) (g : IsWhole deck w) (c : SysId) (n : Node) (
     below = go (slice_get w.nodes s.0) refl
       where
         go : (o : Option Node) → slice_get w.nodes s.0 ≡ o → s.0 < length w.nodes
-        go (Some k) e = slice_get-within w.nodes s.0 k e
+        go (Some k) e = slice_get_within w.nodes s.0 k e
         go None e = no_truth (has_manager w.medium.words entry s.0) managing (g.roles.nobody entry s.0 (slice_get-past w.nodes s.0 e)).1
 
     box_there : s.0 < length w.medium.inboxes
@@ -255,7 +256,7 @@ module _ (deck : Deck) (w : World) (g : IsWhole deck w) (c : SysId) (n : Node) (
     hand : IsHand deck words (length w.nodes) g.later out' s.0 q
     hand = record {
       apart = λ e. apart (sym e ∙ ours.home);
-      below = subst (λ i. i < length w.nodes) (sym ours.home) (slice_get-within w.nodes c.0 n at);
+      below = subst (λ i. i < length w.nodes) (sym ours.home) (slice_get_within w.nodes c.0 n at);
       among = subst (λ i. IsIn q (out' i)) (sym ours.home) (subst (IsIn q) (sym own_out) (in-last q (g.out c.0)));
       idle = subst (λ i. mine t (g.later i) ≡ []) (sym ours.home) ((g.system c.0 n at).sent t free);
       entry = entry;
@@ -293,7 +294,7 @@ module _ (deck : Deck) (w : World) (g : IsWhole deck w) (c : SysId) (n : Node) (
           (subst (λ qs. IsSystem deck words T c.0 (record n { tasks = with_phase n.tasks t phases.Sent; star = Some p' }) (inbox w.medium c.0) (g.later c.0) qs) (sym own_out) (sender (Some p'))))
           others
           (λ k found.
-          subst (λ (y : StarPart). Hands deck words (length w.nodes) g.later out' c.0 (in_hands y (inbox sent_on c.0))) (some_value p' k found)
+          subst (λ (y : StarPart). Hands deck words (length w.nodes) g.later out' c.0 (in_hands y (inbox sent_on c.0))) (same_Some p' k found)
           (subst (λ hs. Hands deck words (length w.nodes) g.later out' c.0 (hs ++ requests_in (inbox sent_on c.0))) (sym held) (hands_others c.0 n p at star)))
           (λ m k v ne found known. hands_others m k v found known);
       news = still-told (told-phase n.tasks t phases.Sent);
@@ -331,7 +332,7 @@ module _ (deck : Deck) (w : World) (g : IsWhole deck w) (c : SysId) (n : Node) (
               (subst (AreNear deck words) (sym (lists-push T item)) (near-want deck words (lists T) t a.req.want (λ v e. near v e step.moves.managed) near-grown))
               z.system (others-item m)
               (λ k found.
-              subst (λ (y : StarPart). Hands deck words (length w.nodes) g.later g.out c.0 (in_hands y (inbox w.medium c.0))) (some_value p' k found)
+              subst (λ (y : StarPart). Hands deck words (length w.nodes) g.later g.out c.0 (in_hands y (inbox w.medium c.0))) (same_Some p' k found)
               (subst (λ hs. Hands deck words (length w.nodes) g.later g.out c.0 (hs ++ requests_in (inbox w.medium c.0))) (sym held) (hands_same c.0 n p at star)))
               (λ k y v ne found known. hands_same k y v found known);
           news = subst (λ U. ToldNews deck c.0 (history U) n.tasks.told decided.tasks.told) (sym (items-one w.fixed c (fixing.Asked q))) (told-news z.told);

@@ -11,10 +11,12 @@ use Rattle.std.specs.Prelude.{◌==◌, get_or, slice_get}
 use Rattle.grs_wire.specs.declared.request.Fixed.TheVariants as fixing
 use Rattle.grs_wire.specs.declared.medium.Mail.TheVariants.{Answered, Request, Granted}
 use Rattle.grs_wire.specs.Wants.{answer_to, res_wanted}
-use Rattle.grs_known.proofs.lists.Truths.{false_by, task_swap, not_true}
-use Rattle.std.proofs.lemmas.Bool.{and_parts, eqb-true, eqb-false, eq-eqb}
+use Rattle.grs_known.proofs.lists.Truths.{false_by, task_swap}
+use Rattle.std.proofs.lemmas.Bool.{and_parts, eqb-true, eqb-false, eq-eqb, not-true}
 use Rattle.std.specs.List.{list_all}
 use Rattle.std.proofs.Common.{◌≡◌, ◌≢◌, inl, inr, ℕ, true, List, [], ◌∷◌, ◌++◌, Option, Some, None, refl, ap, sym, ◌∙◌, subst, append-nil, Bool, false, cond, ◌||◌, arith, length, ◌<◌, not}
+use Rattle.std.proofs.lemmas.Option.{same_Some, slice_get-get_or}
+use Rattle.std.proofs.lemmas.List.Elements.{filter-append}
 use Rattle.contention_mgr.specs.Manager.{entry_of_res, entry_wanted}
 use Rattle.grs_base.specs.Lists.{owns}
 use Rattle.grs_base.specs.Same.{same_task}
@@ -37,7 +39,7 @@ use Rattle.grs_known.proofs.system.Asking.{IsReq, IsAskedBy}
 use Rattle.grs_known.proofs.system.Says.{none, is_home_at, askers, stand_apart}
 use Rattle.grs_world.proofs.star.Answering.{Taken, tells-owners, asker-settled}
 use Rattle.grs_world.proofs.star.Ghosts.{told-free}
-use Rattle.grs_known.proofs.lists.Facts.{some_value, filter-append, filter-cons_left, slice_get-there}
+use Rattle.grs_known.proofs.lists.Facts.{filter-cons_left}
 use Rattle.grs_world.proofs.star.Members.{has_manager, one-manages, IsStep}
 use Rattle.grs_world.proofs.star.OwnEvents.{Goes, late-calm}
 use Rattle.grs_world.proofs.star.Systems.{IsSystem, system-other, Away, near_at, is_near, gives_want, system-settled, requests_in, here}
@@ -78,7 +80,7 @@ one-request q r o qs same h k asked = go o (in-asked q o qs h asked) (in-asked r
 
 pub one-manager : (deck : Deck) (words : List ℕ) (q : Req) (e f m k : ℕ) → entry_wanted deck.entries q.want ≡ Some e → entry_wanted deck.entries q.want ≡ Some f → has_manager words e m ≡ true → has_manager words f k ≡ true → m ≡ k
 one-manager deck words q e f m k at also mine other =
-    let same : e ≡ f = some_value e f (sym at ∙ also) in
+    let same : e ≡ f = same_Some e f (sym at ∙ also) in
     one-manages words e m k mine (ap (λ i. has_manager words i k) same ∙ other)
 
 -- ---- The asker's system, whose task is behind now.
@@ -172,13 +174,13 @@ module _ (deck : Deck) (w : World) (g : IsWhole deck w) (c : SysId) (n : Node) (
   s = q.task.system.0
 
   asker : (k : Node) × (slice_get w.nodes s ≡ Some k)
-  asker = (get_or w.nodes s n, slice_get-there w.nodes s n hand.below)
+  asker = (get_or w.nodes s n, slice_get-get_or w.nodes s n hand.below)
 
   abbrev other : Node
   other = get_or w.nodes s n
 
   its : IsSystem deck w.medium.words T s other (inbox w.medium s) (g.later s) (g.out s)
-  its = g.system s other (slice_get-there w.nodes s n hand.below)
+  its = g.system s other (slice_get-get_or w.nodes s n hand.below)
 
   -- the request may be fixed now
   pub follows-now : MayFollow deck T item
@@ -226,7 +228,7 @@ module _ (deck : Deck) (w : World) (g : IsWhole deck w) (c : SysId) (n : Node) (
         go : (b : Bool) → (u == s) ≡ b → IsSystem deck w.medium.words (T ++ item ∷ []) u k (inbox sent_on u) (later-with g.later s item u) (g.out u)
         go true e =
             let same : u ≡ s = eqb-true u s e in
-            let node : other ≡ k = some_value other k (sym (slice_get-there w.nodes s n hand.below) ∙ (ap (slice_get w.nodes) (sym same) ∙ found)) in
+            let node : other ≡ k = same_Some other k (sym (slice_get-get_or w.nodes s n hand.below) ∙ (ap (slice_get w.nodes) (sym same) ∙ found)) in
             subst (λ z. IsSystem deck w.medium.words (T ++ item ∷ []) z k (inbox sent_on z) (later-with g.later s item z) (g.out z)) (sym same)
             (subst (λ (z : Node). IsSystem deck w.medium.words (T ++ item ∷ []) s z (inbox sent_on s) (later-with g.later s item s) (g.out s)) node
             (subst (λ ms. IsSystem deck w.medium.words (T ++ item ∷ []) s other ms (later-with g.later s item s) (g.out s)) (sym its_box)
@@ -247,18 +249,18 @@ module _ (deck : Deck) (w : World) (g : IsWhole deck w) (c : SysId) (n : Node) (
         let asked = (here deck s T (g.later s) (g.out s) other its.at q.task (asker-home deck w.medium.words T g.right s other (inbox w.medium s) (g.later s) (g.out s) its q hand.among hand.idle c hand.entry hand.at hand.managed hand.apart)).asked in
         whole-placed deck w c n at g.roles (record { medium = sent_on; step = record { node = n'; fixed = fixing.Asked q ∷ [] } }) step (T ++ item ∷ []) (items-one w.fixed c (fixing.Asked q)) (later-with g.later s item) g.out
         (follows deck T item g.right follows-now)
-        (subst (AreNear deck w.medium.words) (sym (lists-push T item)) (near-want deck w.medium.words (lists T) q.task q.want (λ v e. near v (some_value r v (sym wanted ∙ e)) of_entry) g.near))
+        (subst (AreNear deck w.medium.words) (sym (lists-push T item)) (near-want deck w.medium.words (lists T) q.task q.want (λ v e. near v (same_Some r v (sym wanted ∙ e)) of_entry) g.near))
         (subst (λ (y : Node). IsSystem deck w.medium.words (T ++ item ∷ []) c.0 y (inbox sent_on c.0) (later-with g.later s item c.0) (g.out c.0)) (sym node)
         (subst (λ ms. IsSystem deck w.medium.words (T ++ item ∷ []) c.0 (record n { tasks = tell_all n.tasks r ts; star = Some p' }) ms (later-with g.later s item c.0) (g.out c.0)) (sym (other_box c.0 away))
         (subst (λ xs. IsSystem deck w.medium.words (T ++ item ∷ []) c.0 (record n { tasks = tell_all n.tasks r ts; star = Some p' }) (inbox w.medium c.0) xs (g.out c.0)) (sym (other_later c.0 away)) z.system)))
         others
         (λ k found.
-        let same : p' ≡ k = some_value p' k (sym (ap (λ (y : Node). y.star) node) ∙ found) in
+        let same : p' ≡ k = same_Some p' k (sym (ap (λ (y : Node). y.star) node) ∙ found) in
         subst (λ (y : StarPart). Hands deck w.medium.words (length w.nodes) (later-with g.later s item) g.out c.0 (y.held ++ requests_in (inbox sent_on c.0))) same
         (subst (λ zs. Hands deck w.medium.words (length w.nodes) (later-with g.later s item) g.out c.0 (zs ++ requests_in (inbox sent_on c.0))) (sym kept)
         (subst (λ ms. Hands deck w.medium.words (length w.nodes) (later-with g.later s item) g.out c.0 (qs ++ requests_in ms)) (sym (other_box c.0 away))
         (let both = and_parts (not (is_among q.task (askers (qs ++ requests_in (inbox w.medium c.0))))) (stand_apart (askers (qs ++ requests_in (inbox w.medium c.0)))) mine_hands.apart in
-        record { each = hands-later deck w.medium.words (length w.nodes) g.later g.out q item refl c.0 (qs ++ requests_in (inbox w.medium c.0)) (not_true (is_among q.task (askers (qs ++ requests_in (inbox w.medium c.0)))) both.0) mine_hands.each.1; apart = both.1 }))))
+        record { each = hands-later deck w.medium.words (length w.nodes) g.later g.out q item refl c.0 (qs ++ requests_in (inbox w.medium c.0)) (not-true (is_among q.task (askers (qs ++ requests_in (inbox w.medium c.0)))) both.0) mine_hands.each.1; apart = both.1 }))))
         (λ m k v ne found is. hands_others m k v ne found is asked)
       where
         near : (v : Res) → r ≡ v → entry_of_res deck.entries r ≡ Some hand.entry → is_near_res deck w.medium.words v q.task ≡ true

@@ -1,12 +1,12 @@
 -- Every run in star mode is sound, and what is kept is what the history says.
 use Rattle.std.proofs.Common.{◌≡◌, ◌≤◌, ◌<◌, ℕ, zero, suc, Bool, true, false, cond, List, [], ◌∷◌, ◌++◌, length, Option, Some, None, refl, ap, sym, ◌∙◌, subst, arith, append-nil, append_assoc}
 use Rattle.std.specs.Prelude.{replicate, slice_get, slice_index_or}
+use Rattle.std.proofs.lemmas.Option.{slice_get_within, same_Some}
 use Rattle.grs_base.specs.Limits.{most_systems, is_entries}
 use Rattle.grs_base.specs.State.{list_of}
 use Rattle.grs_base.specs.declared.resource.SysId.{SysId}
 use Rattle.grs_known.specs.Items.{items}
 use Rattle.grs_known.proofs.known.ItemLaws.{items_are_history}
-use Rattle.grs_known.proofs.lists.Facts.{slice_get-within, some_value}
 use Rattle.grs_medium.specs.Medium.{first_medium, inbox}
 use Rattle.grs_node.specs.Node.{Node, first_node}
 use Rattle.grs_node.specs.Star.{StarPart, first_part}
@@ -89,7 +89,7 @@ module _ (deck : Deck) (star : IsStarDeck deck) (es : List Event) (e : Event) (g
 
   module _ (n : Node) (at : slice_get (run deck es).nodes e.system.0 ≡ Some n) where
     inside : e.system.0 < most_systems
-    inside = let here = slice_get-within w.nodes c.0 n at in omega (arith, here, g.whole.roles.systems, star.few)
+    inside = let here = slice_get_within w.nodes c.0 n at in omega (arith, here, g.whole.roles.systems, star.few)
 
     some : 0 < deck.entries
     some = entries_some deck.entries star.entries
@@ -142,7 +142,7 @@ unfolding first_node
 none_held deck star m n p same is =
     let part : StarPart = first_part (record { 0 = m }) deck.entries in
     let named : Some part ≡ Some p = sym (ap (λ b. cond b (Some part) None) star.star) ∙ (ap (λ (k : Node). k.star) (sym same) ∙ is) in
-    ap (λ (z : StarPart). z.held) (sym (some_value part p named))
+    ap (λ (z : StarPart). z.held) (sym (same_Some part p named))
 
 first_whole : (deck : Deck) → IsStarDeck deck → IsWhole deck (first_world deck)
 unfolding first_world

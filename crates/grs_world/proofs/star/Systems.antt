@@ -2,7 +2,9 @@
 use Rattle.std.proofs.Common.{◌≡◌, ◌≢◌, ℕ, Bool, true, false, cond, ◌&&◌, ◌||◌, List, [], ◌∷◌, ◌++◌, map, Option, Some, None, refl, ap, sym, ◌∙◌, subst, append-nil}
 use Rattle.std.specs.Prelude.{is_some, ◌==◌}
 use Rattle.std.specs.List.{list_all, list_any}
-use Rattle.std.proofs.lemmas.Bool.{and_parts, eq-eqb}
+use Rattle.std.proofs.lemmas.Bool.{and_parts, eq-eqb, and_from, or_right}
+use Rattle.std.proofs.lemmas.List.{map-append}
+use Rattle.std.proofs.lemmas.List.Elements.{filter-append}
 use Rattle.contention_mgr.specs.Manager.{entry_of_res, entry_wanted}
 use Rattle.grs_base.specs.Same.{same_task}
 use Rattle.grs_base.specs.Lists.{owns}
@@ -31,9 +33,9 @@ use Rattle.grs_known.specs.Known.{Known, last_of, outstanding, IsRight, learns_i
 use Rattle.grs_known.proofs.known.Due.{one}
 use Rattle.grs_known.proofs.known.ItemLaws.{replies_are_answers}
 use Rattle.grs_known.proofs.known.Histories.{IsHistory, IsAsk, made_item, stays-ask}
-use Rattle.grs_known.proofs.lists.Facts.{map-append, list_any-push, filter-append, filter-cons_kept, filter-cons_left, any-more, any-last}
+use Rattle.grs_known.proofs.lists.Facts.{list_any-push, filter-cons_kept, filter-cons_left, any-more, any-last}
 use Rattle.grs_known.proofs.lists.Owners.{is_among}
-use Rattle.grs_known.proofs.lists.Truths.{and_on, no_truth, false_by, or_second, or_off}
+use Rattle.grs_known.proofs.lists.Truths.{no_truth, false_by, or_off}
 use Rattle.grs_world.proofs.system.AtNode.{not-ours}
 use Rattle.grs_known.proofs.system.Ours.{IsOurs, IsHere}
 use Rattle.grs_world.proofs.system.Puts.{home-task}
@@ -158,7 +160,7 @@ near-keeps : (deck : Deck) (words words' : List ℕ) (s : ℕ) (qs : List Req) �
 near-keeps deck words words' s [] k h = refl
 near-keeps deck words words' s (q ∷ qs) k h =
     let both = and_parts (is_near deck words s q) (list_all (is_near deck words s) qs) h in
-    and_on (is_near deck words' s q) (list_all (is_near deck words' s) qs) (go (entry_wanted deck.entries q.want) both.0) (near-keeps deck words words' s qs k both.1)
+    and_from (is_near deck words' s q) (list_all (is_near deck words' s) qs) (go (entry_wanted deck.entries q.want) both.0) (near-keeps deck words words' s qs k both.1)
   where
     go : (o : Option ℕ) → near_at words s o ≡ true → near_at words' s o ≡ true
     go None e = refl
@@ -321,7 +323,7 @@ module _ (deck : Deck) (words : List ℕ) (T : List RunItem) (s : ℕ) (n : Node
 
     in_out : (t : TaskId) → same_task t q.task ≡ true → (qs : List Req) → is_among t (askers (qs ++ q ∷ rest)) ≡ true
     in_out t same [] = ap (λ b. b || is_among t (askers rest)) same
-    in_out t same (z ∷ qs) = or_second (same_task t z.task) (is_among t (askers (qs ++ q ∷ rest))) (in_out t same qs)
+    in_out t same (z ∷ qs) = or_right (same_task t z.task) (is_among t (askers (qs ++ q ∷ rest))) (in_out t same qs)
 
     pub system-settled : (rank : ℕ) → (gives_want q.want ≡ true → rank ≡ 0) → IsSystem deck words (T ++ item ∷ []) s n (ms ++ Answered q.task (answer_to (lists T) q.task q.want) rank ∷ []) (later ++ item ∷ []) out
     system-settled rank plain = record {
@@ -350,7 +352,7 @@ module _ (deck : Deck) (words : List ℕ) (T : List RunItem) (s : ℕ) (n : Node
         by_coming t mine_t true same =
             let e : t ≡ q.task = same_task-exact t q.task same in
             let none : is_late t later ≡ false = ap (λ z. is_late z later) e ∙ late-none q.task later idle in
-            let now : is_late t (later ++ item ∷ []) ≡ true = late_now t ∙ or_second (is_late t later) (same_task t q.task) same in
+            let now : is_late t (later ++ item ∷ []) ≡ true = late_now t ∙ or_right (is_late t later) (same_task t q.task) same in
             subst (λ b. Coming t (blank b) (T ++ item ∷ []) (news_of ms ++ Answers q.task (answer_to (lists T) q.task q.want) ∷ [])) (sym now)
             (subst (λ a. Coming t (blank true) (T ++ item ∷ []) (news_of ms ++ Answers q.task a ∷ [])) (replies_are_answers (lists T) q.task q.want)
             (subst (λ z. Coming t (blank true) (T ++ item ∷ []) (news_of ms ++ Answers z (reply_in item.entries) ∷ [])) e
@@ -362,4 +364,4 @@ module _ (deck : Deck) (words : List ℕ) (T : List RunItem) (s : ℕ) (n : Node
             let e : t ≡ q.task = same_task-exact t q.task same in
             let only : item ∷ [] ≡ x ∷ [] = sym (filter-append (λ y. is_of t y.fixed) later (item ∷ []) ∙ (ap (λ xs. xs ++ mine t (item ∷ [])) (ap (λ z. mine z later) e ∙ idle) ∙ filter-cons_kept (λ y. is_of t y.fixed) item [] same)) ∙ due in
             let is_item : item ≡ x = cc in
-            any-last (is_plain_answer t) ms answer (and_on (same_task t q.task) (rank == 0) same (eq-eqb rank 0 (plain (ap (λ (y : RunItem). gives y.fixed) is_item ∙ gave))))
+            any-last (is_plain_answer t) ms answer (and_from (same_task t q.task) (rank == 0) same (eq-eqb rank 0 (plain (ap (λ (y : RunItem). gives y.fixed) is_item ∙ gave))))

@@ -1,7 +1,8 @@
 -- The elements on the resources of a lock entry.
 use Rattle.std.proofs.Common.{◌≡◌, ℕ, Bool, true, false, cond, [], ◌∷◌, Option, Some, None, refl, ap, sym, ◌∙◌}
 use Rattle.std.specs.List.{list_all}
-use Rattle.std.proofs.lemmas.Bool.{eqb-true, eq-eqb}
+use Rattle.std.proofs.lemmas.Bool.{eqb-true, eq-eqb, and_from}
+use Rattle.std.proofs.lemmas.Option.{same_Some}
 use Rattle.contention_mgr.specs.Manager.{entry_of_res, entry_wanted}
 use Rattle.grs_base.specs.Lists.{has_task}
 use Rattle.grs_base.specs.State.{State, list_of}
@@ -12,8 +13,6 @@ use Rattle.grs_wire.specs.declared.request.Want.{Want}
 use Rattle.grs_wire.specs.declared.request.Want.TheVariants.{Enq, Deq, Release, Look}
 use Rattle.grs_node.specs.Star.{is_entry}
 use Rattle.grs_known.proofs.lists.All.{has_task-all}
-use Rattle.grs_known.proofs.lists.Truths.{and_on}
-use Rattle.grs_known.proofs.lists.Facts.{some_value}
 use Rattle.grs_known.proofs.lists.Parts.{part, list_of-part, after_want-part, answer_to-part, new_owners-part, part-want_other}
 
 -- whether a resource is of a lock entry, where there are so many
@@ -32,9 +31,9 @@ entry-is e (Some n) h = ap Some (eqb-true n e h)
 
 -- the entry of a request is that of its resource
 pub res-entry : (entries : ℕ) (w : Want) (r : Res) (e : ℕ) → res_wanted w ≡ Some r → entry_wanted entries w ≡ Some e → entry_of_res entries r ≡ Some e
-res-entry entries (Enq q c ret full) r e wanted is = ap (entry_of_res entries) (some_value r q (sym wanted)) ∙ is
-res-entry entries (Deq q have) r e wanted is = ap (entry_of_res entries) (some_value r q (sym wanted)) ∙ is
-res-entry entries (Release q) r e wanted is = ap (entry_of_res entries) (some_value r q (sym wanted)) ∙ is
+res-entry entries (Enq q c ret full) r e wanted is = ap (entry_of_res entries) (same_Some r q (sym wanted)) ∙ is
+res-entry entries (Deq q have) r e wanted is = ap (entry_of_res entries) (same_Some r q (sym wanted)) ∙ is
+res-entry entries (Release q) r e wanted is = ap (entry_of_res entries) (same_Some r q (sym wanted)) ∙ is
 res-entry entries (Look first count f) r e wanted is = absurd (cc)
 
 -- a request of the entry does to them what it does to all lists
@@ -73,7 +72,7 @@ part-passes p [] = refl
 part-passes p (x ∷ s) = go (p x.0) refl (part-passes p s)
   where
     go : (b : Bool) → p x.0 ≡ b → list_all (λ h. p h.0) (part p s) ≡ true → list_all (λ h. p h.0) (cond b (x ∷ part p s) (part p s)) ≡ true
-    go true e more = and_on (p x.0) (list_all (λ h. p h.0) (part p s)) e more
+    go true e more = and_from (p x.0) (list_all (λ h. p h.0) (part p s)) e more
     go false e more = more
 
 pub under-has : (entries e : ℕ) (s : State) (r : Res) (t : TaskId) → has_task (list_of (under entries e s) r) t ≡ true → in_entry entries e r ≡ true

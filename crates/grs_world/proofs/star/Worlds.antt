@@ -3,6 +3,7 @@ use Rattle.std.proofs.Common.{◌≡◌, ◌≢◌, ◌⊎◌, ◌<◌, ℕ, Boo
 use Rattle.std.specs.Prelude.{set, slice_get, ◌==◌}
 use Rattle.std.proofs.lemmas.Bool.{eqb-true, eqb-false}
 use Rattle.std.proofs.lemmas.List.{length-set}
+use Rattle.std.proofs.lemmas.Option.{same_Some}
 use Rattle.contention_mgr.specs.Manager.{entry_wanted}
 use Rattle.grs_base.specs.State.{list_of, is_systems}
 use Rattle.grs_base.specs.declared.resource.Res.{Res}
@@ -23,7 +24,7 @@ use Rattle.grs_wire.specs.History.{replay}
 use Rattle.grs_known.specs.Items.{RunItem, goes_round, mine, lists, items, history}
 use Rattle.grs_known.proofs.known.Histories.{IsHistory, MayFollow, made_item, items-append, replayed, follows, wants-round}
 use Rattle.grs_known.proofs.known.ItemLaws.{lists-push}
-use Rattle.grs_known.proofs.lists.Facts.{slice_get-set, slice_get-set_other, some_value}
+use Rattle.grs_known.proofs.lists.Facts.{slice_get-set, slice_get-set_other}
 use Rattle.grs_world.specs.Kept.{kept}
 use Rattle.grs_world.specs.World.{World, Turnout, fixed_by, placed}
 use Rattle.grs_known.proofs.system.Says.{askers, stand_apart}
@@ -93,7 +94,7 @@ module _ (deck : Deck) (w : World) (c : SysId) (n : Node) (at : slice_get w.node
       go : (b : Bool) → (s == c.0) ≡ b → P s k
       go true e =
           let same : s ≡ c.0 = eqb-true s c.0 e in
-          let is : o.step.node ≡ k = some_value o.step.node k (sym (slice_get-set w.nodes c.0 n o.step.node at) ∙ (ap (slice_get (set w.nodes c.0 o.step.node)) (sym same) ∙ f)) in
+          let is : o.step.node ≡ k = same_Some o.step.node k (sym (slice_get-set w.nodes c.0 n o.step.node at) ∙ (ap (slice_get (set w.nodes c.0 o.step.node)) (sym same) ∙ f)) in
           subst (P s) is (subst (λ z. P z o.step.node) (sym same) own)
       go false e = let ne : s ≢ c.0 = eqb-false s c.0 e in others s k ne (sym (slice_get-set_other w.nodes c.0 s o.step.node ne) ∙ f)
 

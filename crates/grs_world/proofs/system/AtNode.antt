@@ -3,6 +3,7 @@ use Rattle.std.proofs.Common.{◌≡◌, ◌≢◌, ℕ, Bool, true, false, cond
 use Rattle.std.specs.Prelude.{◌==◌}
 use Rattle.std.specs.List.{list_all}
 use Rattle.std.proofs.lemmas.Bool.{eqb-true}
+use Rattle.std.proofs.lemmas.List.Elements.{filter-append}
 use Rattle.grs_base.specs.Same.{same_task}
 use Rattle.grs_base.specs.State.{State, is_systems}
 use Rattle.grs_base.specs.declared.resource.Res.{Res}
@@ -21,7 +22,7 @@ use Rattle.task_state.specs.View.{TasksView}
 use Rattle.grs_known.specs.Items.{RunItem, is_of, goes_round, rounds, mine, lists, history}
 use Rattle.grs_known.proofs.known.Histories.{IsAsk, MayFollow, made_item, stays-ask}
 use Rattle.grs_known.proofs.known.ItemLaws.{lists-push}
-use Rattle.grs_known.proofs.lists.Facts.{filter-append, filter-cons_left}
+use Rattle.grs_known.proofs.lists.Facts.{filter-cons_left}
 use Rattle.grs_known.proofs.lists.Parts.{part, is_res_of, own-one_system, after_want-part, part-want_other}
 use Rattle.grs_known.proofs.lists.Truths.{false_by, or_other}
 use Rattle.grs_known.proofs.system.Asking.{Opens}

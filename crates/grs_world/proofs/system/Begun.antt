@@ -3,6 +3,7 @@ use Rattle.std.proofs.Common.{◌≡◌, ℕ, zero, suc, true, false, List, [], 
 use Rattle.std.specs.Prelude.{slice_get, ◌==◌, nat_lt}
 use Rattle.std.specs.List.{list_all}
 use Rattle.std.proofs.lemmas.Bool.{and_parts, eqb-true, eq-eqb, lt-ltb}
+use Rattle.std.proofs.lemmas.Option.{slice_get_within}
 use Rattle.grs_base.specs.declared.resource.TaskId.{TaskId}
 use Rattle.grs_legal.specs.Asks.{lines_of, scripts_of}
 use Rattle.grs_legal.specs.declared.meaning.Meaning.{Meaning}
@@ -10,7 +11,7 @@ use Rattle.grs_wire.specs.declared.deck.Deck.{Deck}
 use Rattle.grs_wire.specs.declared.request.Req.{Req}
 use Rattle.task_state.specs.View.{is_task, state_of, new_task, new_tasks}
 use Rattle.grs_node.specs.Node.{first_node}
-use Rattle.grs_known.proofs.lists.Facts.{slice_get-within, some_of}
+use Rattle.grs_known.proofs.lists.Facts.{some_of}
 use Rattle.grs_world.proofs.system.AtNode.{Seen}
 use Rattle.grs_world.proofs.system.First.{first_told}
 use Rattle.grs_known.proofs.system.Good.{IsGood}
@@ -53,7 +54,7 @@ first_here deck s t h =
     let ls = some_of (lines_of deck t) (and_parts _ _ h).1 in
     let script = script_at deck.lists t (slice_get (scripts_of deck t.system.0) t.task) ls.0 ls.1 in
     let at : slice_get (scripts_of deck s) t.task ≡ Some script.0 = ap (λ n. slice_get (scripts_of deck n) t.task) (sym is_system) ∙ script.1 in
-    let within : nat_lt t.task (length (new_tasks (length (scripts_of deck s)))) ≡ true = ap (nat_lt t.task) (length-new_tasks (length (scripts_of deck s))) ∙ lt-ltb _ _ (slice_get-within (scripts_of deck s) t.task script.0 at) in
+    let within : nat_lt t.task (length (new_tasks (length (scripts_of deck s)))) ≡ true = ap (nat_lt t.task) (length-new_tasks (length (scripts_of deck s))) ∙ lt-ltb _ _ (slice_get_within (scripts_of deck s) t.task script.0 at) in
     let system : (s == t.system.0) ≡ true = eq-eqb _ _ (sym is_system) in
     rw (system, within) refl
 

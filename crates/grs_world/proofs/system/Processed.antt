@@ -2,7 +2,7 @@
 use Rattle.std.proofs.Common.{◌≡◌, ◌≢◌, ◌-◌, ℕ, suc, Bool, true, false, cond, not, ◌&&◌, ◌||◌, List, [], ◌∷◌, ◌++◌, Option, Some, None, refl, ap, sym, ◌∙◌, subst, arith}
 use Rattle.std.specs.Prelude.{is_some, ◌==◌}
 use Rattle.std.specs.List.{list_all}
-use Rattle.std.proofs.lemmas.Bool.{and_parts, eqb-true, eqb-false}
+use Rattle.std.proofs.lemmas.Bool.{and_parts, eqb-true, eqb-false, not-true}
 use Rattle.grs_base.specs.Same.{same_res, same_task}
 use Rattle.grs_base.specs.State.{is_systems, enq_code, deq_reply}
 use Rattle.grs_base.specs.declared.resource.Ctl.{Ctl}
@@ -40,7 +40,7 @@ use Rattle.grs_known.proofs.known.Histories.{IsHistory, IsAsk}
 use Rattle.grs_known.proofs.known.Knows.{entry-learned}
 use Rattle.grs_known.proofs.lists.Facts.{filter-cons_kept, filter-cons_left, some_of}
 use Rattle.grs_known.proofs.lists.Owners.{is_among}
-use Rattle.grs_known.proofs.lists.Truths.{false_by, not_true}
+use Rattle.grs_known.proofs.lists.Truths.{false_by}
 use Rattle.grs_known.proofs.tasks.Invariant.{IsTask}
 use Rattle.grs_known.proofs.system.Askers.{among-front}
 use Rattle.grs_known.proofs.system.Asking.{line_asked, unasked_by, IsAskedFor, IsOpenBy, IsReq, Opens, are_sent, task-open}
@@ -131,7 +131,7 @@ module _ (deck : Deck) (s : ℕ) (P before : List RunItem) (right : IsHistory de
     is_due = one-some (outstanding t here.known P) x (mine t later) (sym (filter-cons_kept (λ y. is_of t y.fixed) x later own) ∙ here.due)
 
     away : is_among t (askers (out ++ n.outbox)) ≡ false
-    away = subst (λ u. is_among u (askers (out ++ n.outbox)) ≡ false) asker (not_true _ (and_parts _ _ seen.apart).0)
+    away = subst (λ u. is_among u (askers (out ++ n.outbox)) ≡ false) asker (not-true _ (and_parts _ _ seen.apart).0)
 
     decides : (q : Req) (r : Res) (b : ReadBy deck P before x later q r) (h : HistEntry) → x.entries ≡ h ∷ [] → Decides deck os os' P P t p h r (new_owners (lists before) q.task q.want)
     decides q r b h one = record {

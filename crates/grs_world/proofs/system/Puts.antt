@@ -2,7 +2,10 @@
 use Rattle.std.proofs.Common.{◌≡◌, ◌-◌, ℕ, zero, suc, Bool, true, false, List, [], ◌∷◌, ◌++◌, take, drop, Option, Some, None, refl, ap, sym, ◌∙◌, subst, arith, append-nil, append_assoc}
 use Rattle.std.specs.Prelude.{is_some, ◌==◌}
 use Rattle.std.specs.List.{list_all}
-use Rattle.std.proofs.lemmas.Bool.{and_parts, cases_Bool, eqb-true}
+use Rattle.std.proofs.lemmas.Bool.{and_parts, cases_Bool, eqb-true, or_left}
+use Rattle.std.proofs.lemmas.List.Elements.{filter-append}
+use Rattle.std.proofs.lemmas.Option.{same_Some}
+use Rattle.std.proofs.lemmas.List.{take-append-drop}
 use Rattle.grs_base.specs.Same.{same_res, same_task}
 use Rattle.grs_base.specs.declared.resource.SysId.{SysId}
 use Rattle.grs_base.specs.declared.resource.TaskId.{TaskId}
@@ -30,9 +33,8 @@ use Rattle.grs_known.proofs.known.Following.{is_full-known, may_follow}
 use Rattle.grs_known.proofs.known.Histories.{IsHistory, MayFollow, made_item, goes-ask, stays-ask}
 use Rattle.grs_known.proofs.known.Knowing.{outstanding-own}
 use Rattle.grs_known.proofs.known.Knows.{Knows, known-all, speaks-known, knows-behind, past-behind}
-use Rattle.grs_known.proofs.lists.Facts.{all-behind, all-middle, filter-append, filter-cons_kept, some_of, some_value, take-drop, take-none}
+use Rattle.grs_known.proofs.lists.Facts.{all-behind, all-middle, filter-cons_kept, some_of, take-none}
 use Rattle.grs_known.proofs.lists.Parts.{systems-other}
-use Rattle.grs_known.proofs.lists.Truths.{or_first}
 use Rattle.grs_known.proofs.tasks.Asked.{next-asked}
 use Rattle.grs_known.proofs.tasks.Invariant.{IsTask}
 use Rattle.grs_known.proofs.tasks.Steps.{next-ending}
@@ -120,7 +122,7 @@ put_told n k = all_sent-told n.tasks (take k n.outbox)
 pub put : (deck : Deck) (s : ℕ) (P before later : List RunItem) (out : List Req) (n : Node) (k : ℕ) → Seen deck s P before later out n → Seen deck s P before later (out ++ take k n.outbox) (put_in n k).node
 unfolding put_in
 put deck s P before later out n k seen =
-    let same : (out ++ take k n.outbox) ++ drop k n.outbox ≡ out ++ n.outbox = append_assoc out (take k n.outbox) (drop k n.outbox) ∙ ap (λ qs. out ++ qs) (take-drop k n.outbox) in
+    let same : (out ++ take k n.outbox) ++ drop k n.outbox ≡ out ++ n.outbox = append_assoc out (take k n.outbox) (drop k n.outbox) ∙ ap (λ qs. out ++ qs) (take-append-drop k n.outbox) in
     record {
       good = subst (λ qs. IsGood deck s (record { later = later; out = out ++ take k n.outbox; all = qs }) P (all_sent n.tasks (take k n.outbox))) (sym same)
           (put_all deck s P later k out n.outbox n.tasks seen.good (all-behind (λ q. is_home_at deck s q.task) out n.outbox seen.homes));
@@ -179,21 +181,21 @@ module _ (deck : Deck) (s : ℕ) (P before later : List RunItem) (out : List Req
         let x : TaskState = state_of n.tasks t in
         record {
           round = a.2;
-          follow = λ by. may_follow deck P right t p speaks ls task_is.1.lines by (Enq r c ret full) r refl (or_first _ _ a.2) (a.3 ∙ is_full-known deck P right t p speaks x.records k.keys) (AsksEnq r c ret) refl
+          follow = λ by. may_follow deck P right t p speaks ls task_is.1.lines by (Enq r c ret full) r refl (or_left _ _ a.2) (a.3 ∙ is_full-known deck P right t p speaks x.records k.keys) (AsksEnq r c ret) refl
               (next-asked ls p n.tasks.told (λ q. false) t (x.line - 1) x.code x.records None x.rows (lines.Enq r c ret unit) (AsksEnq r c ret) (record { before = k; at = a.1; asks = refl }));
         }
     by_want (Deq r have) unit k a =
         let x : TaskState = state_of n.tasks t in
         record {
           round = a.2;
-          follow = λ by. may_follow deck P right t p speaks ls task_is.1.lines by (Deq r have) r refl (or_first _ _ a.2) tt (AsksDeq r have) refl
+          follow = λ by. may_follow deck P right t p speaks ls task_is.1.lines by (Deq r have) r refl (or_left _ _ a.2) tt (AsksDeq r have) refl
               (next-asked ls p n.tasks.told (λ q. same_res q r) t (x.line - 1) x.code x.records None x.rows (lines.Deq r have) (AsksDeq r have) (record { before = k; at = a.1; asks = refl }));
         }
     by_want (Release r) unit k a =
         let x : TaskState = state_of n.tasks t in
         record {
           round = a.1;
-          follow = λ by. may_follow deck P right t p speaks ls task_is.1.lines by (Release r) r refl (or_first _ _ a.1) tt (AsksRelease r) refl (next-ending ls p n.tasks.told (λ q. same_res q r) t x.line x.code x.code x.records None x.rows k r a.0);
+          follow = λ by. may_follow deck P right t p speaks ls task_is.1.lines by (Release r) r refl (or_left _ _ a.1) tt (AsksRelease r) refl (next-ending ls p n.tasks.told (λ q. same_res q r) t x.line x.code x.code x.records None x.rows k r a.0);
         }
     by_want (Look first count f) unit k a = absurd a
 
@@ -246,5 +248,5 @@ module _ (deck : Deck) (s : ℕ) (P before later : List RunItem) (out : List Req
               (here-other deck (opens_of later out n) P x n.tasks.told u ms _ apart (stays-ask deck u x m.ask) (seen.good.tasks.each u ms o))
           go u ms o true same =
               let e : t ≡ u = sym (same_task-exact u t same) in
-              let l : ls ≡ ms = some_value ls ms (sym task_is.1.lines ∙ ap (lines_of deck) e ∙ o.lines) in
+              let l : ls ≡ ms = same_Some ls ms (sym task_is.1.lines ∙ ap (lines_of deck) e ∙ o.lines) in
               subst (λ z. IsHere deck (opens_of (later ++ rounds (x ∷ [])) out n) (P ++ x ∷ []) n.tasks.told z ms (state_of n.tasks z)) e (subst (λ z. IsHere deck (opens_of (later ++ rounds (x ∷ [])) out n) (P ++ x ∷ []) n.tasks.told t z (state_of n.tasks t)) l behind)

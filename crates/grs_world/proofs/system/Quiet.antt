@@ -2,7 +2,7 @@
 use Rattle.std.proofs.Common.{◌≡◌, ℕ, suc, Bool, true, false, cond, not, ◌&&◌, ◌||◌, List, [], ◌∷◌, ◌++◌, map, length, Option, Some, None, refl, ap, sym, ◌∙◌, subst, arith, append_assoc}
 use Rattle.std.specs.Prelude.{slice_get, is_some, nat_le}
 use Rattle.std.specs.List.{list_all, list_any}
-use Rattle.std.proofs.lemmas.Bool.{and_parts, cases_Bool, eq-eqb}
+use Rattle.std.proofs.lemmas.Bool.{and_parts, cases_Bool, eq-eqb, or_left, or_right}
 use Rattle.grs_base.specs.Same.{same_res, same_task}
 use Rattle.grs_base.specs.Lists.{owns}
 use Rattle.grs_base.specs.declared.resource.Row.{Row}
@@ -54,7 +54,7 @@ use Rattle.grs_known.proofs.known.Reading.{owner-behind}
 use Rattle.grs_known.proofs.lists.Facts.{all-more}
 use Rattle.grs_known.proofs.lists.Owners.{is_among}
 use Rattle.grs_known.proofs.lists.Parts.{is_res_of, own-one_system, answer_to-part}
-use Rattle.grs_known.proofs.lists.Truths.{or_first, or_second, or_other}
+use Rattle.grs_known.proofs.lists.Truths.{or_other}
 use Rattle.grs_known.proofs.tasks.Asked.{Asks, next-asked}
 use Rattle.grs_known.proofs.tasks.Invariant.{IsRec, may_pass, IsTask, has_res, is_unsent}
 use Rattle.grs_known.proofs.tasks.Keys.{has_res-own}
@@ -324,7 +324,7 @@ module _ (deck : Deck) (s : ℕ) (c : SysId) (P before later : List RunItem) (ri
           by_record : (o : Option Rec) → record_of (state_of n.tasks t).records q ≡ o → QuietStep deck s c P before later out n (only (with_tasks n (wait (with_line n.tasks t) t q o)))
           by_record None e =
               let absent : has_own q p.own ≡ false = sym (has_res-own q (state_of n.tasks t).records p.own is_ready.keys) ∙ not_found (state_of n.tasks t).records q e in
-              waited (lines.Wait q) at refl C08 (or_second (p.owns q) _ (ap not absent)) (has-speaks deck.limit t p (history P) speaks q ∙ absent) _ (tells_line C08)
+              waited (lines.Wait q) at refl C08 (or_right (p.owns q) _ (ap not absent)) (has-speaks deck.limit t p (history P) speaks q ∙ absent) _ (tells_line C08)
           by_record (Some y) e = by_told y.told refl
             where
               f : IsRec ls p.asked n.tasks.told p.owns (λ z. false) t (state_of n.tasks t).line phases.Ready y × (same_res q y.res ≡ true)
@@ -337,7 +337,7 @@ module _ (deck : Deck) (s : ℕ) (c : SysId) (P before later : List RunItem) (ri
               by_told true g =
                   let own : p.owns q ≡ true = subst (λ z. p.owns z ≡ true) same (sym f.0.known ∙ g) in
                   let told : list_any (tells_control t ls p.asked q) n.tasks.told ≡ true = subst (λ z. list_any (tells_control t ls p.asked z) n.tasks.told ≡ true) same (f.0.control (sym f.0.known ∙ g) refl) in
-                  waited (lines.Wait q) at refl C00 (or_first (p.owns q) _ own) (speaks.owns q own, subst (λ E. list_any (tells_control t ls E q) n.tasks.told ≡ true) (sym speaks.asked) told) _ (tells_line C00)
+                  waited (lines.Wait q) at refl C00 (or_left (p.owns q) _ own) (speaks.owns q own, subst (λ E. list_any (tells_control t ls E q) n.tasks.told ≡ true) (sym speaks.asked) told) _ (tells_line C00)
               by_told false g =
                   let x : TaskState = state_of n.tasks t in
                   let did1 = did-phase n.tasks (with_line n.tasks t) t (record { line = suc x.line; phase = phases.Ready; code = x.code; records = x.records; outstanding = None; rows = x.rows }) n.tasks.told ours.here taken (phases.HeldLine q) in

@@ -3,7 +3,9 @@
 use Rattle.std.proofs.Common.{◌≡◌, ◌≢◌, ◌<◌, ℕ, Bool, true, false, cond, not, ◌&&◌, ◌||◌, List, length, Option, Some, None, refl, ap, sym, ◌∙◌, subst}
 use Rattle.std.specs.Prelude.{get_or, is_some, slice_get, ◌==◌}
 use Rattle.std.specs.List.{list_any}
-use Rattle.std.proofs.lemmas.Bool.{and_parts, eqb-true, eqb-false, ne_eqb}
+use Rattle.std.proofs.lemmas.Bool.{and_parts, eqb-true, eqb-false, ne_eqb, and_right, and_from, not-true}
+use Rattle.std.proofs.lemmas.Option.{same_Some, slice_get-get_or}
+use Rattle.std.proofs.Math.Bool.{and-true}
 use Rattle.contention_mgr.specs.Manager.{entry_of_res}
 use Rattle.grs_base.specs.Lists.{has_task}
 use Rattle.grs_base.specs.State.{is_systems, list_of}
@@ -12,9 +14,7 @@ use Rattle.grs_base.specs.declared.resource.SysId.{SysId}
 use Rattle.grs_base.specs.declared.resource.TaskId.{TaskId}
 use Rattle.grs_known.specs.Items.{RunItem, items}
 use Rattle.grs_known.proofs.known.Histories.{has-may}
-use Rattle.grs_known.proofs.lists.Facts.{some_value, slice_get-there}
 use Rattle.grs_known.proofs.lists.Parts.{is_res_of}
-use Rattle.grs_known.proofs.lists.Truths.{and_off, and_on, not_true}
 use Rattle.grs_legal.specs.Asks.{lines_of}
 use Rattle.grs_medium.specs.Apply.{row, leave_row}
 use Rattle.grs_medium.specs.Medium.{MediumState, awake, inbox}
@@ -69,7 +69,7 @@ module _ (deck : Deck) (some : 0 < deck.entries) (w : World) (g : IsWhole deck w
     idle : list_any (is_busy_in p x) n.tasks.tasks ≡ false
     idle =
         let busy : Bool = list_any (is_busy_in p x) n.tasks.tasks in
-        not_true busy (and_parts (not busy) (is_done_with p x) (and_parts (has_interest p x) (not busy && is_done_with p x) free).1).0
+        not-true busy (and_parts (not busy) (is_done_with p x) (and_parts (has_interest p x) (not busy && is_done_with p x) free).1).0
 
     there : x < length words
     there = there_leave deck some w c inside n at g.roles me x free
@@ -85,17 +85,13 @@ module _ (deck : Deck) (some : 0 < deck.entries) (w : World) (g : IsWhole deck w
       same-interest : (e : ℕ) → e ≢ x → is_interested words' e c.0 ≡ is_interested words e c.0
       same-interest e ne =
           leave_parts words x c there is e c.0
-          ∙ (ap (λ b. is_interested words e c.0 && not (b && (c.0 == c.0))) (ne_eqb e x ne) ∙ and_true (is_interested words e c.0))
-        where
-          and_true : (b : Bool) → (b && true) ≡ b
-          and_true true = refl
-          and_true false = refl
+          ∙ (ap (λ b. is_interested words e c.0 && not (b && (c.0 == c.0))) (ne_eqb e x ne) ∙ and-true (is_interested words e c.0))
 
       -- where it managed the entry, no other system had interest there
       alone : (q : Req) (h : IsHand deck words (length w.nodes) g.later g.out c.0 q) → h.entry ≢ x
       alone q h same =
           let k : Node = get_or w.nodes q.task.system.0 n in
-          let found : slice_get w.nodes q.task.system.0 ≡ Some k = slice_get-there w.nodes q.task.system.0 n h.below in
+          let found : slice_get w.nodes q.task.system.0 ≡ Some k = slice_get-get_or w.nodes q.task.system.0 n h.below in
           let near : is_interested words h.entry q.task.system.0 ≡ true = (asker-away deck words T g.right q.task.system.0 k (inbox w.medium q.task.system.0) (g.later q.task.system.0) (g.out q.task.system.0) (g.system q.task.system.0 k found) q h.among h.idle c h.entry h.at h.managed h.apart).1 in
           let named : manager_at words h.entry ≡ Some c = managed-is words h.entry c.0 (manager_at words h.entry) refl h.managed in
           let kept = manager_is_kept (word_at words x) c q.task.system.0 (g.roles.managed x 0 there) (ap (manager_at words) (sym same) ∙ named) h.apart (ap (λ e. is_interested words e q.task.system.0) (sym same) ∙ near) in
@@ -122,7 +118,7 @@ module _ (deck : Deck) (some : 0 < deck.entries) (w : World) (g : IsWhole deck w
                 by_system : (b : Bool) → (t.system.0 == c.0) ≡ b → is_interested words' a t.system.0 ≡ true
                 by_system true f =
                     let same : t.system.0 ≡ c.0 = eqb-true t.system.0 c.0 f in
-                    let apart : a ≢ x = no-element deck words words' T g.right c.0 n (inbox w.medium c.0) (g.later c.0) (g.out c.0) (g.system c.0 n at) p me.fits.entries x idle (λ i ne. (same-role i ne, same-interest i ne)) t (and_on (t.system.0 == c.0) (is_some (lines_of deck t)) f known) r has a e in
+                    let apart : a ≢ x = no-element deck words words' T g.right c.0 n (inbox w.medium c.0) (g.later c.0) (g.out c.0) (g.system c.0 n at) p me.fits.entries x idle (λ i ne. (same-role i ne, same-interest i ne)) t (and_from (t.system.0 == c.0) (is_some (lines_of deck t)) f known) r has a e in
                     ap (is_interested words' a) same ∙ (same-interest a apart ∙ (ap (is_interested words a) (sym same) ∙ near))
                 by_system false f = step.moves.interest a t.system.0 (eqb-false t.system.0 c.0 f) ∙ near
 
@@ -134,7 +130,7 @@ module _ (deck : Deck) (some : 0 < deck.entries) (w : World) (g : IsWhole deck w
               own
               others
               (λ k found.
-              subst (λ (y : StarPart). Hands deck words' (length w.nodes) g.later g.out c.0 (in_hands y (inbox w.medium c.0))) (some_value (left_at p x) k found)
+              subst (λ (y : StarPart). Hands deck words' (length w.nodes) g.later g.out c.0 (in_hands y (inbox w.medium c.0))) (same_Some (left_at p x) k found)
               (hands-words deck words words' (length w.nodes) g.later g.out c.0 (λ q h. same-role h.entry (alone q h) ∙ h.managed) (in_hands p (inbox w.medium c.0)) (g.hands c.0 n p at me.star)))
               (λ m k v ne found star. hands-words deck words words' (length w.nodes) g.later g.out m (λ q h. step.moves.managers h.entry m ne ∙ h.managed) (in_hands v (inbox w.medium m)) (g.hands m k v found star));
           news = still-told refl;
@@ -154,7 +150,7 @@ module _ (deck : Deck) (some : 0 < deck.entries) (w : World) (g : IsWhole deck w
         (comes-finished deck w g c n at w.medium (choices.Leave x) (replies.Kept (interest (word_at words x))) (comes-quiet deck w g c n at w.medium refl refl))
       where
         stays : leave_changes (word_at words x) c ≡ false
-        stays = ap (λ b. has (interest (word_at words x)) c.0 && not b) is ∙ and_off (has (interest (word_at words x)) c.0) false refl
+        stays = ap (λ b. has (interest (word_at words x)) c.0 && not b) is ∙ and_right (has (interest (word_at words x)) c.0) false refl
 
         same : cond (leave_changes (word_at words x) c) (record w.medium { words = words'; rest = awake w.medium c }) w.medium ≡ w.medium
         same = ap (λ b. cond b (record w.medium { words = words'; rest = awake w.medium c }) w.medium) stays

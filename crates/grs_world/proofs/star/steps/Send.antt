@@ -2,7 +2,7 @@
 -- goes to the manager of its entry.
 use Rattle.std.proofs.Common.{◌≡◌, ◌<◌, ◌||◌, ◌&&◌, ℕ, Bool, true, false, not, cond, List, [], ◌∷◌, ◌++◌, length, Option, Some, None, refl, ap, sym, ◌∙◌, subst, arith}
 use Rattle.std.specs.Prelude.{◌==◌, is_some, slice_get}
-use Rattle.std.proofs.lemmas.Bool.{and_parts, eqb-false, eq-eqb}
+use Rattle.std.proofs.lemmas.Bool.{and_parts, eqb-false, eq-eqb, and_from}
 use Rattle.contention_mgr.specs.Manager.{plain, items_of, kept_for, entry_wanted, after_request}
 use Rattle.grs_base.specs.Lists.{owns}
 use Rattle.grs_base.specs.Same.{same_task}
@@ -45,7 +45,6 @@ use Rattle.grs_known.specs.Items.{RunItem, lists, items}
 use Rattle.grs_known.proofs.known.Histories.{made_item}
 use Rattle.grs_known.proofs.known.ItemLaws.{lists-push}
 use Rattle.grs_known.proofs.lists.Owners.{is_among, new-owns}
-use Rattle.grs_known.proofs.lists.Truths.{and_on}
 use Rattle.grs_world.specs.World.{World, carry_out, chosen}
 use Rattle.grs_known.proofs.system.Asking.{IsAskedFor, IsOpenBy, are_sent}
 use Rattle.grs_world.proofs.system.AtNode.{opens_of}
@@ -129,7 +128,7 @@ module _ (deck : Deck) (some : 0 < deck.entries) (w : World) (g : IsWhole deck w
     home =
         let both = and_parts (is_task n.tasks t) (is_of_deck deck t && is_to_send (state_of n.tasks t).phase) may in
         let more = and_parts (is_of_deck deck t) (is_to_send (state_of n.tasks t).phase) both.1 in
-        and_on (t.system.0 == c.0) (is_some (lines_of deck t)) (eq-eqb t.system.0 c.0 (sym (is_task-system n.tasks t both.0) ∙ h.at.good.system)) more.0
+        and_from (t.system.0 == c.0) (is_some (lines_of deck t)) (eq-eqb t.system.0 c.0 (sym (is_task-system n.tasks t both.0) ∙ h.at.good.system)) more.0
 
     waits : is_to_send (state_of n.tasks t).phase ≡ true
     unfolding may_send

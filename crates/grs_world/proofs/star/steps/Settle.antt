@@ -1,6 +1,7 @@
 -- A manager settles the request that it holds first: it answers by its own lists of the entry, which are the history's.
 use Rattle.std.proofs.Common.{◌≡◌, ◌++◌, true, cond, List, [], ◌∷◌, length, Option, Some, None, refl, ap, sym, ◌∙◌, subst}
 use Rattle.std.specs.Prelude.{drop, slice_get}
+use Rattle.std.proofs.lemmas.Option.{same_Some}
 use Rattle.contention_mgr.specs.Manager.{Managed, plain, items_of, kept_for, entry_of_res, entry_wanted, after_request, rank_for}
 use Rattle.grs_base.specs.Lists.{owns}
 use Rattle.grs_base.specs.State.{list_of}
@@ -9,7 +10,6 @@ use Rattle.grs_base.specs.declared.resource.TaskId.{TaskId}
 use Rattle.grs_known.specs.Items.{RunItem, history, items, lists}
 use Rattle.grs_known.proofs.known.Histories.{MayFollow, made_item}
 use Rattle.grs_known.proofs.known.ItemLaws.{lists-push}
-use Rattle.grs_known.proofs.lists.Facts.{some_value}
 use Rattle.grs_known.proofs.lists.Owners.{is_among, new-owns}
 use Rattle.grs_medium.specs.Apply.{row, mail_row}
 use Rattle.grs_medium.specs.Inboxes.{with_mail}
@@ -49,7 +49,7 @@ rank-plain (Some m) t (Look first count f) gives = absurd (cc)
 
 first-of : (qs : List Req) (q : Req) → slice_get qs 0 ≡ Some q → qs ≡ q ∷ drop 1 qs
 first-of [] q is = absurd (cc)
-first-of (z ∷ qs) q is = ap (λ y. y ∷ qs) (some_value z q is)
+first-of (z ∷ qs) q is = ap (λ y. y ∷ qs) (same_Some z q is)
 
 module _ (deck : Deck) (w : World) (g : IsWhole deck w) (c : SysId) (n : Node) (at : slice_get w.nodes c.0 ≡ Some n) where
   abbrev me : IsMember deck w.medium.words (all_lists w) c.0 n

@@ -1,8 +1,9 @@
 -- A system in star mode takes the first mail of its inbox.
 use Rattle.std.proofs.Common.{◌≡◌, ◌≢◌, ◌<◌, inl, inr, ℕ, Bool, true, false, cond, not, ◌&&◌, ◌||◌, List, [], ◌∷◌, ◌++◌, length, Some, refl, ap, sym, ◌∙◌, subst, arith, append_assoc}
 use Rattle.std.specs.Prelude.{drop, filter, slice_get, ◌==◌}
-use Rattle.std.proofs.lemmas.Bool.{and_parts, eqb-true, eq-eqb}
+use Rattle.std.proofs.lemmas.Bool.{and_parts, eqb-true, eq-eqb, and_from, not-true, or_parts}
 use Rattle.std.proofs.lemmas.List.{get_or-set_same, get_or-set_other}
+use Rattle.std.proofs.lemmas.Option.{slice_get_within, same_Some}
 use Rattle.grs_base.specs.Same.{same_task}
 use Rattle.grs_base.specs.declared.resource.Res.{Res}
 use Rattle.grs_base.specs.declared.resource.SysId.{SysId}
@@ -26,9 +27,8 @@ use Rattle.star_client.specs.Client.{after_mail}
 use Rattle.task_state.specs.Replies.{tell_control}
 use Rattle.task_state.specs.View.{TasksView}
 use Rattle.grs_known.specs.Items.{RunItem, mine, history, items}
-use Rattle.grs_known.proofs.lists.Facts.{slice_get-within, some_value}
 use Rattle.grs_known.proofs.lists.Owners.{is_among}
-use Rattle.grs_known.proofs.lists.Truths.{and_on, no_truth, false_by, not_true, or_false, task_swap}
+use Rattle.grs_known.proofs.lists.Truths.{no_truth, false_by, task_swap}
 use Rattle.grs_world.specs.World.{World, Turnout, chosen}
 use Rattle.grs_known.proofs.told.News.{ToldNews, told-news}
 use Rattle.grs_known.proofs.system.Says.{askers, stand_apart, none}
@@ -100,16 +100,16 @@ all-fewer deck words count later out m [] q ys h = h.1
 all-fewer deck words count later out m (x ∷ xs) q ys h = (h.0, all-fewer deck words count later out m xs q ys h.1)
 
 among-fewer : (t : TaskId) (xs : List Req) (q : Req) (ys : List Req) → is_among t (askers (xs ++ q ∷ ys)) ≡ false → is_among t (askers (xs ++ ys)) ≡ false
-among-fewer t [] q ys h = (or_false (same_task t q.task) (is_among t (askers ys)) h).1
+among-fewer t [] q ys h = (or_parts (same_task t q.task) (is_among t (askers ys)) h).1
 among-fewer t (x ∷ xs) q ys h =
-    let both = or_false (same_task t x.task) (is_among t (askers (xs ++ q ∷ ys))) h in
+    let both = or_parts (same_task t x.task) (is_among t (askers (xs ++ q ∷ ys))) h in
     ap (λ b. b || is_among t (askers (xs ++ ys))) both.0 ∙ among-fewer t xs q ys both.1
 
 apart-fewer : (xs : List Req) (q : Req) (ys : List Req) → stand_apart (askers (xs ++ q ∷ ys)) ≡ true → stand_apart (askers (xs ++ ys)) ≡ true
 apart-fewer [] q ys h = (and_parts (not (is_among q.task (askers ys))) (stand_apart (askers ys)) h).1
 apart-fewer (x ∷ xs) q ys h =
     let both = and_parts (not (is_among x.task (askers (xs ++ q ∷ ys)))) (stand_apart (askers (xs ++ q ∷ ys))) h in
-    and_on (not (is_among x.task (askers (xs ++ ys)))) (stand_apart (askers (xs ++ ys))) (ap not (among-fewer x.task xs q ys (not_true (is_among x.task (askers (xs ++ q ∷ ys))) both.0))) (apart-fewer xs q ys both.1)
+    and_from (not (is_among x.task (askers (xs ++ ys)))) (stand_apart (askers (xs ++ ys))) (ap not (among-fewer x.task xs q ys (not-true (is_among x.task (askers (xs ++ q ∷ ys))) both.0))) (apart-fewer xs q ys both.1)
 
 -- ---- the first mail of the inbox is taken
 module _ (deck : Deck) (w : World) (g : IsWhole deck w) (c : SysId) (n : Node) (at : slice_get w.nodes c.0 ≡ Some n) (mail : Mail) (rest : List Mail) (is : inbox w.medium c.0 ≡ mail ∷ rest) where
@@ -124,7 +124,7 @@ module _ (deck : Deck) (w : World) (g : IsWhole deck w) (c : SysId) (n : Node) (
   to v q = record { medium = took; step = record { node = record n { tasks = v; star = Some q }; fixed = [] } }
 
   here_box : c.0 < length w.medium.inboxes
-  here_box = let k = slice_get-within w.nodes c.0 n at in omega (arith, k, g.roles.systems, g.roles.inboxes)
+  here_box = let k = slice_get_within w.nodes c.0 n at in omega (arith, k, g.roles.systems, g.roles.inboxes)
 
   own_box : inbox took c.0 ≡ rest
   own_box = get_or-set_same w.medium.inboxes c.0 (drop 1 (inbox w.medium c.0)) [] here_box ∙ ap (drop 1) is
@@ -143,7 +143,7 @@ module _ (deck : Deck) (w : World) (g : IsWhole deck w) (c : SysId) (n : Node) (
         (λ s k ne found. subst (λ ms. IsSystem deck w.medium.words T s k ms (later s) (out s)) (sym (other_box s ne))
         (subst (λ xs. IsSystem deck w.medium.words T s k (inbox w.medium s) xs (out s)) (sym (same_later s ne))
         (subst (λ qs. IsSystem deck w.medium.words T s k (inbox w.medium s) (g.later s) qs) (sym (same_out s ne)) (g.system s k found))))
-        (λ p found. subst (λ z. Hands deck w.medium.words (length w.nodes) later out c.0 (in_hands z (inbox took c.0))) (some_value q p found)
+        (λ p found. subst (λ z. Hands deck w.medium.words (length w.nodes) later out c.0 (in_hands z (inbox took c.0))) (same_Some q p found)
         (subst (λ ms. Hands deck w.medium.words (length w.nodes) later out c.0 (in_hands q ms)) (sym own_box) (kept c.0 (in_hands q rest) own)))
         (λ m k p ne found star. subst (λ ms. Hands deck w.medium.words (length w.nodes) later out m (in_hands p ms)) (sym (other_box m ne)) (kept m (in_hands p (inbox w.medium m)) (g.hands m k p found star)));
     news = subst (λ U. ToldNews deck c.0 (history U) n.tasks.told v.told) (sym (items-none w.fixed c)) (told-news goes.told);

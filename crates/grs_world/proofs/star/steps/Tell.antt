@@ -2,8 +2,9 @@
 use Rattle.std.proofs.Common.{◌≡◌, ◌≢◌, ℕ, Bool, true, false, not, List, [], ◌∷◌, ◌++◌, length, Option, Some, None, refl, ap, sym, ◌∙◌, subst, arith}
 use Rattle.std.specs.Prelude.{◌==◌, is_some, slice_get}
 use Rattle.std.specs.Option.{option_map}
-use Rattle.std.proofs.lemmas.Bool.{and_parts, eqb-true, eqb-false, eq-eqb}
+use Rattle.std.proofs.lemmas.Bool.{and_parts, eqb-true, eqb-false, eq-eqb, and_from, not-true}
 use Rattle.std.proofs.lemmas.List.{get_or-set_same, get_or-set_other}
+use Rattle.std.proofs.lemmas.Option.{slice_get_within, same_Some}
 use Rattle.contention_mgr.specs.Manager.{Ranked, Managed, plain, items_of, first_untold, owner_of, entry_of_res, managed_at}
 use Rattle.contention_mgr.proofs.LawProofs.{first_is_untold}
 use Rattle.contention_mgr.proofs.OwnLemmas.{first_untold_owns}
@@ -28,8 +29,7 @@ use Rattle.lock_structure.specs.Laws.{is_interested}
 use Rattle.grs_known.specs.Items.{RunItem, lists, items}
 use Rattle.grs_known.proofs.known.Histories.{owns-may}
 use Rattle.grs_known.proofs.lists.All.{owns-has}
-use Rattle.grs_known.proofs.lists.Facts.{slice_get-within, some_value}
-use Rattle.grs_known.proofs.lists.Truths.{and_on, false_by, not_true}
+use Rattle.grs_known.proofs.lists.Truths.{false_by}
 use Rattle.grs_world.specs.World.{World, Turnout, chosen}
 use Rattle.grs_known.proofs.system.Says.{is_home_at}
 use Rattle.grs_known.proofs.told.News.{still-told}
@@ -61,7 +61,7 @@ module _ (deck : Deck) (words : List ℕ) (L : State) (s : ℕ) (p : StarPart) (
     here = under-has deck.entries e L y.res y.elem.task (owns-has (list_of (under deck.entries e L) y.res) y.elem.task by_manager)
 
     elsewhere : (p.manager.system.0 == y.elem.task.system.0) ≡ false
-    elsewhere = not_true (p.manager.system.0 == y.elem.task.system.0) (and_parts y.untold (not (p.manager.system.0 == y.elem.task.system.0)) (first_is_untold p.manager.system.0 m.items y first).2).1
+    elsewhere = not-true (p.manager.system.0 == y.elem.task.system.0) (and_parts y.untold (not (p.manager.system.0 == y.elem.task.system.0)) (first_is_untold p.manager.system.0 m.items y first).2).1
 
     is-owner : IsOwner deck words L s e y.elem.task y.res
     is-owner = record {
@@ -76,7 +76,7 @@ module _ (deck : Deck) (words : List ℕ) (L : State) (s : ℕ) (p : StarPart) (
     where
       by_first : (m : Managed) → managed_at p.manager e ≡ Some m → (o : Option Ranked) → first_untold p.manager.system.0 m.items ≡ o → option_map owner_of o ≡ Some x → IsOwner deck words L s e x.0 x.1
       by_first m is None first h = absurd (cc)
-      by_first m is (Some y) first h = subst (λ (z : TaskId × Res). IsOwner deck words L s e z.0 z.1) (some_value (owner_of y) x h) (is-owner m is y first)
+      by_first m is (Some y) first h = subst (λ (z : TaskId × Res). IsOwner deck words L s e z.0 z.1) (same_Some (owner_of y) x h) (is-owner m is y first)
 
       by_entry : (o : Option Managed) → managed_at p.manager e ≡ o → option_map owner_of (first_untold p.manager.system.0 (items_of o)) ≡ Some x → IsOwner deck words L s e x.0 x.1
       by_entry None is h = absurd (cc)
@@ -105,7 +105,7 @@ module _ (deck : Deck) (w : World) (g : IsWhole deck w) (c : SysId) (n : Node) (
     sent_on = record w.medium { inboxes = with_mail w.medium.inboxes t.system.0 (Granted t r); rest = flags }
 
     its_box : (k : Node) → slice_get w.nodes t.system.0 ≡ Some k → inbox sent_on t.system.0 ≡ inbox w.medium t.system.0 ++ Granted t r ∷ []
-    its_box k found = get_or-set_same w.medium.inboxes t.system.0 (inbox w.medium t.system.0 ++ Granted t r ∷ []) [] (let there = slice_get-within w.nodes t.system.0 k found in omega (arith, there, g.roles.systems, g.roles.inboxes))
+    its_box k found = get_or-set_same w.medium.inboxes t.system.0 (inbox w.medium t.system.0 ++ Granted t r ∷ []) [] (let there = slice_get_within w.nodes t.system.0 k found in omega (arith, there, g.roles.systems, g.roles.inboxes))
 
     other_box : (u : ℕ) → u ≢ t.system.0 → inbox sent_on u ≡ inbox w.medium u
     other_box u ne = get_or-set_other w.medium.inboxes t.system.0 u (inbox w.medium t.system.0 ++ Granted t r ∷ []) [] ne
@@ -117,7 +117,7 @@ module _ (deck : Deck) (w : World) (g : IsWhole deck w) (c : SysId) (n : Node) (
     known = (and_parts (is_some (lines_of deck t)) _ (owns-may deck T r t g.right.asks owner.owned)).0
 
     home : is_home_at deck t.system.0 t ≡ true
-    home = and_on (t.system.0 == t.system.0) (is_some (lines_of deck t)) (eq-eqb t.system.0 t.system.0 refl) known
+    home = and_from (t.system.0 == t.system.0) (is_some (lines_of deck t)) (eq-eqb t.system.0 t.system.0 refl) known
 
     interested : is_interested w.medium.words entry t.system.0 ≡ true
     interested = sym (ap (near_at words t.system.0) owner.at) ∙ near-has deck words (lists T) r t g.near (owns-has (list_of (lists T) r) t owner.owned)
@@ -160,7 +160,7 @@ module _ (deck : Deck) (w : World) (g : IsWhole deck w) (c : SysId) (n : Node) (
 
       hands_own : (k : StarPart) → Some q ≡ Some k → Hands deck w.medium.words (length w.nodes) g.later g.out c.0 (in_hands k (inbox sent_on c.0))
       hands_own k is =
-          subst (Hands deck words (length w.nodes) g.later g.out c.0) (ap (λ ms. p.held ++ requests_in ms) (sym own_box) ∙ (ap (λ qs. qs ++ requests_in (inbox sent_on c.0)) (sym held) ∙ ap (λ (z : StarPart). in_hands z (inbox sent_on c.0)) (some_value q k is)))
+          subst (Hands deck words (length w.nodes) g.later g.out c.0) (ap (λ ms. p.held ++ requests_in ms) (sym own_box) ∙ (ap (λ qs. qs ++ requests_in (inbox sent_on c.0)) (sym held) ∙ ap (λ (z : StarPart). in_hands z (inbox sent_on c.0)) (same_Some q k is)))
           (g.hands c.0 n p at (g.roles.node c.0 n at).star)
 
       tells : Comes deck w c n after
