@@ -9,3 +9,4 @@ pub mod Elements
 pub mod Requests
 pub mod Parts
 pub mod All
+pub mod Placed

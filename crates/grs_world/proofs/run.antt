@@ -1,4 +1,5 @@
 -- The run: what the systems and the message come to together.
+pub mod Each
 pub mod Laps
 pub mod LapsTold
 pub mod Came

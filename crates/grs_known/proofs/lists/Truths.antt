@@ -1,5 +1,5 @@
 -- Truth values: small laws on tests.
-use Rattle.std.proofs.Common.{◌≡◌, Bool, true, false, not, ◌&&◌, ◌||◌, refl, subst}
+use Rattle.std.proofs.Common.{◌≡◌, Bool, true, false, ◌||◌, refl, subst}
 use Rattle.grs_base.specs.Same.{same_task}
 use Rattle.grs_base.specs.declared.resource.TaskId.{TaskId}
 use Rattle.grs_base.proofs.SameLaws.{same_task-exact, same_task-itself}

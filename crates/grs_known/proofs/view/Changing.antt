@@ -1,8 +1,8 @@
 -- The view: what each event is in it, and what it shows at the Switch.
-use Rattle.std.proofs.Common.{◌≡◌, ◌≢◌, ℕ, Bool, true, false, cond, ◌&&◌, List, [], ◌∷◌, Option, Some, None, refl, ap, sym, ◌∙◌, subst}
+use Rattle.std.proofs.Common.{◌≡◌, ℕ, Bool, true, false, cond, ◌&&◌, List, [], ◌∷◌, Option, Some, None, refl, ap, sym, ◌∙◌, subst}
 use mathlib.Core.Path.{fun_ext}
 use Rattle.std.specs.Prelude.{eqb}
-use Rattle.std.proofs.lemmas.Bool.{eqb-true, eqb-false, eq-eqb}
+use Rattle.std.proofs.lemmas.Bool.{eq-eqb}
 use Rattle.grs_base.specs.Same.{same_res}
 use Rattle.grs_base.specs.State.{State, list_of, is_systems}
 use Rattle.grs_base.specs.declared.resource.Res.{Res}
@@ -11,14 +11,7 @@ use Rattle.grs_known.specs.Items.{RunItem, lists, lists_from}
 use Rattle.grs_known.specs.Change.{put_at, StarWords, StarStore, Role, Ring, Star, under, least_system, is_manager, manager_of, is_managed, managed_part, store_of, store_shown, view, kept_by, kept_at, systems_part, TurnShowsNothing, TaskShowsNothing, StarShowsItself, SwitchShowsHistory, KeptIsShown}
 use Rattle.grs_known.proofs.known.Parts.{list_of-systems}
 use Rattle.grs_known.proofs.lists.Parts.{list_of-part}
-
--- ---- one place of a function
-pub put_both : {A B : Type 0} (f : ℕ → A) (g : ℕ → B) (s u : ℕ) (x : A) (y : B) (P : A → B → Type 0) → (u ≡ s → P x y) → (u ≢ s → P (f u) (g u)) → P (put_at f s x u) (put_at g s y u)
-put_both f g s u x y P here there = go (eqb u s) refl
-  where
-    go : (b : Bool) → eqb u s ≡ b → P (cond b x (f u)) (cond b y (g u))
-    go true e = here (eqb-true u s e)
-    go false e = there (eqb-false u s e)
+use Rattle.grs_known.proofs.lists.Placed.{put_both}
 
 -- ---- what a manager keeps of a table
 list_of-managed : (slot : Res → ℕ) (s : ℕ) (table : State) (r : Res) → is_systems r ≡ true → is_manager s (manager_of slot table (slot r)) ≡ true → list_of (managed_part slot s table) r ≡ list_of table r

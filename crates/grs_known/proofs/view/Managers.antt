@@ -1,5 +1,5 @@
 -- A manager that carries a request out keeps the stores those of the history.
-use Rattle.std.proofs.Common.{◌≡◌, ◌≢◌, ℕ, Bool, true, false, cond, List, [], ◌∷◌, ◌++◌, Option, Some, None, refl, ap, sym, ◌∙◌, subst}
+use Rattle.std.proofs.Common.{◌≡◌, ℕ, Bool, true, false, cond, List, [], ◌∷◌, ◌++◌, Option, Some, None, refl, ap, sym, ◌∙◌, subst}
 use Rattle.grs_base.specs.Same.{same_res}
 use Rattle.grs_base.specs.Lists.{list_after, list_without, decide_enq, is_owner, standing_of}
 use Rattle.grs_base.specs.State.{State, list_of, without}
@@ -13,9 +13,9 @@ use Rattle.grs_wire.specs.declared.request.Want.{Want}
 use Rattle.grs_wire.specs.declared.request.Want.TheVariants as wants
 use Rattle.grs_wire.proofs.WantLaws.{by_res, list_of-want_other}
 use Rattle.grs_known.specs.Items.{lists}
-use Rattle.grs_known.specs.Change.{StarStore, put_at, is_manager, ManagerFollows}
+use Rattle.grs_known.specs.Change.{StarStore, is_manager, ManagerFollows}
 use Rattle.grs_known.proofs.known.ItemLaws.{lists-push}
-use Rattle.grs_known.proofs.view.Changing.{put_both}
+use Rattle.grs_known.proofs.lists.Placed.{put_one}
 
 -- ---- what a request does to the list of its resource depends on that list alone, and other lists stay
 abbrev EditsOne : Res → (State → State) → Type 0
@@ -66,9 +66,6 @@ other_managed : (slot : Res → ℕ) (manager : ℕ → Option ℕ) (p r : Res) 
 other_managed slot manager p r o m at is apart = by_res p r _
     (λ same. absurd (apart (sym is ∙ ap (λ q. manager (slot q)) same ∙ at)))
     (λ other. other)
-
-put_one : {A : Type 0} (f : ℕ → A) (s u : ℕ) (x : A) (P : A → Type 0) → (u ≡ s → P x) → (u ≢ s → P (f u)) → P (put_at f s x u)
-put_one f s u x P here there = put_both f f s u x x (λ a b. P a) here there
 
 pub manager_follows : ManagerFollows
 manager_follows slot T v m act x q r asked wants at c a =

@@ -1,5 +1,5 @@
 -- What comes of an event of a system, by cases, and what holds of all that stands in the message.
-use Rattle.std.proofs.Common.{◌≡◌, cond, Bool, true, false, ◌&&◌, ℕ, zero, suc, List, [], ◌∷◌, ◌++◌, length, map, take, Option, Some, None, refl, sym, subst, append-nil, append_assoc}
+use Rattle.std.proofs.Common.{◌≡◌, cond, Bool, true, false, ◌&&◌, ℕ, zero, suc, List, [], ◌∷◌, ◌++◌, length, map, take, Option, Some, None, refl, sym, subst}
 use Rattle.std.specs.Prelude.{filter, slice_get, not, ◌==◌}
 use Rattle.std.specs.List.{list_all}
 use Rattle.std.proofs.lemmas.Bool.{and_parts, eqb-true}
@@ -7,11 +7,10 @@ use Rattle.grs_base.specs.declared.resource.SysId.{SysId}
 use Rattle.grs_base.specs.declared.resource.TaskId.{TaskId}
 use Rattle.grs_medium.specs.Apply.{reply_to, medium_after, apply, row, turn_row, rest_row, resting}
 use Rattle.grs_medium.specs.Medium.{MediumState, live, all_rest, medium_at_end}
-use Rattle.grs_node.specs.Node.{Node, Step, finish, finish_quiet, read_entries, put_in, may_go, is_pending, most_additions}
-use Rattle.grs_node.proofs.InRing.{ring_prepare, ring_finish, prepare-ring}
-use Rattle.grs_node.specs.declared.prepared.Prepared.{Prepared}
-use Rattle.grs_node.specs.declared.prepared.Prepared.TheVariants.{Quiet, Call, Nothing}
-use Rattle.grs_wire.specs.Masks.{has, only}
+use Rattle.grs_node.specs.Node.{Node, Step, finish, finish_quiet, read_entries, put_in, may_go, most_additions}
+use Rattle.grs_node.proofs.InRing.{ring_finish}
+use Rattle.grs_node.specs.declared.prepared.Prepared.TheVariants.{Call}
+use Rattle.grs_wire.specs.Masks.{only}
 use Rattle.grs_wire.specs.declared.deck.Choice.{Choice}
 use Rattle.grs_wire.specs.declared.deck.Choice.TheVariants as choices
 use Rattle.grs_wire.specs.declared.deck.Deck.{Deck}
@@ -27,10 +26,11 @@ use Rattle.grs_wire.specs.declared.request.Req.{Req}
 use Rattle.grs_wire.proofs.WantLaws.{by_test}
 use Rattle.rsa_message.specs.Message.{Message, is_at, unseen, opened, never_opened, left_by, cleared, stamped, turn_reply, turned, turned_open, turned_closed, rest_after_turn}
 use Rattle.grs_known.proofs.lists.Facts.{all-behind, take-none}
-use Rattle.grs_world.specs.World.{World, Turnout, carry_out, chosen, placed, counted, happens_at, happens, run, first_world}
+use Rattle.grs_world.specs.World.{World, Turnout, carry_out, chosen, placed, counted, happens, run, first_world}
 use Rattle.grs_world.proofs.run.InRing.{AreRing, all_ring, finished-ring}
-use Rattle.grs_world.proofs.run.Runs.{GoodWorld, run-push}
+use Rattle.grs_world.proofs.run.Runs.{GoodWorld}
 use Rattle.grs_world.proofs.run.Sound.{good_run}
+use Rattle.grs_world.proofs.run.Each.{each_answer, each_prepared, each_event, each_run}
 use Rattle.grs_known.proofs.system.Says.{is_home_at, own_requests}
 
 -- What came of an event of a system: nothing that its tasks or the message would show, a task that went on, or its
@@ -52,10 +52,7 @@ module _ (deck : Deck) (w : World) (s : SysId) (n : Node) (shut : w.medium.messa
   ComesBy choice a = Comes (record { medium = a.1; step = ring_finish deck n a.0 })
 
   came_call : (choice : Choice) (call : CallOfMedium) → ComesBy choice (row w.medium s call.act) → ComesBy choice (apply w.medium s call)
-  unfolding apply
-  came_call choice call here =
-      by_test (ComesBy choice) (has w.medium.removed s.0) (replies.Removed, w.medium) _ (λ r. still w.medium refl)
-      (λ r. by_test (ComesBy choice) (call.known == w.medium.removed) (row w.medium s call.act) (replies.Stale w.medium.removed, w.medium) (λ k. here) (λ k. nothing w.medium (record n { known = w.medium.removed }) refl refl))
+  came_call choice call here = each_answer w.medium s call (ComesBy choice) (still w.medium refl) (nothing w.medium (record n { known = w.medium.removed }) refl refl) here
 
   came_rest : ComesBy choices.Rest (row w.medium s acts.Rest)
   unfolding row rest_row
@@ -85,33 +82,17 @@ module _ (deck : Deck) (w : World) (s : SysId) (n : Node) (shut : w.medium.messa
   unfolding carry_out
   called choice call here = subst (λ (st : Step). Comes (record { medium = medium_after w.medium s call; step = st })) (sym (finished-ring deck n choice (Some (reply_to w.medium s call)) alone)) here
 
-  by_ring : (choice : Choice) → Comes (carry_out deck w.medium s n choice (ring_prepare deck n choice))
-  unfolding carry_out finish
-  by_ring (choices.Task t) = by_test (λ p. Comes (carry_out deck w.medium s n (choices.Task t) p)) (may_go deck n t) Quiet Nothing (λ m. went_on t m) (λ m. still w.medium refl)
-  by_ring choices.Turn = called choices.Turn (record { known = n.known; act = acts.Turn (take most_additions n.outbox) }) (came_call choices.Turn (record { known = n.known; act = acts.Turn (take most_additions n.outbox) }) came_turn)
-  by_ring choices.Rest = by_test (λ p. Comes (carry_out deck w.medium s n choices.Rest p)) (is_pending deck n) Nothing (Call (record { known = n.known; act = acts.Rest }))
-      (λ t. still w.medium refl) (λ t. called choices.Rest (record { known = n.known; act = acts.Rest }) (came_call choices.Rest (record { known = n.known; act = acts.Rest }) came_rest))
-  by_ring (choices.Send t) = still w.medium refl
-  by_ring choices.Take = still w.medium refl
-  by_ring choices.Settle = still w.medium refl
-  by_ring (choices.Tell x) = still w.medium refl
-  by_ring (choices.Leave x) = still w.medium refl
-  by_ring choices.Switch = still w.medium refl
-  by_ring (choices.Purge x) = still w.medium refl
-
   came : (choice : Choice) → Comes (chosen deck w.medium s n choice)
-  unfolding chosen
-  came choice = subst (λ (p : Prepared). Comes (carry_out deck w.medium s n choice p)) (sym (prepare-ring deck n choice alone)) (by_ring choice)
+  unfolding chosen carry_out finish
+  came choice = each_prepared deck n (λ c p. Comes (carry_out deck w.medium s n c p)) alone (λ t m. went_on t m)
+      (called choices.Turn (record { known = n.known; act = acts.Turn (take most_additions n.outbox) }) (came_call choices.Turn (record { known = n.known; act = acts.Turn (take most_additions n.outbox) }) came_turn))
+      (called choices.Rest (record { known = n.known; act = acts.Rest }) (came_call choices.Rest (record { known = n.known; act = acts.Rest }) came_rest))
+      (λ c. still w.medium refl) choice
 
--- What holds where an event is only counted, and whatever comes of it at a system, holds behind each event.
-pub each_event : (deck : Deck) (w : World) (e : Event) (P : World → Type 0) → (w.medium.message.closed ≡ true → w.medium.message.holder ≡ None) → AreRing w.nodes → P (counted w)
+-- What holds where an event is only counted, and whatever comes of it at a system, holds behind the event.
+pub each_came : (deck : Deck) (w : World) (e : Event) (P : World → Type 0) → (w.medium.message.closed ≡ true → w.medium.message.holder ≡ None) → AreRing w.nodes → P (counted w)
     → ((n : Node) (o : Turnout) → slice_get w.nodes e.system.0 ≡ Some n → Came deck w e.system n o → P (placed w e.system n o)) → P (happens deck w e)
-unfolding happens happens_at
-each_event deck w e P shut ring idle comes = go (slice_get w.nodes e.system.0) refl
-  where
-    go : (o : Option Node) → slice_get w.nodes e.system.0 ≡ o → P (happens_at deck w e o)
-    go None at = idle
-    go (Some n) at = by_test P (has w.medium.removed e.system.0) (counted w) (placed w e.system n (chosen deck w.medium e.system n e.choice)) (λ r. idle) (λ r. comes n _ at (came deck w e.system n shut (ring e.system.0 n at) e.choice))
+each_came deck w e P shut ring idle comes = each_event deck w e P idle (λ n at. comes n _ at (came deck w e.system n shut (ring e.system.0 n at) e.choice))
 
 -- ---- what stands in the message
 -- An entry of the message is a request of a task of the system that put it in.
@@ -146,7 +127,7 @@ home_put deck c number mask (suc k) (q ∷ qs) h = (eqb-true q.task.system.0 c.0
 module _ (deck : Deck) (ring : deck.star ≡ false) where
   holds_next : (es : List Event) (e : Event) → AllHome (run deck es).medium.message.entries → AllHome (happens deck (run deck es) e).medium.message.entries
   unfolding placed
-  holds_next es e h = each_event deck w e (λ (x : World). AllHome x.medium.message.entries) g.message.no_turn (all_ring deck ring es) h by_case
+  holds_next es e h = each_came deck w e (λ (x : World). AllHome x.medium.message.entries) g.message.no_turn (all_ring deck ring es) h by_case
     where
       w : World
       w = run deck es
@@ -163,15 +144,9 @@ module _ (deck : Deck) (ring : deck.star ≡ false) where
           (home_append (cleared e.system old.entries) (stamped old.next e.system (live (run deck es).medium) (take most_additions n.outbox)) (home_cleared e.system old.entries h)
           (home_put deck e.system old.next (live (run deck es).medium) most_additions n.outbox (all-behind (λ q. is_home_at deck e.system.0 q.task) (own_requests e.system.0 (g.later e.system.0)) n.outbox ((g.systems e.system.0 n at).1).homes)))
 
-  holds_from : (done es : List Event) → AllHome (run deck done).medium.message.entries → AllHome (run deck (done ++ es)).medium.message.entries
-  holds_from done [] h = subst (λ xs. AllHome (run deck xs).medium.message.entries) (sym (append-nil done)) h
-  holds_from done (e ∷ es) h =
-      subst (λ xs. AllHome (run deck xs).medium.message.entries) (append_assoc done (e ∷ []) es)
-      (holds_from (done ++ e ∷ []) es (subst (λ (x : World). AllHome x.medium.message.entries) (sym (run-push deck done (first_world deck) e)) (holds_next done e h)))
-
   first_holds : AllHome (first_world deck).medium.message.entries
   unfolding first_world
   first_holds = by_test (λ (m : Message). AllHome m.entries) deck.star (never_opened (length deck.systems)) (opened (length deck.systems)) (λ b. tt) (λ b. tt)
 
   pub all_home : (es : List Event) → AllHome (run deck es).medium.message.entries
-  all_home es = holds_from [] es first_holds
+  all_home = each_run deck (λ es (w : World). AllHome w.medium.message.entries) first_holds holds_next

@@ -1,17 +1,15 @@
 -- A request comes back last: the message goes round in each world that a run reaches, so what an event gives a system
 -- of its own is left to it alone.
 use Rattle.std.proofs.Common.{ℕ, ◌≡◌, Bool, true, false, cond, ◌&&◌, List, [], ◌∷◌, ◌++◌, length, Option, Some, None, refl, sym, ap, subst, arith}
-use Rattle.std.specs.Prelude.{slice_get, take, ◌==◌}
+use Rattle.std.specs.Prelude.{slice_get, take}
 use Rattle.grs_base.specs.declared.resource.SysId.{SysId}
-use Rattle.grs_wire.specs.Masks.{has, others}
+use Rattle.grs_wire.specs.Masks.{others}
 use Rattle.grs_wire.specs.declared.deck.Choice.{Choice}
-use Rattle.grs_wire.specs.declared.deck.Choice.TheVariants as choices
 use Rattle.grs_wire.specs.declared.deck.Deck.{Deck}
 use Rattle.grs_wire.specs.declared.deck.Event.{Event}
 use Rattle.grs_wire.specs.declared.medium.Act.{Act}
 use Rattle.grs_wire.specs.declared.medium.Act.TheVariants.{Turn, Rest}
-use Rattle.grs_wire.specs.declared.medium.Reply.{Reply}
-use Rattle.grs_wire.specs.declared.medium.Reply.TheVariants.{Turned, NotYours, Resting, Over, Removed, Stale}
+use Rattle.grs_wire.specs.declared.medium.Reply.TheVariants.{Turned, NotYours, Resting, Over}
 use Rattle.grs_wire.specs.declared.medium.RingBody.TheVariants.{Request}
 use Rattle.grs_wire.specs.declared.medium.RingEntry.{RingEntry}
 use Rattle.grs_wire.specs.declared.request.Req.{Req}
@@ -19,14 +17,12 @@ use Rattle.grs_wire.proofs.WantLaws.{by_test}
 use Rattle.rsa_message.specs.Message.{Message, is_at, opened, never_opened, unseen, turn_reply, turned, turned_open, turned_closed}
 use Rattle.rsa_message.proofs.OrderLaws.{is_at-exact}
 use Rattle.grs_medium.specs.Medium.{MediumState, first_medium, systems_of, live, all_rest, medium_at_end}
-use Rattle.grs_medium.specs.Apply.{turn_row, resting, rest_row, row, apply, reply_to, medium_after}
-use Rattle.grs_node.specs.Node.{Node, most_additions, may_go, is_pending, prepare}
-use Rattle.grs_node.specs.declared.prepared.Prepared.{Prepared}
-use Rattle.grs_node.specs.declared.prepared.Prepared.TheVariants.{Quiet, Call, Nothing}
-use Rattle.grs_node.proofs.InRing.{ring_prepare, prepare-ring}
-use Rattle.grs_world.proofs.run.InRing.{AreRing, happens_ring, all_ring}
+use Rattle.grs_medium.specs.Apply.{turn_row, resting, rest_row, row, reply_to, medium_after}
+use Rattle.grs_node.specs.Node.{Node, most_additions, prepare}
+use Rattle.grs_world.proofs.run.InRing.{AreRing, all_ring}
+use Rattle.grs_world.proofs.run.Each.{each_answer, each_prepared, each_event, each_run}
 use Rattle.grs_world.specs.Laps.{OnlyLeft, ComesBackLast, given_by, given_when, given_at, ProcessedLast}
-use Rattle.grs_world.specs.World.{World, first_world, carry_out, chosen, counted, placed, happens_at, happens, run_from, run}
+use Rattle.grs_world.specs.World.{World, first_world, carry_out, chosen, placed, happens, run}
 use Rattle.grs_world.proofs.message.LapsMessage.{Round, turned_round, left_at_home, last_at_home, unseen_awaited}
 
 -- This holds of the medium in a run.
@@ -78,61 +74,25 @@ rest_goes : (m : MediumState) (c : SysId) → Goes m → Goes (row m c Rest).1
 unfolding row rest_row
 rest_goes m c g = record { whole = g.whole; round = g.round; unused = g.unused }
 
-call_goes : (m : MediumState) (c : SysId) (known : ℕ) (act : Act) → Goes m → Goes (row m c act).1 → Goes (medium_after m c (record { known = known; act = act }))
-unfolding apply
-call_goes m c known act g after = go (has m.removed c.0) (known == m.removed)
-  where
-    go : (gone same : Bool) → Goes (cond gone (Removed, m) (cond same (row m c act) (Stale m.removed, m))).1
-    go true same = g
-    go false true = after
-    go false false = g
-
 -- ---- an event
-either_goes : (deck : Deck) (m : MediumState) (s : SysId) (n : Node) (choice : Choice) (b : Bool) (p q : Prepared) → Goes (carry_out deck m s n choice p).medium → Goes (carry_out deck m s n choice q).medium
-    → Goes (carry_out deck m s n choice (cond b p q)).medium
-either_goes deck m s n choice true p q g h = g
-either_goes deck m s n choice false p q g h = h
-
-ring_goes : (deck : Deck) (m : MediumState) (s : SysId) (n : Node) (choice : Choice) → Goes m → Goes (carry_out deck m s n choice (ring_prepare deck n choice)).medium
-unfolding carry_out
-ring_goes deck m s n (choices.Task t) g = either_goes deck m s n (choices.Task t) (may_go deck n t) Quiet Nothing g g
-ring_goes deck m s n choices.Turn g = call_goes m s n.known (Turn (take most_additions n.outbox)) g (turn_goes m s (take most_additions n.outbox) g)
-ring_goes deck m s n choices.Rest g =
-    either_goes deck m s n choices.Rest (is_pending deck n) Nothing (Call (record { known = n.known; act = Rest })) g (call_goes m s n.known Rest g (rest_goes m s g))
-ring_goes deck m s n (choices.Send t) g = g
-ring_goes deck m s n choices.Take g = g
-ring_goes deck m s n choices.Settle g = g
-ring_goes deck m s n (choices.Tell e) g = g
-ring_goes deck m s n (choices.Leave e) g = g
-ring_goes deck m s n choices.Switch g = g
-ring_goes deck m s n (choices.Purge t) g = g
-
 chosen_goes : (deck : Deck) (m : MediumState) (s : SysId) (n : Node) (choice : Choice) → n.star ≡ None → Goes m → Goes (chosen deck m s n choice).medium
-unfolding chosen
-chosen_goes deck m s n choice alone g = subst (λ (p : Prepared). Goes (carry_out deck m s n choice p).medium) (sym (prepare-ring deck n choice alone)) (ring_goes deck m s n choice g)
+unfolding chosen carry_out
+chosen_goes deck m s n choice alone g = each_prepared deck n (λ c p. Goes (carry_out deck m s n c p).medium) alone (λ t may. g)
+    (called (Turn (take most_additions n.outbox)) (turn_goes m s (take most_additions n.outbox) g)) (called Rest (rest_goes m s g)) (λ c. g) choice
+  where
+    called : (act : Act) → Goes (row m s act).1 → Goes (medium_after m s (record { known = n.known; act = act }))
+    called act after = each_answer m s (record { known = n.known; act = act }) (λ a. Goes a.1) g g after
 
 happens_goes : (deck : Deck) (w : World) (e : Event) → AreRing w.nodes → Goes w.medium → Goes (happens deck w e).medium
-unfolding happens happens_at placed
-happens_goes deck w e ring g = go (slice_get w.nodes e.system.0) refl
-  where
-    by_node : (n : Node) → slice_get w.nodes e.system.0 ≡ Some n → (removed : Bool) → Goes (cond removed (counted w) (placed w e.system n (chosen deck w.medium e.system n e.choice))).medium
-    by_node n at true = g
-    by_node n at false = chosen_goes deck w.medium e.system n e.choice (ring e.system.0 n at) g
-
-    go : (n : Option Node) → slice_get w.nodes e.system.0 ≡ n → Goes (happens_at deck w e n).medium
-    go None at = g
-    go (Some n) at = by_node n at (has w.medium.removed e.system.0)
-
-run_goes : (deck : Deck) (w : World) (es : List Event) → AreRing w.nodes → Goes w.medium → Goes (run_from deck w es).medium
-run_goes deck w [] ring g = g
-run_goes deck w (e ∷ es) ring g = run_goes deck (happens deck w e) es (happens_ring deck w e ring) (happens_goes deck w e ring g)
+unfolding placed
+happens_goes deck w e ring g = each_event deck w e (λ (x : World). Goes x.medium) g (λ n at. chosen_goes deck w.medium e.system n e.choice (ring e.system.0 n at) g)
 
 begun : (deck : Deck) → Goes (first_world deck).medium
 unfolding first_world
 begun deck = goes_at_start (length deck.systems) deck.entries deck.star
 
 pub goes : (deck : Deck) → deck.star ≡ false → (es : List Event) → Goes (run deck es).medium
-goes deck h es = run_goes deck (first_world deck) es (all_ring deck h []) (begun deck)
+goes deck h = each_run deck (λ es (w : World). Goes w.medium) (begun deck) (λ es e g. happens_goes deck (run deck es) e (all_ring deck h es) g)
 
 pub comes_back_last : ComesBackLast
 comes_back_last deck h es = last_at_home _ (goes deck h es).round
@@ -157,27 +117,12 @@ rest_gift : (m : MediumState) (s : SysId) → Gives s (given_by (row m s Rest).0
 unfolding row rest_row
 rest_gift m s = by_test (λ r. Gives s (given_by r)) (all_rest (resting m s) && medium_at_end (resting m s)) Over Resting (λ t. no_gift s) (λ t. no_gift s)
 
-call_gift : (m : MediumState) (s : SysId) (known : ℕ) (act : Act) → Gives s (given_by (row m s act).0) → Gives s (given_by (reply_to m s (record { known = known; act = act })))
-unfolding apply
-call_gift m s known act here =
-    by_test (λ (a : Reply × MediumState). Gives s (given_by a.0)) (has m.removed s.0) (Removed, m) (cond (known == m.removed) (row m s act) (Stale m.removed, m)) (λ t. no_gift s)
-    (λ t. by_test (λ (a : Reply × MediumState). Gives s (given_by a.0)) (known == m.removed) (row m s act) (Stale m.removed, m) (λ u. here) (λ u. no_gift s))
-
-ring_gift : (deck : Deck) (m : MediumState) (s : SysId) (n : Node) (choice : Choice) → Goes m → Gives s (given_when m s (ring_prepare deck n choice))
-ring_gift deck m s n (choices.Task t) g = by_test (λ p. Gives s (given_when m s p)) (may_go deck n t) Quiet Nothing (λ u. no_gift s) (λ u. no_gift s)
-ring_gift deck m s n choices.Turn g = call_gift m s n.known (Turn (take most_additions n.outbox)) (turn_gift m s (take most_additions n.outbox) g)
-ring_gift deck m s n choices.Rest g =
-    by_test (λ p. Gives s (given_when m s p)) (is_pending deck n) Nothing (Call (record { known = n.known; act = Rest })) (λ u. no_gift s) (λ u. call_gift m s n.known Rest (rest_gift m s))
-ring_gift deck m s n (choices.Send t) g = no_gift s
-ring_gift deck m s n choices.Take g = no_gift s
-ring_gift deck m s n choices.Settle g = no_gift s
-ring_gift deck m s n (choices.Tell e) g = no_gift s
-ring_gift deck m s n (choices.Leave e) g = no_gift s
-ring_gift deck m s n choices.Switch g = no_gift s
-ring_gift deck m s n (choices.Purge t) g = no_gift s
-
 prepared_gift : (deck : Deck) (m : MediumState) (s : SysId) (n : Node) (choice : Choice) → n.star ≡ None → Goes m → Gives s (given_when m s (prepare deck n choice))
-prepared_gift deck m s n choice alone g = subst (λ (p : Prepared). Gives s (given_when m s p)) (sym (prepare-ring deck n choice alone)) (ring_gift deck m s n choice g)
+prepared_gift deck m s n choice alone g = each_prepared deck n (λ c p. Gives s (given_when m s p)) alone (λ t may. no_gift s)
+    (called (Turn (take most_additions n.outbox)) (turn_gift m s (take most_additions n.outbox) g)) (called Rest (rest_gift m s)) (λ c. no_gift s) choice
+  where
+    called : (act : Act) → Gives s (given_by (row m s act).0) → Gives s (given_by (reply_to m s (record { known = n.known; act = act })))
+    called act here = each_answer m s (record { known = n.known; act = act }) (λ a. Gives s (given_by a.0)) (no_gift s) (no_gift s) here
 
 pub processed_last : (deck : Deck) → deck.star ≡ false → (es : List Event) (e : Event) → ProcessedLast deck es e
 processed_last deck h es e = go (slice_get (run deck es).nodes e.system.0) refl

@@ -36,15 +36,16 @@ use Rattle.grs_world.proofs.message.LapsMessage.{EndsAtHome, AllEndAtHome, left_
 use Rattle.grs_world.proofs.message.Stands.{Bodies, body_of}
 use Rattle.grs_world.proofs.message.Stands as stands
 use Rattle.grs_world.proofs.run.Answered.{Answered, answered-by, left_turned}
-use Rattle.grs_world.proofs.run.Came.{Came, nothing, went_on, turn, each_event, IsHome, AllHome, all_home}
+use Rattle.grs_world.proofs.run.Came.{Came, nothing, went_on, turn, each_came, IsHome, AllHome, all_home}
 use Rattle.grs_world.proofs.run.Growing.{fixeds}
 use Rattle.grs_world.proofs.run.InRing.{all_ring}
 use Rattle.grs_world.proofs.run.Laps.{goes}
 use Rattle.grs_world.proofs.run.Messages.{given-later}
 use Rattle.grs_known.proofs.told.News.{told-fewer}
 use Rattle.grs_world.proofs.run.Outcomes.{turn_told}
-use Rattle.grs_world.proofs.run.Runs.{GoodWorld, run-push}
+use Rattle.grs_world.proofs.run.Runs.{GoodWorld}
 use Rattle.grs_world.proofs.run.Sound.{good_run}
+use Rattle.grs_world.proofs.run.Each.{run-push}
 use Rattle.grs_known.proofs.system.Askers.{among-front, askers-append}
 use Rattle.grs_world.proofs.system.AtNode.{QuietStep, keeps, fixes}
 use Rattle.grs_world.proofs.system.Quiet.{quiet}
@@ -194,7 +195,7 @@ pub answered_last : (deck : Deck) → deck.star ≡ false → (es : List Event) 
 answered_last deck ring es e t a =
     let g = good_run deck ring es in
     let w = run deck es in
-    let all : Right deck ring es e (happens deck w e) = each_event deck w e (Right deck ring es e) g.message.no_turn (all_ring deck ring es)
+    let all : Right deck ring es e (happens deck w e) = each_came deck w e (Right deck ring es e) g.message.no_turn (all_ring deck ring es)
     (λ u none. nobody u (sym (ap (list_any (λ x. answers u x.line)) (ap (drop (length w.told)) (sym (append-nil w.told)) ∙ drop-append_seam w.told [])) ∙ none))
     (λ n o at c. right deck ring es e g n at o c) in
     subst (Right deck ring es e) (sym (run-push deck es (first_world deck) e)) all t a

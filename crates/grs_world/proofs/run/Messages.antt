@@ -11,10 +11,12 @@ use Rattle.grs_wire.specs.declared.request.Fixed.{Fixed}
 use Rattle.grs_wire.specs.declared.request.Fixed.TheVariants.{Asked}
 use Rattle.grs_wire.specs.declared.request.Req.{Req}
 use Rattle.rsa_message.specs.Message.{Message, turned_open, cleared, stamped, unseen}
-use Rattle.grs_world.proofs.run.Runs.{GoodMessage, seen_at, message_log, updated, updated_same, updated_other}
+use Rattle.grs_world.proofs.run.Runs.{GoodMessage, seen_at, message_log}
 use Rattle.grs_world.proofs.message.Stands.{Stands, none, gone, kept, Bodies, Stands-cleared, Stands-append, Stands-stamped, unseen-drop, waits_for, waits_new, waits_seen, waits_live}
 use Rattle.grs_world.proofs.run.Growing.{fixeds}
 use Rattle.grs_known.specs.Items.{RunItem, rounds}
+use Rattle.grs_known.specs.Change.{put_at}
+use Rattle.grs_known.proofs.lists.Placed.{put_here, put_other}
 
 Stands-same : (U V : ℕ → ℕ → Bool) → ((j s : ℕ) → U j s ≡ V j s) → {k : ℕ} {qs : List Fixed} {es : List RingEntry} → Stands U k qs es → Stands V k qs es
 Stands-same U V same none = none
@@ -42,11 +44,11 @@ given-later m c before later T whole alive g =
     subst (λ qs. Bodies qs (unseen c m.message.entries)) parts (unseen-drop c (seen_at before c.0) (waits_live (live m) (seen_at before) c.0 alive) g.stands)
 
 -- Nothing happens to the message.
-pub message-same : (m m' : MediumState) (log : List Fixed) (before : ℕ → List RunItem) (s : ℕ) → m'.message ≡ m.message → live m' ≡ live m → GoodMessage m log (seen_at before) → GoodMessage m' (log ++ []) (seen_at (updated before s (before s)))
+pub message-same : (m m' : MediumState) (log : List Fixed) (before : ℕ → List RunItem) (s : ℕ) → m'.message ≡ m.message → live m' ≡ live m → GoodMessage m log (seen_at before) → GoodMessage m' (log ++ []) (seen_at (put_at before s (before s)))
 message-same m m' log before s same same_live g =
-    let still : (u : ℕ) → seen_at (updated before s (before s)) u ≡ seen_at before u = λ u. ap (λ (xs : List RunItem). length xs) (kept_at u (eqb u s) refl) in
+    let still : (u : ℕ) → seen_at (put_at before s (before s)) u ≡ seen_at before u = λ u. ap (λ (xs : List RunItem). length xs) (kept_at u (eqb u s) refl) in
     let U = waits_for (live m) (seen_at before) in
-    let V = waits_for (live m') (seen_at (updated before s (before s))) in
+    let V = waits_for (live m') (seen_at (put_at before s (before s))) in
     let all_same : (j u : ℕ) → U j u ≡ V j u = λ j u. ap (λ l. has l u && leb (seen_at before u) j) (sym same_live) ∙ ap (λ k. has (live m') u && leb k j) (sym (still u)) in
     record {
       stands = subst (λ (x : Message). Stands V 0 (log ++ []) x.entries) (sym same) (subst (λ qs. Stands V 0 qs m.message.entries) (sym (append-nil log)) (Stands-same U V all_same g.stands));
@@ -60,16 +62,16 @@ message-same m m' log before s same same_live g =
 
 -- Here c had its Turn.
 pub message-turned : (m m' : MediumState) (c : SysId) (out : List Req) (flags : ℕ) (before later : ℕ → List RunItem) (T : List RunItem) → ((u : ℕ) → rounds T ≡ before u ++ later u) → m.message.closed ≡ false
-    → m'.message ≡ turned_open m.message c out (live m) flags → live m' ≡ live m → GoodMessage m (message_log T) (seen_at before) → GoodMessage m' (message_log T ++ map Asked out) (seen_at (updated before c.0 (rounds T)))
+    → m'.message ≡ turned_open m.message c out (live m) flags → live m' ≡ live m → GoodMessage m (message_log T) (seen_at before) → GoodMessage m' (message_log T ++ map Asked out) (seen_at (put_at before c.0 (rounds T)))
 message-turned m m' c out flags before later T whole opened same same_live g =
     let log = message_log T in
-    let seen = seen_at (updated before c.0 (rounds T)) in
+    let seen = seen_at (put_at before c.0 (rounds T)) in
     let U = waits_for (live m) (seen_at before) in
     let V = waits_for (live m) seen in
     let W = waits_for (live m') seen in
-    let seen_c : seen c.0 ≡ length log = ap (λ (xs : List RunItem). length xs) (updated_same before c.0 (rounds T)) ∙ sym (length-fixeds (rounds T)) in
+    let seen_c : seen c.0 ≡ length log = ap (λ (xs : List RunItem). length xs) (put_here before c.0 (rounds T)) ∙ sym (length-fixeds (rounds T)) in
     let at_c : (j : ℕ) → j < length log → V j c.0 ≡ false = λ j l. waits_seen (live m) seen j c.0 (rw seen_c l) in
-    let apart : (j u : ℕ) → j < length log → u ≢ c.0 → V j u ≡ U j u = λ j u l ne. ap (λ (xs : List RunItem). has (live m) u && leb (length xs) j) (updated_other before c.0 (rounds T) u ne) in
+    let apart : (j u : ℕ) → j < length log → u ≢ c.0 → V j u ≡ U j u = λ j u l ne. ap (λ (xs : List RunItem). has (live m) u && leb (length xs) j) (put_other before c.0 (rounds T) u ne) in
     let within : (u : ℕ) → has (live m) u ≡ true → seen u ≤ length log = λ u h. all_within u (eqb u c.0) refl in
     let stands : Stands V 0 (log ++ map Asked out) (cleared c m.message.entries ++ stamped (suc (length log)) c (live m) out) =
     Stands-append (length log) (map Asked out) (stamped (suc (length log)) c (live m) out) (omega arith) (Stands-cleared U V c (length log) at_c apart (omega arith) g.stands) (Stands-stamped V c (live m) (length log) out (λ j u l. waits_new (live m) seen (length log) within j u l)) in

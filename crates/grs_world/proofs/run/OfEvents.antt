@@ -1,19 +1,18 @@
 -- Each told line is of an event, and of that event's system.
-use Rattle.std.proofs.Common.{◌≡◌, ◌+◌, ◌-◌, cond, Bool, true, false, ℕ, List, [], ◌∷◌, ◌++◌, length, Option, Some, None, refl, ap, sym, ◌∙◌, subst, arith, append-nil, append_assoc, length-append}
+use Rattle.std.proofs.Common.{◌≡◌, ◌+◌, ◌-◌, true, ℕ, List, [], ◌∷◌, ◌++◌, length, Option, Some, None, refl, ap, sym, ◌∙◌, subst, arith, length-append}
 use Rattle.std.specs.Prelude.{slice_get, nat_lt}
 use Rattle.std.specs.List.{list_all}
 use Rattle.std.proofs.lemmas.Bool.{and_parts, eq-eqb, lt-ltb, and_from}
 use Rattle.std.proofs.lemmas.List.Folds.{list_all-append}
 use Rattle.grs_node.specs.Node.{Node}
-use Rattle.grs_wire.specs.Masks.{has}
 use Rattle.grs_wire.specs.declared.deck.Deck.{Deck}
 use Rattle.grs_wire.specs.declared.deck.Event.{Event}
 use Rattle.grs_wire.specs.declared.told.Told.{Told}
 use Rattle.grs_wire.specs.declared.told.ToldLine.{ToldLine}
 use Rattle.grs_world.specs.Agree.{is_event_of, is_of_event}
-use Rattle.grs_world.specs.World.{World, Turnout, told_by, told_in, chosen, counted, placed, happens_at, happens, run, first_world}
+use Rattle.grs_world.specs.World.{World, Turnout, told_by, told_in, chosen, counted, placed, happens, run, first_world}
 use Rattle.grs_known.proofs.lists.Facts.{all-kept, slice_get-append, slice_get-end}
-use Rattle.grs_world.proofs.run.Runs.{run-push}
+use Rattle.grs_world.proofs.run.Each.{each_event, each_run}
 
 -- A line of an event is one of it behind further events too.
 of-longer : (es : List Event) (e : Event) (x : Told) → is_of_event es x ≡ true → is_of_event (es ++ e ∷ []) x ≡ true
@@ -40,8 +39,8 @@ record OfEvents (es : List Event) (w : World) : Type 0 where
 
 module _ (deck : Deck) where
   next : (es : List Event) (e : Event) (w : World) → OfEvents es w → OfEvents (es ++ e ∷ []) (happens deck w e)
-  unfolding happens happens_at placed
-  next es e w g = go (slice_get w.nodes e.system.0)
+  unfolding placed
+  next es e w g = each_event deck w e (OfEvents (es ++ e ∷ [])) idle (λ n at. went_on n (chosen deck w.medium e.system n e.choice))
     where
       one_more : w.events + 1 ≡ length (es ++ e ∷ [])
       one_more = ap (λ k. k + 1) g.count ∙ sym (length-append es (e ∷ []))
@@ -59,23 +58,9 @@ module _ (deck : Deck) where
             ∙ and_from _ _ older (of-last es e w.events (told_in n o.step) g.count);
       }
 
-      by_removed : (n : Node) (removed : Bool) → OfEvents (es ++ e ∷ []) (cond removed (counted w) (placed w e.system n (chosen deck w.medium e.system n e.choice)))
-      by_removed n true = idle
-      by_removed n false = went_on n (chosen deck w.medium e.system n e.choice)
-
-      go : (o : Option Node) → OfEvents (es ++ e ∷ []) (happens_at deck w e o)
-      go None = idle
-      go (Some n) = by_removed n (has w.medium.removed e.system.0)
-
   begun : OfEvents [] (first_world deck)
   unfolding first_world
   begun = record { count = refl; told = refl }
 
-  of_from : (done es : List Event) → OfEvents done (run deck done) → OfEvents (done ++ es) (run deck (done ++ es))
-  of_from done [] g = subst (λ xs. OfEvents xs (run deck xs)) (sym (append-nil done)) g
-  of_from done (e ∷ es) g =
-      subst (λ xs. OfEvents xs (run deck xs)) (append_assoc done (e ∷ []) es)
-      (of_from (done ++ e ∷ []) es (subst (OfEvents (done ++ e ∷ [])) (sym (run-push deck done (first_world deck) e)) (next done e (run deck done) g)))
-
   pub told_of_events : (es : List Event) → list_all (is_of_event es) (run deck es).told ≡ true
-  told_of_events es = (of_from [] es begun).told
+  told_of_events es = (each_run deck OfEvents begun (λ us e g. next us e (run deck us) g) es).told

@@ -1,8 +1,8 @@
 -- What holds of the world at every moment of a run, part by part, and how an event of a system keeps it.
-use Rattle.std.proofs.Common.{◌≡◌, ◌≢◌, ◌≤◌, ◌+◌, ◌-◌, cond, Bool, true, false, eqb, ℕ, suc, List, [], ◌∷◌, ◌++◌, length, take, drop, Some, None, refl, ap, sym, ◌∙◌, subst, arith, append-nil, append_assoc, length-append}
+use Rattle.std.proofs.Common.{◌≡◌, ◌≢◌, ◌≤◌, ◌+◌, ◌-◌, Bool, true, false, eqb, ℕ, suc, List, [], ◌∷◌, ◌++◌, length, take, drop, Some, None, refl, ap, sym, ◌∙◌, subst, arith, append-nil, append_assoc, length-append}
 use Rattle.std.specs.Prelude.{filter, slice_get, set, ◌==◌}
 use Rattle.std.specs.List.{list_all}
-use Rattle.std.proofs.lemmas.Bool.{and_parts, eqb-true, eq-eqb, eqb-false}
+use Rattle.std.proofs.lemmas.Bool.{and_parts, eqb-true, eqb-false}
 use Rattle.std.proofs.Math.Seq.{drop-append_seam, take-length}
 use Rattle.std.proofs.lemmas.List.Elements.{filter-append}
 use Rattle.std.proofs.lemmas.Option.{same_Some}
@@ -20,16 +20,19 @@ use Rattle.grs_wire.specs.declared.told.Told.{Told}
 use Rattle.grs_wire.specs.declared.told.ToldLine.{ToldLine}
 use Rattle.grs_wire.specs.declared.told.ToldLine.TheVariants as lines
 use Rattle.grs_known.specs.Items.{RunItem, rounds, history, items}
+use Rattle.grs_known.specs.Change.{put_at}
 use Rattle.grs_known.proofs.known.Histories.{IsHistory}
 use Rattle.grs_known.proofs.known.ItemLaws.{items_are_history}
 use Rattle.grs_known.proofs.lists.Facts.{slice_get-set, slice_get-set_other}
 use Rattle.grs_known.proofs.lists.Truths.{false_by}
+use Rattle.grs_known.proofs.lists.Placed.{put_each}
 use Rattle.grs_world.specs.Agree.{Agrees, AgreesBy, AllAgree, Moment, moment, lines_of_told}
-use Rattle.grs_world.specs.World.{World, Turnout, placed, counted, fixed_by, told_by, happens, run_from, run, hist, first_world}
+use Rattle.grs_world.specs.World.{World, Turnout, placed, counted, fixed_by, told_by, happens, run, hist, first_world}
 use Rattle.grs_world.proofs.message.Stands.{Stands, waits_for}
 use Rattle.grs_world.proofs.run.Growing.{fixeds, grows-items, grows-history, grows-rounds, grows-seen, grows-requests, own_requests-append}
 use Rattle.grs_known.proofs.told.News.{LinesAgree, ToldNews, filter-ours}
 use Rattle.grs_world.proofs.run.Outcomes.{Outcome}
+use Rattle.grs_world.proofs.run.Each.{run-push}
 use Rattle.grs_world.proofs.system.AtNode.{Seen}
 use Rattle.grs_known.proofs.system.Says.{AgreesBehind, is_line_of, own_requests}
 
@@ -110,27 +113,6 @@ lines-apart : (s u : ℕ) (ls : List ToldLine) → u ≢ s → list_all (is_line
 lines-apart s u [] ne h = refl
 lines-apart s u (l ∷ ls) ne h = rw (line-apart s u l ne (and_parts _ _ h).0) (lines-apart s u ls ne (and_parts _ _ h).1)
 
--- ---- functions of the systems that change at one
-abbrev pub updated : {A : Type 0} → (ℕ → A) → ℕ → A → ℕ → A
-updated f s x u = cond (eqb u s) x (f u)
-
-pub updated_same : {A : Type 0} (f : ℕ → A) (s : ℕ) (x : A) → updated f s x s ≡ x
-updated_same f s x = rw (eq-eqb s s refl) refl
-
-pub updated_other : {A : Type 0} (f : ℕ → A) (s : ℕ) (x : A) (u : ℕ) → u ≢ s → updated f s x u ≡ f u
-updated_other f s x u ne = go (eqb u s) refl
-  where
-    go : (b : Bool) → eqb u s ≡ b → cond b x (f u) ≡ f u
-    go true e = absurd (ne (eqb-true u s e))
-    go false e = refl
-
-by_system : {A B : Type 0} (f : ℕ → A) (g : ℕ → B) (s : ℕ) (x : A) (y : B) (P : ℕ → A → B → Type 0) → P s x y → ((u : ℕ) → u ≢ s → P u (f u) (g u)) → (u : ℕ) → P u (updated f s x u) (updated g s y u)
-by_system {A = A} {B = B} f g s x y P here there u = go (eqb u s) refl
-  where
-    go : (b : Bool) → eqb u s ≡ b → P u (cond b x (f u)) (cond b y (g u))
-    go true e = subst (λ i. P i x y) (sym (eqb-true u s e)) here
-    go false e = there u (eqb-false u s e)
-
 -- what holds of a node holds of each, where it holds of the one that changed and of the others
 pub by_node : (ns : List Node) (s : ℕ) (n m : Node) → slice_get ns s ≡ Some n → (P : ℕ → Node → Type 0) → P s m → ((u : ℕ) (k : Node) → u ≢ s → slice_get ns u ≡ Some k → P u k) → (u : ℕ) (k : Node) → slice_get (set ns s m) u ≡ Some k → P u k
 by_node ns s n m at P here there u k e = go (eqb u s) refl
@@ -175,10 +157,6 @@ pub record GoodWorld (deck : Deck) (es : List Event) (w : World) : Type 0 where
   pub whole : (s : ℕ) → rounds (items w.fixed) ≡ before s ++ later s
   pub message : GoodMessage w.medium (message_log (items w.fixed)) (seen_at before)
   pub systems : GoodSystems deck w before later
-
-pub run-push : (deck : Deck) (es : List Event) (w : World) (e : Event) → run_from deck w (es ++ e ∷ []) ≡ happens deck (run_from deck w es) e
-run-push deck [] w e = refl
-run-push deck (x ∷ es) w e = run-push deck es (happens deck w x) e
 
 -- ---- what was told, by one event more
 -- an event that is only counted tells nothing
@@ -242,17 +220,17 @@ module _ (deck : Deck) (es : List Event) (e : Event) (g : GoodWorld deck es (run
 
     -- what the systems have processed, and have yet to process
     abbrev before_now : ℕ → List RunItem
-    before_now = updated g.before e.system.0 before'
+    before_now = put_at g.before e.system.0 before'
 
     abbrev later_now : ℕ → List RunItem
-    later_now = updated (λ u. g.later u ++ o.new) e.system.0 later'
+    later_now = put_at (λ u. g.later u ++ o.new) e.system.0 later'
 
     whole-now : (u : ℕ) → rounds o.items ≡ before_now u ++ later_now u
-    whole-now = by_system g.before (λ u. g.later u ++ o.new) s before' later' (λ u b l. rounds o.items ≡ b ++ l) o.whole
+    whole-now = put_each g.before (λ u. g.later u ++ o.new) s before' later' (λ u b l. rounds o.items ≡ b ++ l) o.whole
         (λ u ne. grows-rounds o.grows ∙ ap (λ zs. zs ++ o.new) (g.whole u) ∙ append_assoc (g.before u) (g.later u) o.new)
 
     systems-now : live m ≡ live (run deck es).medium → (u : ℕ) (k : Node) → slice_get (set (run deck es).nodes e.system.0 st.node) u ≡ Some k → (has (live m) u ≡ true) × Seen deck u o.items (before_now u) (later_now u) (own_requests u (later_now u)) k
-    systems-now alive = by_system g.before (λ u. g.later u ++ o.new) s before' later' (λ u b l. (k : Node) → slice_get (set w.nodes s st.node) u ≡ Some k → (has (live m) u ≡ true) × Seen deck u o.items b l (own_requests u l) k)
+    systems-now alive = put_each g.before (λ u. g.later u ++ o.new) s before' later' (λ u b l. (k : Node) → slice_get (set w.nodes s st.node) u ≡ Some k → (has (live m) u ≡ true) × Seen deck u o.items b l (own_requests u l) k)
         (λ k f. (subst (λ l. has l s ≡ true) (sym alive) (g.systems s n at).0, subst (λ (z : Node). Seen deck s o.items before' later' (own_requests s later') z) (same_Some st.node k (sym (slice_get-set w.nodes s n st.node at) ∙ f)) o.seen))
         (λ u ne k f.
         let was = g.systems u k (sym (slice_get-set_other w.nodes s u st.node ne) ∙ f) in

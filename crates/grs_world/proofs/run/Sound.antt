@@ -1,15 +1,14 @@
 -- Every run is sound.
-use Rattle.std.proofs.Common.{◌≡◌, ◌<◌, ◌+◌, ◌-◌, cond, Bool, true, false, ◌&&◌, ℕ, zero, suc, List, [], ◌∷◌, ◌++◌, length, map, take, Option, Some, None, refl, ap, sym, ◌∙◌, subst, arith, append-nil, append_assoc}
-use Rattle.std.specs.Prelude.{slice_get, ◌==◌}
+use Rattle.std.proofs.Common.{◌≡◌, ◌<◌, ◌+◌, ◌-◌, cond, Bool, true, false, ◌&&◌, ℕ, zero, suc, List, [], ◌∷◌, ◌++◌, length, map, take, Option, Some, None, refl, ap, sym, ◌∙◌, subst, arith}
+use Rattle.std.specs.Prelude.{slice_get}
 use Rattle.grs_base.specs.declared.resource.SysId.{SysId}
 use Rattle.grs_base.specs.declared.resource.TaskId.{TaskId}
 use Rattle.grs_legal.specs.Legal.{Legal}
 use Rattle.grs_medium.specs.Apply.{reply_to, medium_after, apply, row, turn_row, rest_row, resting}
 use Rattle.grs_medium.specs.Medium.{MediumState, live, first_medium, all_rest, medium_at_end}
-use Rattle.grs_node.proofs.InRing.{ring_prepare, ring_finish, prepare-ring}
-use Rattle.grs_node.specs.declared.prepared.Prepared.{Prepared}
-use Rattle.grs_node.specs.Node.{Node, Step, finish, finish_quiet, read_entries, put_in, may_go, is_pending, most_additions, first_node}
-use Rattle.grs_node.specs.declared.prepared.Prepared.TheVariants.{Quiet, Call, Nothing}
+use Rattle.grs_node.proofs.InRing.{ring_finish}
+use Rattle.grs_node.specs.Node.{Node, Step, finish, finish_quiet, read_entries, put_in, may_go, most_additions, first_node}
+use Rattle.grs_node.specs.declared.prepared.Prepared.TheVariants.{Call}
 use Rattle.grs_wire.specs.Masks.{has, others}
 use Rattle.grs_wire.specs.declared.deck.Deck.{Deck}
 use Rattle.grs_wire.specs.declared.deck.SystemDef.{SystemDef}
@@ -25,18 +24,20 @@ use Rattle.grs_wire.specs.declared.request.Req.{Req}
 use Rattle.grs_wire.proofs.WantLaws.{by_test}
 use Rattle.rsa_message.specs.Message.{Message, is_at, unseen, turn_reply, turned, turned_open, turned_closed, rest_after_turn, opened, never_opened}
 use Rattle.grs_known.specs.Items.{RunItem, rounds, items}
+use Rattle.grs_known.specs.Change.{put_at}
 use Rattle.grs_known.proofs.known.Histories.{IsHistory}
 use Rattle.grs_known.proofs.known.ItemLaws.{items_are_history}
 use Rattle.grs_known.proofs.lists.Facts.{take-taken}
 use Rattle.grs_world.specs.Agree.{Sound}
-use Rattle.grs_world.specs.World.{World, Turnout, idle, carry_out, chosen, placed, counted, happens_at, happens, run, hist, first_nodes, first_world}
+use Rattle.grs_world.specs.World.{World, Turnout, idle, carry_out, chosen, placed, counted, happens, run, hist, first_nodes, first_world}
 use Rattle.grs_world.proofs.message.Stands.{none, has-others}
 use Rattle.grs_world.proofs.run.InRing.{AreRing, all_ring, finished-ring}
 use Rattle.grs_world.proofs.run.Messages.{message-same, message-turned, given-later}
 use Rattle.grs_world.proofs.run.OfEvents.{told_of_events}
 use Rattle.grs_world.proofs.run.Outcomes.{Outcome, quiet_outcome, still_outcome, turn_outcome}
 use Rattle.grs_world.proofs.run.Removals.{none_purged}
-use Rattle.grs_world.proofs.run.Runs.{GoodTold, GoodWorld, GoodMessage, push, run-push, told-counted, seen_at, message_log, updated}
+use Rattle.grs_world.proofs.run.Runs.{GoodTold, GoodWorld, GoodMessage, push, told-counted, seen_at, message_log}
+use Rattle.grs_world.proofs.run.Each.{each_answer, each_prepared, each_event, each_run}
 use Rattle.grs_world.proofs.system.AtNode.{Seen}
 use Rattle.grs_world.proofs.system.Begun.{first_seen}
 use Rattle.grs_world.proofs.system.First.{first_told}
@@ -99,13 +100,8 @@ module _ (deck : Deck) (es : List Event) (e : Event) (g : GoodWorld deck es (run
     LeadsBy choice a = Leads (record { medium = a.1; step = ring_finish deck n a.0 })
 
     good_call : (choice : Choice) (call : CallOfMedium) → LeadsBy choice (row (run deck es).medium e.system call.act) → LeadsBy choice (apply (run deck es).medium e.system call)
-    unfolding apply
-    good_call choice call here =
-        by_test (LeadsBy choice) (has w.medium.removed c.0) (replies.Removed, w.medium) _
-        (λ r. good_idle)
-        (λ r. by_test (LeadsBy choice) (call.known == w.medium.removed) (row w.medium c call.act) (replies.Stale w.medium.removed, w.medium)
-        (λ k. here)
-        (λ k. same_push w.medium (record n { known = w.medium.removed }) refl refl refl (record { good = seen.good; held = seen.held; shared = seen.shared; homes = seen.homes; apart = seen.apart })))
+    good_call choice call here = each_answer w.medium c call (LeadsBy choice) good_idle
+        (same_push w.medium (record n { known = w.medium.removed }) refl refl refl (record { good = seen.good; held = seen.held; shared = seen.shared; homes = seen.homes; apart = seen.apart })) here
 
     good_rest : LeadsBy choices.Rest (row (run deck es).medium e.system acts.Rest)
     unfolding row rest_row
@@ -128,7 +124,7 @@ module _ (deck : Deck) (es : List Event) (e : Event) (g : GoodWorld deck es (run
         let given = given-later w.medium c g.before (g.later s) P (g.whole s) (g.systems s n at).0 g.message in
         let o = turn_outcome deck c P (g.before s) (g.later s) g.history (g.whole s) n (length out) seen (unseen c w.medium.message.entries) given in
         push deck es e g n at m (rounds P) _ (map Asked (take (length out) n.outbox)) _ o is refl
-        (subst (λ qs. GoodMessage m (message_log P ++ map Asked qs) (seen_at (updated g.before s (rounds P)))) (sym (take-taken most_additions n.outbox))
+        (subst (λ qs. GoodMessage m (message_log P ++ map Asked qs) (seen_at (put_at g.before s (rounds P)))) (sym (take-taken most_additions n.outbox))
         (message-turned w.medium m c out w.medium.rest g.before g.later P g.whole is_open refl refl g.message))
 
     good_turn : LeadsBy choices.Turn (row (run deck es).medium e.system (acts.Turn (take most_additions n.outbox)))
@@ -160,36 +156,15 @@ module _ (deck : Deck) (es : List Event) (e : Event) (g : GoodWorld deck es (run
     called choice call here = subst (λ (st : Step). Leads (record { medium = medium_after w.medium c call; step = st })) (sym (finished-ring deck n choice (Some (reply_to w.medium c call)) (ring s n at))) here
 
     -- each choice
-    by_ring : (choice : Choice) → Leads (carry_out deck (run deck es).medium e.system n choice (ring_prepare deck n choice))
-    unfolding carry_out
-    by_ring (choices.Task t) = by_test (λ p. Leads (carry_out deck w.medium c n (choices.Task t) p)) (may_go deck n t) Quiet Nothing
-        (λ m. good_task t m)
-        (λ m. good_idle)
-    by_ring choices.Turn = called choices.Turn (record { known = n.known; act = acts.Turn (take most_additions n.outbox) }) (good_call choices.Turn (record { known = n.known; act = acts.Turn (take most_additions n.outbox) }) good_turn)
-    by_ring choices.Rest = by_test (λ p. Leads (carry_out deck w.medium c n choices.Rest p)) (is_pending deck n) Nothing (Call (record { known = n.known; act = acts.Rest }))
-        (λ t. good_idle) (λ t. called choices.Rest (record { known = n.known; act = acts.Rest }) (good_call choices.Rest (record { known = n.known; act = acts.Rest }) good_rest))
-    by_ring (choices.Send t) = good_idle
-    by_ring choices.Take = good_idle
-    by_ring choices.Settle = good_idle
-    by_ring (choices.Tell x) = good_idle
-    by_ring (choices.Leave x) = good_idle
-    by_ring choices.Switch = good_idle
-    by_ring (choices.Purge x) = good_idle
-
     good_choice : (choice : Choice) → Leads (chosen deck (run deck es).medium e.system n choice)
-    unfolding chosen
-    good_choice choice = subst (λ (p : Prepared). Leads (carry_out deck w.medium c n choice p)) (sym (prepare-ring deck n choice (ring s n at))) (by_ring choice)
-
-  good_at : (o : Option Node) → slice_get (run deck es).nodes e.system.0 ≡ o → happens deck (run deck es) e ≡ happens_at deck (run deck es) e o → Good (happens_at deck (run deck es) e o)
-  unfolding happens_at
-  good_at None at is = good_counted
-  good_at (Some n) at is =
-      by_test (λ x. happens deck w e ≡ x → Good x) (has w.medium.removed c.0) (counted w) (placed w c n (chosen deck w.medium c n e.choice))
-      (λ r is. good_counted) (λ r. good_choice n at e.choice) is
+    unfolding chosen carry_out
+    good_choice choice = each_prepared deck n (λ x p. Leads (carry_out deck w.medium c n x p)) (ring s n at) (λ t m. good_task t m)
+        (called choices.Turn (record { known = n.known; act = acts.Turn (take most_additions n.outbox) }) (good_call choices.Turn (record { known = n.known; act = acts.Turn (take most_additions n.outbox) }) good_turn))
+        (called choices.Rest (record { known = n.known; act = acts.Rest }) (good_call choices.Rest (record { known = n.known; act = acts.Rest }) good_rest))
+        (λ x. good_idle) choice
 
   pub good_happens : Good (happens deck (run deck es) e)
-  unfolding happens
-  good_happens = good_at (slice_get w.nodes c.0) refl refl
+  good_happens = each_event deck w e (λ x. happens deck w e ≡ x → Good x) (λ is. good_counted) (λ n at is. good_choice n at e.choice is) refl
 
 -- ---- the first world
 first_at : (deck : Deck) (k : ℕ) (ds : List SystemDef) (i : ℕ) (n : Node) → slice_get (first_nodes deck k ds) i ≡ Some n → (n ≡ first_node deck (k + i)) × (i < length ds)
@@ -247,14 +222,8 @@ first_good deck = record {
 }
 
 -- ---- every list of events
-good_run_from : (deck : Deck) → deck.star ≡ false → (done es : List Event) → GoodWorld deck done (run deck done) → GoodWorld deck (done ++ es) (run deck (done ++ es))
-good_run_from deck h done [] g = subst (λ xs. GoodWorld deck xs (run deck xs)) (sym (append-nil done)) g
-good_run_from deck h done (e ∷ es) g =
-    subst (λ xs. GoodWorld deck xs (run deck xs)) (append_assoc done (e ∷ []) es)
-    (good_run_from deck h (done ++ e ∷ []) es (subst (λ (w : World). GoodWorld deck (done ++ e ∷ []) w) (sym (run-push deck done (first_world deck) e)) (good_happens deck done e g (all_ring deck h done))))
-
 pub good_run : (deck : Deck) → deck.star ≡ false → (es : List Event) → GoodWorld deck es (run deck es)
-good_run deck h es = good_run_from deck h [] es (first_good deck)
+good_run deck h = each_run deck (GoodWorld deck) (first_good deck) (λ es e g. good_happens deck es e g (all_ring deck h es))
 
 -- ---- So a run is sound, if what was fixed makes a history after each list of events, and what was told agrees.
 pub sound-of : (deck : Deck) → ((us : List Event) → IsHistory deck (items (run deck us).fixed)) → (es : List Event) → GoodTold deck es (run deck es) → Sound deck es

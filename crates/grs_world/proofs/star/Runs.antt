@@ -19,14 +19,14 @@ use Rattle.grs_wire.specs.declared.deck.Deck.{Deck}
 use Rattle.grs_wire.specs.declared.deck.Event.{Event}
 use Rattle.grs_wire.specs.declared.deck.SystemDef.{SystemDef}
 use Rattle.grs_wire.proofs.MaskLaws.{has-zero}
-use Rattle.grs_wire.proofs.WantLaws.{by_test}
 use Rattle.lock_structure.specs.Laws.{IsManaged, is_interested, manager_at}
 use Rattle.lock_structure.specs.Words.{word_at}
 use Rattle.lock_structure.proofs.LawProofs.{words_begin, empty_is_managed}
 use Rattle.grs_known.proofs.lists.Facts.{slice_get-past}
 use Rattle.grs_world.specs.Kept.{kept, kept_in, at_manager, at_node, managed_list, manager_at as kept_manager}
-use Rattle.grs_world.specs.World.{World, run, run_from, first_world, first_nodes, happens, happens_at, counted, placed, chosen}
+use Rattle.grs_world.specs.World.{World, run, first_world, first_nodes, happens, counted, chosen}
 use Rattle.grs_world.proofs.run.Sound.{first_is}
+use Rattle.grs_world.proofs.run.Each.{each_event, each_run}
 use Rattle.grs_world.specs.Interest.{IsStarDeck, WordsGoWithSystems, interest_at, interest_by}
 use Rattle.grs_world.proofs.star.Events.{good_choice}
 use Rattle.grs_world.proofs.star.Members.{IsPart, IsMember, IsStar, manager-here, all_lists, framed}
@@ -37,19 +37,10 @@ use Rattle.grs_world.proofs.star.Under.{in_entry, under, entry-same, list-under}
 pub counted-star : (deck : Deck) (w : World) → IsStar deck w → IsStar deck (counted w)
 counted-star deck w g = record { mode = g.mode; removed = g.removed; words = g.words; inboxes = g.inboxes; systems = g.systems; managed = g.managed; nobody = g.nobody; free = g.free; node = g.node }
 
-module _ (deck : Deck) (star : IsStarDeck deck) (some : 0 < deck.entries) (w : World) (g : IsStar deck w) (e : Event) where
-  good_at : (o : Option Node) → slice_get w.nodes e.system.0 ≡ o → IsStar deck (happens_at deck w e o)
-  unfolding happens_at
-  good_at None at = counted-star deck w g
-  good_at (Some n) at =
-      let here = slice_get_within w.nodes e.system.0 n at in
-      by_test (IsStar deck) (has w.medium.removed e.system.0) (counted w) (placed w e.system n (chosen deck w.medium e.system n e.choice))
-      (λ h. counted-star deck w g)
-      (λ h. framed deck w e.system n at g (chosen deck w.medium e.system n e.choice) (good_choice deck some w e.system (omega (arith, here, g.systems, star.few)) n at g (g.node e.system.0 n at) e.choice))
-
-  pub good_happens : IsStar deck (happens deck w e)
-  unfolding happens
-  good_happens = good_at (slice_get w.nodes e.system.0) refl
+good_happens : (deck : Deck) → IsStarDeck deck → 0 < deck.entries → (w : World) → IsStar deck w → (e : Event) → IsStar deck (happens deck w e)
+good_happens deck star some w g e = each_event deck w e (IsStar deck) (counted-star deck w g) (λ n at.
+    let here = slice_get_within w.nodes e.system.0 n at in
+    framed deck w e.system n at g (chosen deck w.medium e.system n e.choice) (good_choice deck some w e.system (omega (arith, here, g.systems, star.few)) n at g (g.node e.system.0 n at) e.choice))
 
 -- ---- the first world
 count_first : (deck : Deck) (k : ℕ) (ds : List SystemDef) → length (first_nodes deck k ds) ≡ length ds
@@ -119,12 +110,8 @@ first_good deck star = record {
 }
 
 -- ---- every list of events
-good_from : (deck : Deck) → IsStarDeck deck → (w : World) → IsStar deck w → (es : List Event) → IsStar deck (run_from deck w es)
-good_from deck star w g [] = g
-good_from deck star w g (e ∷ es) = good_from deck star (happens deck w e) (good_happens deck star (entries_some deck.entries star.entries) w g e) es
-
 pub star_run : (deck : Deck) → IsStarDeck deck → (es : List Event) → IsStar deck (run deck es)
-star_run deck star es = good_from deck star (first_world deck) (first_good deck star.star) es
+star_run deck star = each_run deck (λ es w. IsStar deck w) (first_good deck star.star) (λ es e g. good_happens deck star (entries_some deck.entries star.entries) (run deck es) g e)
 
 -- ---- words go with systems
 pub word_past : (words : List ℕ) (e : ℕ) → length words ≤ e → word_at words e ≡ 0

@@ -37,11 +37,13 @@ use Rattle.task_state.specs.View.{state_of, with_phase}
 use Rattle.task_state.specs.declared.state.Asked.{Asked}
 use Rattle.task_state.specs.declared.state.Phase.TheVariants as phases
 use Rattle.grs_known.specs.Items.{RunItem, mine, lists, history, items}
+use Rattle.grs_known.specs.Change.{put_at}
 use Rattle.grs_known.proofs.known.Histories.{MayFollow, made_item, follows}
 use Rattle.grs_known.proofs.known.ItemLaws.{lists-push}
 use Rattle.grs_known.proofs.lists.Facts.{slice_get-past}
 use Rattle.grs_known.proofs.lists.Owners.{is_among}
 use Rattle.grs_known.proofs.lists.Truths.{false_by, no_truth}
+use Rattle.grs_known.proofs.lists.Placed.{put_here, put_other}
 use Rattle.grs_world.specs.World.{World}
 use Rattle.grs_known.proofs.told.News.{ToldNews, told-news, still-told}
 use Rattle.grs_known.proofs.system.Askers.{apart-push}
@@ -126,10 +128,6 @@ manager-near words managed e s h = go (slice_get words e) refl
     go None f = fits (subst IsManaged (sym (word_past words e (slice_get-past words e f))) empty_is_managed)
 
 -- ---- requests in hands
--- one more request of system s was sent
-abbrev pub out-with : (ℕ → List Req) → ℕ → Req → ℕ → List Req
-out-with out s q u = cond (u == s) (out s ++ q ∷ []) (out u)
-
 in-more : (z : Req) (qs : List Req) (q : Req) → IsIn z qs → IsIn z (qs ++ q ∷ [])
 in-more z [] q h = absurd h
 in-more z (x ∷ qs) q (inl e) = inl e
@@ -203,7 +201,7 @@ module _ (deck : Deck) (w : World) (g : IsWhole deck w) (c : SysId) (n : Node) (
     sent_on = record w.medium { words = words; inboxes = with_mail w.medium.inboxes s.0 (Request entry c (request_of t a)); rest = flags }
 
     abbrev out' : ℕ → List Req
-    out' = out-with g.out c.0 (request_of t a)
+    out' = put_at g.out c.0 (g.out c.0 ++ request_of t a ∷ [])
 
     below : s.0 < length w.nodes
     below = go (slice_get w.nodes s.0) refl
@@ -222,14 +220,10 @@ module _ (deck : Deck) (w : World) (g : IsWhole deck w) (c : SysId) (n : Node) (
     other_box u ne = get_or-set_other w.medium.inboxes s.0 u (inbox w.medium s.0 ++ mail ∷ []) [] ne
 
     own_out : out' c.0 ≡ g.out c.0 ++ q ∷ []
-    own_out = ap (λ b. cond b (g.out c.0 ++ q ∷ []) (g.out c.0)) (eq-eqb c.0 c.0 refl)
+    own_out = put_here g.out c.0 (g.out c.0 ++ q ∷ [])
 
     other_out : (u : ℕ) → u ≢ c.0 → out' u ≡ g.out u
-    other_out u ne = go (u == c.0) refl
-      where
-        go : (b : Bool) → (u == c.0) ≡ b → out' u ≡ g.out u
-        go true e = absurd (ne (eqb-true u c.0 e))
-        go false e = ap (λ b. cond b (g.out c.0 ++ q ∷ []) (g.out u)) e
+    other_out u ne = put_other g.out c.0 (g.out c.0 ++ q ∷ []) u ne
 
     more_out : (u : ℕ) (z : Req) → IsIn z (g.out u) → IsIn z (out' u)
     more_out u z h = go (u == c.0) refl

@@ -12,7 +12,7 @@ use Rattle.grs_wire.specs.declared.request.Fixed.TheVariants as fixing
 use Rattle.grs_wire.specs.declared.medium.Mail.TheVariants.{Answered, Request, Granted}
 use Rattle.grs_wire.specs.Wants.{answer_to, res_wanted}
 use Rattle.grs_known.proofs.lists.Truths.{false_by, task_swap}
-use Rattle.std.proofs.lemmas.Bool.{and_parts, eqb-true, eqb-false, eq-eqb, not-true}
+use Rattle.std.proofs.lemmas.Bool.{and_parts, eqb-true, eqb-false, not-true}
 use Rattle.std.specs.List.{list_all}
 use Rattle.std.proofs.Common.{◌≡◌, ◌≢◌, inl, inr, ℕ, true, List, [], ◌∷◌, ◌++◌, Option, Some, None, refl, ap, sym, ◌∙◌, subst, append-nil, Bool, false, cond, ◌||◌, arith, length, ◌<◌, not}
 use Rattle.std.proofs.lemmas.Option.{same_Some, slice_get-get_or}
@@ -33,6 +33,7 @@ use Rattle.grs_wire.specs.declared.request.Req.{Req}
 use Rattle.task_state.specs.Replies.{tell_all}
 use Rattle.task_state.specs.declared.state.Asked.{Asked}
 use Rattle.grs_known.specs.Items.{RunItem, lists, history, mine, is_of, items}
+use Rattle.grs_known.specs.Change.{put_at}
 use Rattle.grs_known.proofs.known.Histories.{IsHistory, IsAsk, MayFollow, made_item, follows}
 use Rattle.grs_known.proofs.lists.Owners.{is_among}
 use Rattle.grs_known.proofs.system.Asking.{IsReq, IsAskedBy}
@@ -40,6 +41,7 @@ use Rattle.grs_known.proofs.system.Says.{none, is_home_at, askers, stand_apart}
 use Rattle.grs_world.proofs.star.Answering.{Taken, tells-owners, asker-settled}
 use Rattle.grs_world.proofs.star.Ghosts.{told-free}
 use Rattle.grs_known.proofs.lists.Facts.{filter-cons_left}
+use Rattle.grs_known.proofs.lists.Placed.{put_here, put_other}
 use Rattle.grs_world.proofs.star.Members.{has_manager, one-manages, IsStep}
 use Rattle.grs_world.proofs.star.OwnEvents.{Goes, late-calm}
 use Rattle.grs_world.proofs.star.Systems.{IsSystem, system-other, Away, near_at, is_near, gives_want, system-settled, requests_in, here}
@@ -110,7 +112,7 @@ module _ (deck : Deck) (words : List ℕ) (T : List RunItem) (right : IsHistory 
 -- ---- In whose hands requests are then.
 -- the items that are to come, with one more at the asker's system
 abbrev pub later-with : (ℕ → List RunItem) → ℕ → RunItem → ℕ → List RunItem
-later-with later s x u = cond (u == s) (later s ++ x ∷ []) (later u)
+later-with later s x = put_at later s (later s ++ x ∷ [])
 
 module _ (deck : Deck) (words : List ℕ) (count : ℕ) (later : ℕ → List RunItem) (out : ℕ → List Req) (q : Req) (x : RunItem) (asked : x.fixed ≡ fixing.Asked q) where
   hand-later : (m : ℕ) (z : Req) → same_task z.task q.task ≡ false → IsHand deck words count later out m z → IsHand deck words count (later-with later q.task.system.0 x) out m z
@@ -212,14 +214,10 @@ module _ (deck : Deck) (w : World) (g : IsWhole deck w) (c : SysId) (n : Node) (
     other_box u ne = get_or-set_other w.medium.inboxes s u (inbox w.medium s ++ answer ∷ []) [] ne
 
     its_later : later-with g.later s item s ≡ g.later s ++ item ∷ []
-    its_later = ap (λ b. cond b (g.later s ++ item ∷ []) (g.later s)) (eq-eqb s s refl)
+    its_later = put_here g.later s (g.later s ++ item ∷ [])
 
     other_later : (u : ℕ) → u ≢ s → later-with g.later s item u ≡ g.later u
-    other_later u ne = go (u == s) refl
-      where
-        go : (b : Bool) → (u == s) ≡ b → cond (u == s) (g.later s ++ item ∷ []) (g.later u) ≡ g.later u
-        go true e = absurd (ne (eqb-true u s e))
-        go false e = ap (λ b. cond b (g.later s ++ item ∷ []) (g.later u)) e
+    other_later u ne = put_other g.later s (g.later s ++ item ∷ []) u ne
 
     -- a system that isn't the asker's, nor the manager
     others : (u : ℕ) (k : Node) → u ≢ c.0 → slice_get w.nodes u ≡ Some k → IsSystem deck w.medium.words (T ++ item ∷ []) u k (inbox sent_on u) (later-with g.later s item u) (g.out u)

@@ -1,5 +1,5 @@
 -- Every run in star mode is sound, and what is kept is what the history says.
-use Rattle.std.proofs.Common.{◌≡◌, ◌≤◌, ◌<◌, ℕ, zero, suc, Bool, true, false, cond, List, [], ◌∷◌, ◌++◌, length, Option, Some, None, refl, ap, sym, ◌∙◌, subst, arith, append-nil, append_assoc}
+use Rattle.std.proofs.Common.{◌≡◌, ◌≤◌, ◌<◌, ℕ, zero, suc, Bool, true, false, cond, List, [], ◌∷◌, ◌++◌, length, Some, None, refl, ap, sym, ◌∙◌, subst, arith}
 use Rattle.std.specs.Prelude.{replicate, slice_get, slice_index_or}
 use Rattle.std.proofs.lemmas.Option.{slice_get_within, same_Some}
 use Rattle.grs_base.specs.Limits.{most_systems, is_entries}
@@ -11,19 +11,18 @@ use Rattle.grs_medium.specs.Medium.{first_medium, inbox}
 use Rattle.grs_node.specs.Node.{Node, first_node}
 use Rattle.grs_node.specs.Star.{StarPart, first_part}
 use Rattle.grs_wire.specs.History.{replay}
-use Rattle.grs_wire.specs.Masks.{has}
 use Rattle.grs_wire.specs.declared.deck.Choice.{Choice}
 use Rattle.grs_wire.specs.declared.deck.Choice.TheVariants as choices
 use Rattle.grs_wire.specs.declared.deck.Deck.{Deck}
 use Rattle.grs_wire.specs.declared.deck.Event.{Event}
 use Rattle.grs_wire.specs.declared.medium.Mail.{Mail}
-use Rattle.grs_wire.proofs.WantLaws.{by_test}
 use Rattle.grs_world.specs.Agree.{Sound}
 use Rattle.grs_world.specs.Kept.{KeptArePlaces}
-use Rattle.grs_world.specs.World.{World, Turnout, chosen, counted, first_nodes, first_world, fixed_by, happens, happens_at, placed, run}
+use Rattle.grs_world.specs.World.{World, Turnout, chosen, counted, first_nodes, first_world, fixed_by, happens, placed, run}
 use Rattle.grs_world.proofs.run.KeptPlaces.{kept_places}
-use Rattle.grs_world.proofs.run.Runs.{GoodTold, run-push, told-after, told-counted}
+use Rattle.grs_world.proofs.run.Runs.{GoodTold, told-after, told-counted}
 use Rattle.grs_world.proofs.run.Sound.{first_good_told, first_history, first_is, runs_sound, sound-of}
+use Rattle.grs_world.proofs.run.Each.{each_event, each_run}
 use Rattle.grs_world.proofs.system.Begun.{first_seen}
 use Rattle.grs_world.specs.Interest.{IsStarDeck}
 use Rattle.grs_world.proofs.star.Events.{good_choice}
@@ -106,16 +105,8 @@ module _ (deck : Deck) (star : IsStarDeck deck) (es : List Event) (e : Event) (g
         let o : Turnout = chosen deck w.medium c n e.choice in
         record { whole = comes.whole; told = told-after deck es e n at g.told o (items (w.fixed ++ fixed_by c o.step.fixed)) came comes.news is }
 
-  good_at : (o : Option Node) → slice_get (run deck es).nodes e.system.0 ≡ o → happens deck (run deck es) e ≡ happens_at deck (run deck es) e o → Good (happens_at deck (run deck es) e o)
-  unfolding happens_at
-  good_at None at is = good_counted
-  good_at (Some n) at is =
-      by_test (λ x. happens deck w e ≡ x → Good x) (has w.medium.removed c.0) (counted w) (placed w c n (chosen deck w.medium c n e.choice))
-      (λ r is. good_counted) (λ r. good_placed n at) is
-
   good_happens : Good (happens deck (run deck es) e)
-  unfolding happens
-  good_happens = good_at (slice_get w.nodes c.0) refl refl
+  good_happens = each_event deck w e (λ x. happens deck w e ≡ x → Good x) (λ is. good_counted) (λ n at is. good_placed n at is) refl
 
 -- ---- the first world
 no_mail : (k s : ℕ) → slice_index_or (replicate {A = List Mail} k []) s [] ≡ []
@@ -163,14 +154,8 @@ first_whole deck star = record {
         (subst (λ hs. Hands deck (replicate deck.entries 0) (length (first_nodes deck 0 deck.systems)) (λ s. []) (λ s. []) m (hs ++ [])) (sym (none_held deck star m n p (first_is deck m n h) is)) (record { each = tt; apart = refl }))
 
 -- ---- every list of events
-good_run_from : (deck : Deck) → IsStarDeck deck → (done es : List Event) → GoodRun deck done (run deck done) → GoodRun deck (done ++ es) (run deck (done ++ es))
-good_run_from deck star done [] g = subst (λ xs. GoodRun deck xs (run deck xs)) (sym (append-nil done)) g
-good_run_from deck star done (e ∷ es) g =
-    subst (λ xs. GoodRun deck xs (run deck xs)) (append_assoc done (e ∷ []) es)
-    (good_run_from deck star (done ++ e ∷ []) es (subst (λ (w : World). GoodRun deck (done ++ e ∷ []) w) (sym (run-push deck done (first_world deck) e)) (good_happens deck star done e g)))
-
 good_run : (deck : Deck) → IsStarDeck deck → (es : List Event) → GoodRun deck es (run deck es)
-good_run deck star es = good_run_from deck star [] es (record { whole = first_whole deck star; told = first_good_told deck })
+good_run deck star = each_run deck (GoodRun deck) (record { whole = first_whole deck star; told = first_good_told deck }) (λ es e g. good_happens deck star es e g)
 
 -- ---- so every run of every deck in star mode is sound,
 pub star_sound : (deck : Deck) → IsStarDeck deck → (es : List Event) → Sound deck es

@@ -1,7 +1,7 @@
 -- A system in star mode takes the first mail of its inbox.
 use Rattle.std.proofs.Common.{◌≡◌, ◌≢◌, ◌<◌, inl, inr, ℕ, Bool, true, false, cond, not, ◌&&◌, ◌||◌, List, [], ◌∷◌, ◌++◌, length, Some, refl, ap, sym, ◌∙◌, subst, arith, append_assoc}
 use Rattle.std.specs.Prelude.{drop, filter, slice_get, ◌==◌}
-use Rattle.std.proofs.lemmas.Bool.{and_parts, eqb-true, eq-eqb, and_from, not-true, or_parts}
+use Rattle.std.proofs.lemmas.Bool.{and_parts, eqb-true, and_from, not-true, or_parts}
 use Rattle.std.proofs.lemmas.List.{get_or-set_same, get_or-set_other}
 use Rattle.std.proofs.lemmas.Option.{slice_get_within, same_Some}
 use Rattle.grs_base.specs.Same.{same_task}
@@ -27,8 +27,10 @@ use Rattle.star_client.specs.Client.{after_mail}
 use Rattle.task_state.specs.Replies.{tell_control}
 use Rattle.task_state.specs.View.{TasksView}
 use Rattle.grs_known.specs.Items.{RunItem, mine, history, items}
+use Rattle.grs_known.specs.Change.{put_at}
 use Rattle.grs_known.proofs.lists.Owners.{is_among}
 use Rattle.grs_known.proofs.lists.Truths.{no_truth, false_by, task_swap}
+use Rattle.grs_known.proofs.lists.Placed.{put_here, put_other}
 use Rattle.grs_world.specs.World.{World, Turnout, chosen}
 use Rattle.grs_known.proofs.told.News.{ToldNews, told-news}
 use Rattle.grs_known.proofs.system.Says.{askers, stand_apart, none}
@@ -39,20 +41,6 @@ use Rattle.grs_world.proofs.star.OwnEvents.{Goes}
 use Rattle.grs_world.proofs.star.Systems.{IsSystem, is_late, late-none, requests_in}
 use Rattle.grs_world.proofs.star.Worlds.{IsIn, IsHand, AllHands, Hands, IsWhole, in_hands, items-none, whole-placed}
 use Rattle.grs_world.proofs.star.steps.Outcome.{Comes, ComesOf, comes-quiet, comes-needs, comes-called, comes-finished}
-
--- ---- what is open at one system, with something else in its place
-abbrev pub in_place : {A : Type 0} → (ℕ → A) → ℕ → A → ℕ → A
-in_place f s a u = cond (u == s) a (f u)
-
-place-here : {A : Type 0} (f : ℕ → A) (s : ℕ) (a : A) → in_place f s a s ≡ a
-place-here f s a = ap (λ b. cond b a (f s)) (eq-eqb s s refl)
-
-place-other : {A : Type 0} (f : ℕ → A) (s : ℕ) (a : A) (u : ℕ) → u ≢ s → in_place f s a u ≡ f u
-place-other f s a u ne = go (u == s) refl
-  where
-    go : (b : Bool) → (u == s) ≡ b → cond (u == s) a (f u) ≡ f u
-    go true e = absurd (ne (eqb-true u s e))
-    go false e = ap (λ b. cond b a (f u)) e
 
 -- ---- a request of a task that isn't answered stays in whose hands it is
 in-filter : (f : Req → Bool) (q : Req) (qs : List Req) → f q ≡ true → IsIn q qs → IsIn q (filter f qs)
@@ -66,10 +54,10 @@ in-filter f q (x ∷ qs) kept (inr h) = go (f x) (in-filter f q qs kept h)
 
 module _ (deck : Deck) (words : List ℕ) (count : ℕ) (later : ℕ → List RunItem) (out : ℕ → List Req) (c : ℕ) (t : TaskId) (late : is_late t (later c) ≡ true) where
   abbrev later' : ℕ → List RunItem
-  later' = in_place later c (others_of t (later c))
+  later' = put_at later c (others_of t (later c))
 
   abbrev out' : ℕ → List Req
-  out' = in_place out c (without_asker t (out c))
+  out' = put_at out c (without_asker t (out c))
 
   hand-stays : (m : ℕ) (q : Req) → IsHand deck words count later out m q → IsHand deck words count later' out' m q
   hand-stays m q h = record { apart = h.apart; below = h.below; among = among (q.task.system.0 == c) refl; idle = idle (q.task.system.0 == c) refl; entry = h.entry; at = h.at; managed = h.managed }
@@ -164,9 +152,9 @@ module _ (deck : Deck) (w : World) (g : IsWhole deck w) (c : SysId) (n : Node) (
   took-learned t v q late goes own step =
       let xs = others_of t (g.later c.0) in
       let qs = without_asker t (g.out c.0) in
-      took-mail (in_place g.later c.0 xs) (in_place g.out c.0 qs) (place-other g.later c.0 xs) (place-other g.out c.0 qs) (hands-stay deck w.medium.words (length w.nodes) g.later g.out c.0 t late) v q
-      (subst (λ ys. Goes deck w.medium.words T c.0 (record n { tasks = v; star = Some q }) rest ys (in_place g.out c.0 qs c.0) n.tasks.told) (sym (place-here g.later c.0 xs))
-      (subst (λ rs. Goes deck w.medium.words T c.0 (record n { tasks = v; star = Some q }) rest xs rs n.tasks.told) (sym (place-here g.out c.0 qs)) goes)) own step
+      took-mail (put_at g.later c.0 xs) (put_at g.out c.0 qs) (put_other g.later c.0 xs) (put_other g.out c.0 qs) (hands-stay deck w.medium.words (length w.nodes) g.later g.out c.0 t late) v q
+      (subst (λ ys. Goes deck w.medium.words T c.0 (record n { tasks = v; star = Some q }) rest ys (put_at g.out c.0 qs c.0) n.tasks.told) (sym (put_here g.later c.0 xs))
+      (subst (λ rs. Goes deck w.medium.words T c.0 (record n { tasks = v; star = Some q }) rest xs rs n.tasks.told) (sym (put_here g.out c.0 qs)) goes)) own step
 
 -- ---- by the mail
 module _ (deck : Deck) (w : World) (g : IsWhole deck w) (c : SysId) (n : Node) (at : slice_get w.nodes c.0 ≡ Some n) (p : StarPart) (star : n.star ≡ Some p) (rest : List Mail) where

@@ -1,0 +1,75 @@
+-- The cases of a call, of a choice and of an event, each once, and every list of events.
+use Rattle.std.proofs.Common.{◌≡◌, true, List, [], ◌∷◌, ◌++◌, take, Option, Some, None, refl, sym, subst, append-nil, append_assoc}
+use Rattle.std.specs.Prelude.{slice_get, ◌==◌}
+use Rattle.grs_base.specs.declared.resource.SysId.{SysId}
+use Rattle.grs_base.specs.declared.resource.TaskId.{TaskId}
+use Rattle.grs_medium.specs.Apply.{row, apply}
+use Rattle.grs_medium.specs.Medium.{MediumState}
+use Rattle.grs_node.proofs.InRing.{ring_prepare, prepare-ring}
+use Rattle.grs_node.specs.Node.{Node, most_additions, may_go, is_pending, prepare}
+use Rattle.grs_node.specs.declared.prepared.Prepared.{Prepared}
+use Rattle.grs_node.specs.declared.prepared.Prepared.TheVariants.{Quiet, Call, Nothing}
+use Rattle.grs_wire.specs.Masks.{has}
+use Rattle.grs_wire.specs.declared.deck.Choice.{Choice}
+use Rattle.grs_wire.specs.declared.deck.Choice.TheVariants as choices
+use Rattle.grs_wire.specs.declared.deck.Deck.{Deck}
+use Rattle.grs_wire.specs.declared.deck.Event.{Event}
+use Rattle.grs_wire.specs.declared.medium.Act.TheVariants as acts
+use Rattle.grs_wire.specs.declared.medium.Call.{Call as CallOfMedium}
+use Rattle.grs_wire.specs.declared.medium.Reply.{Reply}
+use Rattle.grs_wire.specs.declared.medium.Reply.TheVariants as replies
+use Rattle.grs_wire.proofs.WantLaws.{by_test}
+use Rattle.grs_world.specs.World.{World, first_world, chosen, placed, counted, happens_at, happens, run_from, run}
+
+-- What holds of each answer to a call, with the medium that it leaves, holds of the call.
+pub each_answer : (m : MediumState) (c : SysId) (call : CallOfMedium) (P : Reply × MediumState → Type 0) → P (replies.Removed, m) → P (replies.Stale m.removed, m) → P (row m c call.act) → P (apply m c call)
+unfolding apply
+each_answer m c call P removed stale here =
+    by_test P (has m.removed c.0) (replies.Removed, m) _ (λ r. removed)
+    (λ r. by_test P (call.known == m.removed) (row m c call.act) (replies.Stale m.removed, m) (λ k. here) (λ k. stale))
+
+-- What holds of each thing that a system of the ring can prepare holds of what it prepares.
+pub each_prepared : (deck : Deck) (n : Node) (P : Choice → Prepared → Type 0) → n.star ≡ None →
+    ((t : TaskId) → may_go deck n t ≡ true → P (choices.Task t) Quiet) →
+    P choices.Turn (Call (record { known = n.known; act = acts.Turn (take most_additions n.outbox) })) →
+    P choices.Rest (Call (record { known = n.known; act = acts.Rest })) →
+    ((choice : Choice) → P choice Nothing) →
+    (choice : Choice) → P choice (prepare deck n choice)
+each_prepared deck n P alone task turn rest nothing choice = subst (P choice) (sym (prepare-ring deck n choice alone)) (go choice)
+  where
+    go : (c : Choice) → P c (ring_prepare deck n c)
+    go (choices.Task t) = by_test (P (choices.Task t)) (may_go deck n t) Quiet Nothing (λ m. task t m) (λ m. nothing (choices.Task t))
+    go choices.Turn = turn
+    go choices.Rest = by_test (P choices.Rest) (is_pending deck n) Nothing (Call (record { known = n.known; act = acts.Rest })) (λ p. nothing choices.Rest) (λ p. rest)
+    go (choices.Send t) = nothing (choices.Send t)
+    go choices.Take = nothing choices.Take
+    go choices.Settle = nothing choices.Settle
+    go (choices.Tell e) = nothing (choices.Tell e)
+    go (choices.Leave e) = nothing (choices.Leave e)
+    go choices.Switch = nothing choices.Switch
+    go (choices.Purge t) = nothing (choices.Purge t)
+
+-- What holds where an event is only counted, and where a system made its choice, holds behind the event.
+pub each_event : (deck : Deck) (w : World) (e : Event) (P : World → Type 0) → P (counted w) →
+    ((n : Node) → slice_get w.nodes e.system.0 ≡ Some n → P (placed w e.system n (chosen deck w.medium e.system n e.choice))) → P (happens deck w e)
+unfolding happens happens_at
+each_event deck w e P idle chose = go (slice_get w.nodes e.system.0) refl
+  where
+    go : (o : Option Node) → slice_get w.nodes e.system.0 ≡ o → P (happens_at deck w e o)
+    go None at = idle
+    go (Some n) at = by_test P (has w.medium.removed e.system.0) (counted w) (placed w e.system n (chosen deck w.medium e.system n e.choice)) (λ r. idle) (λ r. chose n at)
+
+-- ---- every list of events
+pub run-push : (deck : Deck) (es : List Event) (w : World) (e : Event) → run_from deck w (es ++ e ∷ []) ≡ happens deck (run_from deck w es) e
+run-push deck [] w e = refl
+run-push deck (x ∷ es) w e = run-push deck es (happens deck w x) e
+
+-- What holds of the first world, and of the world after each event if it did before, holds of every run.
+pub each_run : (deck : Deck) (P : List Event → World → Type 0) → P [] (first_world deck) → ((es : List Event) (e : Event) → P es (run deck es) → P (es ++ e ∷ []) (happens deck (run deck es) e)) → (es : List Event) → P es (run deck es)
+each_run deck P first next es = from [] es first
+  where
+    from : (done es : List Event) → P done (run deck done) → P (done ++ es) (run deck (done ++ es))
+    from done [] h = subst (λ xs. P xs (run deck xs)) (sym (append-nil done)) h
+    from done (e ∷ es) h =
+        subst (λ xs. P xs (run deck xs)) (append_assoc done (e ∷ []) es)
+        (from (done ++ e ∷ []) es (subst (P (done ++ e ∷ [])) (sym (run-push deck done (first_world deck) e)) (next done e h)))
