@@ -22,7 +22,7 @@ use Rattle.grs_medium.specs.Apply.{turn_row, joined, submit_on, submit_row, take
 use Rattle.grs_medium.specs.Inboxes.{inbox_of, is_empty, with_mail, without_first}
 use Rattle.grs_medium.specs.Medium.{MediumState, systems_of, awake, inbox, live, word}
 use Rattle.grs_medium.specs.Room.{is_built}
-use Rattle.grs_medium.specs.Kept.{ChangesWhatItSays, NamesWhatIsThere, WaitsForItsHolder}
+use Rattle.grs_medium.specs.Changes.{ChangesWhatItSays, NamesWhatIsThere, WaitsForItsHolder}
 
 -- a call that isn't refused by the checks is its row
 behind_checks : {M : Type 0} (b k r : Bool) (m : M) (x : Reply × M) (y z : Reply) → (r ≡ true → ¬ (x.1 ≡ m)) → (not b && k && r) ≡ true → ¬ ((cond b (y, m) (cond k x (z, m))).1 ≡ m)

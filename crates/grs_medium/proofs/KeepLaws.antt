@@ -21,7 +21,7 @@ use Rattle.grs_medium.specs.Apply.{turn_row, joined, submit_on, submit_row, take
 use Rattle.grs_medium.specs.Inboxes.{is_empty}
 use Rattle.grs_medium.specs.Medium.{MediumState, inbox, live, word}
 use Rattle.grs_medium.specs.Room.{is_built}
-use Rattle.grs_medium.specs.Kept.{LeavesTheRest}
+use Rattle.grs_medium.specs.Changes.{LeavesTheRest}
 
 -- neither the removed nor the stale change anything, and else it is the row that counts
 behind_checks : {M : Type 0} (b k r : Bool) (m : M) (x : Reply × M) (y z : Reply) → (r ≡ false → x.1 ≡ m) → (not b && k && r) ≡ false → (cond b (y, m) (cond k x (z, m))).1 ≡ m

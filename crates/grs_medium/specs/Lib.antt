@@ -3,6 +3,6 @@ pub mod Medium
 pub mod Apply
 pub mod Room
 pub mod Acts
-pub mod Kept
+pub mod Changes
 pub mod Causes
 pub mod TurnReplies

@@ -1,6 +1,6 @@
 //! Laws of the medium: each function's contract is one, and there is nothing to run.
 ghost use Rattle.grs_medium.specs.Causes.{RemovedComes, StaleComes, NotYoursComes, InStarComes, NoSuchComes, OverComes, RestingComes, SoleComes, SentComes, TakenComes, EmptyComes, SettledComes, ToldComes, KeptComes, LeftComes};
-ghost use Rattle.grs_medium.specs.Kept.{LeavesTheRest, ChangesWhatItSays};
+ghost use Rattle.grs_medium.specs.Changes.{LeavesTheRest, ChangesWhatItSays};
 
 /// A call that isn't said to change the medium leaves it as it was.
 pub fn leaves_the_rest()
