@@ -1,5 +1,5 @@
 -- When the answers of star mode come.
-use Rattle.std.proofs.Common.{◌≡◌, ℕ, Bool, true, false, cond, not, ◌||◌, List, [], ◌∷◌, length, refl, ap, sym, arith}
+use Rattle.std.proofs.Common.{◌≡◌, ℕ, Bool, true, false, cond, not, ◌||◌, List, [], ◌∷◌, length, refl, ap, sym, subst, arith}
 use Rattle.std.specs.Prelude.{◌↔◌, Option, Some, None, is_none, ◌==◌}
 use Rattle.std.proofs.lemmas.Bool.{eqb-true, false≢true}
 use Rattle.grs_base.specs.declared.resource.SysId.{SysId}
@@ -9,6 +9,7 @@ use Rattle.grs_wire.specs.declared.medium.Act.TheVariants.{Submit, Take, Settle,
 use Rattle.grs_wire.specs.declared.medium.Mail.{Mail}
 use Rattle.grs_wire.specs.declared.medium.Reply.TheVariants.{Sole, Sent, Taken, Empty, Settled, Told, Left, Kept}
 use Rattle.grs_wire.specs.LockWords.{manager, is_manager, is_kept, interest, leave_reply}
+use Rattle.lock_structure.proofs.Others.{kept-where}
 use Rattle.lock_structure.specs.Words.{route_by, route}
 use Rattle.lock_structure.specs.declared.word.Route.TheVariants as routes
 use Rattle.grs_medium.specs.Apply.{submit_on, submit_row, take_from, take_row, mail_row, leave_row, row}
@@ -86,12 +87,18 @@ row_told m c act = never m c act Told refl
 
 row_kept : (m : MediumState) (c : SysId) (act : Act) (mask : ℕ) → ((row m c act).0 ≡ Kept mask) ↔ ((leaves_others m c act ≡ true) × (mask ≡ interested m act))
 unfolding row leave_row leave_reply
-row_kept m c (Leave entry) mask = leave_kept (is_kept (word m entry) c) (interest (word m entry)) mask
+row_kept m c (Leave entry) mask =
+    subst (λ (b : Bool). (cond (is_kept (word m entry) c) (Kept (interest (word m entry))) Left ≡ Kept mask) ↔ ((b ≡ true) × (mask ≡ interest (word m entry))))
+    (kept-where (word m entry) c)
+    (leave_kept (is_kept (word m entry) c) (interest (word m entry)) mask)
 row_kept m c act mask = neither (other_reply m c act (Kept mask) refl) (λ p. false≢true p.0)
 
 row_left : (m : MediumState) (c : SysId) (act : Act) → ((row m c act).0 ≡ Left) ↔ (leaves m c act ≡ true)
 unfolding row leave_row leave_reply
-row_left m c (Leave entry) = leave_left (is_kept (word m entry) c) (interest (word m entry))
+row_left m c (Leave entry) =
+    subst (λ (b : Bool). (cond (is_kept (word m entry) c) (Kept (interest (word m entry))) Left ≡ Left) ↔ (not b ≡ true))
+    (kept-where (word m entry) c)
+    (leave_left (is_kept (word m entry) c) (interest (word m entry)))
 row_left m c act = never m c act Left refl
 
 pub sole_comes : SoleComes

@@ -7,7 +7,8 @@ use Rattle.grs_wire.specs.declared.medium.Act.TheVariants.{Turn, Submit, Take, S
 use Rattle.grs_wire.specs.declared.medium.Call.{Call}
 use Rattle.grs_wire.specs.declared.medium.Mail.{Mail}
 use Rattle.grs_wire.specs.declared.medium.Reply.TheVariants as replies
-use Rattle.grs_wire.specs.LockWords.{interest, is_kept, manager, is_manager}
+use Rattle.grs_wire.specs.LockWords.{interest, manager, is_manager}
+use Rattle.lock_structure.specs.Laws.{has_others}
 use Rattle.rsa_message.specs.Message.{is_at}
 use Rattle.grs_medium.specs.Apply.{is_live, resting, reply_to}
 use Rattle.grs_medium.specs.Inboxes.{is_empty, first_mail}
@@ -78,14 +79,15 @@ abbrev pub tells : Act → Bool
 tells (Tell to mail) = true
 tells act = false
 
--- a Leave of a lock entry that the caller manages, and others have interest as well
+-- a Leave of a lock entry that the caller manages, having interest in it, and others have interest as well
 abbrev pub leaves_others : MediumState → SysId → Act → Bool
-leaves_others m c (Leave entry) = is_kept (word m entry) c
+leaves_others m c (Leave entry) =
+    is_manager (manager (word m entry)) c && (has (interest (word m entry)) c.0 && has_others (interest (word m entry)) c)
 leaves_others m c act = false
 
 -- any other Leave
 abbrev pub leaves : MediumState → SysId → Act → Bool
-leaves m c (Leave entry) = not (is_kept (word m entry) c)
+leaves m c (Leave entry) = not (leaves_others m c (Leave entry))
 leaves m c act = false
 
 -- the systems that have interest in the lock entry of a Leave

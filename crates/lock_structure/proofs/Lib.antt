@@ -1,3 +1,4 @@
 pub mod Samples
 pub mod WordLaws
 pub mod LawProofs
+pub mod Others

@@ -7,7 +7,7 @@ use Rattle.grs_wire.specs.LockWords.{interest, manager, epoch, lock_word, is_man
 use Rattle.grs_wire.specs.Masks.{has, without, with_also}
 use Rattle.lock_structure.specs.declared.word.Route.TheVariants.{Sole, To}
 use Rattle.lock_structure.specs.Words.{route, submitted_words, left_words}
-use Rattle.lock_structure.specs.Laws.{IsManaged, is_interested, manager_at}
+use Rattle.lock_structure.specs.Laws.{IsManaged, has_others, is_interested, manager_at}
 
 abbrev sys : ℕ → SysId
 sys n = record { 0 = n }
@@ -51,6 +51,17 @@ leaving :
     × (left_words (8449 ∷ []) 0 (sys 0) ≡ 8192 ∷ [])
 unfolding has without with_also manager lock_word leave_reply leave_changes left_word
 leaving = (refl, refl, refl, refl, refl, refl, refl, refl, refl, refl, refl, refl, refl)
+
+-- whether another system has interest: two others, one, none beside the caller, and one beside a caller that has none
+others :
+    (has_others 7 (sys 1) ≡ true)
+    × (has_others 3 (sys 0) ≡ true)
+    × (has_others 1 (sys 0) ≡ false)
+    × (has_others 0 (sys 0) ≡ false)
+    × (has_others 128 (sys 0) ≡ true)
+    × (has_others 128 (sys 7) ≡ false)
+unfolding has with_also
+others = (refl, refl, refl, refl, refl, refl)
 
 -- the parts of a word
 parts :

@@ -1,11 +1,11 @@
 -- Laws of lock words: who has interest in a lock entry and who manages it, behind a request and once a system has given
 -- its interest up.
-use Rattle.std.specs.Prelude.{◌≡◌, ◌≢◌, ◌<◌, ℕ, Bool, true, cond, not, ◌==◌, ◌&&◌, ◌||◌, List, length, replicate, Option, Some, None, unwrap_or}
+use Rattle.std.specs.Prelude.{◌≡◌, ◌≢◌, ◌<◌, ℕ, Bool, true, false, cond, not, ◌==◌, ◌&&◌, ◌||◌, List, length, replicate, Option, Some, None, unwrap_or}
 use Rattle.std.specs.List.{All}
 use Rattle.grs_base.specs.Limits.{most_systems}
 use Rattle.grs_base.specs.declared.resource.SysId.{SysId}
 use Rattle.grs_wire.specs.LockWords.{interest, manager, is_manager, submitted, leave_reply, left_word}
-use Rattle.grs_wire.specs.Masks.{has, with_also}
+use Rattle.grs_wire.specs.Masks.{has, with_also, only, all_others}
 use Rattle.grs_wire.specs.declared.medium.Reply.TheVariants.{Left, Kept}
 use Rattle.lock_structure.specs.Words.{word_at, submitted_words, left_words}
 
@@ -42,6 +42,18 @@ KeptStays = (w : ℕ) (c : SysId) (mask : ℕ) → leave_reply w c ≡ Kept mask
 -- A manager is answered Kept where another system has interest.
 abbrev pub ManagerIsKept : Type 0
 ManagerIsKept = (w : ℕ) (c : SysId) (s : ℕ) → IsManaged w → manager w ≡ Some c → s ≢ c.0 → has (interest w) s ≡ true → leave_reply w c ≡ Kept (interest w)
+
+-- whether another system than c is in a set
+abbrev pub has_others : ℕ → SysId → Bool
+has_others mask c = not (all_others most_systems (only c.0) (λ s. not (has mask s)))
+
+-- Kept is answered only where another system has interest.
+abbrev pub KeptHasOther : Type 0
+KeptHasOther = (w : ℕ) (c : SysId) (mask : ℕ) → leave_reply w c ≡ Kept mask → (s : ℕ) × ((s ≢ c.0) × (has (interest w) s ≡ true))
+
+-- Where no other system has interest the caller is let go, also as the manager.
+abbrev pub LoneIsLeft : Type 0
+LoneIsLeft = (w : ℕ) (c : SysId) → ((s : ℕ) → s ≢ c.0 → has (interest w) s ≡ false) → leave_reply w c ≡ Left
 
 -- A word in which nobody has interest has no manager, and there stays a manager exactly where somebody has interest.
 abbrev pub EmptyIsManaged : Type 0

@@ -1,5 +1,5 @@
 //! Laws of lock words: each function's contract is one, and there is nothing to run.
-ghost use Rattle.lock_structure.specs.Laws.{SubmitAddsCaller, SubmitKeepsManager, LeaveTakesCaller, LeaveKeepsManager, KeptStays, ManagerIsKept, EmptyIsManaged, SubmitKeepsManaged, LeaveKeepsManaged, WordsBegin, SubmitKeepsAllManaged, LeaveKeepsAllManaged, SubmitJoins, SubmitManages, LeaveParts, LeaveManages, KeptChangesNothing};
+ghost use Rattle.lock_structure.specs.Laws.{SubmitAddsCaller, SubmitKeepsManager, LeaveTakesCaller, LeaveKeepsManager, KeptStays, ManagerIsKept, KeptHasOther, LoneIsLeft, EmptyIsManaged, SubmitKeepsManaged, LeaveKeepsManaged, WordsBegin, SubmitKeepsAllManaged, LeaveKeepsAllManaged, SubmitJoins, SubmitManages, LeaveParts, LeaveManages, KeptChangesNothing};
 
 /// After a request those have interest who had, and the caller.
 pub fn submit_adds_caller()
@@ -29,6 +29,16 @@ pub fn kept_stays()
 /// A manager is answered Kept where another system has interest.
 pub fn manager_is_kept()
     ensures { ManagerIsKept }
+{}
+
+/// Kept is answered only where another system has interest.
+pub fn kept_has_other()
+    ensures { KeptHasOther }
+{}
+
+/// Where no other system has interest the caller is let go, also as the manager.
+pub fn lone_is_left()
+    ensures { LoneIsLeft }
 {}
 
 /// A word in which nobody has interest has no manager.
