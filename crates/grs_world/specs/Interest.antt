@@ -1,6 +1,5 @@
 -- In star mode each lock word tells who has interest in its entry, and who manages it.
-use Rattle.std.specs.Prelude.{◌≡◌, ◌≤◌, ℕ, Bool, true, false, List, length, Option, Some, None, slice_get}
-use Rattle.grs_base.specs.Limits.{most_systems, is_entries}
+use Rattle.std.specs.Prelude.{◌≡◌, ℕ, Bool, false, List, Option, Some, None, slice_get}
 use Rattle.grs_node.specs.Node.{Node}
 use Rattle.grs_node.specs.Star.{StarPart, has_interest}
 use Rattle.grs_wire.specs.declared.deck.Deck.{Deck}
@@ -8,12 +7,6 @@ use Rattle.grs_wire.specs.declared.deck.Event.{Event}
 use Rattle.lock_structure.specs.Laws.{IsManaged, is_interested}
 use Rattle.lock_structure.specs.Words.{word_at}
 use Rattle.grs_world.specs.World.{run}
-
--- A deck that begins in star mode, of no more systems and lock entries than there may be.
-pub record IsStarDeck (deck : Deck) : Type 0 where
-  pub star : deck.star ≡ true
-  pub few : length deck.systems ≤ most_systems
-  pub entries : is_entries deck.entries ≡ true
 
 -- whether a system has interest in a lock entry by its own part; one that isn't in star mode has none, nor has one that
 -- isn't there

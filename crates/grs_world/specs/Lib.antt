@@ -1,4 +1,5 @@
 pub mod World
+pub mod Decks
 pub mod Agree
 pub mod Laps
 pub mod Tables

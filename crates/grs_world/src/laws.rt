@@ -1,25 +1,25 @@
 //! The laws of a run: each function's contract is one, and there is nothing to run.
-ghost use Rattle.std.specs.Prelude.{◌≡◌, ◌≤◌, true, false, List, length};
-ghost use Rattle.grs_base.specs.Limits.{most_systems, is_entries};
+ghost use Rattle.std.specs.Prelude.{◌≡◌, true, false, List};
 ghost use Rattle.grs_wire.specs.declared.deck.Deck.{Deck};
 ghost use Rattle.grs_wire.specs.declared.deck.Event.{Event};
 ghost use Rattle.grs_world.specs.Agree.{Sound};
-ghost use Rattle.grs_world.specs.Interest.{IsStarDeck, WordsGoWithSystems};
+ghost use Rattle.grs_world.specs.Decks.{IsStarDeck};
+ghost use Rattle.grs_world.specs.Interest.{WordsGoWithSystems};
 ghost use Rattle.grs_world.specs.Kept.{KeptArePlaces};
 ghost use Rattle.grs_world.specs.Laps.{ComesBackLast, ProcessedLast, AnsweredLast};
 ghost use Rattle.grs_world.specs.Tables.{TablesAreFronts};
 
-/// Every run is sound, in ring mode and in star mode: its history is legal, and what is told agrees with it. The deck has no
-/// more systems than there may be, and one of the numbers of lock entries that there may be.
+/// Every run is sound, in ring mode and in star mode: its history is legal, and what is told agrees with it. Of a deck that
+/// begins in star mode it needs the bounds of systems and lock entries; of one in ring mode it needs nothing.
 pub fn runs_are_sound()
-    ensures { (deck : Deck) → length deck.systems ≤ most_systems → is_entries deck.entries ≡ true → (events : List Event) → Sound deck events }
+    ensures { (deck : Deck) → (deck.star ≡ true → IsStarDeck deck) → (events : List Event) → Sound deck events }
 {}
 
 /// In every run of such a deck what is kept of each Systems resource is the list that the history leads to. In ring mode each
 /// live system keeps it: its table has that list once the entries that it hasn't seen are processed. In star mode the manager
 /// of the resource's lock entry does; where there is none, the history has nothing on the resource.
 pub fn kept_are_places()
-    ensures { (deck : Deck) → length deck.systems ≤ most_systems → is_entries deck.entries ≡ true → (events : List Event) → KeptArePlaces deck events }
+    ensures { (deck : Deck) → (deck.star ≡ true → IsStarDeck deck) → (events : List Event) → KeptArePlaces deck events }
 {}
 
 /// In every run of a deck in ring mode the table that each live system keeps of the Systems resources is that of a front of
@@ -31,7 +31,7 @@ pub fn tables_are_fronts()
 /// In every run of a deck in star mode the lock words go with the systems: the set of an entry's word holds a system exactly
 /// where that system has interest in the entry, and there is a manager exactly where that set isn't empty, who is in it.
 pub fn words_go_with_systems()
-    ensures { (deck : Deck) (events : List Event) → IsStarDeck deck → WordsGoWithSystems deck events }
+    ensures { (deck : Deck) → IsStarDeck deck → (events : List Event) → WordsGoWithSystems deck events }
 {}
 
 /// In every run of a deck in ring mode a request of the message comes back last: where the message stands at the system that

@@ -27,7 +27,8 @@ use Rattle.grs_world.specs.Kept.{kept, kept_in, at_manager, at_node, managed_lis
 use Rattle.grs_world.specs.World.{World, run, first_world, first_nodes, happens, counted, chosen}
 use Rattle.grs_world.proofs.run.Sound.{first_is}
 use Rattle.grs_world.proofs.run.Each.{each_event, each_run}
-use Rattle.grs_world.specs.Interest.{IsStarDeck, WordsGoWithSystems, interest_at, interest_by}
+use Rattle.grs_world.specs.Decks.{IsStarDeck}
+use Rattle.grs_world.specs.Interest.{WordsGoWithSystems, interest_at, interest_by}
 use Rattle.grs_world.proofs.star.Events.{good_choice}
 use Rattle.grs_world.proofs.star.Members.{IsPart, IsMember, IsStar, manager-here, all_lists, framed}
 use Rattle.grs_world.proofs.star.Under.{in_entry, under, entry-same, list-under}

@@ -1,8 +1,8 @@
 -- Every run in star mode is sound, and what is kept is what the history says.
-use Rattle.std.proofs.Common.{◌≡◌, ◌≤◌, ◌<◌, ℕ, zero, suc, Bool, true, false, cond, List, [], ◌∷◌, ◌++◌, length, Some, None, refl, ap, sym, ◌∙◌, subst, arith}
+use Rattle.std.proofs.Common.{◌≡◌, ◌<◌, ℕ, zero, suc, Bool, true, false, cond, List, [], ◌∷◌, ◌++◌, length, Some, None, refl, ap, sym, ◌∙◌, subst, arith}
 use Rattle.std.specs.Prelude.{replicate, slice_get, slice_index_or}
 use Rattle.std.proofs.lemmas.Option.{slice_get_within, same_Some}
-use Rattle.grs_base.specs.Limits.{most_systems, is_entries}
+use Rattle.grs_base.specs.Limits.{most_systems}
 use Rattle.grs_base.specs.State.{list_of}
 use Rattle.grs_base.specs.declared.resource.SysId.{SysId}
 use Rattle.grs_known.specs.Items.{items}
@@ -24,7 +24,7 @@ use Rattle.grs_world.proofs.run.Runs.{GoodTold, told-after, told-counted}
 use Rattle.grs_world.proofs.run.Sound.{first_good_told, first_history, first_is, runs_sound, sound-of}
 use Rattle.grs_world.proofs.run.Each.{each_event, each_run}
 use Rattle.grs_world.proofs.system.Begun.{first_seen}
-use Rattle.grs_world.specs.Interest.{IsStarDeck}
+use Rattle.grs_world.specs.Decks.{IsStarDeck}
 use Rattle.grs_world.proofs.star.Events.{good_choice}
 use Rattle.grs_world.proofs.star.Ghosts.{without-box}
 use Rattle.grs_world.proofs.star.Runs.{counted-star, entries_some, star_run}
@@ -166,13 +166,13 @@ pub star_kept : (deck : Deck) → IsStarDeck deck → (es : List Event) → Kept
 star_kept deck star es s r live all = kept-whole deck (run deck es) (good_run deck star es).whole s r all ∙ ap (λ h. list_of (replay deck.limit h) r) (items_are_history (run deck es).fixed).0
 
 -- ---- So it is in either mode.
-module _ (deck : Deck) (few : length deck.systems ≤ most_systems) (entries : is_entries deck.entries ≡ true) (es : List Event) where
+module _ (deck : Deck) (within : deck.star ≡ true → IsStarDeck deck) (es : List Event) where
   in_mode : (P : Type 0) → (deck.star ≡ false → P) → (IsStarDeck deck → P) → P
   in_mode P ring star = go deck.star refl
     where
       go : (b : Bool) → deck.star ≡ b → P
       go false is = ring is
-      go true is = star (record { star = is; few = few; entries = entries })
+      go true is = star (within is)
 
   pub every_sound : Sound deck es
   every_sound = in_mode (Sound deck es) (λ is. runs_sound deck is es) (λ star. star_sound deck star es)

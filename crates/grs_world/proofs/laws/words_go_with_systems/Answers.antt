@@ -2,4 +2,4 @@ use Rattle.grs_world.proofs.star.Runs.{words_go}
 use Rattle.grs_world.proofs.laws.words_go_with_systems.Goals as goal
 
 pub returns : goal.returns
-returns c = λ deck es star. words_go deck star es
+returns c = words_go
