@@ -1,10 +1,11 @@
 -- In star mode each lock word tells who has interest in its entry, and who manages it.
 use Rattle.std.specs.Prelude.{◌≡◌, ℕ, Bool, false, List, Option, Some, None, slice_get}
 use Rattle.grs_node.specs.Node.{Node}
-use Rattle.grs_node.specs.Star.{StarPart, has_interest}
+use Rattle.grs_node.specs.Star.{StarPart, has_interest, manages}
+use Rattle.grs_wire.specs.LockWords.{is_manager}
 use Rattle.grs_wire.specs.declared.deck.Deck.{Deck}
 use Rattle.grs_wire.specs.declared.deck.Event.{Event}
-use Rattle.lock_structure.specs.Laws.{IsManaged, is_interested}
+use Rattle.lock_structure.specs.Laws.{IsManaged, is_interested, manager_at}
 use Rattle.lock_structure.specs.Words.{word_at}
 use Rattle.grs_world.specs.World.{run}
 
@@ -18,9 +19,20 @@ abbrev pub interest_at : Option Node → ℕ → Bool
 interest_at None e = false
 interest_at (Some n) e = interest_by n.star e
 
+-- so whether it manages the entry
+abbrev pub manages_by : Option StarPart → ℕ → Bool
+manages_by None e = false
+manages_by (Some p) e = manages p e
+
+abbrev pub manages_at : Option Node → ℕ → Bool
+manages_at None e = false
+manages_at (Some n) e = manages_by n.star e
+
 -- After these events each word goes with the systems.
 pub record WordsGoWithSystems (deck : Deck) (es : List Event) : Type 0 where
   -- its set holds a system exactly where that system has interest in the entry
   pub interest : (e s : ℕ) → is_interested (run deck es).medium.words e s ≡ interest_at (slice_get (run deck es).nodes s) e
-  -- and it has a manager exactly where that set isn't empty, who is in it
+  -- a system manages the entry exactly where the word names it,
+  pub manages : (e s : ℕ) → manages_at (slice_get (run deck es).nodes s) e ≡ is_manager (manager_at (run deck es).medium.words e) (record { 0 = s })
+  -- and the word names one exactly where its set isn't empty, who is in it
   pub managed : (e : ℕ) → IsManaged (word_at (run deck es).medium.words e)

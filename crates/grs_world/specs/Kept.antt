@@ -1,5 +1,6 @@
 -- What the systems keep of the resources of the whole complex is what the history says of them.
 use Rattle.std.specs.Prelude.{◌≡◌, ℕ, Bool, true, false, List, [], length, Option, Some, None, slice_get}
+use Rattle.contention_mgr.specs.Laws.{AreWellKept}
 use Rattle.contention_mgr.specs.Manager.{plain, entry_of_res, items_of, managed_of}
 use Rattle.grs_base.specs.State.{is_systems, list_of}
 use Rattle.grs_base.specs.declared.resource.Elem.{Elem}
@@ -60,3 +61,14 @@ abbrev pub KeptArePlaces : Deck → List Event → Type 0
 KeptArePlaces deck es =
     (s : SysId) (r : Res) → is_live (run deck es) s ≡ true → is_systems r ≡ true
     → kept deck (run deck es) s r ≡ places deck es r
+
+-- A system's part in star mode is well kept where the manager in it is the system's own, ranks rise along the list of each
+-- resource, and each owner that is still to be told owns and is of another system.
+pub record IsKeptBy (s : ℕ) (p : StarPart) : Type 0 where
+  pub home : p.manager.system.0 ≡ s
+  pub well : AreWellKept p.manager
+
+-- After these events each system in star mode keeps well what it manages. So the list of a resource that a manager keeps
+-- is that of its elements by rank.
+abbrev pub ManagersKeepWell : Deck → List Event → Type 0
+ManagersKeepWell deck es = (s : ℕ) (n : Node) (p : StarPart) → slice_get (run deck es).nodes s ≡ Some n → n.star ≡ Some p → IsKeptBy s p

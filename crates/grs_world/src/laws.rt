@@ -5,7 +5,7 @@ ghost use Rattle.grs_wire.specs.declared.deck.Event.{Event};
 ghost use Rattle.grs_world.specs.Agree.{Sound};
 ghost use Rattle.grs_world.specs.Decks.{IsStarDeck};
 ghost use Rattle.grs_world.specs.Interest.{WordsGoWithSystems};
-ghost use Rattle.grs_world.specs.Kept.{KeptArePlaces};
+ghost use Rattle.grs_world.specs.Kept.{KeptArePlaces, ManagersKeepWell};
 ghost use Rattle.grs_world.specs.Laps.{ComesBackLast, ProcessedLast, AnsweredLast};
 ghost use Rattle.grs_world.specs.Tables.{TablesAreFronts};
 
@@ -29,9 +29,16 @@ pub fn tables_are_fronts()
 {}
 
 /// In every run of a deck in star mode the lock words go with the systems: the set of an entry's word holds a system exactly
-/// where that system has interest in the entry, and there is a manager exactly where that set isn't empty, who is in it.
+/// where that system has interest in the entry, it names a system as the manager exactly where that system manages the entry,
+/// and it names one exactly where its set isn't empty, who is in it.
 pub fn words_go_with_systems()
     ensures { (deck : Deck) → IsStarDeck deck → (events : List Event) → WordsGoWithSystems deck events }
+{}
+
+/// In every run of a deck in star mode each system keeps well what it manages: ranks rise along the list of each resource, so
+/// that what is kept of it is in the order of ranks; and each owner that is still to be told owns and is of another system.
+pub fn managers_keep_well()
+    ensures { (deck : Deck) → IsStarDeck deck → (events : List Event) → ManagersKeepWell deck events }
 {}
 
 /// In every run of a deck in ring mode a request of the message comes back last: where the message stands at the system that

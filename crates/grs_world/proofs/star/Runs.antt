@@ -2,7 +2,7 @@
 use Rattle.std.proofs.Common.{◌≡◌, ◌<◌, ◌≤◌, ◌+◌, ◌%◌, ℕ, zero, suc, true, false, cond, List, [], ◌∷◌, length, Option, Some, None, refl, ap, sym, ◌∙◌, subst, arith}
 use Rattle.std.specs.Prelude.{is_some, slice_get, replicate, slice_index_or}
 use Rattle.std.proofs.lemmas.List.{length-replicate}
-use Rattle.std.proofs.lemmas.Option.{slice_get_within}
+use Rattle.std.proofs.lemmas.Option.{slice_get_within, same_Some}
 use Rattle.contention_mgr.specs.Manager.{plain, items_of, entry_of_res, kept_at, kept_for}
 use Rattle.contention_mgr.proofs.ManagerLaws.{well_kept_begins}
 use Rattle.grs_base.specs.Limits.{is_entries}
@@ -23,14 +23,14 @@ use Rattle.lock_structure.specs.Laws.{IsManaged, is_interested, manager_at}
 use Rattle.lock_structure.specs.Words.{word_at}
 use Rattle.lock_structure.proofs.LawProofs.{words_begin, empty_is_managed}
 use Rattle.grs_known.proofs.lists.Facts.{slice_get-past}
-use Rattle.grs_world.specs.Kept.{kept, kept_in, at_manager, at_node, managed_list, manager_at as kept_manager}
+use Rattle.grs_world.specs.Kept.{IsKeptBy, ManagersKeepWell, kept, kept_in, at_manager, at_node, managed_list, manager_at as kept_manager}
 use Rattle.grs_world.specs.World.{World, run, first_world, first_nodes, happens, counted, chosen}
 use Rattle.grs_world.proofs.run.Sound.{first_is}
 use Rattle.grs_world.proofs.run.Each.{each_event, each_run}
 use Rattle.grs_world.specs.Decks.{IsStarDeck}
-use Rattle.grs_world.specs.Interest.{WordsGoWithSystems, interest_at, interest_by}
+use Rattle.grs_world.specs.Interest.{WordsGoWithSystems, interest_at, interest_by, manages_at, manages_by}
 use Rattle.grs_world.proofs.star.Events.{good_choice}
-use Rattle.grs_world.proofs.star.Members.{IsPart, IsMember, IsStar, manager-here, all_lists, framed}
+use Rattle.grs_world.proofs.star.Members.{IsPart, IsMember, IsStar, has_manager, manager-here, all_lists, framed}
 use Rattle.grs_world.proofs.star.Under.{in_entry, under, entry-same, list-under}
 
 -- ---- one event
@@ -124,15 +124,25 @@ pub words_go : (deck : Deck) → IsStarDeck deck → (es : List Event) → Words
 words_go deck star es =
     let w : World = run deck es in
     let g : IsStar deck w = star_run deck star es in
-    record { interest = λ e s. by_node g e s (slice_get w.nodes s) refl; managed = λ e. by_place g e (slice_get w.medium.words e) refl }
+    record { interest = λ e s. by_node g e s (slice_get w.nodes s) refl; manages = λ e s. by_role g e s (slice_get w.nodes s) refl; managed = λ e. by_place g e (slice_get w.medium.words e) refl }
   where
     by_node : IsStar deck (run deck es) → (e s : ℕ) → (o : Option Node) → slice_get (run deck es).nodes s ≡ o → is_interested (run deck es).medium.words e s ≡ interest_at o e
     by_node g e s None at = (g.nobody e s (slice_get-past (run deck es).nodes s at)).0
     by_node g e s (Some n) at = let k = g.node s n at in sym (k.fits.interest e) ∙ sym (ap (λ o. interest_by o e) k.star)
 
+    by_role : IsStar deck (run deck es) → (e s : ℕ) → (o : Option Node) → slice_get (run deck es).nodes s ≡ o → manages_at o e ≡ has_manager (run deck es).medium.words e s
+    by_role g e s None at = sym (g.nobody e s (slice_get-past (run deck es).nodes s at)).1
+    by_role g e s (Some n) at = let k = g.node s n at in ap (λ o. manages_by o e) k.star ∙ k.fits.roles e
+
     by_place : IsStar deck (run deck es) → (e : ℕ) (o : Option ℕ) → slice_get (run deck es).medium.words e ≡ o → IsManaged (word_at (run deck es).medium.words e)
     by_place g e (Some x) h = g.managed e 0 (slice_get_within (run deck es).medium.words e x h)
     by_place g e None h = subst IsManaged (sym (word_past (run deck es).medium.words e (slice_get-past (run deck es).medium.words e h))) empty_is_managed
+
+-- ---- managers keep well what they manage
+pub keep_well : (deck : Deck) → IsStarDeck deck → (es : List Event) → ManagersKeepWell deck es
+keep_well deck star es s n p at is =
+    let k = (star_run deck star es).node s n at in
+    subst (IsKeptBy s) (same_Some k.part p (sym k.star ∙ is)) (record { home = k.fits.home; well = k.fits.well })
 
 -- ---- what is kept are the lists after all that was fixed
 pub kept_lists : (deck : Deck) (w : World) → IsStar deck w → (s : SysId) (r : Res) → is_systems r ≡ true → kept deck w s r ≡ list_of (all_lists w) r
