@@ -6,13 +6,12 @@ use Rattle.grs_base.specs.State.{is_systems, list_of}
 use Rattle.grs_base.specs.declared.resource.Elem.{Elem}
 use Rattle.grs_base.specs.declared.resource.Res.{Res}
 use Rattle.grs_base.specs.declared.resource.SysId.{SysId}
-use Rattle.grs_medium.specs.Medium.{word}
 use Rattle.grs_node.specs.Node.{Node, read_entries}
 use Rattle.grs_node.specs.Star.{StarPart}
 use Rattle.grs_wire.specs.History.{replay}
-use Rattle.grs_wire.specs.LockWords.{manager}
 use Rattle.grs_wire.specs.declared.deck.Deck.{Deck}
 use Rattle.grs_wire.specs.declared.deck.Event.{Event}
+use Rattle.lock_structure.specs.Laws.{manager_at}
 use Rattle.rsa_message.specs.Message.{unseen}
 use Rattle.grs_world.specs.Running.{is_live}
 use Rattle.grs_world.specs.World.{World, run, hist}
@@ -27,30 +26,33 @@ abbrev pub in_table : Deck → World → SysId → Option Node → Res → List 
 in_table deck w s None r = []
 in_table deck w s (Some n) r = list_of (read_entries deck n (unseen s w.medium.message.entries)).shared r
 
--- A manager keeps this list of a resource; one that hasn't changed to star mode keeps none there.
-abbrev pub managed_list : Option StarPart → Res → List Elem
-managed_list None r = []
-managed_list (Some p) r = list_of (plain (items_of (managed_of p.manager r))) r
+-- A manager m keeps this list of a resource. Once it has changed to star mode that is the list of its elements, in the
+-- order in which they stand, which in every run is that of their ranks (`ManagersKeepWell`). Before that it is the list of
+-- its table, once it has processed what it hasn't seen.
+abbrev pub managed_list : Deck → World → SysId → Node → Option StarPart → Res → List Elem
+managed_list deck w m n None r = in_table deck w m (Some n) r
+managed_list deck w m n (Some p) r = list_of (plain (items_of (managed_of p.manager r))) r
 
-abbrev pub at_node : Option Node → Res → List Elem
-at_node None r = []
-at_node (Some n) r = managed_list n.star r
+abbrev pub at_node : Deck → World → SysId → Option Node → Res → List Elem
+at_node deck w m None r = []
+at_node deck w m (Some n) r = managed_list deck w m n n.star r
 
-abbrev pub at_manager : World → Option SysId → Res → List Elem
-at_manager w None r = []
-at_manager w (Some m) r = at_node (slice_get w.nodes m.0) r
+-- where there is no manager nothing is kept
+abbrev pub at_manager : Deck → World → Option SysId → Res → List Elem
+at_manager deck w None r = []
+at_manager deck w (Some m) r = at_node deck w m (slice_get w.nodes m.0) r
 
--- the manager of a lock entry, by its word
-abbrev pub manager_at : World → Option ℕ → Option SysId
-manager_at w None = None
-manager_at w (Some e) = manager (word w.medium e)
+-- the manager of a lock entry, if it is one, by these words
+abbrev pub named_by : List ℕ → Option ℕ → Option SysId
+named_by words None = None
+named_by words (Some e) = manager_at words e
 
 -- This list of a resource of the whole complex is kept, as this live system sees it, a case a mode of the medium. In a
 -- ring (false) each live system keeps one in its table. In star mode (true) the manager of the resource's lock entry
--- keeps it for all, and where there is no manager nothing is kept.
+-- keeps it for all, whether it has changed to star mode or not, and where there is no manager nothing is kept.
 abbrev pub kept_in : Bool → Deck → World → SysId → Res → List Elem
 kept_in false deck w s r = in_table deck w s (slice_get w.nodes s.0) r
-kept_in true deck w s r = at_manager w (manager_at w (entry_of_res (length w.medium.words) r)) r
+kept_in true deck w s r = at_manager deck w (named_by w.medium.words (entry_of_res (length w.medium.words) r)) r
 
 abbrev pub kept : Deck → World → SysId → Res → List Elem
 kept deck w s r = kept_in w.medium.star deck w s r

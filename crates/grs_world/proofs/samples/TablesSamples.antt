@@ -1,6 +1,7 @@
 -- Worked fronts and a worked ring, by which the definitions of tables, of what is kept, and of the event that answers
 -- are checked.
-use Rattle.std.proofs.Common.{◌≡◌, ℕ, true, false, List, [], ◌∷◌, map, refl, arith}
+use Rattle.std.proofs.Common.{◌≡◌, ℕ, true, false, cond, List, [], ◌∷◌, map, Option, Some, None, refl, arith}
+use Rattle.std.specs.Prelude.{◌==◌}
 use Rattle.grs_base.specs.State.{State}
 use Rattle.grs_base.specs.declared.decision.Code.TheVariants.{C00}
 use Rattle.grs_base.specs.declared.line.Line.TheVariants as lines
@@ -17,7 +18,10 @@ use Rattle.grs_base.specs.declared.rnl.Which.TheVariants as which
 use Rattle.grs_base.specs.Rnl.{no_entries}
 use Rattle.grs_medium.specs.Apply.{turn_row, row, apply}
 use Rattle.grs_node.specs.Node.{decide, post, ask, wait, take_line, end_step, ready_step, phase_step, may_go, prepare, finish_quiet, read_entries, all_sent, put_in, finish_call, finish, first_node}
+use Rattle.grs_node.specs.Node.{Node}
+use Rattle.grs_node.specs.Star.{StarPart, first_part}
 use Rattle.grs_wire.specs.History.{answered, replay}
+use Rattle.grs_wire.specs.LockWords.{manager}
 use Rattle.grs_wire.specs.Masks.{has, without, with_also}
 use Rattle.grs_wire.specs.declared.deck.Choice.TheVariants as choices
 use Rattle.grs_wire.specs.declared.deck.Deck.{Deck}
@@ -38,7 +42,7 @@ use Rattle.grs_world.specs.Kept.{places, kept}
 use Rattle.grs_world.specs.Laps.{LeftHome, given, told_next}
 use Rattle.grs_world.specs.Tables.{before_number, first_unseen}
 use Rattle.grs_known.specs.Change.{systems_part}
-use Rattle.grs_world.specs.World.{first_world, carry_out, chosen, placed, happens_at, happens, run}
+use Rattle.grs_world.specs.World.{World, first_world, carry_out, chosen, placed, happens_at, happens, run}
 
 abbrev sys : ℕ → SysId
 sys n = record { 0 = n }
@@ -140,6 +144,42 @@ keeps :
     × (told_next ring half_way (turn 0) ≡ record { event = 4; system = sys 0; line = Coded (task_of 0) 1 0 verbs.Enq C00 } ∷ [])
 unfolding state_of with_state with_line with_phase with_outstanding with_record without_record with_told with_exclusive telling tell_code record_enq answered_task replied passes_wait tell_line tell_untold tell_control tell_all tell_new recalled settled settled_any answer_own process process_entry process_all decide post ask wait take_line end_step ready_step phase_step may_go prepare finish_quiet read_entries all_sent put_in finish_call finish has without with_also first_after unseen any_unseen cleared stamped turn_reply wakes rest_after_turn turned turn_row row apply first_node first_world carry_out chosen placed happens_at happens
 keeps = (refl, refl, refl, refl, refl, refl, refl, refl, refl, refl, refl)
+
+-- ---- a complex that changes to star mode
+-- The ring half way, where the medium is in star mode already: this is the word of the only entry, and this the other
+-- system's part in star mode, if that one has changed. The first system hasn't.
+abbrev with_part : Option StarPart → Node → Node
+with_part part n = cond (n.tasks.system == 1) (record n { star = part }) n
+
+abbrev changing : ℕ → Option StarPart → World
+changing word part = record (run ring half_way) {
+  medium = record (run ring half_way).medium { star = true; words = word ∷ [] };
+  nodes = map (with_part part) (run ring half_way).nodes;
+}
+
+-- a part that manages nothing, and one that has an element of its own system in the entry
+abbrev manages_none : StarPart
+manages_none = first_part (sys 1) 1
+
+abbrev manages_one : StarPart
+manages_one = record {
+  manager = record { system = sys 1; entries = Some (record { next = 2; items = record { res = shared; elem = element 1; rank = 1; untold = false } ∷ [] }) ∷ [] };
+  held = [];
+  interest = true ∷ [];
+}
+
+-- Word 257 names the first system as the manager, and 515 the other one. A manager that hasn't changed keeps what its own
+-- table has once it has processed its own unseen entries, whoever looks and whatever that system keeps; one that has
+-- changed keeps its elements, whatever its table has; and where the word names none, nothing is kept.
+keeps_in_change :
+    (kept ring (changing 257 (Some manages_none)) (sys 1) shared ≡ element 0 ∷ [])
+    × (kept ring (changing 257 (Some manages_one)) (sys 1) shared ≡ element 0 ∷ [])
+    × (kept ring (changing 515 None) (sys 0) shared ≡ element 0 ∷ [])
+    × (kept ring (changing 515 (Some manages_one)) (sys 0) shared ≡ element 1 ∷ [])
+    × (kept ring (changing 515 (Some manages_none)) (sys 0) shared ≡ [])
+    × (kept ring (changing 0 (Some manages_one)) (sys 1) shared ≡ [])
+unfolding state_of with_state with_line with_phase with_outstanding with_record without_record with_told with_exclusive telling tell_code record_enq answered_task replied passes_wait tell_line tell_untold tell_control tell_all tell_new recalled settled settled_any answer_own process process_entry process_all decide post ask wait take_line end_step ready_step phase_step may_go prepare finish_quiet read_entries all_sent put_in finish_call finish has without with_also first_after unseen any_unseen cleared stamped turn_reply wakes rest_after_turn turned turn_row row apply first_node first_world carry_out chosen placed happens_at happens manager
+keeps_in_change = (refl, refl, refl, refl, refl, refl)
 
 -- Were the asker told by the Turn that puts its request in, it would be told too early: the message was empty before, but
 -- behind that Turn the other system has still to process the request.

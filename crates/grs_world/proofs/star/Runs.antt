@@ -23,7 +23,7 @@ use Rattle.lock_structure.specs.Laws.{IsManaged, is_interested, manager_at}
 use Rattle.lock_structure.specs.Words.{word_at}
 use Rattle.lock_structure.proofs.LawProofs.{words_begin, empty_is_managed}
 use Rattle.grs_known.proofs.lists.Facts.{slice_get-past}
-use Rattle.grs_world.specs.Kept.{IsKeptBy, ManagersKeepWell, kept, kept_in, at_manager, at_node, managed_list, manager_at as kept_manager}
+use Rattle.grs_world.specs.Kept.{IsKeptBy, ManagersKeepWell, kept, kept_in, at_manager, at_node, managed_list, named_by}
 use Rattle.grs_world.specs.World.{World, run, first_world, first_nodes, happens, counted, chosen}
 use Rattle.grs_world.proofs.run.Sound.{first_is}
 use Rattle.grs_world.proofs.run.Each.{each_event, each_run}
@@ -162,20 +162,20 @@ kept_lists deck w g s (Systems q r) all = ap (λ b. kept_in b deck w s res) g.mo
     listed : list_of (under deck.entries x (all_lists w)) (Systems q r) ≡ list_of (all_lists w) (Systems q r)
     listed = list-under deck.entries x (all_lists w) res here
 
-    at_member : (m : SysId) (n : Node) → slice_get w.nodes m.0 ≡ Some n → manager_at w.medium.words x ≡ Some m → at_node (Some n) (Systems q r) ≡ list_of (all_lists w) (Systems q r)
+    at_member : (m : SysId) (n : Node) → slice_get w.nodes m.0 ≡ Some n → manager_at w.medium.words x ≡ Some m → at_node deck w m (Some n) (Systems q r) ≡ list_of (all_lists w) (Systems q r)
     at_member m n at is =
         let k = g.node m.0 n at in
         let mine : manages k.part x ≡ true = k.fits.roles x ∙ manager-here w.medium.words x m is in
         let entry : entry_of_res (length k.part.manager.entries) res ≡ Some x = ap (λ i. Some (entry_of (slice_of q r) i)) (k.fits.entries ∙ sym g.words) in
-        ap (λ o. managed_list o res) k.star
+        ap (λ o. managed_list deck w m n o res) k.star
         ∙ ap (λ o. list_of (plain (items_of (kept_for k.part.manager.entries o))) res) entry
         ∙ ap (λ z. list_of z res) (k.fits.lists x mine)
         ∙ listed
 
-    by_system : (m : SysId) (o : Option Node) → slice_get w.nodes m.0 ≡ o → manager_at w.medium.words x ≡ Some m → at_node o (Systems q r) ≡ list_of (all_lists w) (Systems q r)
+    by_system : (m : SysId) (o : Option Node) → slice_get w.nodes m.0 ≡ o → manager_at w.medium.words x ≡ Some m → at_node deck w m o (Systems q r) ≡ list_of (all_lists w) (Systems q r)
     by_system m None at is = absurd (let f : false ≡ true = sym (g.nobody x m.0 (slice_get-past w.nodes m.0 at)).1 ∙ manager-here w.medium.words x m is in cc)
     by_system m (Some n) at is = at_member m n at is
 
-    by_word : (o : Option SysId) → manager_at w.medium.words x ≡ o → at_manager w (kept_manager w (Some x)) (Systems q r) ≡ list_of (all_lists w) (Systems q r)
-    by_word None is = ap (λ o. at_manager w o res) is ∙ (sym (ap (λ z. list_of z res) (g.free x is)) ∙ listed)
-    by_word (Some m) is = ap (λ o. at_manager w o res) is ∙ by_system m (slice_get w.nodes m.0) refl is
+    by_word : (o : Option SysId) → manager_at w.medium.words x ≡ o → at_manager deck w (named_by w.medium.words (Some x)) (Systems q r) ≡ list_of (all_lists w) (Systems q r)
+    by_word None is = ap (λ o. at_manager deck w o res) is ∙ (sym (ap (λ z. list_of z res) (g.free x is)) ∙ listed)
+    by_word (Some m) is = ap (λ o. at_manager deck w o res) is ∙ by_system m (slice_get w.nodes m.0) refl is
