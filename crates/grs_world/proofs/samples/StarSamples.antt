@@ -1,9 +1,10 @@
 -- Worked runs in star mode, by which the definitions are checked: each history, each told line and each lock word is what
 -- the rules of the service give by hand.
-use Rattle.std.proofs.Common.{◌≡◌, ℕ, true, false, List, [], ◌∷◌, ◌++◌, refl}
-use Rattle.grs_base.specs.declared.decision.Code.TheVariants.{C00, C04}
+use Rattle.std.proofs.Common.{◌≡◌, ℕ, true, false, List, [], ◌∷◌, ◌++◌, map, drop, refl}
+use Rattle.grs_base.specs.declared.decision.Code.TheVariants.{C00, C04, Wait}
 use Rattle.grs_base.specs.declared.line.Line.{Line}
 use Rattle.grs_base.specs.declared.line.Scope.TheVariants.{Systems}
+use Rattle.grs_base.specs.declared.resource.Ctl.{Ctl}
 use Rattle.grs_base.specs.declared.resource.Ctl.TheVariants.{E, S}
 use Rattle.grs_base.specs.declared.resource.Elem.{Elem}
 use Rattle.grs_base.specs.declared.resource.Ret.TheVariants.{RetNone, RetEcb}
@@ -16,16 +17,17 @@ use Rattle.grs_wire.specs.Masks.{has, without, with_also}
 use Rattle.grs_wire.specs.declared.deck.Deck.{Deck}
 use Rattle.grs_wire.specs.declared.deck.Event.{Event}
 use Rattle.grs_wire.specs.declared.deck.Choice.TheVariants as choices
-use Rattle.grs_wire.specs.declared.history.HistEntry.TheVariants.{Enq, Deq}
+use Rattle.grs_wire.specs.declared.history.HistEntry.TheVariants.{Enq, Deq, Release}
 use Rattle.grs_wire.specs.declared.medium.Act.TheVariants as acts
 use Rattle.grs_wire.specs.declared.medium.Reply.TheVariants as replies
-use Rattle.grs_wire.specs.declared.told.ToldLine.TheVariants.{Coded, Ended}
+use Rattle.grs_wire.specs.declared.told.ToldLine.TheVariants.{Coded, Post, Ended}
 use Rattle.grs_wire.specs.declared.told.Verb.TheVariants as verbs
 use Rattle.lock_structure.specs.Words.{route}
 use Rattle.star_client.specs.Client.{settled_ranked, after_mail}
 use Rattle.task_state.specs.Replies.{tell_code, record_enq, answered, replied, passes_wait, tell_line, tell_untold, tell_control, tell_all, tell_new, recalled, settled, settled_any}
 use Rattle.task_state.specs.View.{state_of, with_state, with_line, with_phase, with_outstanding, with_record, without_record, with_told, with_exclusive, with_rank, telling}
-use Rattle.grs_world.specs.Kept.{kept}
+use Rattle.grs_world.specs.Kept.{kept, places}
+use Rattle.grs_world.specs.Running.{at_rest}
 use Rattle.grs_world.specs.World.{first_world, carry_out, chosen, placed, happens_at, happens, run, hist, told}
 use Rattle.grs_world.proofs.samples.Samples.{system, task_of, shared, enq, deq, deck_of, goes, rest, at}
 
@@ -78,12 +80,13 @@ lonely :
 unfolding state_of with_state with_line with_phase with_outstanding with_record without_record with_told with_exclusive with_rank telling tell_code record_enq answered replied passes_wait tell_line tell_untold tell_control tell_all tell_new recalled settled settled_any settled_ranked after_mail decide_own took_mail post ask take_line end_step ready_step phase_step is_pending may_go may_send star_call prepare finish_quiet finish_star finish_call finish has without with_also manager lock_word submitted leave_reply leave_changes left_word route submit_row take_row mail_row leave_row medium_at_end rest_row row apply first_node first_world carry_out chosen placed happens_at happens
 lonely = (refl, refl, refl, refl, refl, refl, refl, refl)
 
--- ---- a wait and a grant
+-- ---- a wait and two grants
 -- A task of the second system waits for what one of the manager's own has, and is told control once that one gives it
--- back; another of its tasks asks by ECB behind it.
+-- back; another of its tasks asks by ECB behind it, and is posted once the first gives it back too.
 abbrev waiting : Deck
 waiting = star_of (((enq 66 E Systems RetNone ∷ deq 66 Systems ∷ []) ∷ []) ∷ ((enq 66 E Systems RetNone ∷ deq 66 Systems ∷ []) ∷ (enq 66 S Systems RetEcb ∷ []) ∷ []) ∷ [])
 
+-- the manager's own task owns (event 2), one waits behind it (6), and one asks by ECB behind both (11)
 abbrev asks_all : List Event
 asks_all = goes 0 0 ∷ sends 0 0 ∷ goes 1 0 ∷ sends 1 0 ∷ takes 0 ∷ settles 0 ∷ takes 1 ∷ goes 1 1 ∷ sends 1 1 ∷ takes 0 ∷ settles 0 ∷ takes 1 ∷ []
 
@@ -91,16 +94,79 @@ asks_all = goes 0 0 ∷ sends 0 0 ∷ goes 1 0 ∷ sends 1 0 ∷ takes 0 ∷ set
 abbrev first_grant : List Event
 first_grant = goes 0 0 ∷ sends 0 0 ∷ tells 0 ∷ takes 1 ∷ []
 
-abbrev elem : ℕ → ℕ → Elem
-elem s n = record { task = task_of s n; ctl = E }
+-- that one gives it back too (event 20); it takes the answer (22), and the last one is posted (23)
+abbrev second_grant : List Event
+second_grant = goes 1 0 ∷ sends 1 0 ∷ takes 0 ∷ settles 0 ∷ tells 0 ∷ takes 1 ∷ takes 1 ∷ []
+
+-- the tasks end, the last of them once it has released what it has (event 29): the answer to that is in its system's inbox
+abbrev releases : List Event
+releases = goes 0 0 ∷ goes 1 0 ∷ goes 1 1 ∷ sends 1 1 ∷ takes 0 ∷ settles 0 ∷ []
+
+abbrev ends : List Event
+ends = takes 1 ∷ goes 1 1 ∷ []
+
+abbrev both_grants : List Event
+both_grants = asks_all ++ first_grant ++ second_grant
+
+abbrev elem : ℕ → ℕ → Ctl → Elem
+elem s n c = record { task = task_of s n; ctl = c }
+
+-- what the manager keeps of the resource, as the other system sees it
+abbrev kept_after : List Event → List Elem
+kept_after es = kept waiting (run waiting es) (system 1) (shared 66)
+
+abbrev words_after : List Event → List ℕ
+words_after es = (run waiting es).medium.words
+
+-- Nothing is told to the task that waits. The word names the first system as the manager, and holds both from the second's
+-- first request on.
+waits :
+    (hist waiting asks_all ≡ Enq (task_of 0 0) (shared 66) E RetNone C00 ∷ Enq (task_of 1 0) (shared 66) E RetNone Wait ∷ Enq (task_of 1 1) (shared 66) S RetEcb C04 ∷ [])
+    × (told waiting asks_all ≡ at 2 0 (Coded (task_of 0 0) 1 0 verbs.Enq C00) ∷ at 12 1 (Coded (task_of 1 1) 1 0 verbs.Enq C04) ∷ [])
+    × (words_after (goes 0 0 ∷ sends 0 0 ∷ goes 1 0 ∷ []) ≡ 257 ∷ [])
+    × (words_after (goes 0 0 ∷ sends 0 0 ∷ goes 1 0 ∷ sends 1 0 ∷ []) ≡ 259 ∷ [])
+    × (kept_after asks_all ≡ elem 0 0 E ∷ elem 1 0 E ∷ elem 1 1 S ∷ [])
+    × (places waiting asks_all (shared 66) ≡ elem 0 0 E ∷ elem 1 0 E ∷ elem 1 1 S ∷ [])
+unfolding state_of with_state with_line with_phase with_outstanding with_record without_record with_told with_exclusive with_rank telling tell_code record_enq answered replied passes_wait tell_line tell_untold tell_control tell_all tell_new recalled settled settled_any settled_ranked after_mail decide_own took_mail post ask take_line end_step ready_step phase_step is_pending may_go may_send star_call prepare finish_quiet finish_star finish_call finish has without with_also manager lock_word submitted leave_reply leave_changes left_word route submit_row take_row mail_row leave_row medium_at_end rest_row row apply first_node first_world carry_out chosen placed happens_at happens at_rest
+waits = (refl, refl, refl, refl, refl, refl)
 
 first_granted :
-    told waiting (asks_all ++ first_grant)
-    ≡ at 2 0 (Coded (task_of 0 0) 1 0 verbs.Enq C00) ∷ at 12 1 (Coded (task_of 1 1) 1 0 verbs.Enq C04) ∷ at 14 0 (Coded (task_of 0 0) 2 0 verbs.Deq C00) ∷ at 16 1 (Coded (task_of 1 0) 1 0 verbs.Enq C00) ∷ []
-unfolding state_of with_state with_line with_phase with_outstanding with_record without_record with_told with_exclusive with_rank telling tell_code record_enq answered replied passes_wait tell_line tell_untold tell_control tell_all tell_new recalled settled settled_any settled_ranked after_mail decide_own took_mail post ask take_line end_step ready_step phase_step is_pending may_go may_send star_call prepare finish_quiet finish_star finish_call finish has without with_also manager lock_word submitted leave_reply leave_changes left_word route submit_row take_row mail_row leave_row medium_at_end rest_row row apply first_node first_world carry_out chosen placed happens_at happens
-first_granted = refl
+    (hist waiting (asks_all ++ first_grant)
+    ≡ Enq (task_of 0 0) (shared 66) E RetNone C00 ∷ Enq (task_of 1 0) (shared 66) E RetNone Wait ∷ Enq (task_of 1 1) (shared 66) S RetEcb C04 ∷ Deq (task_of 0 0) (shared 66) false C00 ∷ [])
+    × (told waiting (asks_all ++ first_grant)
+    ≡ at 2 0 (Coded (task_of 0 0) 1 0 verbs.Enq C00) ∷ at 12 1 (Coded (task_of 1 1) 1 0 verbs.Enq C04) ∷ at 14 0 (Coded (task_of 0 0) 2 0 verbs.Deq C00) ∷ at 16 1 (Coded (task_of 1 0) 1 0 verbs.Enq C00) ∷ [])
+    × (words_after (asks_all ++ first_grant) ≡ 259 ∷ [])
+    × (kept_after (asks_all ++ first_grant) ≡ elem 1 0 E ∷ elem 1 1 S ∷ [])
+    × (places waiting (asks_all ++ first_grant) (shared 66) ≡ elem 1 0 E ∷ elem 1 1 S ∷ [])
+unfolding state_of with_state with_line with_phase with_outstanding with_record without_record with_told with_exclusive with_rank telling tell_code record_enq answered replied passes_wait tell_line tell_untold tell_control tell_all tell_new recalled settled settled_any settled_ranked after_mail decide_own took_mail post ask take_line end_step ready_step phase_step is_pending may_go may_send star_call prepare finish_quiet finish_star finish_call finish has without with_also manager lock_word submitted leave_reply leave_changes left_word route submit_row take_row mail_row leave_row medium_at_end rest_row row apply first_node first_world carry_out chosen placed happens_at happens at_rest
+first_granted = (refl, refl, refl, refl, refl)
 
--- what the manager keeps is the history's list
-keeps_lists : kept waiting (run waiting asks_all) (system 1) (shared 66) ≡ elem 0 0 ∷ elem 1 0 ∷ record { task = task_of 1 1; ctl = S } ∷ []
-unfolding state_of with_state with_line with_phase with_outstanding with_record without_record with_told with_exclusive with_rank telling tell_code record_enq answered replied passes_wait tell_line tell_untold tell_control tell_all tell_new recalled settled settled_any settled_ranked after_mail decide_own took_mail post ask take_line end_step ready_step phase_step is_pending may_go may_send star_call prepare finish_quiet finish_star finish_call finish has without with_also manager lock_word submitted leave_reply leave_changes left_word route submit_row take_row mail_row leave_row medium_at_end rest_row row apply first_node first_world carry_out chosen placed happens_at happens
-keeps_lists = refl
+second_granted :
+    (hist waiting both_grants
+    ≡ Enq (task_of 0 0) (shared 66) E RetNone C00 ∷ Enq (task_of 1 0) (shared 66) E RetNone Wait ∷ Enq (task_of 1 1) (shared 66) S RetEcb C04 ∷ Deq (task_of 0 0) (shared 66) false C00
+    ∷ Deq (task_of 1 0) (shared 66) false C00 ∷ [])
+    × (told waiting both_grants
+    ≡ at 2 0 (Coded (task_of 0 0) 1 0 verbs.Enq C00) ∷ at 12 1 (Coded (task_of 1 1) 1 0 verbs.Enq C04) ∷ at 14 0 (Coded (task_of 0 0) 2 0 verbs.Deq C00) ∷ at 16 1 (Coded (task_of 1 0) 1 0 verbs.Enq C00)
+    ∷ at 22 1 (Coded (task_of 1 0) 2 0 verbs.Deq C00) ∷ at 23 1 (Post (task_of 1 1) 1) ∷ [])
+    × (words_after both_grants ≡ 259 ∷ [])
+    × (kept_after both_grants ≡ elem 1 1 S ∷ [])
+    × (places waiting both_grants (shared 66) ≡ elem 1 1 S ∷ [])
+unfolding state_of with_state with_line with_phase with_outstanding with_record without_record with_told with_exclusive with_rank telling tell_code record_enq answered replied passes_wait tell_line tell_untold tell_control tell_all tell_new recalled settled settled_any settled_ranked after_mail decide_own took_mail post ask take_line end_step ready_step phase_step is_pending may_go may_send star_call prepare finish_quiet finish_star finish_call finish has without with_also manager lock_word submitted leave_reply leave_changes left_word route submit_row take_row mail_row leave_row medium_at_end rest_row row apply first_node first_world carry_out chosen placed happens_at happens at_rest
+second_granted = (refl, refl, refl, refl, refl)
+
+-- Where a mail is still in an inbox the complex isn't at rest, though nothing is pending at a system. Once it is taken, and
+-- its task has ended, it is; the words hold both systems until these leave, the manager last.
+rests :
+    (map (is_pending waiting) (run waiting (both_grants ++ releases)).nodes ≡ false ∷ false ∷ [])
+    × (at_rest waiting (run waiting (both_grants ++ releases)) ≡ false)
+    × (at_rest waiting (run waiting (both_grants ++ releases ++ takes 1 ∷ [])) ≡ false)
+    × (at_rest waiting (run waiting (both_grants ++ releases ++ ends)) ≡ true)
+    × (drop 5 (hist waiting (both_grants ++ releases ++ ends)) ≡ Release (task_of 1 1) (shared 66) ∷ [])
+    × (drop 6 (told waiting (both_grants ++ releases ++ ends)) ≡ at 24 0 (Ended (task_of 0 0) 0) ∷ at 25 1 (Ended (task_of 1 0) 0) ∷ at 31 1 (Ended (task_of 1 1) 0) ∷ [])
+    × (kept_after (both_grants ++ releases ++ ends) ≡ [])
+    × (places waiting (both_grants ++ releases ++ ends) (shared 66) ≡ [])
+    × (words_after (both_grants ++ releases ++ ends) ≡ 259 ∷ [])
+    × (words_after (both_grants ++ releases ++ ends ++ leaves 1 ∷ []) ≡ 257 ∷ [])
+    × (words_after (both_grants ++ releases ++ ends ++ leaves 1 ∷ leaves 0 ∷ []) ≡ 0 ∷ [])
+unfolding state_of with_state with_line with_phase with_outstanding with_record without_record with_told with_exclusive with_rank telling tell_code record_enq answered replied passes_wait tell_line tell_untold tell_control tell_all tell_new recalled settled settled_any settled_ranked after_mail decide_own took_mail post ask take_line end_step ready_step phase_step is_pending may_go may_send star_call prepare finish_quiet finish_star finish_call finish has without with_also manager lock_word submitted leave_reply leave_changes left_word route submit_row take_row mail_row leave_row medium_at_end rest_row row apply first_node first_world carry_out chosen placed happens_at happens at_rest
+rests = (refl, refl, refl, refl, refl, refl, refl, refl, refl, refl, refl)
