@@ -1,5 +1,6 @@
 -- What comes to a system: of a task it depends on what is known only in whether the task is behind.
 use Rattle.std.proofs.Common.{◌≡◌, Bool, true, false, cond, not, ◌&&◌, ◌||◌, List, [], ◌∷◌, ◌++◌, Option, Some, None, refl, ap, sym, ◌∙◌, subst}
+use Rattle.std.proofs.Math.Bool.{and-true, and-false}
 use Rattle.std.specs.List.{list_any}
 use Rattle.grs_base.specs.Same.{same_task}
 use Rattle.grs_base.specs.Lists.{owns}
@@ -48,20 +49,12 @@ no-answer t k T (Wants q ∷ ns) e h = no-answer t k T ns e h
 
 -- whether a task is behind once all was read
 pub behind-after : (t : TaskId) (k : Known) (T : List RunItem) (ns : List News) → Coming t k T ns → (after_news t k T ns).behind ≡ (k.behind && not (list_any (is_answer_to t) ns))
-behind-after t k T [] h = sym (and_true k.behind)
-  where
-    and_true : (b : Bool) → (b && true) ≡ b
-    and_true true = refl
-    and_true false = refl
+behind-after t k T [] h = sym (and-true k.behind)
 behind-after t k T (Answers u a ∷ ns) h = go (same_task t u) refl (λ f. let z = h.0 f in ap (λ o. (after_news t (learns_any k o) T ns).behind) z.1 ∙ behind-after t (learns_item k z.0) T ns z.3) (λ f. behind-after t k T ns (h.1 f))
   where
-    none : (b : Bool) → (b && false) ≡ false
-    none true = refl
-    none false = refl
-
     go : (b : Bool) → same_task t u ≡ b → (same_task t u ≡ true → (after_news t (learns_any k (outstanding t k T)) T ns).behind ≡ false) → (same_task t u ≡ false → (after_news t k T ns).behind ≡ (k.behind && not (list_any (is_answer_to t) ns))) →
         (cond b (after_news t (learns_any k (outstanding t k T)) T ns) (after_news t k T ns)).behind ≡ (k.behind && not (b || list_any (is_answer_to t) ns))
-    go true f now then = now f ∙ sym (none k.behind)
+    go true f now then = now f ∙ sym (and-false k.behind)
     go false f now then = then f
 behind-after t k T (Grants u r ∷ ns) h = go (same_task t u) refl (λ f. behind-after t (learns_control k r) T ns (h.0 f).1) (λ f. behind-after t k T ns (h.1 f))
   where

@@ -1,5 +1,6 @@
 -- What comes to a system stays right: through items, and as it is read; and what may come last.
 use Rattle.std.proofs.Common.{◌≡◌, Bool, true, false, ◌||◌, List, [], ◌∷◌, ◌++◌, Some, refl, ap, sym, ◌∙◌, subst, cond, None, ◌&&◌, arith}
+use Rattle.std.proofs.lemmas.Bool.{or_parts}
 use Rattle.std.specs.List.{list_any}
 use Rattle.grs_base.specs.Same.{same_task}
 use Rattle.grs_base.specs.Lists.{owns}
@@ -13,6 +14,7 @@ use Rattle.grs_known.specs.Known.{Known, last_of, outstanding, Still, IsRight, f
 use Rattle.grs_known.specs.Laws.{OthersKeep, is_given_back, DecidedAtOnce, AnswerIsSent, AnswerIsLearned, ControlIsLearned, ControlIsSent, ReadRight, ReadInOrder}
 use Rattle.grs_known.proofs.known.Control.{still-other, still-own}
 use Rattle.grs_known.proofs.known.Knowing.{outstanding-other, learned-other, right-other, outstanding-own, learned-own, still-behind, right-own, learned-longer, given-told, right-answer, right-control}
+use Rattle.grs_known.proofs.lists.Truths.{no_truth}
 
 -- what is said of another task only is said of none
 not_other : {P : Type 0} (t : TaskId) → same_task t t ≡ false → P
@@ -42,15 +44,9 @@ others_keep t k T x ns apart live right coming = record {
 coming-own : (t : TaskId) (T : List RunItem) (x : RunItem) → is_of t x.fixed ≡ true → Made T x → (k : Known) (ns : List News) → k.behind ≡ false → list_any (is_answer_to t) ns ≡ false → Coming t k T ns →
     Coming t (falls_behind k) (T ++ x ∷ []) (ns ++ Answers t (reply_in x.entries) ∷ [])
 coming-own t T x own made k [] e none h = (λ f. (x, outstanding-own t T x own k, refl, tt), λ f. not_other t f)
-coming-own t T x own made k (Answers u a ∷ ns) e none h = (λ f. absurd (no_answer (same_task t u) f none), λ f. coming-own t T x own made k ns e (rest (same_task t u) none) (h.1 f))
-  where
-    no_answer : (b : Bool) → b ≡ true → (b || list_any (is_answer_to t) ns) ≡ false → ⊥
-    no_answer true f g = absurd (cc)
-    no_answer false f g = absurd (cc)
-
-    rest : (b : Bool) → (b || list_any (is_answer_to t) ns) ≡ false → list_any (is_answer_to t) ns ≡ false
-    rest true g = cc
-    rest false g = g
+coming-own t T x own made k (Answers u a ∷ ns) e none h =
+    let both = or_parts (same_task t u) (list_any (is_answer_to t) ns) none in
+    (λ f. no_truth (same_task t u) f both.0, λ f. coming-own t T x own made k ns e both.1 (h.1 f))
 coming-own t T x own made k (Grants u r ∷ ns) e none h = (λ f. (still-behind t T x own k e made r (h.0 f).0, coming-own t T x own made (learns_control k r) ns e none (h.0 f).1), λ f. coming-own t T x own made k ns e none (h.1 f))
 coming-own t T x own made k (Wants q ∷ ns) e none h = coming-own t T x own made k ns e none h
 

@@ -2,6 +2,7 @@
 use Rattle.std.proofs.Common.{◌≡◌, zero, suc, Bool, true, false, cond, ◌&&◌, ◌||◌, List, [], ◌∷◌, ◌++◌, Option, Some, None, refl, ap, sym, ◌∙◌, subst, append_assoc, append-nil}
 use Rattle.std.specs.List.{list_any}
 use Rattle.std.proofs.lemmas.Bool.{or_parts}
+use Rattle.std.proofs.Math.Bool.{or-false}
 use Rattle.grs_base.specs.Lists.{standing_of, can_have}
 use Rattle.grs_base.specs.State.{list_of, deq_reply}
 use Rattle.grs_base.specs.declared.resource.Res.{Res}
@@ -101,11 +102,7 @@ reply_fits t k T x h made live out one right = by_fixed x.fixed refl last.own (s
 
     -- a DEQ of what the task is known to own was answered 00
     granted : (r : Res) (g : HistEntry) → gives_back r x.fixed ≡ true → x.entries ≡ g ∷ [] → k.owns r ≡ true → took r g ≡ true
-    granted r g e is o = (or_false_off (took r g)) (subst (λ hs. list_any (took r) hs ≡ true) is ((subst (Still r t T) out (right.owned r o)).1 e))
-      where
-        or_false_off : (b : Bool) → (b || false) ≡ true → b ≡ true
-        or_false_off true e = refl
-        or_false_off false e = e
+    granted r g e is o = sym (or-false (took r g)) ∙ (subst (λ hs. list_any (took r) hs ≡ true) is ((subst (Still r t T) out (right.owned r o)).1 e))
 
     by_want : (w : Want) → ((r : Res) → gives_up r w ≡ true → gives_back r x.fixed ≡ true) → entries_for (lists last.before) t w ≡ h ∷ [] → Fits (past_of t k T) h
     by_want (wants.Enq r c ret full) gives m = subst (Fits (past_of t k T)) (head_same _ h [] m)

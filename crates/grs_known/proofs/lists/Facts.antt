@@ -48,9 +48,6 @@ take-taken (suc k) (x ∷ xs) = ap (λ ys. x ∷ ys) (take-taken k xs)
 pub take-none : {X : Type 0} (xs : List X) → take 0 xs ≡ []
 take-none xs = grind (arith)
 
-pub drop-none : {X : Type 0} (xs : List X) → drop 0 xs ≡ xs
-drop-none xs = grind (arith)
-
 -- ---- filters
 -- what an item adds to a filtered list
 pub filter-push_kept : {X : Type 0} (p : X → Bool) (xs : List X) (x : X) → p x ≡ true → filter p (xs ++ x ∷ []) ≡ filter p xs ++ x ∷ []

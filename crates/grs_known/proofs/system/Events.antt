@@ -40,7 +40,7 @@ use Rattle.grs_known.proofs.known.Histories.{IsHistory, replayed}
 use Rattle.grs_known.proofs.known.Knows.{Knows, KnowsEntry, knows-closed, speaks-known}
 use Rattle.grs_known.proofs.lists.Owners.{is_among}
 use Rattle.grs_known.proofs.lists.Truths.{no_truth}
-use Rattle.grs_known.proofs.tasks.Asked.{told_after, Asks, of_new_line}
+use Rattle.grs_known.proofs.tasks.Asked.{told_after, Asks, of_new_line, by_code}
 use Rattle.grs_known.proofs.tasks.Decided.{enq_records, task-enq, task-deq}
 use Rattle.grs_known.proofs.tasks.Invariant.{IsTask, with_control}
 use Rattle.grs_known.proofs.tasks.Speaking.{speaks-control}
@@ -88,13 +88,8 @@ pub record Decides (deck : Deck) (os os' : Opens) (P P' : List RunItem) (t : Tas
 -- lines told after a code agree where the code does
 agreed-code : (deck : Deck) (s : ℕ) (opens : List Req) (P : List HistEntry) (T : List ToldLine) (t : TaskId) (k : ℕ) (verb : Verb) → (t.system.0 == s) ≡ true → is_among t (askers opens) ≡ false → (c : Code) →
     (told_as c ≡ c → AgreesOf deck.limit (lines_of deck t) P T (Coded t k 0 verb c)) → ToldBy deck s opens P T (told_after T t k verb c)
-agreed-code deck s opens P T t k verb line away Wait h = none
-agreed-code deck s opens P T t k verb line away C00 h = more T (Coded t k 0 verb C00) none line (refl, h refl) away
-agreed-code deck s opens P T t k verb line away C04 h = more T (Coded t k 0 verb C04) none line (refl, h refl) away
-agreed-code deck s opens P T t k verb line away C08 h = more T (Coded t k 0 verb C08) none line (refl, h refl) away
-agreed-code deck s opens P T t k verb line away C14 h = more T (Coded t k 0 verb C14) none line (refl, h refl) away
-agreed-code deck s opens P T t k verb line away C18 h = more T (Coded t k 0 verb C18) none line (refl, h refl) away
-agreed-code deck s opens P T t k verb line away (End m) h = more T (Coded t k 0 verb (End m)) none line (refl, h refl) away
+agreed-code deck s opens P T t k verb line away c h =
+    by_code (λ d U. (told_as d ≡ d → AgreesOf deck.limit (lines_of deck t) P T (Coded t k 0 verb d)) → ToldBy deck s opens P T U) T t k verb (λ agrees. none) (λ d e agrees. more T (Coded t k 0 verb d) none line (refl, agrees e) away) c h
 
 after-at_lines : (c : Code) (code : ℕ) → IsAtLines (phase_after c) (code_in (phase_after c) code)
 after-at_lines C00 code = tt

@@ -22,7 +22,7 @@ use Rattle.grs_known.proofs.known.Due.{one}
 use Rattle.grs_known.proofs.known.Knowing.{outstanding-other}
 use Rattle.grs_known.proofs.known.Knows.{knows-other, past-other}
 use Rattle.grs_known.proofs.lists.Facts.{some_of}
-use Rattle.grs_known.proofs.tasks.Asked.{told_after}
+use Rattle.grs_known.proofs.tasks.Asked.{told_after, by_code}
 use Rattle.grs_known.proofs.tasks.Invariant.{IsTask}
 use Rattle.grs_known.proofs.tasks.Others.{task-told}
 use Rattle.grs_known.proofs.system.Asking.{unasked, Opens, IsAskedBy, are_sent}
@@ -47,13 +47,7 @@ ours-home deck s v t ls o = let a : (t.system.0 == s) ≡ true = eq-eqb _ _ o.ho
 
 -- a code told to one task leaves the others
 pub task-told_after : (ls : List Meaning) (p : Past) (T : List ToldLine) (leaving : Res → Bool) (u : TaskId) (x : TaskState) (t : TaskId) (k : ℕ) (verb : Verb) (c : Code) → same_task u t ≡ false → IsTask ls p T leaving u x → IsTask ls p (told_after T t k verb c) leaving u x
-task-told_after ls p T leaving u x t k verb Wait apart h = h
-task-told_after ls p T leaving u x t k verb C00 apart h = task-told ls p T leaving u x _ apart h
-task-told_after ls p T leaving u x t k verb C04 apart h = task-told ls p T leaving u x _ apart h
-task-told_after ls p T leaving u x t k verb C08 apart h = task-told ls p T leaving u x _ apart h
-task-told_after ls p T leaving u x t k verb C14 apart h = task-told ls p T leaving u x _ apart h
-task-told_after ls p T leaving u x t k verb C18 apart h = task-told ls p T leaving u x _ apart h
-task-told_after ls p T leaving u x t k verb (End n) apart h = task-told ls p T leaving u x _ apart h
+task-told_after ls p T leaving u x t k verb c apart h = by_code (λ d U. IsTask ls p U leaving u x) T t k verb h (λ d e. task-told ls p T leaving u x _ apart h) c
 
 -- ---- what another task's request leaves
 -- T' is what was told since T

@@ -28,7 +28,7 @@ use Rattle.task_state.specs.declared.state.Phase.{Phase}
 use Rattle.task_state.specs.declared.state.Phase.TheVariants as phases
 use Rattle.task_state.specs.View.{code_in}
 use Rattle.task_state.specs.Replies.{phase_after}
-use Rattle.grs_known.specs.Told.{entry_of_line, entries_behind, queues, queues_at, queued_last, is_control, tells_control, is_code_before, is_code_of, is_post_of, is_end_of}
+use Rattle.grs_known.specs.Told.{entry_of_line, entries_behind, queues, queues_at, queued_last, is_control, tells_control, is_code_before, is_code_of, is_post_of, is_end_of, told_as}
 use Rattle.grs_known.proofs.lists.Entries.{asked_at-grows, end_among-push}
 use Rattle.grs_known.proofs.lists.Lines.{asks-more, asks_of-at, passed-none, passed-stop}
 use Rattle.grs_known.proofs.tasks.Invariant.{Each, key, has_res, is_distinct, IsEntryOn, IsEcb, IsRec, WaitsFor, may_pass, Passed, IsNext, IsInPhase, IsTask, is_post_before, has_ended, code_bound}
@@ -47,29 +47,29 @@ told_after T t k verb C18 = T ++ Coded t k 0 verb C18 ∷ []
 told_after T t k verb (End n) = T ++ Coded t k 0 verb (End n) ∷ []
 
 -- a property of what was told after any code
-by_code : (Q : Code → List ToldLine → Type 0) (T : List ToldLine) (t : TaskId) (k : ℕ) (verb : Verb) → Q Wait T → ((c : Code) → Q c (T ++ Coded t k 0 verb c ∷ [])) → (c : Code) → Q c (told_after T t k verb c)
+pub by_code : (Q : Code → List ToldLine → Type 0) (T : List ToldLine) (t : TaskId) (k : ℕ) (verb : Verb) → Q Wait T → ((c : Code) → told_as c ≡ c → Q c (T ++ Coded t k 0 verb c ∷ [])) → (c : Code) → Q c (told_after T t k verb c)
 by_code Q T t k verb waits tells Wait = waits
-by_code Q T t k verb waits tells C00 = tells C00
-by_code Q T t k verb waits tells C04 = tells C04
-by_code Q T t k verb waits tells C08 = tells C08
-by_code Q T t k verb waits tells C14 = tells C14
-by_code Q T t k verb waits tells C18 = tells C18
-by_code Q T t k verb waits tells (End n) = tells (End n)
+by_code Q T t k verb waits tells C00 = tells C00 refl
+by_code Q T t k verb waits tells C04 = tells C04 refl
+by_code Q T t k verb waits tells C08 = tells C08 refl
+by_code Q T t k verb waits tells C14 = tells C14 refl
+by_code Q T t k verb waits tells C18 = tells C18 refl
+by_code Q T t k verb waits tells (End n) = tells (End n) refl
 
 -- what was told before stays told, and a code is no post and no end
 pub any-after : (p : ToldLine → Bool) (T : List ToldLine) (t : TaskId) (k : ℕ) (verb : Verb) (c : Code) → list_any p T ≡ true → list_any p (told_after T t k verb c) ≡ true
-any-after p T t k verb c h = by_code (λ d U. list_any p U ≡ true) T t k verb h (λ d. any-more p T _ h) c
+any-after p T t k verb c h = by_code (λ d U. list_any p U ≡ true) T t k verb h (λ d e. any-more p T _ h) c
 
 unposted-after : (T : List ToldLine) (t u : TaskId) (k n : ℕ) (verb : Verb) (c : Code) → list_any (is_post_of u n) T ≡ false → list_any (is_post_of u n) (told_after T t k verb c) ≡ false
-unposted-after T t u k n verb c h = by_code (λ d U. list_any (is_post_of u n) U ≡ false) T t k verb h (λ d. none-more (is_post_of u n) T _ h refl) c
+unposted-after T t u k n verb c h = by_code (λ d U. list_any (is_post_of u n) U ≡ false) T t k verb h (λ d e. none-more (is_post_of u n) T _ h refl) c
 
 no_end-after : (T : List ToldLine) (t u : TaskId) (k : ℕ) (verb : Verb) (c : Code) → list_any (is_end_of u) T ≡ false → list_any (is_end_of u) (told_after T t k verb c) ≡ false
-no_end-after T t u k verb c h = by_code (λ d U. list_any (is_end_of u) U ≡ false) T t k verb h (λ d. none-more (is_end_of u) T _ h refl) c
+no_end-after T t u k verb c h = by_code (λ d U. list_any (is_end_of u) U ≡ false) T t k verb h (λ d e. none-more (is_end_of u) T _ h refl) c
 
 posts-after : (T : List ToldLine) (t : TaskId) (k n : ℕ) (verb : Verb) (c : Code) → list_all (is_post_before t n) T ≡ true → list_all (is_post_before t (suc n)) (told_after T t k verb c) ≡ true
 posts-after T t k n verb c h =
     let later : list_all (is_post_before t (suc n)) T ≡ true = all-kept (is_post_before t n) (is_post_before t (suc n)) post_later T h in
-    by_code (λ d U. list_all (is_post_before t (suc n)) U ≡ true) T t k verb later (λ d. all-more (is_post_before t (suc n)) T _ later refl) c
+    by_code (λ d U. list_all (is_post_before t (suc n)) U ≡ true) T t k verb later (λ d e. all-more (is_post_before t (suc n)) T _ later refl) c
   where
     post_later : (l : ToldLine) → is_post_before t n l ≡ true → is_post_before t (suc n) l ≡ true
     post_later (Coded u j part v code) e = refl

@@ -4,6 +4,7 @@ use Rattle.std.specs.Prelude.{filter, ◌⊎◌, slice_get}
 use Rattle.std.specs.List.{list_any, list_all}
 use Rattle.std.proofs.lemmas.Bool.{and_parts, and_from, cases_Bool, eq-eqb, and_right, or_left, or_right}
 use Rattle.std.proofs.lemmas.Bool.Decides.{nat_tests}
+use Rattle.std.proofs.Math.Bool.{and-true}
 use Rattle.grs_base.specs.Same.{same_res, same_task}
 use Rattle.grs_base.specs.declared.resource.Res.{Res}
 use Rattle.grs_base.specs.declared.resource.Ctl.{Ctl}
@@ -221,11 +222,7 @@ module _ (ls : List Meaning) (p : Past) (T : List ToldLine) (leaving : Res → B
   keys_left false = k.before.keys
 
   owned_deq : (q : Res) (b : Bool) → ((p.owns q && not (same_res q r && b)) || false) ≡ true → has_own q (cond b (filter (λ z. not (same_res r z.0)) p.own) p.own) ≡ true
-  owned_deq q true o = owned-left p.own r q (p.owns q) (k.before.owned q) (ap (λ b. (p.owns q && not b) || false) (sym (and_true (same_res q r))) ∙ o)
-    where
-      and_true : (b : Bool) → (b && true) ≡ b
-      and_true true = refl
-      and_true false = refl
+  owned_deq q true o = owned-left p.own r q (p.owns q) (k.before.owned q) (ap (λ b. (p.owns q && not b) || false) (sym (and-true (same_res q r))) ∙ o)
   owned_deq q false o = k.before.owned q (sym (owned_still (p.owns q) (same_res q r && false) false (and_right (same_res q r) false refl) refl) ∙ o)
 
   distinct_left : (b : Bool) → is_distinct (cond b (without_first xs r) xs) ≡ true

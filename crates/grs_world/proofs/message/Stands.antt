@@ -3,6 +3,7 @@ use Rattle.std.proofs.Common.{ℕ, zero, suc, ◌≡◌, ◌≢◌, ◌+◌, ◌
 use Rattle.std.specs.Prelude.{filter, ◌==◌}
 use Rattle.std.proofs.Math.Seq.{drop-nil}
 use Rattle.std.proofs.lemmas.Bool.{eqb-false, lt-leb, and_right}
+use Rattle.std.proofs.lemmas.Option.{same_Some}
 use Rattle.grs_base.specs.declared.resource.SysId.{SysId}
 use Rattle.grs_wire.specs.Masks.{has, without, with_also, only, others}
 use Rattle.grs_wire.specs.declared.medium.RingBody.{RingBody}
@@ -110,11 +111,8 @@ first_number-seen {k = k} s seen at l (gone h r) number f =
 first_number-seen {k = k} s seen at l (kept {e = e} {q = q} {qs = qs} {es = es} is body h r) number f =
     by_test (λ xs. first_number xs ≡ Some number → number ≡ suc seen) (has e.mask s.0) (e ∷ unseen s es) (unseen s es)
     (λ t f. let m : seen ≤ k = leb-true seen k (sym (at k) ∙ (sym (h s.0) ∙ t)) in
-    let same : e.number ≡ number = some_same e.number number f in omega arith)
+    let same : e.number ≡ number = same_Some e.number number f in omega arith)
     (λ t f. let m : k < seen = leb-false seen k (sym (at k) ∙ (sym (h s.0) ∙ t)) in first_number-seen s seen at m r number f) f
-  where
-    some_same : (a b : ℕ) → Some a ≡ Some b → a ≡ b
-    some_same a b e = cc
 
 -- ---- each of some systems has seen so many of the requests
 abbrev pub waits_for : ℕ → (ℕ → ℕ) → ℕ → ℕ → Bool

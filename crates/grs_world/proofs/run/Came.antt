@@ -1,5 +1,5 @@
 -- What comes of an event of a system, by cases, and what holds of all that stands in the message.
-use Rattle.std.proofs.Common.{◌≡◌, cond, Bool, true, false, ◌&&◌, ℕ, zero, suc, List, [], ◌∷◌, ◌++◌, length, map, take, Option, Some, None, refl, sym, subst}
+use Rattle.std.proofs.Common.{◌≡◌, cond, Bool, true, false, ◌&&◌, ℕ, zero, suc, List, [], ◌∷◌, ◌++◌, length, map, take, Option, Some, None, refl, sym, subst, ap}
 use Rattle.std.specs.Prelude.{filter, slice_get, not, ◌==◌}
 use Rattle.std.specs.List.{list_all}
 use Rattle.std.proofs.lemmas.Bool.{and_parts, eqb-true}
@@ -26,6 +26,7 @@ use Rattle.grs_wire.specs.declared.request.Req.{Req}
 use Rattle.grs_wire.proofs.WantLaws.{by_test}
 use Rattle.rsa_message.specs.Message.{Message, is_at, unseen, opened, never_opened, left_by, cleared, stamped, turn_reply, turned, turned_open, turned_closed, rest_after_turn}
 use Rattle.grs_known.proofs.lists.Facts.{all-behind, take-none}
+use Rattle.grs_known.proofs.lists.Truths.{no_truth}
 use Rattle.grs_world.specs.World.{World, Turnout, carry_out, chosen, placed, counted, happens, run, first_world}
 use Rattle.grs_world.proofs.run.InRing.{AreRing, all_ring, finished-ring}
 use Rattle.grs_world.proofs.run.Runs.{GoodWorld}
@@ -72,11 +73,7 @@ module _ (deck : Deck) (w : World) (s : SysId) (n : Node) (shut : w.medium.messa
           )
       go false b d k = still (after_turn w.medium.message) refl
       go true b false k = turn (after_turn (turned_open w.medium.message s (take most_additions n.outbox) (live w.medium) w.medium.rest)) b refl
-      go true b true k = absurd (nobody w.medium.message.holder (shut k) b)
-        where
-          nobody : (h : Option SysId) → h ≡ None → is_at h s ≡ true → ⊥
-          nobody None f t = absurd (cc)
-          nobody (Some x) f t = absurd (cc)
+      go true b true k = no_truth (is_at w.medium.message.holder s) b (ap (λ h. is_at h s) (shut k))
 
   called : (choice : Choice) (call : CallOfMedium) → ComesBy choice (apply w.medium s call) → Comes (carry_out deck w.medium s n choice (Call call))
   unfolding carry_out

@@ -24,10 +24,6 @@ use Rattle.grs_world.proofs.run.Outcomes.{turn_table}
 use Rattle.grs_world.proofs.run.Runs.{GoodWorld}
 use Rattle.grs_world.proofs.run.Sound.{good_run}
 
-no_items : (xs : List RunItem) → length xs ≡ 0 → xs ≡ []
-no_items [] e = refl
-no_items (x ∷ xs) e = absurd (omega arith)
-
 module _ (deck : Deck) (es : List Event) (r : Res) (all : is_systems r ≡ true) (g : GoodWorld deck es (run deck es)) (mode : (run deck es).medium.star ≡ false) where
   abbrev w : World
   w = run deck es

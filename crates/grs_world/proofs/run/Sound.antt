@@ -1,5 +1,6 @@
 -- Every run is sound.
 use Rattle.std.proofs.Common.{◌≡◌, ◌<◌, ◌+◌, ◌-◌, cond, Bool, true, false, ◌&&◌, ℕ, zero, suc, List, [], ◌∷◌, ◌++◌, length, map, take, Option, Some, None, refl, ap, sym, ◌∙◌, subst, arith}
+use Rattle.std.proofs.lemmas.Option.{same_Some}
 use Rattle.std.specs.Prelude.{slice_get}
 use Rattle.grs_base.specs.declared.resource.SysId.{SysId}
 use Rattle.grs_base.specs.declared.resource.TaskId.{TaskId}
@@ -28,6 +29,7 @@ use Rattle.grs_known.specs.Change.{put_at}
 use Rattle.grs_known.proofs.known.Histories.{IsHistory}
 use Rattle.grs_known.proofs.known.ItemLaws.{items_are_history}
 use Rattle.grs_known.proofs.lists.Facts.{take-taken}
+use Rattle.grs_known.proofs.lists.Truths.{no_truth}
 use Rattle.grs_world.specs.Agree.{Sound}
 use Rattle.grs_world.specs.World.{World, Turnout, idle, carry_out, chosen, placed, counted, happens, run, hist, first_nodes, first_world}
 use Rattle.grs_world.proofs.message.Stands.{none, has-others}
@@ -138,11 +140,7 @@ module _ (deck : Deck) (es : List Event) (e : Event) (g : GoodWorld deck es (run
             )
         go false b d k = idle_push (after_turn w.medium.message) refl refl
         go true b false k = good_open k
-        go true b true k = absurd (nobody w.medium.message.holder (g.message.no_turn k) b)
-          where
-            nobody : (h : Option SysId) → h ≡ None → is_at h e.system ≡ true → ⊥
-            nobody None f t = absurd (cc)
-            nobody (Some x) f t = absurd (cc)
+        go true b true k = no_truth (is_at w.medium.message.holder c) b (ap (λ h. is_at h c) (g.message.no_turn k))
 
     -- a task goes on
     good_task : (t : TaskId) → may_go deck n t ≡ true → Leads (record { medium = (run deck es).medium; step = finish deck n (choices.Task t) None })
@@ -169,11 +167,8 @@ module _ (deck : Deck) (es : List Event) (e : Event) (g : GoodWorld deck es (run
 -- ---- the first world
 first_at : (deck : Deck) (k : ℕ) (ds : List SystemDef) (i : ℕ) (n : Node) → slice_get (first_nodes deck k ds) i ≡ Some n → (n ≡ first_node deck (k + i)) × (i < length ds)
 first_at deck k [] i n h = absurd (cc)
-first_at deck k (d ∷ ds) zero n h = (sym (same_some (first_node deck k) n h) ∙ ap (first_node deck) (plus_zero k), omega arith)
+first_at deck k (d ∷ ds) zero n h = (sym (same_Some (first_node deck k) n h) ∙ ap (first_node deck) (plus_zero k), omega arith)
   where
-    same_some : (a b : Node) → Some a ≡ Some b → a ≡ b
-    same_some a b e = cc
-
     plus_zero : (a : ℕ) → a ≡ a + 0
     plus_zero a = omega arith
 first_at deck k (d ∷ ds) (suc i) n h =

@@ -182,9 +182,6 @@ module _ (deck : Deck) (s : ℕ) (T later : List RunItem) (right : IsHistory dec
   abbrev os : Opens
   os = opens_of later out (ghosted n)
 
-  asker : IsHere deck os T n.tasks.told t ls (state_of n.tasks t)
-  asker = k.good.tasks.each t ls ours
-
   pub takes-answer : (x : RunItem) (S : State) → x.entries ≡ entries_for S t a.req.want → mine t later ≡ x ∷ [] → (rank : ℕ) →
       Taken deck s T (others_of t later) (without_asker t out) n.tasks.told (settled_ranked n.tasks t a (answer_to S t a.req.want) rank)
   takes-answer x S made due rank =

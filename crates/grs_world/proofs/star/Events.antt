@@ -4,7 +4,7 @@ use Rattle.std.specs.Prelude.{drop, ◌==◌, is_some, slice_get, slice_set, unw
 use Rattle.std.specs.List.{list_any}
 use Rattle.std.proofs.lemmas.Bool.{and_parts, eqb-true, eq-eqb, ne_eqb}
 use Rattle.std.proofs.lemmas.List.{length-set, set-get_or}
-use Rattle.std.proofs.Math.Bool.{or-false, and-true, and-false}
+use Rattle.std.proofs.Math.Bool.{or-false, and-true, and-false, or-true}
 use Rattle.contention_mgr.specs.Manager.{Ranked, plain, items_of, no_elements, entry_wanted, managed_at, kept_for, after_request}
 use Rattle.contention_mgr.proofs.ManagerLaws.{entries_are_well_kept}
 use Rattle.grs_base.specs.Limits.{most_systems}
@@ -291,11 +291,7 @@ module _ (deck : Deck) (some : 0 < deck.entries) (w : World) (c : SysId) (few : 
     interest_now e = joins e c.0 ∙ (ap (λ b. is_interested words e c.0 || ((e == x) && b)) (eq-eqb c.0 c.0 refl) ∙ go (e == x))
       where
         go : (b : Bool) → (is_interested w.medium.words e c.0 || (b && true)) ≡ cond b true (is_interested w.medium.words e c.0)
-        go true = or_true (is_interested words e c.0)
-          where
-            or_true : (a : Bool) → (a || true) ≡ true
-            or_true true = refl
-            or_true false = refl
+        go true = or-true (is_interested words e c.0)
         go false = or-false (is_interested words e c.0)
 
     -- where another system manages it

@@ -165,9 +165,6 @@ module _ (deck : Deck) (words : List ℕ) (T : List RunItem) (right : IsHistory 
 
     -- it is of a task that is here
     module _ (home : is_home_at deck s t ≡ true) where
-      comes : (x : RunItem) × (outstanding t (blank (is_late t later)) T ≡ Some x) × (reply_in x.entries ≡ answer) × Coming t (learns_item (blank (is_late t later)) x) T (news_of ms)
-      comes = (h.coming t home).0 (same_task-itself t)
-
       abbrev x : RunItem
       x = ((h.coming t home).0 (same_task-itself t)).0
 

@@ -12,7 +12,7 @@ use Rattle.grs_wire.specs.declared.request.Fixed.TheVariants as fixing
 use Rattle.grs_wire.specs.declared.medium.Mail.TheVariants.{Answered, Request, Granted}
 use Rattle.grs_wire.specs.Wants.{answer_to, res_wanted}
 use Rattle.grs_known.proofs.lists.Truths.{false_by, task_swap}
-use Rattle.std.proofs.lemmas.Bool.{and_parts, eqb-true, eqb-false, not-true}
+use Rattle.std.proofs.lemmas.Bool.{and_parts, eqb-true, eqb-false, not-true, or_parts}
 use Rattle.std.specs.List.{list_all}
 use Rattle.std.proofs.Common.{◌≡◌, ◌≢◌, inl, inr, ℕ, true, List, [], ◌∷◌, ◌++◌, Option, Some, None, refl, ap, sym, ◌∙◌, subst, append-nil, Bool, false, cond, ◌||◌, arith, length, ◌<◌, not}
 use Rattle.std.proofs.lemmas.Option.{same_Some, slice_get-get_or}
@@ -128,15 +128,9 @@ module _ (deck : Deck) (words : List ℕ) (count : ℕ) (later : ℕ → List Ru
 
   pub hands-later : (m : ℕ) (zs : List Req) → is_among q.task (askers zs) ≡ false → AllHands deck words count later out m zs → AllHands deck words count (later-with later q.task.system.0 x) out m zs
   hands-later m [] away h = tt
-  hands-later m (z ∷ zs) away h = (hand-later m z (task_swap q.task z.task (first (same_task q.task z.task) away)) h.0, hands-later m zs (more (same_task q.task z.task) away) h.1)
-    where
-      first : (b : Bool) → (b || is_among q.task (askers zs)) ≡ false → b ≡ false
-      first true e = absurd (cc)
-      first false e = refl
-
-      more : (b : Bool) → (b || is_among q.task (askers zs)) ≡ false → is_among q.task (askers zs) ≡ false
-      more true e = absurd (cc)
-      more false e = e
+  hands-later m (z ∷ zs) away h =
+      let both = or_parts (same_task q.task z.task) (is_among q.task (askers zs)) away in
+      (hand-later m z (task_swap q.task z.task both.0) h.0, hands-later m zs both.1 h.1)
 
 -- no other system has it in its hands
 pub not-theirs : (deck : Deck) (words : List ℕ) (count : ℕ) (later : ℕ → List RunItem) (out : ℕ → List Req) (q : Req) (o : Option Asked) (m : ℕ) → IsHand deck words count later out m q → IsAskedBy q.task o (out q.task.system.0) → (k : ℕ) → k ≢ m → (zs : List Req) → AllHands deck words count later out k zs → is_among q.task (askers zs) ≡ false
@@ -174,9 +168,6 @@ module _ (deck : Deck) (w : World) (g : IsWhole deck w) (c : SysId) (n : Node) (
   -- the asker's system
   abbrev s : ℕ
   s = q.task.system.0
-
-  asker : (k : Node) × (slice_get w.nodes s ≡ Some k)
-  asker = (get_or w.nodes s n, slice_get-get_or w.nodes s n hand.below)
 
   abbrev other : Node
   other = get_or w.nodes s n
