@@ -1,5 +1,5 @@
 -- What is known of a task stays right: through an item of another task, an item of its own, an answer, control.
-use Rattle.std.proofs.Common.{◌≡◌, Bool, true, false, cond, not, ◌&&◌, ◌||◌, List, [], ◌∷◌, ◌++◌, Some, None, refl, ap, sym, ◌∙◌, subst, arith, append-nil}
+use Rattle.std.proofs.Common.{◌≡◌, Bool, true, false, cond, not, ◌&&◌, ◌||◌, List, [], ◌∷◌, ◌++◌, Some, None, refl, ap, sym, ◌∙◌, subst, arith, append-nil, Option}
 use Rattle.std.specs.Prelude.{is_some}
 use Rattle.std.specs.List.{list_any}
 use Rattle.std.proofs.lemmas.List.Elements.{filter-append}
@@ -126,3 +126,16 @@ right-control t k T r h s = record { waits = h.waits; owned = λ q o. here q (k.
 
 pub all_is_known : AllIsKnown
 all_is_known t k T e h = (ap (λ b. cond b (all_but_last (mine t T)) (mine t T)) e, λ r o. subst (λ b. Still r t T (cond b (last_of (mine t T)) None)) e (h.owned r o))
+
+-- ---- the outstanding item, as items
+abbrev pub one : Option RunItem → List RunItem
+one None = []
+one (Some x) = x ∷ []
+
+pub one-none : (o : Option RunItem) → [] ≡ one o → o ≡ None
+one-none None e = refl
+one-none (Some x) e = absurd (cc)
+
+pub one-some : (o : Option RunItem) (x : RunItem) (xs : List RunItem) → x ∷ xs ≡ one o → (o ≡ Some x) × (xs ≡ [])
+one-some None x xs e = absurd (cc)
+one-some (Some y) x xs e = let same : x ≡ y = cc in let nil : xs ≡ [] = cc in (ap Some (sym same), nil)

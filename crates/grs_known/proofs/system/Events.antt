@@ -35,7 +35,7 @@ use Rattle.grs_known.specs.Items.{RunItem, mine, history}
 use Rattle.grs_known.specs.Known.{outstanding}
 use Rattle.grs_known.specs.Past.{Past, past_of, after_entry, Speaks}
 use Rattle.grs_known.specs.Told.{AgreesOf, told_as, gets_control, TellsEnq, entry_of_line, TellsDeq}
-use Rattle.grs_known.proofs.known.Due.{one}
+use Rattle.grs_known.proofs.known.Knowing.{one}
 use Rattle.grs_known.proofs.known.Histories.{IsHistory, replayed}
 use Rattle.grs_known.proofs.known.Knows.{Knows, KnowsEntry, knows-closed, speaks-known}
 use Rattle.grs_known.proofs.lists.Owners.{is_among}

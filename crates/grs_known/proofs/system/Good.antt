@@ -18,8 +18,7 @@ use Rattle.task_state.specs.Replies.{is_leaving}
 use Rattle.task_state.proofs.ViewLaws.{is_task-system}
 use Rattle.grs_known.specs.Items.{RunItem, is_of, removes_system_of, mine}
 use Rattle.grs_known.specs.Past.{Past, past_of}
-use Rattle.grs_known.proofs.known.Due.{one}
-use Rattle.grs_known.proofs.known.Knowing.{outstanding-other}
+use Rattle.grs_known.proofs.known.Knowing.{one, outstanding-other}
 use Rattle.grs_known.proofs.known.Knows.{knows-other, past-other}
 use Rattle.grs_known.proofs.lists.Facts.{some_of}
 use Rattle.grs_known.proofs.tasks.Asked.{told_after, by_code}

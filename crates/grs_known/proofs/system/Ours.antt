@@ -22,7 +22,7 @@ use Rattle.task_state.specs.Replies.{is_leaving}
 use Rattle.grs_known.specs.Items.{RunItem, mine}
 use Rattle.grs_known.specs.Known.{Known, outstanding}
 use Rattle.grs_known.specs.Past.{past_of}
-use Rattle.grs_known.proofs.known.Due.{one}
+use Rattle.grs_known.proofs.known.Knowing.{one}
 use Rattle.grs_known.proofs.known.Knows.{Knows}
 
 -- a task of the deck that is of this system

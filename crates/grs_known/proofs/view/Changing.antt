@@ -9,7 +9,7 @@ use Rattle.grs_base.specs.declared.resource.Res.{Res}
 use Rattle.grs_base.proofs.SameLaws.{same_res-exact}
 use Rattle.grs_known.specs.Items.{RunItem, lists, lists_from}
 use Rattle.grs_known.specs.Change.{put_at, StarWords, StarStore, Role, Ring, Star, under, least_system, is_manager, manager_of, is_managed, managed_part, store_of, store_shown, view, kept_by, kept_at, systems_part, TurnShowsNothing, TaskShowsNothing, StarShowsItself, SwitchShowsHistory, KeptIsShown}
-use Rattle.grs_known.proofs.known.Parts.{list_of-systems}
+use Rattle.grs_known.proofs.ring.Parts.{list_of-systems}
 use Rattle.grs_known.proofs.lists.Parts.{list_of-part}
 use Rattle.grs_known.proofs.lists.Placed.{put_both}
 

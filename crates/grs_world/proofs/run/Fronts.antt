@@ -16,7 +16,7 @@ use Rattle.grs_known.specs.Items.{RunItem, goes_round, rounds, lists, AllCount, 
 use Rattle.grs_known.specs.Change.{systems_part}
 use Rattle.grs_known.proofs.known.Histories.{items-append, count-front}
 use Rattle.grs_known.proofs.known.ItemLaws.{items_are_history, lists_are_replayed}
-use Rattle.grs_known.proofs.known.Reading.{table-is}
+use Rattle.grs_known.proofs.ring.Reading.{table-is}
 use Rattle.grs_world.specs.Tables.{before_number, processed, TablesAreFronts}
 use Rattle.grs_world.specs.World.{World, run}
 use Rattle.grs_world.proofs.message.Stands.{Bodies, waits_live, first_number-seen}

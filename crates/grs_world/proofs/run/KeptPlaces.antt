@@ -12,8 +12,8 @@ use Rattle.rsa_message.specs.Message.{unseen}
 use Rattle.grs_known.specs.Items.{RunItem, rounds, lists, items}
 use Rattle.grs_known.proofs.known.Histories.{replayed}
 use Rattle.grs_known.proofs.known.ItemLaws.{items_are_history}
-use Rattle.grs_known.proofs.known.Parts.{list_of-systems}
-use Rattle.grs_known.proofs.known.Reading.{table-is}
+use Rattle.grs_known.proofs.ring.Parts.{list_of-systems}
+use Rattle.grs_known.proofs.ring.Reading.{table-is}
 use Rattle.grs_known.proofs.lists.Facts.{slice_get-past}
 use Rattle.grs_world.specs.Kept.{places, in_table, kept_in, KeptArePlaces}
 use Rattle.grs_world.specs.Running.{is_live}

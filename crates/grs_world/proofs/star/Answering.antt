@@ -37,7 +37,7 @@ use Rattle.task_state.specs.declared.state.TaskState.{TaskState}
 use Rattle.grs_known.specs.Items.{RunItem, is_of, gives_back, goes_round, rounds, mine, lists, history}
 use Rattle.grs_known.specs.Known.{outstanding, Still}
 use Rattle.grs_known.specs.Past.{Past, past_of, may_leave}
-use Rattle.grs_known.proofs.known.Due.{one, one-none, one-some}
+use Rattle.grs_known.proofs.known.Knowing.{one, one-none, one-some}
 use Rattle.grs_known.proofs.known.Histories.{IsHistory, MayFollow, made_item, follows, owns-may}
 use Rattle.grs_known.proofs.known.Knows.{known-all, owns-still, entry-learned, entry-decided}
 use Rattle.grs_known.proofs.lists.Facts.{filter-cons_kept, all-filter, list_all-push}

@@ -30,7 +30,7 @@ use Rattle.task_state.specs.declared.state.Asked.{Asked}
 use Rattle.task_state.specs.declared.state.Rec.{Rec}
 use Rattle.grs_known.specs.Items.{RunItem, is_of, gives_back, mine, lists}
 use Rattle.grs_known.specs.Known.{Known, last_of, outstanding, Still, Coming, learns_control, learns_item}
-use Rattle.grs_known.proofs.known.Due.{one, one-some}
+use Rattle.grs_known.proofs.known.Knowing.{one, one-some}
 use Rattle.grs_known.proofs.known.Histories.{IsHistory}
 use Rattle.grs_known.proofs.known.Knows.{IsOutstanding}
 use Rattle.grs_known.proofs.lists.All.{owns-has}

@@ -33,7 +33,7 @@ use Rattle.task_state.specs.declared.state.Phase.{Phase}
 use Rattle.task_state.proofs.ViewLaws.{is_task-system}
 use Rattle.grs_known.specs.Items.{RunItem, is_of, mine, history, reply_in}
 use Rattle.grs_known.specs.Known.{last_of, outstanding, Still, Coming, learns_control, learns_item, is_answer_to}
-use Rattle.grs_known.proofs.known.Due.{one}
+use Rattle.grs_known.proofs.known.Knowing.{one}
 use Rattle.grs_known.proofs.known.Histories.{IsHistory}
 use Rattle.grs_known.proofs.known.ItemLaws.{replies_are_answers}
 use Rattle.grs_known.proofs.known.Knows.{IsOutstanding}

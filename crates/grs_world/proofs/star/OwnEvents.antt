@@ -35,9 +35,8 @@ use Rattle.task_state.specs.declared.state.Phase.TheVariants as phases
 use Rattle.grs_known.specs.Items.{RunItem, is_of, gives_back, goes_round, wants_round, mine, lists, history}
 use Rattle.grs_known.specs.Known.{last_of, outstanding, IsRight, Coming}
 use Rattle.grs_known.specs.Laws.{is_given_back}
-use Rattle.grs_known.proofs.known.Due.{one}
+use Rattle.grs_known.proofs.known.Knowing.{one, outstanding-own}
 use Rattle.grs_known.proofs.known.Histories.{IsHistory, MayFollow, made_item, follows}
-use Rattle.grs_known.proofs.known.Knowing.{outstanding-own}
 use Rattle.grs_known.proofs.lists.Facts.{list_all-push}
 use Rattle.grs_known.proofs.lists.Owners.{is_among}
 use Rattle.grs_known.proofs.lists.Parts.{part, is_res_of, systems-other}

@@ -30,7 +30,7 @@ use Rattle.task_state.specs.Replies.{gives_up}
 use Rattle.task_state.specs.View.{state_of}
 use Rattle.grs_known.specs.Items.{RunItem, is_of, gives_back, mine, lists, reply_in}
 use Rattle.grs_known.specs.Known.{Known, last_of, outstanding, IsRight, learns_item, learns_control, News, Answers, Grants, Wants, is_answer_to, Coming}
-use Rattle.grs_known.proofs.known.Due.{one}
+use Rattle.grs_known.proofs.known.Knowing.{one}
 use Rattle.grs_known.proofs.known.ItemLaws.{replies_are_answers}
 use Rattle.grs_known.proofs.known.Histories.{IsHistory, IsAsk, made_item, stays-ask}
 use Rattle.grs_known.proofs.lists.Facts.{list_any-push, filter-cons_kept, filter-cons_left, any-more, any-last}

@@ -35,7 +35,8 @@ use Rattle.task_state.specs.declared.state.TaskState.{TaskState}
 use Rattle.grs_known.specs.Items.{RunItem, is_of, rounds, mine, lists, history}
 use Rattle.grs_known.specs.Known.{outstanding}
 use Rattle.grs_known.specs.Past.{Past, past_of}
-use Rattle.grs_known.proofs.known.Due.{one-some, ReadBy, read_by}
+use Rattle.grs_known.proofs.known.Knowing.{one-some}
+use Rattle.grs_known.proofs.ring.Due.{ReadBy, read_by}
 use Rattle.grs_known.proofs.known.Histories.{IsHistory, IsAsk}
 use Rattle.grs_known.proofs.known.Knows.{entry-learned}
 use Rattle.grs_known.proofs.lists.Facts.{filter-cons_kept, filter-cons_left, some_of}

@@ -28,10 +28,9 @@ use Rattle.task_state.specs.declared.state.TaskState.{TaskState}
 use Rattle.grs_known.specs.Items.{RunItem, is_of, goes_round, rounds, mine, history}
 use Rattle.grs_known.specs.Known.{outstanding, falls_behind}
 use Rattle.grs_known.specs.Past.{Past, past_of, Speaks}
-use Rattle.grs_known.proofs.known.Due.{one, one-none}
+use Rattle.grs_known.proofs.known.Knowing.{one, one-none, outstanding-own}
 use Rattle.grs_known.proofs.known.Following.{is_full-known, may_follow}
 use Rattle.grs_known.proofs.known.Histories.{IsHistory, MayFollow, made_item, goes-ask, stays-ask}
-use Rattle.grs_known.proofs.known.Knowing.{outstanding-own}
 use Rattle.grs_known.proofs.known.Knows.{Knows, known-all, speaks-known, knows-behind, past-behind}
 use Rattle.grs_known.proofs.lists.Facts.{all-behind, all-middle, filter-cons_kept, some_of, take-none}
 use Rattle.grs_known.proofs.lists.Parts.{systems-other}

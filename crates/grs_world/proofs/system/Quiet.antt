@@ -46,11 +46,11 @@ use Rattle.grs_known.specs.Items.{RunItem, lists, history}
 use Rattle.grs_known.specs.Known.{outstanding}
 use Rattle.grs_known.specs.Past.{has_own, Past, past_of, Speaks}
 use Rattle.grs_known.specs.Told.{LineAgrees, TellsWait, tells_control}
-use Rattle.grs_known.proofs.known.Due.{one}
+use Rattle.grs_known.proofs.known.Knowing.{one}
 use Rattle.grs_known.proofs.known.Following.{has-known, is_full-known, may_follow}
 use Rattle.grs_known.proofs.known.Histories.{IsHistory, MayFollow, made_item, follows, wants-round, has-may, owns-may}
 use Rattle.grs_known.proofs.known.Knows.{IsOutstanding, known-all, knows-closed, speaks-known, owns-still, entry-decided}
-use Rattle.grs_known.proofs.known.Reading.{owner-behind}
+use Rattle.grs_known.proofs.ring.Reading.{owner-behind}
 use Rattle.grs_known.proofs.lists.Facts.{all-more}
 use Rattle.grs_known.proofs.lists.Owners.{is_among}
 use Rattle.grs_known.proofs.lists.Parts.{is_res_of, own-one_system, answer_to-part}

@@ -1,4 +1,4 @@
-use Rattle.grs_known.proofs.known.Reading.{owners_stay_on}
+use Rattle.grs_known.proofs.ring.Reading.{owners_stay_on}
 use Rattle.grs_known.proofs.laws.owners_stay_on.Goals as goal
 
 pub returns : goal.returns

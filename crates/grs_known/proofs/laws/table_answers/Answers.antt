@@ -1,4 +1,4 @@
-use Rattle.grs_known.proofs.known.Reading.{table_answers}
+use Rattle.grs_known.proofs.ring.Reading.{table_answers}
 use Rattle.grs_known.proofs.laws.table_answers.Goals as goal
 
 pub returns : goal.returns

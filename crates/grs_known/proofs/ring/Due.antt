@@ -31,22 +31,9 @@ use Rattle.grs_known.proofs.lists.Truths.{false_by, no_truth}
 use Rattle.grs_known.proofs.known.Fitting.{made-behind}
 use Rattle.grs_known.proofs.known.Fronts.{pushed}
 use Rattle.grs_known.proofs.known.Histories.{AllAsk, IsHistory, asks-front, asks-behind, live-asks, owns-may}
-use Rattle.grs_known.proofs.known.Knowing.{last_of-is}
+use Rattle.grs_known.proofs.known.Knowing.{last_of-is, one, one-none, one-some}
 use Rattle.grs_known.proofs.known.Knows.{known-all}
-use Rattle.grs_known.proofs.known.Reading.{table-is, owner-behind, owners_stay_on}
-
--- the outstanding item, as items
-abbrev pub one : Option RunItem → List RunItem
-one None = []
-one (Some x) = x ∷ []
-
-pub one-none : (o : Option RunItem) → [] ≡ one o → o ≡ None
-one-none None e = refl
-one-none (Some x) e = absurd (cc)
-
-pub one-some : (o : Option RunItem) (x : RunItem) (xs : List RunItem) → x ∷ xs ≡ one o → (o ≡ Some x) × (xs ≡ [])
-one-some None x xs e = absurd (cc)
-one-some (Some y) x xs e = let same : x ≡ y = cc in let nil : xs ≡ [] = cc in (ap Some (sym same), nil)
+use Rattle.grs_known.proofs.ring.Reading.{table-is, owner-behind, owners_stay_on}
 
 -- ---- the last item of a task, and those that went with the message
 filter-swap : (p q : RunItem → Bool) (xs : List RunItem) → filter p (filter q xs) ≡ filter q (filter p xs)

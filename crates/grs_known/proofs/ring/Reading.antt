@@ -23,7 +23,7 @@ use Rattle.grs_known.proofs.known.Control.{owns-other, still-own}
 use Rattle.grs_known.proofs.known.Fronts.{pushed, still-rest}
 use Rattle.grs_known.proofs.known.ItemLaws.{lists-push, replies_are_answers}
 use Rattle.grs_known.proofs.known.Knowing.{last_of-push, right-answer, right-control}
-use Rattle.grs_known.proofs.known.Parts.{part-items}
+use Rattle.grs_known.proofs.ring.Parts.{part-items}
 
 -- ---- owners stay
 -- behind one item that doesn't give the resource up for the task
