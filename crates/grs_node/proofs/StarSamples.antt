@@ -7,28 +7,38 @@ use Rattle.grs_base.specs.declared.decision.Code.TheVariants.{C00}
 use Rattle.grs_base.specs.declared.look.Filter.TheVariants.{All}
 use Rattle.grs_base.specs.declared.resource.Ctl.TheVariants.{E}
 use Rattle.grs_base.specs.declared.resource.Res.{Res}
-use Rattle.grs_base.specs.declared.resource.Res.TheVariants.{System, Systems}
+use Rattle.grs_base.specs.declared.resource.Res.TheVariants.{Step, System, Systems}
 use Rattle.grs_base.specs.declared.resource.Ret.TheVariants.{RetNone}
 use Rattle.grs_base.specs.declared.resource.SysId.{SysId}
 use Rattle.grs_base.specs.declared.resource.TaskId.{TaskId}
 use Rattle.grs_base.specs.declared.rnl.Which.TheVariants as which
-use Rattle.grs_node.specs.Addressed.{is_addressed}
-use Rattle.grs_node.specs.Node.{Node, take_mail, prepare, star_call, may_send, turn_call, only}
-use Rattle.grs_node.specs.Star.{StarPart, quiet_step, took_mail, begun, left_at, may_leave, leave_by, first_held, settle_by, send_of}
+use Rattle.grs_node.specs.Node.{Node, take_mail, is_pending, prepare, star_call, may_send}
+use Rattle.grs_node.specs.Star.{StarPart, quiet_step, own_step, decide_own, took_mail, settle_step, begun, left_at, leave_by, first_held, settle_by, send_of}
+use Rattle.grs_node.specs.declared.prepared.Prepared.{Prepared}
 use Rattle.grs_node.specs.declared.prepared.Prepared.TheVariants.{Quiet, Call, Nothing}
 use Rattle.grs_node.specs.declared.star.Need.TheVariants.{Alone, Asks, Idle}
+use Rattle.grs_wire.specs.declared.deck.Choice.TheVariants as choices
 use Rattle.grs_wire.specs.declared.deck.Deck.{Deck}
+use Rattle.grs_wire.specs.declared.medium.Act.{Act}
 use Rattle.grs_wire.specs.declared.medium.Act.TheVariants as acts
 use Rattle.grs_wire.specs.declared.medium.Mail.TheVariants.{Request, Answered, Granted}
+use Rattle.grs_wire.specs.declared.medium.Reply.TheVariants as replies
 use Rattle.grs_wire.specs.declared.request.Answer.TheVariants.{Coded}
+use Rattle.grs_wire.specs.declared.request.Fixed.TheVariants as fixes
 use Rattle.grs_wire.specs.declared.request.Req.{Req}
 use Rattle.grs_wire.specs.declared.request.Want.{Want}
-use Rattle.grs_wire.specs.declared.request.Want.TheVariants.{Enq, Deq, Release, Look}
-use Rattle.star_client.specs.Client.{after_mail}
-use Rattle.task_state.specs.View.{TasksView, new_tasks, state_of}
+use Rattle.grs_wire.specs.declared.request.Want.TheVariants.{Enq, Deq, Look}
+use Rattle.grs_wire.specs.declared.told.ToldLine.{ToldLine}
+use Rattle.grs_wire.specs.declared.told.ToldLine.TheVariants as told
+use Rattle.grs_wire.specs.declared.told.Verb.TheVariants as verbs
+use Rattle.star_client.specs.Client.{settled_ranked, after_mail}
+use Rattle.task_state.specs.Replies.{tell_code, record_enq, answered, replied, tell_line, tell_untold, tell_control, tell_all, tell_new, recalled, settled}
+use Rattle.task_state.specs.View.{TasksView, new_tasks, state_of, with_state, with_phase, with_outstanding, with_record, without_record, with_told, with_rank, telling}
 use Rattle.task_state.specs.declared.state.Asked.{Asked}
+use Rattle.task_state.specs.declared.state.Phase.{Phase}
 use Rattle.task_state.specs.declared.state.Phase.TheVariants as phases
 use Rattle.task_state.specs.declared.state.Rec.{Rec}
+use Rattle.task_state.specs.declared.state.TaskState.{TaskState}
 
 abbrev system : ℕ → SysId
 system s = record { 0 = s }
@@ -70,6 +80,32 @@ asks t w = record { task = t; want = w }
 abbrev enq : Want
 enq = Enq res E RetNone false
 
+abbrev deq : Want
+deq = Deq res false
+
+abbrev outstanding : Want → Option Asked
+outstanding w = Some (record { req = asks (task 0 0) w; unit = None })
+
+-- tasks of system 0 at their first line, and a record of (A,B)
+abbrev in_phase : Phase → List Rec → Option Asked → TaskState
+in_phase phase recs asked = record { line = 1; phase = phase; code = 0; records = recs; outstanding = asked; rows = [] }
+
+abbrev of_system : List TaskState → TasksView
+of_system xs = record { system = 0; tasks = xs; told = [] }
+
+abbrev one : Phase → List Rec → Option Asked → TasksView
+one phase recs asked = of_system (in_phase phase recs asked ∷ [])
+
+abbrev rec_told : Bool → Rec
+rec_told told = record { res = res; ctl = E; rank = 2; told = told; unit = None; line = 1 }
+
+-- an element of (A,B), and the part of system 0 with these elements, of which the next gets rank 3
+abbrev item : TaskId → ℕ → Bool → Ranked
+item t rank untold = record { res = res; elem = record { task = t; ctl = E }; rank = rank; untold = untold }
+
+abbrev listing : List Ranked → List Req → StarPart
+listing xs held = at_fourth (Some (record { next = 3; items = xs })) true held
+
 -- ---- requests of others
 held : take_mail deck tasks (managing []) (Request 4 (system 1) (asks (task 1 0) enq)) ≡ quiet_step tasks (managing (asks (task 1 0) enq ∷ []))
 unfolding took_mail
@@ -80,6 +116,11 @@ other_entry : take_mail deck tasks (managing []) (Request 5 (system 1) (asks (ta
 unfolding took_mail
 other_entry = refl
 
+-- of an entry that there isn't
+no_entry : take_mail deck tasks (managing []) (Request 16 (system 1) (asks (task 1 0) enq)) ≡ quiet_step tasks (managing [])
+unfolding took_mail
+no_entry = refl
+
 -- of an entry that isn't managed
 unmanaged : take_mail deck tasks (at_fourth None false []) (Request 4 (system 1) (asks (task 1 0) enq)) ≡ quiet_step tasks (at_fourth None false [])
 unfolding took_mail
@@ -89,6 +130,10 @@ unmanaged = refl
 own_resource : take_mail deck tasks (managing []) (Request 4 (system 1) (asks (task 1 0) (Deq (System (system 1) (codes "A") (codes "B")) false))) ≡ quiet_step tasks (managing [])
 unfolding took_mail
 own_resource = refl
+
+own_step_resource : take_mail deck tasks (managing []) (Request 4 (system 1) (asks (task 1 0) (Deq (Step (system 1) 0 (codes "A") (codes "B")) false))) ≡ quiet_step tasks (managing [])
+unfolding took_mail
+own_step_resource = refl
 
 no_slices : take_mail deck tasks (managing []) (Request 4 (system 1) (asks (task 1 0) (Look 68 1 All))) ≡ quiet_step tasks (managing [])
 unfolding took_mail
@@ -113,11 +158,81 @@ no_system = refl
 other_job : take_mail deck tasks (managing []) (Request 4 (system 1) (asks (record { system = system 1; job = 1; task = 0 }) enq)) ≡ quiet_step tasks (managing [])
 other_job = refl
 
-unknown_answer : take_mail deck tasks (managing []) (Answered (task 0 1) (Coded C00) 1) ≡ quiet_step tasks (managing [])
+-- a second task of system 0 that the deck lacks, be it that it has sent a request, or waits for control
+abbrev beyond : Phase → List Rec → Option Asked → TasksView
+beyond phase recs asked = of_system (in_phase phases.Ready [] None ∷ in_phase phase recs asked ∷ [])
+
+unknown_answer : take_mail deck (beyond phases.Sent [] (outstanding enq)) (managing []) (Answered (task 0 1) (Coded C00) 2) ≡ quiet_step (beyond phases.Sent [] (outstanding enq)) (managing [])
 unknown_answer = refl
 
-unknown_grant : take_mail deck tasks (managing []) (Granted (task 0 1) res) ≡ quiet_step tasks (managing [])
+unknown_grant : take_mail deck (beyond phases.HeldAnswer (rec_told false ∷ []) None) (managing []) (Granted (task 0 1) res) ≡ quiet_step (beyond phases.HeldAnswer (rec_told false ∷ []) None) (managing [])
 unknown_grant = refl
+
+-- ---- mail to tasks
+-- an answer and control reach a task of the deck and of this system
+own_answer : take_mail deck (one phases.Sent [] (outstanding enq)) (managing []) (Answered (task 0 0) (Coded C00) 2)
+    ≡ quiet_step (record (one phases.Ready (rec_told true ∷ []) None) { told = told.Coded (task 0 0) 1 0 verbs.Enq C00 ∷ [] }) (managing [])
+unfolding state_of with_state with_phase with_outstanding with_record with_rank telling tell_code record_enq answered replied recalled settled settled_ranked after_mail took_mail
+own_answer = refl
+
+own_grant : take_mail deck (one phases.HeldAnswer (rec_told false ∷ []) None) (managing []) (Granted (task 0 0) res)
+    ≡ quiet_step (record (one phases.Ready (rec_told true ∷ []) None) { told = told.Coded (task 0 0) 1 0 verbs.Enq C00 ∷ [] }) (managing [])
+unfolding state_of with_state with_phase with_told telling tell_line tell_untold tell_control after_mail took_mail
+own_grant = refl
+
+-- not one of the deck and of another system
+other_answer : take_mail deck (one phases.Sent [] (outstanding enq)) (managing []) (Answered (task 1 0) (Coded C00) 2) ≡ quiet_step (one phases.Sent [] (outstanding enq)) (managing [])
+unfolding after_mail took_mail
+other_answer = refl
+
+other_grant : take_mail deck (one phases.HeldAnswer (rec_told false ∷ []) None) (managing []) (Granted (task 1 0) res) ≡ quiet_step (one phases.HeldAnswer (rec_told false ∷ []) None) (managing [])
+unfolding tell_control after_mail took_mail
+other_grant = refl
+
+-- ---- control by a request that the manager carries out
+-- A task of system 1 gives (A,B) up, and task 0 of system 0, the manager, waits behind it.
+abbrev given_up : TasksView → TasksView → Type 0
+given_up before after = settle_step before (listing (item (task 1 0) 1 false ∷ item (task 0 0) 2 false ∷ []) (asks (task 1 0) deq ∷ [])) replies.Settled
+    ≡ record { tasks = after; part = listing (item (task 0 0) 2 false ∷ []) []; fixed = fixes.Asked (asks (task 1 0) deq) ∷ [] }
+
+-- it goes on where it waits by its answer
+goes_on_by_control : given_up (one phases.HeldAnswer (rec_told false ∷ []) None) (record (one phases.Ready (rec_told true ∷ []) None) { told = told.Coded (task 0 0) 1 0 verbs.Enq C00 ∷ [] })
+unfolding state_of with_state with_phase with_told telling tell_line tell_untold tell_control tell_all tell_new
+goes_on_by_control = refl
+
+-- it is told nothing where it has no record of (A,B), where it was told, and where it is about to give (A,B) up
+without_record_of_it : given_up (one phases.Ready [] None) (one phases.Ready [] None)
+unfolding state_of tell_untold tell_control tell_all tell_new
+without_record_of_it = refl
+
+told_before : given_up (one phases.Ready (rec_told true ∷ []) None) (one phases.Ready (rec_told true ∷ []) None)
+unfolding state_of tell_untold tell_control tell_all tell_new
+told_before = refl
+
+about_to_leave : given_up (one phases.ToSend (rec_told false ∷ []) (outstanding deq)) (one phases.ToSend (rec_told true ∷ []) (outstanding deq))
+unfolding state_of with_state with_told tell_untold tell_control tell_all tell_new
+about_to_leave = refl
+
+-- A task of the manager's own system gives (A,B) up, and the next task of that system waits behind it: the answer is told
+-- first.
+abbrev gives_up_own : TaskState → TasksView → Type 0
+gives_up_own second after = own_step (of_system (in_phase phases.ToSend (rec_told true ∷ []) (outstanding deq) ∷ second ∷ [])) (listing (item (task 0 0) 1 false ∷ item (task 0 1) 2 false ∷ []) []) (task 0 0) (outstanding deq)
+    ≡ record { tasks = after; part = listing (item (task 0 1) 2 false ∷ []) []; fixed = fixes.Asked (asks (task 0 0) deq) ∷ [] }
+
+abbrev answered_with : TaskState → List ToldLine → TasksView
+answered_with second lines = record (of_system (in_phase phases.Ready [] None ∷ second ∷ [])) { told = told.Coded (task 0 0) 1 0 verbs.Deq C00 ∷ lines }
+
+own_goes_on : gives_up_own (in_phase phases.HeldAnswer (rec_told false ∷ []) None) (answered_with (in_phase phases.Ready (rec_told true ∷ []) None) (told.Coded (task 0 1) 1 0 verbs.Enq C00 ∷ []))
+unfolding state_of with_state with_phase with_outstanding without_record with_told with_rank telling tell_code answered replied recalled settled settled_ranked tell_line tell_untold tell_control tell_all tell_new decide_own
+own_goes_on = refl
+
+own_without_record : gives_up_own (in_phase phases.Ready [] None) (answered_with (in_phase phases.Ready [] None) [])
+unfolding state_of with_state with_phase with_outstanding without_record with_rank telling tell_code answered replied recalled settled settled_ranked tell_untold tell_control tell_all tell_new decide_own
+own_without_record = refl
+
+own_told_before : gives_up_own (in_phase phases.Ready (rec_told true ∷ []) None) (answered_with (in_phase phases.Ready (rec_told true ∷ []) None) [])
+unfolding state_of with_state with_phase with_outstanding without_record with_rank telling tell_code answered replied recalled settled settled_ranked tell_untold tell_control tell_all tell_new decide_own
+own_told_before = refl
 
 -- ---- what is asked of the medium
 -- a held request is answered to its task's system, with the rank that it gives
@@ -125,13 +240,10 @@ settles : settle_by (managing (asks (task 1 0) enq ∷ [])) (first_held (managin
 settles = refl
 
 -- who manages the entry decides a request of its own alone, else it is sent
-abbrev outstanding : Option Asked
-outstanding = Some (record { req = asks (task 0 0) enq; unit = None })
-
-decides : send_of (managing []) (task 0 0) outstanding ≡ Alone
+decides : send_of (managing []) (task 0 0) (outstanding enq) ≡ Alone
 decides = refl
 
-sends : send_of (at_fourth None false []) (task 0 0) outstanding ≡ Asks (acts.Submit 4 (asks (task 0 0) enq))
+sends : send_of (at_fourth None false []) (task 0 0) (outstanding enq) ≡ Asks (acts.Submit 4 (asks (task 0 0) enq))
 sends = refl
 
 -- ---- which entry may be left
@@ -146,13 +258,10 @@ no_interest_there = refl
 while_held : leave_by (managing (asks (task 1 0) enq ∷ [])) tasks 4 ≡ Idle
 while_held = refl
 
-abbrev busy : List Rec → Option Asked → TasksView
-busy recs asked = record { system = 0; tasks = record { line = 1; phase = phases.Sent; code = 0; records = recs; outstanding = asked; rows = [] } ∷ []; told = [] }
-
-while_on_record : leave_by (at_fourth None true []) (busy (record { res = res; ctl = E; rank = 1; told = true; unit = None; line = 1 } ∷ []) None) 4 ≡ Idle
+while_on_record : leave_by (at_fourth None true []) (one phases.Sent (rec_told true ∷ []) None) 4 ≡ Idle
 while_on_record = refl
 
-while_outstanding : leave_by (at_fourth None true []) (busy [] outstanding) 4 ≡ Idle
+while_outstanding : leave_by (at_fourth None true []) (one phases.Sent [] (outstanding enq)) 4 ≡ Idle
 while_outstanding = refl
 
 -- with it go the lists
@@ -161,3 +270,104 @@ left = refl
 
 begins : begun (at_fourth None false []) 4 ≡ managing []
 begins = refl
+
+-- ---- what a choice comes to
+abbrev node : TasksView → Option StarPart → Node
+node v o = record { tasks = v; held = []; shared = []; outbox = []; star = o; known = 0; done = 0 }
+
+abbrev ready_to_send : TasksView
+ready_to_send = one phases.ToSend [] (outstanding enq)
+
+abbrev calls : Act → Prepared
+calls act = Call (record { known = 0; act = act })
+
+-- who manages the entry decides the request of its own task without a call, and any other system sends it
+sends_quietly : prepare deck (node ready_to_send (Some (managing []))) (choices.Send (task 0 0)) ≡ Quiet
+unfolding state_of may_send star_call prepare
+sends_quietly = refl
+
+submits : prepare deck (node ready_to_send (Some (at_fourth None false []))) (choices.Send (task 0 0)) ≡ calls (acts.Submit 4 (asks (task 0 0) enq))
+unfolding state_of may_send star_call prepare
+submits = refl
+
+-- nothing is sent in another phase, nor of a task of another system, or of none
+not_sent_again : (prepare deck (node (one phases.Sent [] (outstanding enq)) (Some (managing []))) (choices.Send (task 0 0)) ≡ Nothing)
+    × (prepare deck (node (one phases.Ready [] (outstanding enq)) (Some (managing []))) (choices.Send (task 0 0)) ≡ Nothing)
+    × (prepare deck (node (one phases.HeldAnswer [] (outstanding enq)) (Some (managing []))) (choices.Send (task 0 0)) ≡ Nothing)
+    × (prepare deck (node (one (phases.HeldLine res) [] (outstanding enq)) (Some (managing []))) (choices.Send (task 0 0)) ≡ Nothing)
+    × (prepare deck (node (one (phases.Ending 0) [] (outstanding enq)) (Some (managing []))) (choices.Send (task 0 0)) ≡ Nothing)
+    × (prepare deck (node (one phases.Ended [] (outstanding enq)) (Some (managing []))) (choices.Send (task 0 0)) ≡ Nothing)
+unfolding state_of may_send star_call prepare
+not_sent_again = (refl, refl, refl, refl, refl, refl)
+
+not_sent_elsewhere : (prepare deck (node ready_to_send (Some (managing []))) (choices.Send (task 1 0)) ≡ Nothing)
+    × (prepare deck (node (beyond phases.ToSend [] (outstanding enq)) (Some (managing []))) (choices.Send (task 0 1)) ≡ Nothing)
+unfolding state_of may_send star_call prepare
+not_sent_elsewhere = (refl, refl)
+
+-- mail may always be taken; a request is settled where one is held, and an owner told where one is to be
+takes : prepare deck (node ready_to_send (Some (managing []))) choices.Take ≡ calls acts.Take
+unfolding star_call prepare
+takes = refl
+
+settles_none : prepare deck (node ready_to_send (Some (managing []))) choices.Settle ≡ Nothing
+unfolding star_call prepare
+settles_none = refl
+
+tells : prepare deck (node ready_to_send (Some (listing (item (task 1 0) 1 true ∷ []) []))) (choices.Tell 4) ≡ calls (acts.Tell (system 1) (Granted (task 1 0) res))
+unfolding star_call prepare
+tells = refl
+
+tells_none : (prepare deck (node ready_to_send (Some (listing (item (task 1 0) 1 true ∷ []) []))) (choices.Tell 5) ≡ Nothing)
+    × (prepare deck (node ready_to_send (Some (listing (item (task 1 0) 1 false ∷ []) []))) (choices.Tell 4) ≡ Nothing)
+    × (prepare deck (node ready_to_send (Some (listing (item (task 0 0) 1 true ∷ []) []))) (choices.Tell 4) ≡ Nothing)
+unfolding star_call prepare
+tells_none = (refl, refl, refl)
+
+-- a system in star mode takes no turn, and a system in the ring does nothing of star mode
+no_turn : prepare deck (node ready_to_send (Some (managing []))) choices.Turn ≡ Nothing
+unfolding prepare
+no_turn = refl
+
+not_in_a_ring : (prepare deck (node ready_to_send None) (choices.Send (task 0 0)) ≡ Nothing)
+    × (prepare deck (node ready_to_send None) choices.Take ≡ Nothing)
+    × (prepare deck (node ready_to_send None) choices.Settle ≡ Nothing)
+    × (prepare deck (node ready_to_send None) (choices.Tell 4) ≡ Nothing)
+    × (prepare deck (node ready_to_send None) (choices.Leave 4) ≡ Nothing)
+unfolding star_call prepare
+not_in_a_ring = (refl, refl, refl, refl, refl)
+
+-- ---- what is pending in star mode: then a system doesn't rest
+abbrev done : TasksView
+done = one phases.Ended [] None
+
+rests : prepare deck (node done (Some (managing []))) choices.Rest ≡ calls acts.Rest
+unfolding is_pending prepare
+rests = refl
+
+-- a request that waits to be sent is pending, and not one that was sent
+waits_to_send : prepare deck (node ready_to_send (Some (managing []))) choices.Rest ≡ Nothing
+unfolding is_pending prepare
+waits_to_send = refl
+
+waits_for_answer : prepare deck (node (one phases.Sent [] (outstanding enq)) (Some (managing []))) choices.Rest ≡ calls acts.Rest
+unfolding is_pending prepare
+waits_for_answer = refl
+
+-- a request that is held
+holds_one : prepare deck (node done (Some (managing (asks (task 1 0) enq ∷ [])))) choices.Rest ≡ Nothing
+unfolding is_pending prepare
+holds_one = refl
+
+-- an owner who is still to be told, where it is one of another system
+has_to_tell : prepare deck (node done (Some (listing (item (task 1 0) 1 true ∷ []) []))) choices.Rest ≡ Nothing
+unfolding is_pending prepare
+has_to_tell = refl
+
+told_all : prepare deck (node done (Some (listing (item (task 1 0) 1 false ∷ []) []))) choices.Rest ≡ calls acts.Rest
+unfolding is_pending prepare
+told_all = refl
+
+own_owner : prepare deck (node done (Some (listing (item (task 0 0) 1 true ∷ []) []))) choices.Rest ≡ calls acts.Rest
+unfolding is_pending prepare
+own_owner = refl

@@ -2,7 +2,7 @@
 use Rattle.std.proofs.Common.{◌≡◌, ◌+◌, ◌^◌, true, false, List, [], ◌∷◌, Option, Some, None, refl, codes}
 use Rattle.grs_base.specs.declared.decision.Code.TheVariants.{C00, C04, C08, C18, Wait, End}
 use Rattle.grs_base.specs.declared.look.Filter.TheVariants.{All}
-use Rattle.grs_base.specs.declared.resource.Ctl.TheVariants.{E}
+use Rattle.grs_base.specs.declared.resource.Ctl.TheVariants.{E, S}
 use Rattle.grs_base.specs.declared.resource.Res.{Res}
 use Rattle.grs_base.specs.declared.resource.Res.TheVariants.{Systems}
 use Rattle.grs_base.specs.declared.resource.Ret.TheVariants.{RetNone, RetUse, RetChng, RetEcb}
@@ -15,7 +15,7 @@ use Rattle.grs_wire.specs.declared.told.ToldLine.TheVariants as told
 use Rattle.grs_wire.specs.declared.told.Verb.TheVariants as verbs
 use Rattle.star_client.specs.Client.{can_get, settled_ranked, after_mail}
 use Rattle.task_state.specs.Replies.{tell_code, record_enq, answered, replied, tell_line, tell_untold, tell_control, recalled, settled}
-use Rattle.task_state.specs.View.{TasksView, state_of, with_state, with_phase, with_outstanding, with_record, with_told, with_rank, telling}
+use Rattle.task_state.specs.View.{TasksView, state_of, with_state, with_phase, with_outstanding, with_record, without_record, with_told, with_exclusive, with_rank, telling}
 use Rattle.task_state.specs.declared.state.Asked.{Asked}
 use Rattle.task_state.specs.declared.state.Phase.{Phase}
 use Rattle.task_state.specs.declared.state.Phase.TheVariants as phases
@@ -102,7 +102,16 @@ other_answer : after_mail (asking phases.Sent) (Answered task (Coded C04) 7) ≡
 unfolding state_of after_mail
 other_answer = refl
 
--- a task that isn't there
+-- a task that has sent nothing, whatever its phase says
+nothing_asked : after_mail (having [] phases.Sent None) (Answered task (Coded C00) 7) ≡ having [] phases.Sent None
+unfolding state_of after_mail
+nothing_asked = refl
+
+-- a task of another system, and one that isn't there
+other_system : after_mail (asking phases.Sent) (Answered (record { system = record { 0 = 1 }; job = 0; task = 0 }) (Coded C00) 7) ≡ asking phases.Sent
+unfolding state_of after_mail
+other_system = refl
+
 no_task : after_mail (asking phases.Sent) (Answered (record { system = record { 0 = 0 }; job = 0; task = 1 }) (Coded C00) 7) ≡ asking phases.Sent
 unfolding state_of after_mail
 no_task = refl
@@ -133,7 +142,78 @@ no_record : after_mail (having [] phases.Ready None) (Granted task res) ≡ havi
 unfolding state_of tell_untold tell_control after_mail
 no_record = refl
 
+-- nor is a task of another system
+granted_elsewhere : after_mail (having (untold ∷ []) phases.HeldAnswer None) (Granted (record { system = record { 0 = 1 }; job = 0; task = 0 }) res) ≡ having (untold ∷ []) phases.HeldAnswer None
+unfolding tell_control after_mail
+granted_elsewhere = refl
+
 -- a task that is about to give the resource up isn't told either: its record counts as told
 leaving : after_mail (having (untold ∷ []) phases.Sent (Some (Deq res false))) (Granted task res) ≡ having (told_rec ∷ []) phases.Sent (Some (Deq res false))
 unfolding state_of with_state with_told tell_untold tell_control after_mail
 leaving = refl
+
+-- ---- what an answer does to the records
+abbrev shared : Rec
+shared = record { res = res; ctl = S; rank = 7; told = true; unit = None; line = 1 }
+
+abbrev other : Rec
+other = record { res = Systems (codes "C") (codes "D"); ctl = S; rank = 3; told = true; unit = None; line = 0 }
+
+-- 00 of CHNG makes the record's control exclusive, and its rank stays
+made_exclusive : after_mail (having (other ∷ shared ∷ []) phases.Sent (Some (Enq res E RetChng false))) (Answered task (Coded C00) 0)
+    ≡ record (having (other ∷ told_rec ∷ []) phases.Ready None) { told = told.Coded task 1 0 verbs.Enq C00 ∷ [] }
+unfolding state_of with_state with_phase with_outstanding with_exclusive with_rank telling tell_code record_enq answered replied recalled settled settled_ranked after_mail
+made_exclusive = refl
+
+-- 00 of DEQ, and a RELEASE, take the record out, and none else
+taken_out : after_mail (having (other ∷ told_rec ∷ []) phases.Sent (Some (Deq res false))) (Answered task (Coded C00) 0)
+    ≡ record (having (other ∷ []) phases.Ready None) { told = told.Coded task 1 0 verbs.Deq C00 ∷ [] }
+unfolding state_of with_state with_phase with_outstanding without_record with_rank telling tell_code answered replied recalled settled settled_ranked after_mail
+taken_out = refl
+
+released_record : after_mail (having (told_rec ∷ other ∷ []) phases.Sent (Some (Release res))) (Answered task (Coded C00) 0) ≡ having (other ∷ []) (phases.Ending 0) None
+unfolding state_of with_state with_phase with_outstanding without_record with_rank answered replied recalled settled settled_ranked after_mail
+released_record = refl
+
+-- a new record comes last, and a record of another resource keeps its rank
+behind_another : after_mail (having (other ∷ []) phases.Sent (Some (Enq res E RetNone false))) (Answered task (Coded C00) 7)
+    ≡ record (having (other ∷ told_rec ∷ []) phases.Ready None) { told = told.Coded task 1 0 verbs.Enq C00 ∷ [] }
+unfolding state_of with_state with_phase with_outstanding with_record with_rank telling tell_code record_enq answered replied recalled settled settled_ranked after_mail
+behind_another = refl
+
+-- An answer that would make a record where the task has one of that resource leaves this one, its rank and its mark too.
+-- All else that the answer does is done.
+makes_none : after_mail (having (told_rec ∷ []) phases.Sent (Some (Enq res S RetNone false))) (Answered task (Coded C00) 9)
+    ≡ record (having (told_rec ∷ []) phases.Ready None) { told = told.Coded task 1 0 verbs.Enq C00 ∷ [] }
+unfolding state_of with_state with_phase with_outstanding with_record with_rank telling tell_code record_enq answered replied recalled settled settled_ranked after_mail
+makes_none = refl
+
+marks_none : after_mail (having (untold ∷ []) phases.Sent (Some (Enq res E RetNone false))) (Answered task (Coded C00) 9)
+    ≡ record (having (untold ∷ []) phases.Ready None) { told = told.Coded task 1 0 verbs.Enq C00 ∷ [] }
+unfolding state_of with_state with_phase with_outstanding with_record with_rank telling tell_code record_enq answered replied recalled settled settled_ranked after_mail
+marks_none = refl
+
+waits_with_one : after_mail (having (told_rec ∷ []) phases.Sent (Some (Enq res E RetNone false))) (Answered task (Coded Wait) 9) ≡ having (told_rec ∷ []) phases.HeldAnswer None
+unfolding state_of with_state with_phase with_outstanding with_record with_rank tell_code record_enq answered replied recalled settled settled_ranked after_mail
+waits_with_one = refl
+
+-- so does one that would change a record, or take one out, where the task has none of that resource
+changes_none : after_mail (having (other ∷ []) phases.Sent (Some (Enq res E RetChng false))) (Answered task (Coded C00) 9)
+    ≡ record (having (other ∷ []) phases.Ready None) { told = told.Coded task 1 0 verbs.Enq C00 ∷ [] }
+unfolding state_of with_state with_phase with_outstanding with_exclusive with_rank telling tell_code record_enq answered replied recalled settled settled_ranked after_mail
+changes_none = refl
+
+takes_none : after_mail (having (other ∷ []) phases.Sent (Some (Deq res false))) (Answered task (Coded C00) 9)
+    ≡ record (having (other ∷ []) phases.Ready None) { told = told.Coded task 1 0 verbs.Deq C00 ∷ [] }
+unfolding state_of with_state with_phase with_outstanding without_record with_rank telling tell_code answered replied recalled settled settled_ranked after_mail
+takes_none = refl
+
+releases_none : after_mail (having (other ∷ []) phases.Sent (Some (Release res))) (Answered task (Coded C00) 9) ≡ having (other ∷ []) (phases.Ending 0) None
+unfolding state_of with_state with_phase with_outstanding without_record with_rank answered replied recalled settled settled_ranked after_mail
+releases_none = refl
+
+-- an answer without effect on a record leaves its rank
+keeps_rank : after_mail (having (untold ∷ []) phases.Sent (Some (Deq res true))) (Answered task (Coded C04) 0)
+    ≡ record (having (untold ∷ []) phases.Ready None) { told = told.Coded task 1 0 verbs.Deq C04 ∷ [] }
+unfolding state_of with_state with_phase with_outstanding with_rank telling tell_code answered replied recalled settled settled_ranked after_mail
+keeps_rank = refl
