@@ -1,5 +1,18 @@
 -- With what a finish may come, and what entries of the message do, on examples.
-use Rattle.std.proofs.Common.{◌≡◌, true, false, [], ◌∷◌, Some, None, refl}
+use Rattle.std.proofs.Common.{◌≡◌, ℕ, true, false, [], ◌∷◌, Some, None, refl, codes, map}
+use Rattle.grs_base.specs.Rnl.{no_entries}
+use Rattle.grs_base.specs.State.{State}
+use Rattle.grs_base.specs.declared.resource.Ctl.TheVariants.{E}
+use Rattle.grs_base.specs.declared.resource.Res.TheVariants.{Systems}
+use Rattle.grs_base.specs.declared.resource.Ret.TheVariants.{RetNone}
+use Rattle.grs_base.specs.declared.rnl.Which.TheVariants as which
+use Rattle.grs_wire.specs.declared.deck.Deck.{Deck}
+use Rattle.grs_wire.specs.declared.medium.RingBody.{RingBody}
+use Rattle.grs_wire.specs.declared.request.Want.TheVariants.{Enq}
+use Rattle.grs_node.specs.Node.{Node, read_entry}
+use Rattle.ring_mode.specs.Ring.{answer_own, process, process_entry}
+use Rattle.task_state.specs.Replies.{tell_all, tell_new}
+use Rattle.task_state.specs.View.{new_tasks}
 use Rattle.grs_wire.specs.declared.medium.Act.TheVariants as acts
 use Rattle.grs_wire.specs.declared.medium.Reply.TheVariants as replies
 use Rattle.grs_wire.specs.declared.medium.RingBody.TheVariants as bodies
@@ -49,3 +62,39 @@ given = refl
 
 cut : removal_from 0 (removal ∷ removal ∷ []) ≡ Some (0, record { 0 = 1 })
 cut = refl
+
+-- ---- entries of tasks that the deck lacks
+-- a ring of two systems with a task each, and the first of them
+abbrev deck : Deck
+deck = record {
+  star = false;
+  entries = 16;
+  limit = 4096;
+  lists = record { incl = no_entries which.Incl; excl = no_entries which.Excl; con = no_entries which.Con };
+  systems = map (λ name. record { name = name; desk = []; jobs = record { name = codes "J"; tasks = record { name = codes "T"; lines = [] } ∷ [] } ∷ [] }) (codes "A" ∷ codes "B" ∷ []);
+  events = [];
+}
+
+abbrev node : Node
+node = record { tasks = record { system = 0; tasks = new_tasks 1; told = [] }; held = []; shared = []; outbox = []; star = None; known = 0; done = 0 }
+
+-- an entry by which a task of the second system asks for (A,B), and its element in the table
+abbrev entry_of : ℕ → ℕ → ℕ → RingBody
+entry_of s job n = bodies.Request (record { task = record { system = record { 0 = s }; job = job; task = n }; want = Enq (Systems (codes "A") (codes "B")) E RetNone false })
+
+abbrev asked_first : State
+asked_first = (Systems (codes "A") (codes "B"), record { task = record { system = record { 0 = 1 }; job = 0; task = 0 }; ctl = E }) ∷ []
+
+of_the_deck : read_entry deck node (entry_of 1 0 0) ≡ record node { shared = asked_first }
+unfolding answer_own tell_all tell_new process process_entry
+of_the_deck = refl
+
+-- of another system, job or task than the deck has: nothing
+no_system : read_entry deck node (entry_of 2 0 0) ≡ node
+no_system = refl
+
+no_job : read_entry deck node (entry_of 1 1 0) ≡ node
+no_job = refl
+
+no_task : read_entry deck node (entry_of 1 0 1) ≡ node
+no_task = refl

@@ -1,6 +1,5 @@
 -- Entries that are requests, the first of them and the rest.
 use Rattle.std.proofs.Common.{◌≡◌, true, List, [], ◌∷◌, refl}
-use Rattle.std.specs.Prelude.{◌&&◌}
 use Rattle.std.proofs.lemmas.Bool.{and_parts}
 use Rattle.grs_wire.specs.declared.medium.RingBody.{RingBody}
 use Rattle.grs_wire.specs.declared.medium.RingBody.TheVariants.{Request, Remove}
