@@ -6,6 +6,7 @@ pub mod Telling
 pub mod Did
 pub mod Good
 pub mod Events
+pub mod Outstanding
 pub mod Turns
 pub mod Askers
 pub mod Busy

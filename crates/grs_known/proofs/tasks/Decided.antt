@@ -34,7 +34,7 @@ use Rattle.grs_known.specs.Items.{owns_told}
 use Rattle.grs_known.specs.Past.{has_own, Fits, made_exclusive, own_by_effect, own_told, Past, after_entry}
 use Rattle.grs_known.specs.Told.{entry_of_line, queued_last, tells_control, is_code_of, is_post_of}
 use Rattle.grs_known.proofs.tasks.Invariant.{Each, key, has_res, is_distinct, IsEntryOn, IsEcb, IsRec, IsDue, IsTask, is_post_before}
-use Rattle.grs_known.proofs.tasks.Keys.{has_res-own, has_own-other, has_own-exclusive, keys-push, distinct-push, keys-exclusive, distinct-exclusive, keys-without, distinct-without, other-without, each-without, each-push, each-exclusive}
+use Rattle.grs_known.proofs.tasks.Keys.{has_res-own, has_own-other, has_own-exclusive, keys-push, distinct-push, keys-exclusive, distinct-on_record, keys-without, distinct-without, other-without, each-without, each-push, each-exclusive}
 use Rattle.grs_known.proofs.tasks.Asked.{told_after, Asks, recs-asked, of_new_line, latest_new, task-asked}
 use Rattle.grs_known.proofs.lists.Truths.{no_truth, false_by}
 use Rattle.grs_known.proofs.lists.Facts.{list_any-push, any-last, none-more}
@@ -150,7 +150,7 @@ module _ (ls : List Meaning) (p : Past) (T : List ToldLine) (t : TaskId) (n code
     where
       go : (a b : Bool) → is_queued ret code ≡ a → is_distinct (cond a (with_last xs new_rec) (cond b (on_record r (λ z. record z { ctl = ctls.E }) xs) xs)) ≡ true
       go true b q = ap is_distinct (pushed q) ∙ distinct-push xs new_rec k.before.distinct (absent q)
-      go false true q = distinct-exclusive r xs ∙ k.before.distinct
+      go false true q = distinct-on_record (λ z. record z { ctl = ctls.E }) (λ z. refl) r xs ∙ k.before.distinct
       go false false q = k.before.distinct
 
   abbrev IsNew : Rec → Type 0

@@ -1,5 +1,5 @@
 -- The records of a task as its own elements.
-use Rattle.std.proofs.Common.{◌≡◌, Bool, true, false, cond, not, ◌||◌, List, [], ◌∷◌, ◌++◌, map, refl, ap, sym, ◌∙◌, subst, arith}
+use Rattle.std.proofs.Common.{◌≡◌, Bool, true, false, cond, not, ◌||◌, List, [], ◌∷◌, ◌++◌, map, refl, ap, sym, ◌∙◌, subst, arith, ◌&&◌}
 use Rattle.std.specs.Prelude.{filter}
 use Rattle.std.proofs.lemmas.Bool.{cases_Bool, or_left, or_right}
 use Rattle.std.proofs.lemmas.List.{map-append}
@@ -8,6 +8,7 @@ use Rattle.grs_base.specs.declared.resource.Res.{Res}
 use Rattle.grs_base.specs.declared.resource.Ctl.{Ctl}
 use Rattle.grs_base.specs.declared.resource.Ctl.TheVariants.{E}
 use Rattle.grs_base.proofs.SameLaws.{same_res-exact, same_res-itself}
+use Rattle.grs_wire.proofs.WantLaws.{by_test}
 use Rattle.task_state.specs.declared.state.Rec.{Rec}
 use Rattle.task_state.specs.View.{without_first, on_record}
 use Rattle.grs_known.specs.Past.{has_own, made_exclusive}
@@ -49,13 +50,27 @@ pub keys-exclusive : (r : Res) (xs : List Rec) → map key (on_record r (λ z. r
 keys-exclusive r [] = refl
 keys-exclusive r (x ∷ xs) = grind (arith, keys-exclusive r xs)
 
-has_res-exclusive : (q r : Res) (xs : List Rec) → has_res q (on_record r (λ z. record z { ctl = E }) xs) ≡ has_res q xs
-has_res-exclusive q r [] = refl
-has_res-exclusive q r (x ∷ xs) = grind (arith, has_res-exclusive q r xs)
+-- ---- a change of the records of a resource
+-- one that keeps a record's key keeps the keys,
+pub keys-on_record : (f : Rec → Rec) → ((y : Rec) → key (f y) ≡ key y) → (r : Res) (xs : List Rec) → map key (on_record r f xs) ≡ map key xs
+keys-on_record f same r [] = refl
+keys-on_record f same r (x ∷ xs) =
+    let behind = ap (λ ks. key x ∷ ks) (keys-on_record f same r xs) in
+    by_test (λ y. key y ∷ map key (on_record r f xs) ≡ key x ∷ map key xs) (same_res r x.res) (f x) x (λ h. ap (λ k. k ∷ map key (on_record r f xs)) (same x) ∙ behind) (λ h. behind)
 
-pub distinct-exclusive : (r : Res) (xs : List Rec) → is_distinct (on_record r (λ z. record z { ctl = E }) xs) ≡ is_distinct xs
-distinct-exclusive r [] = refl
-distinct-exclusive r (x ∷ xs) = grind (arith, distinct-exclusive r xs, has_res-exclusive x.res r xs)
+-- and one that keeps its resource leaves the resources distinct
+has_res-on_record : (f : Rec → Rec) → ((y : Rec) → (f y).res ≡ y.res) → (q r : Res) (xs : List Rec) → has_res q (on_record r f xs) ≡ has_res q xs
+has_res-on_record f same q r [] = refl
+has_res-on_record f same q r (x ∷ xs) =
+    let behind = ap (λ c. same_res q x.res || c) (has_res-on_record f same q r xs) in
+    by_test (λ (y : Rec). (same_res q y.res || has_res q (on_record r f xs)) ≡ (same_res q x.res || has_res q xs)) (same_res r x.res) (f x) x (λ h. ap (λ z. same_res q z || has_res q (on_record r f xs)) (same x) ∙ behind) (λ h. behind)
+
+pub distinct-on_record : (f : Rec → Rec) → ((y : Rec) → (f y).res ≡ y.res) → (r : Res) (xs : List Rec) → is_distinct (on_record r f xs) ≡ is_distinct xs
+distinct-on_record f same r [] = refl
+distinct-on_record f same r (x ∷ xs) =
+    let behind = ap (λ c. not c && is_distinct (on_record r f xs)) (has_res-on_record f same x.res r xs) ∙ ap (λ c. not (has_res x.res xs) && c) (distinct-on_record f same r xs) in
+    by_test (λ (y : Rec). (not (has_res y.res (on_record r f xs)) && is_distinct (on_record r f xs)) ≡ (not (has_res x.res xs) && is_distinct xs)) (same_res r x.res) (f x) x
+    (λ h. ap (λ z. not (has_res z (on_record r f xs)) && is_distinct (on_record r f xs)) (same x) ∙ behind) (λ h. behind)
 
 -- taking a record out
 without_absent : (r : Res) (xs : List Rec) → has_res r xs ≡ false → filter (λ k. not (same_res r k.0)) (map key xs) ≡ map key xs

@@ -18,7 +18,7 @@ use Rattle.task_state.specs.declared.state.Phase.TheVariants as phases
 use Rattle.task_state.specs.View.{record_place, record_of, on_record}
 use Rattle.grs_known.specs.Told.{entry_of_line, queued_last, tells_control, is_code_of, is_post_of}
 use Rattle.grs_known.proofs.tasks.Invariant.{Each, key, has_res, is_distinct, IsEntryOn, IsRec, IsDue, WaitsFor, also}
-use Rattle.grs_known.proofs.tasks.Keys.{same_res-sym}
+use Rattle.grs_known.proofs.tasks.Keys.{same_res-sym, keys-on_record, distinct-on_record}
 use Rattle.grs_known.proofs.lists.Truths.{no_truth, false_by, or_off}
 use Rattle.grs_known.proofs.lists.Facts.{any-last, any-more, none-more}
 
@@ -58,16 +58,10 @@ one_entry (Some (Remove by target)) q r a b = absurd a
 
 -- telling control doesn't change the keys
 pub keys-told : (r : Res) (xs : List Rec) → map key (on_record r (λ y. record y { told = true }) xs) ≡ map key xs
-keys-told r [] = refl
-keys-told r (x ∷ xs) = grind (arith, keys-told r xs)
-
-has_res-told : (q r : Res) (xs : List Rec) → has_res q (on_record r (λ y. record y { told = true }) xs) ≡ has_res q xs
-has_res-told q r [] = refl
-has_res-told q r (x ∷ xs) = grind (arith, has_res-told q r xs)
+keys-told = keys-on_record (λ y. record y { told = true }) (λ y. refl)
 
 pub distinct-told : (r : Res) (xs : List Rec) → is_distinct (on_record r (λ y. record y { told = true }) xs) ≡ is_distinct xs
-distinct-told r [] = refl
-distinct-told r (x ∷ xs) = grind (arith, distinct-told r xs, has_res-told x.res r xs)
+distinct-told = distinct-on_record (λ y. record y { told = true }) (λ y. refl)
 
 -- whether it is the same resource, the other way round
 turned : (r q : Res) (b : Bool) → same_res r q ≡ b → same_res q r ≡ b

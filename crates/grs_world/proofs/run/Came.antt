@@ -1,5 +1,5 @@
 -- What comes of an event of a system, by cases, and what holds of all that stands in the message.
-use Rattle.std.proofs.Common.{◌≡◌, cond, Bool, true, false, ◌&&◌, ℕ, zero, suc, List, [], ◌∷◌, ◌++◌, length, map, take, Option, Some, None, refl, sym, subst, ap}
+use Rattle.std.proofs.Common.{◌≡◌, cond, Bool, true, false, ◌&&◌, ℕ, zero, suc, List, [], ◌∷◌, ◌++◌, length, map, take, Some, None, refl, sym, subst, ap}
 use Rattle.std.specs.Prelude.{filter, slice_get, not, ◌==◌}
 use Rattle.std.specs.List.{list_all}
 use Rattle.std.proofs.lemmas.Bool.{and_parts, eqb-true}

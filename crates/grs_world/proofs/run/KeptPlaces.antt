@@ -1,5 +1,5 @@
 -- What the systems keep is the history's state.
-use Rattle.std.proofs.Common.{◌≡◌, Bool, true, false, List, [], ◌∷◌, length, Option, Some, None, refl, ap, sym, ◌∙◌, arith}
+use Rattle.std.proofs.Common.{◌≡◌, Bool, true, false, List, Option, Some, None, refl, ap, sym, ◌∙◌, arith}
 use Rattle.std.specs.Prelude.{slice_get}
 use Rattle.grs_base.specs.State.{list_of, is_systems}
 use Rattle.grs_base.specs.declared.resource.Res.{Res}
@@ -9,7 +9,7 @@ use Rattle.grs_wire.specs.History.{replay}
 use Rattle.grs_wire.specs.declared.deck.Deck.{Deck}
 use Rattle.grs_wire.specs.declared.deck.Event.{Event}
 use Rattle.rsa_message.specs.Message.{unseen}
-use Rattle.grs_known.specs.Items.{RunItem, rounds, lists, items}
+use Rattle.grs_known.specs.Items.{rounds, lists, items}
 use Rattle.grs_known.proofs.known.Histories.{replayed}
 use Rattle.grs_known.proofs.known.ItemLaws.{items_are_history}
 use Rattle.grs_known.proofs.ring.Parts.{list_of-systems}

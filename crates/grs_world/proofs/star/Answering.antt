@@ -1,36 +1,32 @@
 -- What each event of star mode does to the tasks of a system: a request of one of them is sent, decided by the system
 -- itself, or settled by another; its answer, or control, is taken; own tasks that became owners are told.
-use Rattle.std.proofs.Common.{◌≡◌, ◌-◌, ℕ, suc, Bool, true, false, cond, not, ◌||◌, List, [], ◌∷◌, ◌++◌, Option, Some, None, refl, ap, sym, ◌∙◌, subst, arith, append-nil}
+use Rattle.std.proofs.Common.{◌≡◌, ℕ, Bool, true, false, cond, not, ◌||◌, List, [], ◌∷◌, ◌++◌, Option, Some, None, refl, ap, sym, ◌∙◌, subst, append-nil}
 use Rattle.std.specs.Prelude.{filter, is_some}
 use Rattle.std.specs.List.{list_all, list_any}
 use Rattle.std.proofs.lemmas.Bool.{and_parts, and_from, not-true}
 use Rattle.std.proofs.lemmas.List.Elements.{filter-append}
-use Rattle.grs_base.specs.Same.{same_res, same_task}
+use Rattle.grs_base.specs.Same.{same_task}
 use Rattle.grs_base.specs.Lists.{owns}
-use Rattle.grs_base.specs.State.{State, list_of, enq_code, deq_reply}
+use Rattle.grs_base.specs.State.{State, list_of}
 use Rattle.grs_base.specs.declared.resource.Res.{Res}
 use Rattle.grs_base.specs.declared.resource.SysId.{SysId}
 use Rattle.grs_base.specs.declared.resource.TaskId.{TaskId}
 use Rattle.grs_base.proofs.SameLaws.{same_task-exact, same_task-itself}
 use Rattle.grs_legal.specs.Asks.{lines_of}
 use Rattle.grs_legal.specs.declared.meaning.Meaning.{Meaning}
-use Rattle.grs_legal.specs.declared.meaning.Meaning.TheVariants as lines
 use Rattle.grs_node.specs.Node.{Node, all_sent, put_in}
 use Rattle.grs_node.specs.Star.{request_of}
 use Rattle.grs_wire.specs.History.{entries_for}
-use Rattle.grs_wire.specs.Wants.{answer_to}
+use Rattle.grs_wire.specs.Wants.{answer_to, res_wanted}
 use Rattle.grs_wire.specs.declared.deck.Deck.{Deck}
 use Rattle.grs_wire.specs.declared.history.HistEntry.{HistEntry}
-use Rattle.grs_wire.specs.declared.history.HistEntry.TheVariants as entries
 use Rattle.grs_wire.specs.declared.request.Fixed.{Fixed}
 use Rattle.grs_wire.specs.declared.request.Fixed.TheVariants as fixing
 use Rattle.grs_wire.specs.declared.request.Req.{Req}
-use Rattle.grs_wire.specs.declared.request.Want.{Want}
-use Rattle.grs_wire.specs.declared.request.Want.TheVariants.{Enq, Deq, Release, Look}
 use Rattle.grs_wire.specs.declared.told.ToldLine.{ToldLine}
 use Rattle.star_client.specs.Client.{settled_ranked}
-use Rattle.task_state.specs.Replies.{replied, recalled, settled, tell_new, tell_all, phase_asking, gives_up, is_leaving}
-use Rattle.task_state.specs.View.{TasksView, state_of, with_phase, code_in, is_sent}
+use Rattle.task_state.specs.Replies.{replied, recalled, settled, tell_new, tell_all, is_leaving}
+use Rattle.task_state.specs.View.{TasksView, state_of, with_phase, is_sent}
 use Rattle.task_state.specs.declared.state.Asked.{Asked}
 use Rattle.task_state.specs.declared.state.Phase.TheVariants as phases
 use Rattle.task_state.specs.declared.state.TaskState.{TaskState}
@@ -45,56 +41,29 @@ use Rattle.grs_known.proofs.lists.Owners.{is_among}
 use Rattle.grs_known.proofs.lists.Truths.{no_truth, task_swap}
 use Rattle.grs_known.proofs.tasks.Invariant.{IsTask}
 use Rattle.grs_known.proofs.system.Askers.{apart-push}
-use Rattle.grs_known.proofs.system.Asking.{line_asked, unasked_by, IsAskedFor, IsOpenBy, Opens, IsReq, IsAskedBy, task-open}
+use Rattle.grs_known.proofs.system.Asking.{unasked_by, IsOpenBy, Opens, IsReq, IsAskedBy, task-open}
 use Rattle.grs_world.proofs.system.AtNode.{opens_of, Seen}
-use Rattle.grs_known.proofs.system.Did.{Did, did-none, did-phase, did-outstanding}
-use Rattle.grs_known.proofs.system.Events.{Settles, Decides, settles, enq-settles, deq-settles, release-settles}
+use Rattle.grs_known.proofs.system.Events.{Settles, Decides, settles}
 use Rattle.grs_known.proofs.system.Good.{IsGood, here-kept, here-other, ours-home}
 use Rattle.grs_known.proofs.system.Ours.{IsOurs, IsHere}
 use Rattle.grs_world.proofs.system.Puts.{MayPut, may_put, seen-put, put}
 use Rattle.grs_known.proofs.system.Says.{is_home_at, askers, stand_apart, ToldBy, none}
+use Rattle.grs_known.proofs.system.Outstanding.{asked-settles}
 use Rattle.grs_world.proofs.star.Ghosts.{ghosted, IsAt, without-box}
 use Rattle.grs_world.proofs.star.Ranked.{ranked-settles}
 
 -- ---- the answer to an outstanding request
-module _ (deck : Deck) (s : ℕ) (os os' : Opens) (P P' : List RunItem) (v : TasksView) (good : IsGood deck s os P v) (t : TaskId) (ls : List Meaning) (ours : IsOurs deck s v t ls) where
-  -- the task with its request taken back
-  recalls : (w : Want) → Did v (recalled v t w) t (record (state_of v t) { phase = phase_asking w (state_of v t).code; code = code_in (phase_asking w (state_of v t).code) (state_of v t).code; outstanding = None }) v.told
-  unfolding recalled
-  recalls w =
-      let y : TaskState = state_of v t in
-      did-outstanding v _ t _ v.told ours.here (did-phase v v t y v.told ours.here (did-none v t) (phase_asking w y.code)) None
+tell-none : (v : TasksView) (o : Option Res) → tell_new v o [] ≡ v
+unfolding tell_new tell_all
+tell-none v None = refl
+tell-none v (Some r) = refl
 
+module _ (deck : Deck) (s : ℕ) (os os' : Opens) (P P' : List RunItem) (v : TasksView) (good : IsGood deck s os P v) (t : TaskId) (ls : List Meaning) (ours : IsOurs deck s v t ls) where
   abbrev here : IsHere deck os P v.told t ls (state_of v t)
   here = good.tasks.each t ls ours
 
   abbrev p : Past
   p = past_of t (good.tasks.each t ls ours).known P
-
-  own : (w : Want) (unit : Option ℕ) (S : State) →
-      IsTask ls p v.told (λ r. gives_up r w) t (record (state_of v t) { line = line_asked w (state_of v t).line; phase = phase_asking w (state_of v t).code; outstanding = None }) →
-      IsAskedFor deck.limit ls (state_of v t).line (state_of v t).records w unit → ((h : HistEntry) (r : Res) → entries_for S t w ≡ h ∷ [] → Decides deck os os' P P' t p h r []) →
-      Settles deck s os' P' v.told (replied (recalled v t w) t w unit (answer_to S t w))
-  unfolding tell_new tell_all
-  own (Enq r c ret full) unit S k a d =
-      let y : TaskState = state_of v t in
-      let w : Want = Enq r c ret full in
-      let back : suc (y.line - 1) ≡ y.line = omega (arith, a.0) in
-      let did0 = subst (λ m. Did v (recalled v t w) t (record { line = m; phase = phases.Ready; code = y.code; records = y.records; outstanding = None; rows = y.rows }) v.told) (sym back) (recalls w) in
-      enq-settles deck s os os' P P' v good t ls ours p r [] (y.line - 1) y.code y.records y.rows (recalled v t w) did0 (lines.Enq r c ret unit) (enq_code S r t c ret full) c unit ret full
-      (d (entries.Enq t r c ret (enq_code S r t c ret full)) r refl) (record { before = k; at = a.1; asks = refl })
-  own (Deq r have) unit S k a d =
-      let y : TaskState = state_of v t in
-      let w : Want = Deq r have in
-      let back : suc (y.line - 1) ≡ y.line = omega (arith, a.0) in
-      let did0 = subst (λ m. Did v (recalled v t w) t (record { line = m; phase = phases.Ready; code = y.code; records = y.records; outstanding = None; rows = y.rows }) v.told) (sym back) (recalls w) in
-      deq-settles deck s os os' P P' v good t ls ours p r [] (y.line - 1) y.code y.records y.rows (recalled v t w) did0 (lines.Deq r have) (deq_reply S r t have) have (λ z. same_res z r) (λ z apart. apart)
-      (d (entries.Deq t r have (deq_reply S r t have)) r refl) (record { before = k; at = a.1; asks = refl }) unit
-  own (Release r) unit S k a d =
-      let y : TaskState = state_of v t in
-      release-settles deck s os os' P P' v good t ls ours p r [] y.line y.code y.code y.records y.rows (recalled v t (Release r)) (recalls (Release r)) refl (λ z. same_res z r) (λ z apart. apart) k
-      (d (entries.Release t r) r refl) unit
-  own (Look first count f) unit S k a d = absurd a
 
   pub answers-asked : (a : Asked) → (state_of v t).outstanding ≡ Some a → (S : State) → ((h : HistEntry) (r : Res) → entries_for S t a.req.want ≡ h ∷ [] → Decides deck os os' P P' t p h r []) → (rank : ℕ) →
       Settles deck s os' P' v.told (settled_ranked v t a (answer_to S t a.req.want) rank)
@@ -103,7 +72,8 @@ module _ (deck : Deck) (s : ℕ) (os os' : Opens) (P P' : List RunItem) (v : Tas
       let x : TaskState = state_of v t in
       let opened : IsOpenBy deck.limit ls t x (Some a) = subst (λ o. IsOpenBy deck.limit ls t x o) is here.opened in
       let task : IsTask ls p v.told (λ r. is_leaving r (Some a)) t (unasked_by (Some a) x) = subst (λ o. IsTask ls p v.told (λ r. is_leaving r o) t (unasked_by o x)) is here.task in
-      let z = own a.req.want a.unit S (task-open ls p v.told _ t _ None task) opened.2 d in
+      let z = subst (λ y. Settles deck s os' P' v.told y) (tell-none (replied (recalled v t a.req.want) t a.req.want a.unit (answer_to S t a.req.want)) (res_wanted a.req.want))
+      (asked-settles deck s os os' P P' v good t ls ours a.req.want a.unit S [] (task-open ls p v.told _ t _ None task) opened.2 (λ h r wanted one. d h r one)) in
       ranked-settles deck s os' P' v.told _ t ls _ rank (record { lines = ours.lines; home = ours.home; here = z.good.here t (ours-home deck s v t ls ours) }) z
 
 -- ---- what is open without a task's

@@ -1,5 +1,5 @@
 -- The rank of a task's request says nothing of how the task stands.
-use Rattle.std.proofs.Common.{◌≡◌, ℕ, Bool, true, false, cond, not, ◌&&◌, ◌||◌, List, [], ◌∷◌, map, Option, Some, None, refl, ap, sym, ◌∙◌, subst}
+use Rattle.std.proofs.Common.{◌≡◌, ℕ, Bool, true, false, cond, List, [], ◌∷◌, map, Option, Some, None, refl, ap, sym, ◌∙◌, subst}
 use Rattle.std.specs.Prelude.{slice_get, nat_le}
 use Rattle.grs_base.specs.Same.{same_res}
 use Rattle.grs_base.specs.declared.resource.Res.{Res}
@@ -20,7 +20,8 @@ use Rattle.task_state.specs.declared.state.TaskState.{TaskState}
 use Rattle.task_state.proofs.ViewLaws.{length-on_record, state_of-same, told-state}
 use Rattle.grs_known.specs.Items.{RunItem, history}
 use Rattle.grs_known.specs.Past.{Past, past_of}
-use Rattle.grs_known.proofs.tasks.Invariant.{Each, IsRec, IsTask, key, has_res, is_distinct}
+use Rattle.grs_known.proofs.tasks.Invariant.{Each, IsRec, IsTask}
+use Rattle.grs_known.proofs.tasks.Keys.{keys-on_record, distinct-on_record}
 use Rattle.grs_known.proofs.system.Asking.{Opens, unasked, unasked-told, IsAskedFor, IsOpenBy, IsOpen}
 use Rattle.grs_known.proofs.system.Did.{Did}
 use Rattle.grs_known.proofs.system.Events.{Settles}
@@ -31,30 +32,6 @@ use Rattle.grs_known.proofs.system.Turns.{quiet_settles}
 
 abbrev ranked : ℕ → Rec → Rec
 ranked k y = record y { rank = k }
-
-keys-ranked : (r : Res) (k : ℕ) (xs : List Rec) → map key (on_record r (ranked k) xs) ≡ map key xs
-keys-ranked r k [] = refl
-keys-ranked r k (x ∷ xs) = go (same_res r x.res) (keys-ranked r k xs)
-  where
-    go : (b : Bool) → map key (on_record r (ranked k) xs) ≡ map key xs → map key (cond b (ranked k x) x ∷ on_record r (ranked k) xs) ≡ map key (x ∷ xs)
-    go true h = ap (λ zs. key x ∷ zs) h
-    go false h = ap (λ zs. key x ∷ zs) h
-
-has-ranked : (q r : Res) (k : ℕ) (xs : List Rec) → has_res q (on_record r (ranked k) xs) ≡ has_res q xs
-has-ranked q r k [] = refl
-has-ranked q r k (x ∷ xs) = go (same_res r x.res) (has-ranked q r k xs)
-  where
-    go : (b : Bool) → has_res q (on_record r (ranked k) xs) ≡ has_res q xs → has_res q (cond b (ranked k x) x ∷ on_record r (ranked k) xs) ≡ has_res q (x ∷ xs)
-    go true h = ap (λ c. same_res q x.res || c) h
-    go false h = ap (λ c. same_res q x.res || c) h
-
-distinct-ranked : (r : Res) (k : ℕ) (xs : List Rec) → is_distinct (on_record r (ranked k) xs) ≡ is_distinct xs
-distinct-ranked r k [] = refl
-distinct-ranked r k (x ∷ xs) = go (same_res r x.res) (distinct-ranked r k xs)
-  where
-    go : (b : Bool) → is_distinct (on_record r (ranked k) xs) ≡ is_distinct xs → is_distinct (cond b (ranked k x) x ∷ on_record r (ranked k) xs) ≡ is_distinct (x ∷ xs)
-    go true h = ap (λ c. not c && is_distinct (on_record r (ranked k) xs)) (has-ranked x.res r k xs) ∙ ap (λ c. not (has_res x.res xs) && c) h
-    go false h = ap (λ c. not c && is_distinct (on_record r (ranked k) xs)) (has-ranked x.res r k xs) ∙ ap (λ c. not (has_res x.res xs) && c) h
 
 rec-ranked : (ls : List Meaning) (E : List HistEntry) (T : List ToldLine) (owns leaving : Res → Bool) (t : TaskId) (line : ℕ) (p : Phase) (k : ℕ) (x : Rec) → IsRec ls E T owns leaving t line p x → IsRec ls E T owns leaving t line p (ranked k x)
 rec-ranked ls E T owns leaving t line p k x h = record { entry = h.entry; latest = h.latest; low = h.low; high = h.high; known = h.known; control = h.control; due = h.due }
@@ -69,9 +46,9 @@ each-ranked ls E T owns leaving t line p r k (x ∷ xs) h = (go (same_res r x.re
 
 task-ranked : (ls : List Meaning) (p : Past) (T : List ToldLine) (leaving : Res → Bool) (t : TaskId) (x : TaskState) (r : Res) (k : ℕ) → IsTask ls p T leaving t x → IsTask ls p T leaving t (record x { records = on_record r (ranked k) x.records })
 task-ranked ls p T leaving t x r k h = record {
-  keys = keys-ranked r k x.records ∙ h.keys;
+  keys = keys-on_record (ranked k) (λ y. refl) r x.records ∙ h.keys;
   owned = h.owned;
-  distinct = distinct-ranked r k x.records ∙ h.distinct;
+  distinct = distinct-on_record (ranked k) (λ y. refl) r x.records ∙ h.distinct;
   within = h.within;
   count = h.count;
   records = each-ranked ls p.asked T p.owns leaving t x.line x.phase r k x.records h.records;

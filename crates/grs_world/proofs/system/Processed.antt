@@ -1,10 +1,11 @@
 -- A system processes an item of the message by its table.
-use Rattle.std.proofs.Common.{◌≡◌, ◌≢◌, ◌-◌, ℕ, suc, Bool, true, false, cond, not, ◌&&◌, ◌||◌, List, [], ◌∷◌, ◌++◌, Option, Some, None, refl, ap, sym, ◌∙◌, subst, arith}
+use Rattle.std.proofs.Common.{◌≡◌, ◌≢◌, ℕ, Bool, true, false, cond, not, ◌&&◌, ◌||◌, List, [], ◌∷◌, ◌++◌, Option, Some, None, refl, ap, sym, ◌∙◌, subst}
 use Rattle.std.specs.Prelude.{is_some, ◌==◌}
 use Rattle.std.specs.List.{list_all}
 use Rattle.std.proofs.lemmas.Bool.{and_parts, eqb-true, eqb-false, not-true}
-use Rattle.grs_base.specs.Same.{same_res, same_task}
-use Rattle.grs_base.specs.State.{is_systems, enq_code, deq_reply}
+use Rattle.std.proofs.lemmas.Option.{same_Some}
+use Rattle.grs_base.specs.Same.{same_task}
+use Rattle.grs_base.specs.State.{is_systems}
 use Rattle.grs_base.specs.declared.resource.Ctl.{Ctl}
 use Rattle.grs_base.specs.declared.resource.Ctl.TheVariants as ctls
 use Rattle.grs_base.specs.declared.resource.Ret.{Ret}
@@ -14,12 +15,10 @@ use Rattle.grs_base.specs.declared.resource.TaskId.{TaskId}
 use Rattle.grs_base.proofs.SameLaws.{same_res-itself, same_task-itself}
 use Rattle.grs_legal.specs.Asks.{lines_of}
 use Rattle.grs_legal.specs.declared.meaning.Meaning.{Meaning}
-use Rattle.grs_legal.specs.declared.meaning.Meaning.TheVariants as lines
 use Rattle.grs_node.specs.Node.{Node}
 use Rattle.grs_wire.specs.Wants.{answer_to, after_want, res_wanted, new_owners}
 use Rattle.grs_wire.specs.declared.deck.Deck.{Deck}
 use Rattle.grs_wire.specs.declared.history.HistEntry.{HistEntry}
-use Rattle.grs_wire.specs.declared.history.HistEntry.TheVariants as entries
 use Rattle.grs_wire.specs.declared.request.Answer.{Answer}
 use Rattle.grs_wire.specs.declared.request.Fixed.TheVariants as fixing
 use Rattle.grs_wire.specs.declared.request.Req.{Req}
@@ -27,10 +26,9 @@ use Rattle.grs_wire.specs.declared.request.Want.{Want}
 use Rattle.grs_wire.specs.declared.request.Want.TheVariants.{Enq, Deq, Release, Look}
 use Rattle.ring_mode.specs.Ring.{Side, process, answer_own, is_asked, same_want, same_ctl, same_ret, same_bool}
 use Rattle.task_state.specs.Replies.{replied, recalled, settled, settled_any, tell_new, phase_asking, gives_up, is_leaving}
-use Rattle.task_state.specs.View.{TasksView, is_task, state_of, is_sent, code_in}
+use Rattle.task_state.specs.View.{TasksView, is_task, state_of, is_sent}
 use Rattle.task_state.proofs.ViewLaws.{is_task-system}
 use Rattle.task_state.specs.declared.state.Asked.{Asked}
-use Rattle.task_state.specs.declared.state.Phase.TheVariants as phases
 use Rattle.task_state.specs.declared.state.TaskState.{TaskState}
 use Rattle.grs_known.specs.Items.{RunItem, is_of, rounds, mine, lists, history}
 use Rattle.grs_known.specs.Known.{outstanding}
@@ -46,11 +44,11 @@ use Rattle.grs_known.proofs.tasks.Invariant.{IsTask}
 use Rattle.grs_known.proofs.system.Askers.{among-front}
 use Rattle.grs_known.proofs.system.Asking.{line_asked, unasked_by, IsAskedFor, IsOpenBy, IsReq, Opens, are_sent, task-open}
 use Rattle.grs_world.proofs.system.AtNode.{opens_of, Seen, after-asked, not-ours}
-use Rattle.grs_known.proofs.system.Did.{Did, did-none, did-phase, did-outstanding}
-use Rattle.grs_known.proofs.system.Events.{Settles, Decides, settles, enq-settles, deq-settles, release-settles}
+use Rattle.grs_known.proofs.system.Events.{Settles, Decides, settles}
 use Rattle.grs_known.proofs.system.Good.{IsGood, here-kept}
 use Rattle.grs_known.proofs.system.Ours.{IsOurs, IsHere}
 use Rattle.grs_known.proofs.system.Says.{is_home_at, askers, stand_apart, own_asked, ToldBy, none}
+use Rattle.grs_known.proofs.system.Outstanding.{asked-settles}
 
 -- a request is told by itself
 same_ctl-itself : (c : Ctl) → same_ctl c c ≡ true
@@ -111,76 +109,49 @@ pub record Reads (deck : Deck) (s : ℕ) (P before : List RunItem) (x : RunItem)
 
 module _ (deck : Deck) (s : ℕ) (P before : List RunItem) (right : IsHistory deck P) (x : RunItem) (later : List RunItem) (whole : rounds P ≡ before ++ x ∷ later) (n : Node) where
   -- it is of a task of the system
-  module _ (out : List Req) (t : TaskId) (ls : List Meaning) (ours : IsOurs deck s n.tasks t ls) (own : is_of t x.fixed ≡ true) (q0 : Req) (asker : q0.task ≡ t) (seen : Seen deck s P before (x ∷ later) (q0 ∷ out) n) (others : (u : TaskId) → is_of u x.fixed ≡ same_task u t) where
+  module _ (out : List Req) (q : Req) (ls : List Meaning) (ours : IsOurs deck s n.tasks q.task ls) (own : is_of q.task x.fixed ≡ true) (seen : Seen deck s P before (x ∷ later) (q ∷ out) n) (others : (u : TaskId) → is_of u x.fixed ≡ same_task u q.task) where
     abbrev v : TasksView
     v = n.tasks
 
     abbrev os : Opens
-    os = opens_of (x ∷ later) (q0 ∷ out) n
+    os = opens_of (x ∷ later) (q ∷ out) n
 
     abbrev os' : Opens
     os' = opens_of later out n
 
-    abbrev here : IsHere deck os P n.tasks.told t ls (state_of n.tasks t)
-    here = seen.good.tasks.each t ls ours
+    abbrev here : IsHere deck os P n.tasks.told q.task ls (state_of n.tasks q.task)
+    here = seen.good.tasks.each q.task ls ours
 
     abbrev p : Past
-    p = past_of t here.known P
+    p = past_of q.task here.known P
 
     -- the task's outstanding item is this one
-    is_due : (outstanding t here.known P ≡ Some x) × (mine t later ≡ [])
-    is_due = one-some (outstanding t here.known P) x (mine t later) (sym (filter-cons_kept (λ y. is_of t y.fixed) x later own) ∙ here.due)
+    is_due : (outstanding q.task here.known P ≡ Some x) × (mine q.task later ≡ [])
+    is_due = one-some (outstanding q.task here.known P) x (mine q.task later) (sym (filter-cons_kept (λ y. is_of q.task y.fixed) x later own) ∙ here.due)
 
-    away : is_among t (askers (out ++ n.outbox)) ≡ false
-    away = subst (λ u. is_among u (askers (out ++ n.outbox)) ≡ false) asker (not-true _ (and_parts _ _ seen.apart).0)
+    away : is_among q.task (askers (out ++ n.outbox)) ≡ false
+    away = not-true _ (and_parts _ _ seen.apart).0
 
-    decides : (q : Req) (r : Res) (b : ReadBy deck P before x later q r) (h : HistEntry) → x.entries ≡ h ∷ [] → Decides deck os os' P P t p h r (new_owners (lists before) q.task q.want)
-    decides q r b h one = record {
+    decides : (r : Res) (b : ReadBy deck P before x later q r) (h : HistEntry) → x.entries ≡ h ∷ [] → Decides deck os os' P P q.task p h r (new_owners (lists before) q.task q.want)
+    decides r b h one = record {
       right = right;
-      learns = entry-learned deck P x t here.known h right here.knows.right is_due.0 one;
+      learns = entry-learned deck P x q.task here.known h right here.knows.right is_due.0 one;
       due = is_due.1;
       leaves = λ u ms T T' y apart told k. here-kept deck os os' P T T' u ms y (sym (filter-cons_left (λ z. is_of u z.fixed) x later (others u ∙ apart))) (λ a. a.1) (λ a. (and_parts _ _ a).1) told k;
       away = away;
-      away_out = among-front t out n.outbox away;
+      away_out = among-front q.task out n.outbox away;
       owners = λ u e. ((b.owners u e).0, λ T ms y k. (b.owners u e).1 k.known k.knows.right k.due);
     }
 
-    -- the task with its request taken back
-    recalls : (w : Want) → Did v (recalled v t w) t (record (state_of v t) { phase = phase_asking w (state_of v t).code; code = code_in (phase_asking w (state_of v t).code) (state_of v t).code; outstanding = None }) v.told
-    unfolding recalled
-    recalls w =
-        let y : TaskState = state_of v t in
-        did-outstanding v _ t _ v.told ours.here (did-phase v v t y v.told ours.here (did-none v t) (phase_asking w y.code)) None
-
     -- it asks and its request is decided, in one
-    own_read : (w : Want) (unit : Option ℕ) → x.fixed ≡ fixing.Asked (record { task = t; want = w }) →
-        IsTask ls p v.told (λ r. gives_up r w) t (record (state_of v t) { line = line_asked w (state_of v t).line; phase = phase_asking w (state_of v t).code; outstanding = None }) →
-        IsAskedFor deck.limit ls (state_of v t).line (state_of v t).records w unit → Settles deck s os' P v.told (tell_new (replied (recalled v t w) t w unit (answer_to (lists before) t w)) (res_wanted w) (new_owners (lists before) t w))
-    own_read (Enq r c ret full) unit asked k a =
-        let y : TaskState = state_of v t in
-        let w : Want = Enq r c ret full in
-        let b = read_by deck P before x later (record { task = t; want = w }) r right whole asked refl a.2 in
-        let back : suc (y.line - 1) ≡ y.line = omega (arith, a.0) in
-        let did0 = subst (λ m. Did v (recalled v t w) t (record { line = m; phase = phases.Ready; code = y.code; records = y.records; outstanding = None; rows = y.rows }) v.told) (sym back) (recalls w) in
-        subst (λ z. Settles deck s os' P v.told (tell_new (replied (recalled v t w) t w unit z) (Some r) (new_owners (lists before) t w))) (sym b.answer)
-        (enq-settles deck s os os' P P v seen.good t ls ours p r _ (y.line - 1) y.code y.records y.rows (recalled v t w) did0 (lines.Enq r c ret unit) (enq_code b.at r t c ret full) c unit ret full
-        (decides (record { task = t; want = w }) r b (entries.Enq t r c ret (enq_code b.at r t c ret full)) b.made) (record { before = k; at = a.1; asks = refl }))
-    own_read (Deq r have) unit asked k a =
-        let y : TaskState = state_of v t in
-        let w : Want = Deq r have in
-        let b = read_by deck P before x later (record { task = t; want = w }) r right whole asked refl a.2 in
-        let back : suc (y.line - 1) ≡ y.line = omega (arith, a.0) in
-        let did0 = subst (λ m. Did v (recalled v t w) t (record { line = m; phase = phases.Ready; code = y.code; records = y.records; outstanding = None; rows = y.rows }) v.told) (sym back) (recalls w) in
-        subst (λ z. Settles deck s os' P v.told (tell_new (replied (recalled v t w) t w unit z) (Some r) (new_owners (lists before) t w))) (sym b.answer)
-        (deq-settles deck s os os' P P v seen.good t ls ours p r _ (y.line - 1) y.code y.records y.rows (recalled v t w) did0 (lines.Deq r have) (deq_reply b.at r t have) have (λ z. same_res z r) (λ z apart. apart)
-        (decides (record { task = t; want = w }) r b (entries.Deq t r have (deq_reply b.at r t have)) b.made) (record { before = k; at = a.1; asks = refl }) unit)
-    own_read (Release r) unit asked k a =
-        let y : TaskState = state_of v t in
-        let w : Want = Release r in
-        let b = read_by deck P before x later (record { task = t; want = w }) r right whole asked refl a.1 in
-        release-settles deck s os os' P P v seen.good t ls ours p r _ y.line y.code y.code y.records y.rows (recalled v t w) (recalls w) refl (λ z. same_res z r) (λ z apart. apart) k
-        (decides (record { task = t; want = w }) r b (entries.Release t r) b.made) unit
-    own_read (Look first count f) unit asked k a = absurd a
+    own_read : (r : Res) → res_wanted q.want ≡ Some r → ReadBy deck P before x later q r → (unit : Option ℕ) →
+        IsTask ls p v.told (λ z. gives_up z q.want) q.task (record (state_of v q.task) { line = line_asked q.want (state_of v q.task).line; phase = phase_asking q.want (state_of v q.task).code; outstanding = None }) →
+        IsAskedFor deck.limit ls (state_of v q.task).line (state_of v q.task).records q.want unit →
+        Settles deck s os' P v.told (tell_new (replied (recalled v q.task q.want) q.task q.want unit (answer_to (lists before) q.task q.want)) (res_wanted q.want) (new_owners (lists before) q.task q.want))
+    own_read r wanted b unit k a =
+        subst (λ z. Settles deck s os' P v.told (tell_new (replied (recalled v q.task q.want) q.task q.want unit z) (res_wanted q.want) (new_owners (lists before) q.task q.want))) (sym b.answer)
+        (asked-settles deck s os os' P P v seen.good q.task ls ours q.want unit b.at (new_owners (lists before) q.task q.want) k a
+        (λ h z is one. decides z (subst (ReadBy deck P before x later q) (same_Some r z (sym wanted ∙ is)) b) h (b.made ∙ one)))
 
   -- the system afterwards, given its tasks
   module _ (a : IsAsk deck x) (out0 out : List Req) (seen : Seen deck s P before (x ∷ later) out0 n) (homes : list_all (λ q. is_home_at deck s q.task) (out ++ n.outbox) ≡ true) (apart : stand_apart (askers (out ++ n.outbox)) ≡ true) where
@@ -200,8 +171,8 @@ module _ (deck : Deck) (s : ℕ) (P before : List RunItem) (right : IsHistory de
         }
 
   -- one of its own
-  read-own : (out : List Req) (a : IsAsk deck x) → Seen deck s P before (x ∷ later) (a.req ∷ out) n → Reads deck s P before x later out n a.req
-  read-own out a seen = by_open (state_of n.tasks t).outstanding refl (here_is.asked.0 (same_task-itself t))
+  read-own : (out : List Req) (a : IsAsk deck x) → is_systems a.res ≡ true → Seen deck s P before (x ∷ later) (a.req ∷ out) n → Reads deck s P before x later out n a.req
+  read-own out a wide seen = by_open (state_of n.tasks t).outstanding refl (here_is.asked.0 (same_task-itself t))
     where
       t : TaskId
       t = a.req.task
@@ -238,7 +209,7 @@ module _ (deck : Deck) (s : ℕ) (P before : List RunItem) (right : IsHistory de
           let task2 = subst (λ (z : Req). IsTask ls own_past n.tasks.told (λ r. gives_up r z.want) q.task (record y { line = line_asked z.want y.line; phase = phase_asking z.want y.code })) rq task1 in
           reads-by a (q ∷ out) out seen (and_parts _ _ seen.homes).1 (and_parts _ _ seen.apart).1 _
           (ap (λ z. tell_new z (res_wanted q.want) (new_owners (lists before) q.task q.want)) (answers-own n.tasks q (answer_to (lists before) q.task q.want) b ours.here sent f rq (same_want-itself q.want a.res a.wanted)))
-          (own_read out q.task ls ours (ap (is_of q.task) a.asked ∙ same_task-itself q.task) q refl seen (λ u. ap (is_of u) a.asked) q.want b.unit a.asked (task-open ls own_past n.tasks.told _ q.task _ None task2) asked_for)
+          (own_read out q ls ours (ap (is_of q.task) a.asked ∙ same_task-itself q.task) seen (λ u. ap (is_of u) a.asked) a.res a.wanted (read_by deck P before x later q a.res right whole a.asked a.wanted wide) b.unit (task-open ls own_past n.tasks.told _ q.task _ None task2) asked_for)
 
   -- one of another system
   read-other : (out : List Req) (a : IsAsk deck x) → is_systems a.res ≡ true → a.req.task.system.0 ≢ s → Seen deck s P before (x ∷ later) out n → Reads deck s P before x later out n a.req
@@ -259,5 +230,5 @@ module _ (deck : Deck) (s : ℕ) (P before : List RunItem) (right : IsHistory de
   read out a wide = go (a.req.task.system.0 == s) refl
     where
       go : (b : Bool) → (a.req.task.system.0 == s) ≡ b → Seen deck s P before (x ∷ later) (cond b (a.req ∷ []) [] ++ out) n → Reads deck s P before x later out n a.req
-      go true e seen = read-own out a seen
+      go true e seen = read-own out a wide seen
       go false e seen = read-other out a wide (eqb-false _ _ e) seen
