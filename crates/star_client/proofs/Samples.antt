@@ -1,10 +1,11 @@
 -- What mail does to a task, on examples: each is what the rules of the service give by hand.
-use Rattle.std.proofs.Common.{◌≡◌, ◌+◌, ◌^◌, true, false, List, [], ◌∷◌, Option, Some, None, refl, codes}
+use Rattle.std.proofs.Common.{◌≡◌, ◌+◌, ◌^◌, ℕ, true, false, List, [], ◌∷◌, Option, Some, None, refl, codes}
 use Rattle.grs_base.specs.declared.decision.Code.TheVariants.{C00, C04, C08, C18, Wait, End}
-use Rattle.grs_base.specs.declared.look.Filter.TheVariants.{All}
+use Rattle.grs_base.specs.declared.look.Filter.TheVariants.{All, Contended, Named}
 use Rattle.grs_base.specs.declared.resource.Ctl.TheVariants.{E, S}
 use Rattle.grs_base.specs.declared.resource.Res.{Res}
-use Rattle.grs_base.specs.declared.resource.Res.TheVariants.{Systems}
+use Rattle.grs_base.specs.declared.resource.Res.TheVariants.{System, Systems}
+use Rattle.grs_base.specs.declared.resource.Row.{Row}
 use Rattle.grs_base.specs.declared.resource.Ret.TheVariants.{RetNone, RetUse, RetChng, RetEcb}
 use Rattle.grs_base.specs.declared.resource.TaskId.{TaskId}
 use Rattle.grs_wire.specs.declared.medium.Mail.TheVariants.{Request, Answered, Granted}
@@ -24,6 +25,9 @@ use Rattle.task_state.specs.declared.state.Rec.{Rec}
 -- ---- which answers a request can get
 abbrev res : Res
 res = Systems (codes "A") (codes "B")
+
+abbrev asker : ℕ → TaskId
+asker k = record { system = record { 0 = 0 }; job = 0; task = k }
 
 a_wait : can_get (Enq res E RetNone false) (Coded Wait) ≡ true
 a_wait = refl
@@ -52,8 +56,36 @@ given_up = (refl, refl, refl)
 released : (can_get (Release res) (Coded C00) ≡ true) × (can_get (Release res) (Coded C04) ≡ false)
 released = (refl, refl)
 
+-- looks are answered with rows alone, and nothing else is
 shown : (can_get (Look 0 4 All) (Rows []) ≡ true) × (can_get (Look 0 4 All) (Coded C00) ≡ false) × (can_get (Release res) (Rows []) ≡ false)
 shown = (refl, refl, refl)
+
+-- (A,B) is of slice 52; a row of it can be shown by looks at that slice, in a list that one owns and another waits in
+abbrev row_of : Res → ℕ → Row
+row_of r n = record { res = r; elems = record { task = asker 0; ctl = E } ∷ record { task = asker 1; ctl = E } ∷ []; owners = n }
+
+a_row : (can_get (Look 52 1 All) (Rows (row_of res 1 ∷ [])) ≡ true) × (can_get (Look 50 3 Contended) (Rows (row_of res 1 ∷ [])) ≡ true)
+a_row = (refl, refl)
+
+-- not by looks at other slices, nor by those that ask for another name
+other_slice : (can_get (Look 53 11 All) (Rows (row_of res 1 ∷ [])) ≡ false) × (can_get (Look 0 52 All) (Rows (row_of res 1 ∷ [])) ≡ false)
+other_slice = (refl, refl)
+
+other_name : (can_get (Look 52 1 (Named (Some (codes "A")) None)) (Rows (row_of res 1 ∷ [])) ≡ true) × (can_get (Look 52 1 (Named (Some (codes "C")) None)) (Rows (row_of res 1 ∷ [])) ≡ false)
+other_name = (refl, refl)
+
+-- not a row of one system's resource, one that counts the owners wrong, one without elements, and one that stands twice
+own_row : can_get (Look 52 1 All) (Rows (row_of (System (record { 0 = 0 }) (codes "A") (codes "B")) 1 ∷ [])) ≡ false
+own_row = refl
+
+two_owners : can_get (Look 52 1 All) (Rows (row_of res 2 ∷ [])) ≡ false
+two_owners = refl
+
+no_list : can_get (Look 52 1 All) (Rows (record { res = res; elems = []; owners = 0 } ∷ [])) ≡ false
+no_list = refl
+
+twice : can_get (Look 52 1 All) (Rows (row_of res 1 ∷ row_of res 1 ∷ [])) ≡ false
+twice = refl
 
 -- ---- one task of system 0, which has asked for (A,B) by its first line
 abbrev task : TaskId

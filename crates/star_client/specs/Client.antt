@@ -1,14 +1,22 @@
 -- What the mail of star mode does to the tasks of a system: the answer to a task's request, and control that a task got.
-use Rattle.std.specs.Prelude.{ℕ, Bool, true, false, ◌&&◌, ◌==◌, nat_le, cond, map, List, [], ◌∷◌, Option, Some, None, is_none}
-use Rattle.std.specs.List.{list_any, flat_map}
+use Rattle.std.specs.Prelude.{ℕ, ◌+◌, Bool, true, false, not, ◌&&◌, ◌||◌, ◌==◌, nat_le, nat_lt, cond, map, List, [], ◌∷◌, length, Option, Some, None, is_none}
+use Rattle.std.specs.List.{list_all, list_any, flat_map}
+use Rattle.std.specs.Option.{option_map_or}
+use Rattle.std.specs.Ordering.{is_lt}
 use Rattle.grs_base.specs.Limits.{last_number}
-use Rattle.grs_base.specs.Lists.{enq_decision, deq_code}
+use Rattle.grs_base.specs.Lists.{owners, enq_decision, deq_code}
+use Rattle.grs_base.specs.Looks.{matches, is_contended}
+use Rattle.grs_base.specs.ResOrder.{res_order}
+use Rattle.grs_base.specs.Slices.{slice_of}
 use Rattle.grs_base.specs.declared.decision.Code.{Code}
 use Rattle.grs_base.specs.declared.decision.Code.TheVariants.{C00, C04, C08, C14, C18, Wait, End}
 use Rattle.grs_base.specs.declared.decision.Standing.{Standing}
 use Rattle.grs_base.specs.declared.decision.Standing.TheVariants.{Exclusive, OnlyShared, AmongShared, Waits, Absent}
+use Rattle.grs_base.specs.declared.look.Filter.{Filter}
 use Rattle.grs_base.specs.declared.resource.Res.{Res}
+use Rattle.grs_base.specs.declared.resource.Res.TheVariants.{Step, System, Systems}
 use Rattle.grs_base.specs.declared.resource.Ret.{Ret}
+use Rattle.grs_base.specs.declared.resource.Row.{Row}
 use Rattle.grs_base.specs.declared.resource.TaskId.{TaskId}
 use Rattle.grs_wire.specs.Wants.{res_wanted}
 use Rattle.grs_wire.specs.declared.medium.Mail.{Mail}
@@ -46,12 +54,53 @@ same_code c d = false
 abbrev pub is_code_of : List Code → Code → Bool
 is_code_of cs c = list_any (same_code c) cs
 
+-- the slice of a resource; only one of the whole complex has one
+abbrev pub slice_in : Res → Option ℕ
+slice_in (Step s j q r) = None
+slice_in (System s q r) = None
+slice_in (Systems q r) = Some (slice_of q r)
+
+-- whether a resource is of one of so many slices from this one on
+abbrev pub is_among : ℕ → ℕ → Res → Bool
+is_among first count r = option_map_or (λ n. nat_le first n && nat_lt n (first + count)) (slice_in r) false
+
+-- whether a row has a list that isn't empty, and tells how many of it own
+abbrev pub tells_owners : Row → Bool
+tells_owners row = not (length row.elems == 0) && (row.owners == owners row.elems)
+
+-- whether looks at so many slices from this one on, with this filter, can show a row, whatever stands in the lists
+abbrev pub can_show : ℕ → ℕ → Filter → Row → Bool
+can_show first count f row = is_among first count row.res && (matches f row.res (is_contended row) && tells_owners row)
+
+-- whether looks show the first of two resources before the second: slice after slice, and in a slice by name
+abbrev pub is_before_in : Option ℕ → Option ℕ → Bool → Bool
+is_before_in (Some n) (Some k) by_name = nat_lt n k || ((n == k) && by_name)
+is_before_in (Some n) None by_name = false
+is_before_in None o by_name = false
+
+abbrev pub is_shown_before : Res → Res → Bool
+is_shown_before a b = is_before_in (slice_in a) (slice_in b) (is_lt (res_order a b))
+
+-- whether rows stand in this order, and so no two of them are of one resource
+abbrev pub is_next : Row → List Row → Bool
+is_next row [] = true
+is_next row (next ∷ rows) = is_shown_before row.res next.res
+
+abbrev pub are_in_order : List Row → Bool
+are_in_order [] = true
+are_in_order (row ∷ rows) = is_next row rows && are_in_order rows
+
+-- Whether looks at so many slices from this one on, with this filter, can show these rows. Whose tasks there are the
+-- system of a task can't tell.
+abbrev pub can_show_all : ℕ → ℕ → Filter → List Row → Bool
+can_show_all first count f rows = list_all (can_show first count f) rows && are_in_order rows
+
 -- whether a request can get this answer
 abbrev pub can_get : Want → Answer → Bool
 can_get (Enq r c ret full) (Coded code) = is_code_of (enq_codes ret full) code
 can_get (Deq r have) (Coded code) = is_code_of (deq_codes have) code
 can_get (Release r) (Coded code) = same_code code C00
-can_get (Look first count f) (Rows rows) = true
+can_get (Look first count f) (Rows rows) = can_show_all first count f rows
 can_get w a = false
 
 -- ---- an answer with a rank

@@ -1,9 +1,15 @@
 //! Which answers a request can get. Nothing here changes anything.
 ghost use Rattle.std.specs.Prelude.{◌≡◌};
+ghost use Rattle.std.specs.List.{list_all};
+ghost use Rattle.std.specs.Ordering.{is_lt};
+ghost use Rattle.grs_base.specs.ResOrder.{res_order};
 ghost use Rattle.star_client.specs.Client as client;
 
-use grs_base::{Code, Ret};
+use gqscan::matches_filter;
+use grs_base::{Code, Filter, Res, Ret, Row, slice_of};
 use grs_wire::{Answer, Want};
+use ret_codes::owners_among;
+use std::cmp::Ordering;
 
 /// Whether the table of ENQ has a code, whatever stands in the list.
 fn is_enq_code(ret: Ret, full: bool, code: Code) -> bool
@@ -33,6 +39,99 @@ fn is_deq_code(have: bool, code: Code) -> bool
     }
 }
 
+/// The slice of a resource. Only one of the whole complex has one.
+fn slice_in(res: &Res) -> Option<u32>
+    ensures { result ≡ client.slice_in res.now }
+{
+    match res {
+        Res::Systems { q, r } => Some(slice_of(q, r)),
+        Res::System { .. } | Res::Step { .. } => None,
+    }
+}
+
+/// Whether a resource is of one of so many slices from this one on.
+fn is_among(first: u32, count: u32, res: &Res) -> bool
+    ensures { result ≡ client.is_among first count res.now }
+{
+    match slice_in(res) {
+        Some(slice) => first <= slice && slice - first < count,
+        None => false,
+    }
+}
+
+/// Whether a row tells of its list how many own.
+fn tells_owners(row: &Row) -> bool
+    ensures { result ≡ client.tells_owners row.now }
+{
+    !row.elems.as_slice().is_empty() && row.owners as usize == owners_among(row.elems.as_slice())
+}
+
+/// Whether looks at so many slices from this one on can show a row.
+fn can_show(first: u32, count: u32, filter: &Filter, row: &Row) -> bool
+    ensures { result ≡ client.can_show first count filter.now row.now }
+{
+    let waits = (row.owners as usize) < row.elems.len();
+    is_among(first, count, &row.res) && matches_filter(filter, &row.res, waits) && tells_owners(row)
+}
+
+/// Whether the first of two names comes before the second.
+fn is_before(a: &Res, b: &Res) -> bool
+    ensures { result ≡ is_lt (res_order a.now b.now) }
+{
+    match a.order(b) {
+        Ordering::Less => true,
+        Ordering::Equal | Ordering::Greater => false,
+    }
+}
+
+/// Whether looks, slice after slice, show the first of two resources before the second.
+fn is_shown_before(a: &Res, b: &Res) -> bool
+    ensures { result ≡ client.is_shown_before a.now b.now }
+{
+    match (slice_in(a), slice_in(b)) {
+        (Some(n), Some(k)) => n < k || n == k && is_before(a, b),
+        _ => false,
+    }
+}
+
+/// Whether the first of these rows is shown behind this one, if there is one.
+fn is_next(row: &Row, rest: &[Row]) -> bool
+    ensures { result ≡ client.is_next row.now rest.now }
+{
+    match rest.first() {
+        Some(next) => is_shown_before(&row.res, &next.res),
+        None => true,
+    }
+}
+
+/// Whether looks, slice after slice, show rows in this order.
+fn are_in_order(rows: &[Row]) -> bool
+    ensures { result ≡ client.are_in_order rows.now }
+{
+    let mut rest = rows;
+    'rows: while let Some((row, tail)) = rest.split_first() {
+        if !is_next(row, tail) {
+            return false;
+        }
+        rest = tail;
+    }
+    true
+}
+
+/// Whether looks at so many slices from this one on can show each of these rows.
+fn can_show_each(first: u32, count: u32, filter: &Filter, rows: &[Row]) -> bool
+    ensures { result ≡ list_all (client.can_show first count filter.now) rows.now }
+{
+    rows.iter().all(|row| can_show(first, count, filter, row))
+}
+
+/// Whether looks at so many slices from this one on can show these rows, in their order.
+fn can_show_all(first: u32, count: u32, filter: &Filter, rows: &[Row]) -> bool
+    ensures { result ≡ client.can_show_all first count filter.now rows.now }
+{
+    can_show_each(first, count, filter, rows) && are_in_order(rows)
+}
+
 /// Whether a request can get this answer.
 pub(crate) fn can_get(want: &Want, answer: &Answer) -> bool
     ensures { result ≡ client.can_get want.now answer.now }
@@ -41,7 +140,14 @@ pub(crate) fn can_get(want: &Want, answer: &Answer) -> bool
         (Want::Enq { ret, full, .. }, Answer::Coded(code)) => is_enq_code(*ret, *full, *code),
         (Want::Deq { have, .. }, Answer::Coded(code)) => is_deq_code(*have, *code),
         (Want::Release { .. }, Answer::Coded(code)) => matches!(code, Code::C00),
-        (Want::Look { .. }, Answer::Rows(_)) => true,
+        (
+            Want::Look {
+                first,
+                count,
+                filter,
+            },
+            Answer::Rows(rows),
+        ) => can_show_all(*first, *count, filter, rows.as_slice()),
         _ => false,
     }
 }
