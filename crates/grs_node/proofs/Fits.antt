@@ -1,7 +1,7 @@
 -- A system's part in star mode goes on to fit the deck, and so its calls go to systems and lock entries that there are.
-use Rattle.std.proofs.Common.{◌≡◌, ◌<◌, ◌≢◌, ◌+◌, ℕ, zero, suc, Bool, true, false, cond, List, [], ◌∷◌, ◌++◌, length, map, replicate, take, drop, Option, Some, None, is_some, refl, ap, sym, ◌∙◌, subst, arith}
-use Rattle.std.specs.Prelude.{slice_get, ◌&&◌, ◌||◌, ◌==◌, not, nat_lt, nat_le, slice_set, slice_index_or}
-use Rattle.std.specs.List.{list_all, list_any}
+use Rattle.std.proofs.Common.{◌≡◌, ◌<◌, ◌+◌, ℕ, zero, suc, Bool, true, false, cond, List, [], ◌∷◌, ◌++◌, length, replicate, drop, Option, Some, None, is_some, refl, ap, sym, ◌∙◌, subst, arith}
+use Rattle.std.specs.Prelude.{slice_get, ◌&&◌, ◌==◌, nat_lt, nat_le, slice_set, slice_index_or}
+use Rattle.std.specs.List.{list_all}
 use Rattle.std.specs.Option.{option_map, option_map_or}
 use Rattle.std.specs.Ordering.{is_lt}
 use Rattle.grs_base.specs.ResOrder.{res_order}
@@ -13,23 +13,22 @@ use Rattle.grs_base.specs.Slices.{entry_of, slice_of}
 use Rattle.grs_base.specs.declared.resource.Res.TheVariants.{Step as StepRes, System as SystemRes, Systems}
 use Rattle.contention_mgr.proofs.ElementLemmas.{elements_are_askers, telling_keeps_elements, elements-kept, elements-set}
 use Rattle.contention_mgr.specs.Elements.{all_of, elements_of}
-use Rattle.contention_mgr.specs.Manager.{Ranked, Managed, ManagerView, no_elements, first_untold, owner_of, sooner, is_untold, entry_of_res, are_of, entry_of_looks, entry_wanted, managed_at, managed_of, managed_for, items_of, with_entry, settled, told, after_request, after_telling}
+use Rattle.contention_mgr.specs.Manager.{Ranked, Managed, ManagerView, no_elements, first_untold, owner_of, sooner, is_untold, entry_of_res, are_of, entry_wanted, managed_at, managed_of, managed_for, items_of, with_entry, settled, told, after_request, after_telling}
 use Rattle.grs_base.specs.Limits.{is_entries}
 use Rattle.grs_base.specs.declared.resource.Res.{Res}
 use Rattle.grs_base.specs.declared.resource.SysId.{SysId}
 use Rattle.grs_base.specs.declared.resource.TaskId.{TaskId}
 use Rattle.grs_node.specs.Addressed.{is_act_addressed, is_addressed, is_within, PartFits, AnyPartFits, NodeFits}
 use Rattle.grs_node.specs.Log.{stepped}
-use Rattle.grs_node.specs.Node.{Node, Step, first_node, prepare, star_call, prepared_by, star_need, turn_call, may_go, may_send, is_pending, finish_quiet, finish_call, finish_star, star_step, take_step, take_mail, is_for_deck, is_of_deck, send_own, read_entries, put_in}
-use Rattle.grs_node.specs.Star.{StarPart, StarStep, first_part, entry_asked, to_tell, send_of, send_to, first_held, answer_for, rank_of, settle_by, tell_by, leave_by, may_leave, has_interest, manages, serves, entry_for, quiet_step, own_step, decide_own, begun, begin_at, sent_to, holds, took_mail, settled_by, settled_first, told_by, not_managing, left_at, send_step, settle_step, tell_step, leave_step}
-use Rattle.grs_node.specs.declared.prepared.Prepared.{Prepared}
+use Rattle.grs_node.specs.Node.{Node, Step, first_node, prepare, star_call, prepared_by, star_need, turn_call, may_go, may_send, is_pending, finish_quiet, finish_call, finish_star, star_step, take_step, take_mail, is_of_deck, send_own, read_entries, put_in}
+use Rattle.grs_node.specs.Star.{StarPart, first_part, entry_asked, to_tell, send_of, send_to, first_held, answer_for, rank_of, settle_by, tell_by, leave_by, may_leave, has_interest, manages, serves, entry_for, quiet_step, own_step, decide_own, begun, begin_at, sent_to, holds, took_mail, settled_by, settled_first, told_by, not_managing, left_at, send_step, settle_step, tell_step, leave_step}
 use Rattle.grs_node.specs.declared.prepared.Prepared.TheVariants.{Quiet, Call, Nothing}
 use Rattle.grs_node.specs.declared.star.Need.{Need}
 use Rattle.grs_node.specs.declared.star.Need.TheVariants.{Alone, Asks, Idle}
 use Rattle.grs_node.proofs.Calls.{quiet-send, call-send}
 use Rattle.grs_node.proofs.Keeping.{star-task, star-turned}
 use Rattle.grs_node.specs.Finish.{may_come}
-use Rattle.grs_legal.specs.Asks.{Script, scripts_at, lines_at, lines_in, lines_of, meanings}
+use Rattle.grs_legal.specs.Asks.{scripts_at, lines_in, lines_of, meanings}
 use Rattle.grs_wire.specs.declared.deck.SystemDef.{SystemDef}
 use Rattle.grs_wire.specs.declared.request.Fixed.{Fixed}
 use Rattle.std.proofs.lemmas.Option.{slice_get_within}
@@ -109,9 +108,10 @@ pub first-fits : (deck : Deck) (s : ℕ) → IsDeckInEitherMode deck → s < len
 unfolding first_node
 first-fits deck s h within = record { system = within; part = go deck.star }
   where
-    go : (b : Bool) → AnyPartFits deck (cond b (Some (first_part (record { 0 = s }) deck.entries)) None)
+    go : (b : Bool) → AnyPartFits deck s (cond b (Some (first_part (record { 0 = s }) deck.entries)) None)
     go false = tt
     go true = record {
+      system = refl;
       some = some-entries deck.entries h.entries;
       entries = length-replicate deck.entries None;
       interest = length-replicate deck.entries false;
@@ -130,7 +130,7 @@ prepared-fits deck known Alone h = refl
 prepared-fits deck known (Asks act) h = h
 prepared-fits deck known Idle h = refl
 
-module _ (deck : Deck) (p : StarPart) (fits : PartFits deck p) where
+module _ (deck : Deck) (home : ℕ) (p : StarPart) (fits : PartFits deck home p) where
   send-fits : (t : TaskId) (o : Option Asked) → need-fits deck (send_of p t o) ≡ true
   send-fits t None = refl
   send-fits t (Some a) = go (entry_for p a.req.want) refl
@@ -170,26 +170,26 @@ module _ (deck : Deck) (p : StarPart) (fits : PartFits deck p) where
       go false is = refl
       go true is = ap (λ (n : ℕ). nat_lt e n) (sym fits.interest) ∙ interest-below p.interest e (and_parts (has_interest p e) _ is).0
 
-need-choice : (deck : Deck) (n : Node) (p : StarPart) → PartFits deck p → (choice : Choice) → need-fits deck (star_need deck n p choice) ≡ true
-need-choice deck n p fits (choices.Send t) = go (may_send deck n t)
+need-choice : (deck : Deck) (home : ℕ) (n : Node) (p : StarPart) → PartFits deck home p → (choice : Choice) → need-fits deck (star_need deck n p choice) ≡ true
+need-choice deck home n p fits (choices.Send t) = go (may_send deck n t)
   where
     go : (b : Bool) → need-fits deck (cond b (send_of p t (state_of n.tasks t).outstanding) Idle) ≡ true
-    go true = send-fits deck p fits t (state_of n.tasks t).outstanding
+    go true = send-fits deck home p fits t (state_of n.tasks t).outstanding
     go false = refl
-need-choice deck n p fits choices.Take = refl
-need-choice deck n p fits choices.Settle = settle-fits deck p fits p.held fits.held
-need-choice deck n p fits (choices.Tell e) = tell-fits deck p fits e
-need-choice deck n p fits (choices.Leave e) = leave-fits deck p fits n.tasks e
-need-choice deck n p fits (choices.Task t) = refl
-need-choice deck n p fits choices.Turn = refl
-need-choice deck n p fits choices.Switch = refl
-need-choice deck n p fits (choices.Purge s) = refl
-need-choice deck n p fits choices.Rest = refl
+need-choice deck home n p fits choices.Take = refl
+need-choice deck home n p fits choices.Settle = settle-fits deck home p fits p.held fits.held
+need-choice deck home n p fits (choices.Tell e) = tell-fits deck home p fits e
+need-choice deck home n p fits (choices.Leave e) = leave-fits deck home p fits n.tasks e
+need-choice deck home n p fits (choices.Task t) = refl
+need-choice deck home n p fits choices.Turn = refl
+need-choice deck home n p fits choices.Switch = refl
+need-choice deck home n p fits (choices.Purge s) = refl
+need-choice deck home n p fits choices.Rest = refl
 
-star-call-fits : (deck : Deck) (n : Node) (o : Option StarPart) (choice : Choice) → AnyPartFits deck o → is_addressed deck (star_call deck n o choice) ≡ true
+star-call-fits : (deck : Deck) (home : ℕ) (n : Node) (o : Option StarPart) (choice : Choice) → AnyPartFits deck home o → is_addressed deck (star_call deck n o choice) ≡ true
 unfolding star_call
-star-call-fits deck n None choice fits = refl
-star-call-fits deck n (Some p) choice fits = prepared-fits deck n.known (star_need deck n p choice) (need-choice deck n p fits choice)
+star-call-fits deck home n None choice fits = refl
+star-call-fits deck home n (Some p) choice fits = prepared-fits deck n.known (star_need deck n p choice) (need-choice deck home n p fits choice)
 
 turn-fits : (deck : Deck) (n : Node) (o : Option StarPart) → is_addressed deck (turn_call n o) ≡ true
 turn-fits deck n None = let few = length-take 32 n.outbox in grind (arith, nat_tests, few)
@@ -208,13 +208,13 @@ unfolding prepare
 prepare-addressed deck n (choices.Task t) fits = quiet-fits deck (may_go deck n t)
 prepare-addressed deck n choices.Turn fits = turn-fits deck n n.star
 prepare-addressed deck n choices.Rest fits = rest-fits deck n.known (is_pending deck n)
-prepare-addressed deck n (choices.Send t) fits = star-call-fits deck n n.star (choices.Send t) fits.part
-prepare-addressed deck n choices.Take fits = star-call-fits deck n n.star choices.Take fits.part
-prepare-addressed deck n choices.Settle fits = star-call-fits deck n n.star choices.Settle fits.part
-prepare-addressed deck n (choices.Tell e) fits = star-call-fits deck n n.star (choices.Tell e) fits.part
-prepare-addressed deck n (choices.Leave e) fits = star-call-fits deck n n.star (choices.Leave e) fits.part
-prepare-addressed deck n choices.Switch fits = star-call-fits deck n n.star choices.Switch fits.part
-prepare-addressed deck n (choices.Purge s) fits = star-call-fits deck n n.star (choices.Purge s) fits.part
+prepare-addressed deck n (choices.Send t) fits = star-call-fits deck n.tasks.system n n.star (choices.Send t) fits.part
+prepare-addressed deck n choices.Take fits = star-call-fits deck n.tasks.system n n.star choices.Take fits.part
+prepare-addressed deck n choices.Settle fits = star-call-fits deck n.tasks.system n n.star choices.Settle fits.part
+prepare-addressed deck n (choices.Tell e) fits = star-call-fits deck n.tasks.system n n.star (choices.Tell e) fits.part
+prepare-addressed deck n (choices.Leave e) fits = star-call-fits deck n.tasks.system n n.star (choices.Leave e) fits.part
+prepare-addressed deck n choices.Switch fits = star-call-fits deck n.tasks.system n n.star choices.Switch fits.part
+prepare-addressed deck n (choices.Purge s) fits = star-call-fits deck n.tasks.system n n.star (choices.Purge s) fits.part
 
 -- ---- what a step leaves
 length-set : {X : Type 0} (xs : List X) (i : ℕ) (x : X) → length (slice_set xs i x) ≡ length xs
@@ -222,58 +222,58 @@ length-set [] i x = refl
 length-set (y ∷ xs) zero x = refl
 length-set (y ∷ xs) (suc i) x = ap suc (length-set xs i x)
 
-request-entries : (v : ManagerView) (t : TaskId) (w : Want) → length (after_request v t w).entries ≡ length v.entries
-request-entries v t w = go (managed_for v w) (entry_wanted (length v.entries) w)
-  where
-    go : (o : Option Managed) (at : Option ℕ) → length (option_map_or (λ m. with_entry v at (Some (settled v.system.0 m t w))) o v).entries ≡ length v.entries
-    go None at = refl
-    go (Some m) None = refl
-    go (Some m) (Some e) = length-set v.entries e (Some (settled v.system.0 m t w))
+-- a manager of the same system, of as many lock entries
+abbrev SameManager : ManagerView → ManagerView → Type 0
+SameManager v w = (w.system.0 ≡ v.system.0) × (length w.entries ≡ length v.entries)
 
-telling-entries : (v : ManagerView) (t : TaskId) (r : Res) → length (after_telling v t r).entries ≡ length v.entries
-telling-entries v t r = go (managed_of v r) (entry_of_res (length v.entries) r)
-  where
-    go : (o : Option Managed) (at : Option ℕ) → length (option_map_or (λ m. with_entry v at (Some (told t r m))) o v).entries ≡ length v.entries
-    go None at = refl
-    go (Some m) None = refl
-    go (Some m) (Some e) = length-set v.entries e (Some (told t r m))
+-- one that has something else of an entry, where there is something to have
+same-manager : (v : ManagerView) (f : Managed → Managed) (o : Option Managed) (at : Option ℕ) → SameManager v (option_map_or (λ m. with_entry v at (Some (f m))) o v)
+same-manager v f None at = (refl, refl)
+same-manager v f (Some m) None = (refl, refl)
+same-manager v f (Some m) (Some e) = (refl, length-set v.entries e (Some (f m)))
+
+same-request : (v : ManagerView) (t : TaskId) (w : Want) → SameManager v (after_request v t w)
+same-request v t w = same-manager v (λ m. settled v.system.0 m t w) (managed_for v w) (entry_wanted (length v.entries) w)
+
+same-telling : (v : ManagerView) (t : TaskId) (r : Res) → SameManager v (after_telling v t r)
+same-telling v t r = same-manager v (told t r) (managed_of v r) (entry_of_res (length v.entries) r)
 
 all-push : (f : Req → Bool) (qs : List Req) (q : Req) → list_all f qs ≡ true → f q ≡ true → list_all f (qs ++ q ∷ []) ≡ true
 all-push f [] q h new = grind (arith, new)
 all-push f (x ∷ qs) q h new = grind (arith, h, all-push f qs q)
 
-module _ (deck : Deck) where
-  with-interest-fits : (p : StarPart) (e : ℕ) (b : Bool) → PartFits deck p → PartFits deck (record p { interest = slice_set p.interest e b })
-  with-interest-fits p e b h = record { some = h.some; entries = h.entries; interest = length-set p.interest e b ∙ h.interest; elements = h.elements; held = h.held }
+module _ (deck : Deck) (home : ℕ) where
+  with-interest-fits : (p : StarPart) (e : ℕ) (b : Bool) → PartFits deck home p → PartFits deck home (record p { interest = slice_set p.interest e b })
+  with-interest-fits p e b h = record { system = h.system; some = h.some; entries = h.entries; interest = length-set p.interest e b ∙ h.interest; elements = h.elements; held = h.held }
 
-  entry-fits : (p : StarPart) (e : ℕ) (o : Option Managed) → PartFits deck p → elements_of (is_within deck) (items_of o) ≡ true → PartFits deck (record p { manager = with_entry p.manager (Some e) o })
-  entry-fits p e o h new = record { some = h.some; entries = length-set p.manager.entries e o ∙ h.entries; interest = h.interest; elements = elements-set (is_within deck) p.manager.entries e o h.elements new; held = h.held }
+  entry-fits : (p : StarPart) (e : ℕ) (o : Option Managed) → PartFits deck home p → elements_of (is_within deck) (items_of o) ≡ true → PartFits deck home (record p { manager = with_entry p.manager (Some e) o })
+  entry-fits p e o h new = record { system = h.system; some = h.some; entries = length-set p.manager.entries e o ∙ h.entries; interest = h.interest; elements = elements-set (is_within deck) p.manager.entries e o h.elements new; held = h.held }
 
-  request-fits : (p : StarPart) (t : TaskId) (w : Want) → PartFits deck p → is_within deck t ≡ true → PartFits deck (record p { manager = after_request p.manager t w })
-  request-fits p t w h own = record { some = h.some; entries = request-entries p.manager t w ∙ h.entries; interest = h.interest; elements = elements_are_askers (is_within deck) p.manager t w own h.elements; held = h.held }
+  request-fits : (p : StarPart) (t : TaskId) (w : Want) → PartFits deck home p → is_within deck t ≡ true → PartFits deck home (record p { manager = after_request p.manager t w })
+  request-fits p t w h own = let same = same-request p.manager t w in record { system = same.0 ∙ h.system; some = h.some; entries = same.1 ∙ h.entries; interest = h.interest; elements = elements_are_askers (is_within deck) p.manager t w own h.elements; held = h.held }
 
-  own-fits : (v : TasksView) (p : StarPart) (t : TaskId) (o : Option Asked) → PartFits deck p → is_within deck t ≡ true → PartFits deck (own_step v p t o).part
+  own-fits : (v : TasksView) (p : StarPart) (t : TaskId) (o : Option Asked) → PartFits deck home p → is_within deck t ≡ true → PartFits deck home (own_step v p t o).part
   unfolding decide_own
   own-fits v p t None h own = h
   own-fits v p t (Some a) h own = request-fits p t a.req.want h own
 
-  begin-fits : (v : TasksView) (p : StarPart) (t : TaskId) (o : Option Asked) (at : Option ℕ) → PartFits deck p → is_within deck t ≡ true → PartFits deck (begin_at v p t o at).part
+  begin-fits : (v : TasksView) (p : StarPart) (t : TaskId) (o : Option Asked) (at : Option ℕ) → PartFits deck home p → is_within deck t ≡ true → PartFits deck home (begin_at v p t o at).part
   begin-fits v p t o None h own = h
   begin-fits v p t o (Some e) h own = own-fits v (begun p e) t o (with-interest-fits (record p { manager = with_entry p.manager (Some e) (Some no_elements) }) e true (entry-fits p e (Some no_elements) h refl)) own
 
-  sent-fits : (v : TasksView) (p : StarPart) (t : TaskId) (at : Option ℕ) → PartFits deck p → PartFits deck (sent_to v p t at).part
+  sent-fits : (v : TasksView) (p : StarPart) (t : TaskId) (at : Option ℕ) → PartFits deck home p → PartFits deck home (sent_to v p t at).part
   sent-fits v p t None h = h
   sent-fits v p t (Some e) h = with-interest-fits p e true h
 
-  holds-fits : (p : StarPart) (e : ℕ) (q : Req) → PartFits deck p → is_within deck q.task ≡ true → PartFits deck (holds p e q)
+  holds-fits : (p : StarPart) (e : ℕ) (q : Req) → PartFits deck home p → is_within deck q.task ≡ true → PartFits deck home (holds p e q)
   holds-fits p e q h own = go _
     where
-      go : (b : Bool) → PartFits deck (cond b (record p { held = p.held ++ q ∷ [] }) p)
-      go true = record { some = h.some; entries = h.entries; interest = h.interest; elements = h.elements; held = all-push (λ x. is_within deck x.task) p.held q h.held own }
+      go : (b : Bool) → PartFits deck home (cond b (record p { held = p.held ++ q ∷ [] }) p)
+      go true = record { system = h.system; some = h.some; entries = h.entries; interest = h.interest; elements = h.elements; held = all-push (λ x. is_within deck x.task) p.held q h.held own }
       go false = h
 
   -- the parts of a held request
-  settled-fits : (v : TasksView) (p : StarPart) → PartFits deck p → PartFits deck (settled_by v p (first_held p)).part
+  settled-fits : (v : TasksView) (p : StarPart) → PartFits deck home p → PartFits deck home (settled_by v p (first_held p)).part
   settled-fits v p h = go (slice_get p.held 0) refl
     where
       first : (qs : List Req) (q : Req) → list_all (λ x. is_within deck x.task) qs ≡ true → slice_get qs 0 ≡ Some q → is_within deck q.task ≡ true
@@ -284,25 +284,25 @@ module _ (deck : Deck) where
       rest [] all = refl
       rest (x ∷ qs) all = (and_parts (is_within deck x.task) _ all).1
 
-      part : (q : Req) → slice_get p.held 0 ≡ Some q → PartFits deck (record p { manager = after_request p.manager q.task q.want; held = drop 1 p.held })
-      part q is = let k : PartFits deck (record p { manager = after_request p.manager q.task q.want }) = request-fits p q.task q.want h (first p.held q h.held is) in record { some = k.some; entries = k.entries; interest = k.interest; elements = k.elements; held = rest p.held h.held }
+      part : (q : Req) → slice_get p.held 0 ≡ Some q → PartFits deck home (record p { manager = after_request p.manager q.task q.want; held = drop 1 p.held })
+      part q is = let k : PartFits deck home (record p { manager = after_request p.manager q.task q.want }) = request-fits p q.task q.want h (first p.held q h.held is) in record { system = k.system; some = k.some; entries = k.entries; interest = k.interest; elements = k.elements; held = rest p.held h.held }
 
-      either : (q : Req) → slice_get p.held 0 ≡ Some q → (b : Bool) → PartFits deck (cond b (settled_first v p q) (quiet_step v p)).part
+      either : (q : Req) → slice_get p.held 0 ≡ Some q → (b : Bool) → PartFits deck home (cond b (settled_first v p q) (quiet_step v p)).part
       either q is true = part q is
       either q is false = h
 
-      go : (o : Option Req) → slice_get p.held 0 ≡ o → PartFits deck (settled_by v p o).part
+      go : (o : Option Req) → slice_get p.held 0 ≡ o → PartFits deck home (settled_by v p o).part
       go None is = h
       go (Some q) is = either q is (serves p q)
 
-  told-fits : (p : StarPart) (o : Option (TaskId × Res)) → PartFits deck p → PartFits deck (told_by p o)
+  told-fits : (p : StarPart) (o : Option (TaskId × Res)) → PartFits deck home p → PartFits deck home (told_by p o)
   told-fits p None h = h
-  told-fits p (Some x) h = record { some = h.some; entries = telling-entries p.manager x.0 x.1 ∙ h.entries; interest = h.interest; elements = telling_keeps_elements (is_within deck) p.manager x.0 x.1 h.elements; held = h.held }
+  told-fits p (Some x) h = let same = same-telling p.manager x.0 x.1 in record { system = same.0 ∙ h.system; some = h.some; entries = same.1 ∙ h.entries; interest = h.interest; elements = telling_keeps_elements (is_within deck) p.manager x.0 x.1 h.elements; held = h.held }
 
-  left-fits : (p : StarPart) (e : ℕ) → PartFits deck p → PartFits deck (left_at p e)
+  left-fits : (p : StarPart) (e : ℕ) → PartFits deck home p → PartFits deck home (left_at p e)
   left-fits p e h = with-interest-fits (record p { manager = not_managing p.manager e }) e false (go _)
     where
-      go : (b : Bool) → PartFits deck (record p { manager = cond b (with_entry p.manager (Some e) None) p.manager })
+      go : (b : Bool) → PartFits deck home (record p { manager = cond b (with_entry p.manager (Some e) None) p.manager })
       go true = entry-fits p e None h refl
       go false = h
 
@@ -322,189 +322,120 @@ own-task deck n t fits h =
     lt-below t.system.0 (length deck.systems) (subst (λ (s : ℕ). s < length deck.systems) own below)
 
 -- ---- what a reply leaves
-module _ (deck : Deck) (v : TasksView) (p : StarPart) (fits : PartFits deck p) where
-  mail-fits : (mail : Mail) → PartFits deck (take_mail deck v p mail).part
+-- what holds at each kind of reply holds of all
+module _ (Q : Reply → Type 0) (turned : (es : List RingEntry) (k : ℕ) (b : Bool) → Q (replies.Turned es k b)) (not_yours : (holder : Option SysId) → Q (replies.NotYours holder)) (behind : (n : ℕ) → Q (replies.Behind n)) (switched : Q replies.Switched) (already : Q replies.Already)
+    (sole : Q replies.Sole) (sent : Q replies.Sent) (taken : (m : Mail) → Q (replies.Taken m)) (empty : Q replies.Empty) (settled_one : Q replies.Settled) (told_one : Q replies.Told) (left_one : Q replies.Left) (kept : (mask : ℕ) → Q (replies.Kept mask))
+    (purged : Q replies.Purged) (no_such : Q replies.NoSuch) (in_star : Q replies.InStar) (resting : Q replies.Resting) (over : Q replies.Over) (stale : (set : ℕ) → Q (replies.Stale set)) (removed : Q replies.Removed) where
+  by-reply : (reply : Reply) → Q reply
+  by-reply (replies.Turned es k b) = turned es k b
+  by-reply (replies.NotYours holder) = not_yours holder
+  by-reply (replies.Behind n) = behind n
+  by-reply replies.Switched = switched
+  by-reply replies.Already = already
+  by-reply replies.Sole = sole
+  by-reply replies.Sent = sent
+  by-reply (replies.Taken m) = taken m
+  by-reply replies.Empty = empty
+  by-reply replies.Settled = settled_one
+  by-reply replies.Told = told_one
+  by-reply replies.Left = left_one
+  by-reply (replies.Kept mask) = kept mask
+  by-reply replies.Purged = purged
+  by-reply replies.NoSuch = no_such
+  by-reply replies.InStar = in_star
+  by-reply replies.Resting = resting
+  by-reply replies.Over = over
+  by-reply (replies.Stale set) = stale set
+  by-reply replies.Removed = removed
+
+module _ (deck : Deck) (home : ℕ) (v : TasksView) (p : StarPart) (fits : PartFits deck home p) where
+  mail-fits : (mail : Mail) → PartFits deck home (take_mail deck v p mail).part
   unfolding took_mail
   mail-fits (mails.Request e from q) = go (nat_lt from.0 (length deck.systems)) (is_of_deck deck q.task) refl
     where
-      go : (b d : Bool) → is_of_deck deck q.task ≡ d → PartFits deck (cond (b && d) (took_mail v p (mails.Request e from q)) (quiet_step v p)).part
+      go : (b d : Bool) → is_of_deck deck q.task ≡ d → PartFits deck home (cond (b && d) (took_mail v p (mails.Request e from q)) (quiet_step v p)).part
       go false d is = fits
       go true false is = fits
-      go true true is = holds-fits deck p e q fits (deck-task deck q.task is)
+      go true true is = holds-fits deck home p e q fits (deck-task deck q.task is)
   mail-fits (mails.Answered t answer rank) = go (is_of_deck deck t)
     where
-      go : (b : Bool) → PartFits deck (cond b (took_mail v p (mails.Answered t answer rank)) (quiet_step v p)).part
+      go : (b : Bool) → PartFits deck home (cond b (took_mail v p (mails.Answered t answer rank)) (quiet_step v p)).part
       go true = fits
       go false = fits
   mail-fits (mails.Granted t r) = go (is_of_deck deck t)
     where
-      go : (b : Bool) → PartFits deck (cond b (took_mail v p (mails.Granted t r)) (quiet_step v p)).part
+      go : (b : Bool) → PartFits deck home (cond b (took_mail v p (mails.Granted t r)) (quiet_step v p)).part
       go true = fits
       go false = fits
 
-  send-step-fits : (t : TaskId) (reply : Reply) → is_within deck t ≡ true → PartFits deck (send_step v p t reply).part
-  send-step-fits t (replies.Turned entries taken closed) own = fits
-  send-step-fits t (replies.NotYours holder) own = fits
-  send-step-fits t (replies.Behind first) own = fits
-  send-step-fits t replies.Switched own = fits
-  send-step-fits t replies.Already own = fits
-  send-step-fits t replies.Sole own = begin-fits deck v p t (state_of v t).outstanding (entry_asked p (state_of v t).outstanding) fits own
-  send-step-fits t replies.Sent own = sent-fits deck v p t (entry_asked p (state_of v t).outstanding) fits
-  send-step-fits t (replies.Taken mail) own = fits
-  send-step-fits t replies.Empty own = fits
-  send-step-fits t replies.Settled own = fits
-  send-step-fits t replies.Told own = fits
-  send-step-fits t replies.Left own = fits
-  send-step-fits t (replies.Kept mask) own = fits
-  send-step-fits t replies.Purged own = fits
-  send-step-fits t replies.NoSuch own = fits
-  send-step-fits t replies.InStar own = fits
-  send-step-fits t replies.Resting own = fits
-  send-step-fits t replies.Over own = fits
-  send-step-fits t (replies.Stale set) own = fits
-  send-step-fits t replies.Removed own = fits
+  send-step-fits : (t : TaskId) (reply : Reply) → is_within deck t ≡ true → PartFits deck home (send_step v p t reply).part
+  send-step-fits t reply own = by-reply (λ reply. PartFits deck home (send_step v p t reply).part) (λ es k b. fits) (λ h. fits) (λ n. fits) fits fits (begin-fits deck home v p t (state_of v t).outstanding (entry_asked p (state_of v t).outstanding) fits own) (sent-fits deck home v p t (entry_asked p (state_of v t).outstanding) fits) (λ m. fits) fits fits fits fits (λ m. fits) fits fits fits fits fits (λ n. fits) fits reply
 
-  take-step-fits : (reply : Reply) → PartFits deck (take_step deck v p reply).part
-  take-step-fits (replies.Turned entries taken closed) = fits
-  take-step-fits (replies.NotYours holder) = fits
-  take-step-fits (replies.Behind first) = fits
-  take-step-fits replies.Switched = fits
-  take-step-fits replies.Already = fits
-  take-step-fits replies.Sole = fits
-  take-step-fits replies.Sent = fits
-  take-step-fits (replies.Taken mail) = mail-fits mail
-  take-step-fits replies.Empty = fits
-  take-step-fits replies.Settled = fits
-  take-step-fits replies.Told = fits
-  take-step-fits replies.Left = fits
-  take-step-fits (replies.Kept mask) = fits
-  take-step-fits replies.Purged = fits
-  take-step-fits replies.NoSuch = fits
-  take-step-fits replies.InStar = fits
-  take-step-fits replies.Resting = fits
-  take-step-fits replies.Over = fits
-  take-step-fits (replies.Stale set) = fits
-  take-step-fits replies.Removed = fits
+  take-step-fits : (reply : Reply) → PartFits deck home (take_step deck v p reply).part
+  take-step-fits = by-reply (λ reply. PartFits deck home (take_step deck v p reply).part) (λ es k b. fits) (λ h. fits) (λ n. fits) fits fits fits fits mail-fits fits fits fits fits (λ m. fits) fits fits fits fits fits (λ n. fits) fits
 
-  settle-step-fits : (reply : Reply) → PartFits deck (settle_step v p reply).part
-  settle-step-fits (replies.Turned entries taken closed) = fits
-  settle-step-fits (replies.NotYours holder) = fits
-  settle-step-fits (replies.Behind first) = fits
-  settle-step-fits replies.Switched = fits
-  settle-step-fits replies.Already = fits
-  settle-step-fits replies.Sole = fits
-  settle-step-fits replies.Sent = fits
-  settle-step-fits (replies.Taken mail) = fits
-  settle-step-fits replies.Empty = fits
-  settle-step-fits replies.Settled = settled-fits deck v p fits
-  settle-step-fits replies.Told = fits
-  settle-step-fits replies.Left = fits
-  settle-step-fits (replies.Kept mask) = fits
-  settle-step-fits replies.Purged = fits
-  settle-step-fits replies.NoSuch = fits
-  settle-step-fits replies.InStar = fits
-  settle-step-fits replies.Resting = fits
-  settle-step-fits replies.Over = fits
-  settle-step-fits (replies.Stale set) = fits
-  settle-step-fits replies.Removed = fits
+  settle-step-fits : (reply : Reply) → PartFits deck home (settle_step v p reply).part
+  settle-step-fits = by-reply (λ reply. PartFits deck home (settle_step v p reply).part) (λ es k b. fits) (λ h. fits) (λ n. fits) fits fits fits fits (λ m. fits) fits (settled-fits deck home v p fits) fits fits (λ m. fits) fits fits fits fits fits (λ n. fits) fits
 
-  tell-step-fits : (e : ℕ) (reply : Reply) → PartFits deck (tell_step v p e reply).part
-  tell-step-fits e (replies.Turned entries taken closed) = fits
-  tell-step-fits e (replies.NotYours holder) = fits
-  tell-step-fits e (replies.Behind first) = fits
-  tell-step-fits e replies.Switched = fits
-  tell-step-fits e replies.Already = fits
-  tell-step-fits e replies.Sole = fits
-  tell-step-fits e replies.Sent = fits
-  tell-step-fits e (replies.Taken mail) = fits
-  tell-step-fits e replies.Empty = fits
-  tell-step-fits e replies.Settled = fits
-  tell-step-fits e replies.Told = told-fits deck p (to_tell p e) fits
-  tell-step-fits e replies.Left = fits
-  tell-step-fits e (replies.Kept mask) = fits
-  tell-step-fits e replies.Purged = fits
-  tell-step-fits e replies.NoSuch = fits
-  tell-step-fits e replies.InStar = fits
-  tell-step-fits e replies.Resting = fits
-  tell-step-fits e replies.Over = fits
-  tell-step-fits e (replies.Stale set) = fits
-  tell-step-fits e replies.Removed = fits
+  tell-step-fits : (e : ℕ) (reply : Reply) → PartFits deck home (tell_step v p e reply).part
+  tell-step-fits e = by-reply (λ reply. PartFits deck home (tell_step v p e reply).part) (λ es k b. fits) (λ h. fits) (λ n. fits) fits fits fits fits (λ m. fits) fits fits (told-fits deck home p (to_tell p e) fits) fits (λ m. fits) fits fits fits fits fits (λ n. fits) fits
 
-  leave-step-fits : (e : ℕ) (reply : Reply) → PartFits deck (leave_step v p e reply).part
-  leave-step-fits e (replies.Turned entries taken closed) = fits
-  leave-step-fits e (replies.NotYours holder) = fits
-  leave-step-fits e (replies.Behind first) = fits
-  leave-step-fits e replies.Switched = fits
-  leave-step-fits e replies.Already = fits
-  leave-step-fits e replies.Sole = fits
-  leave-step-fits e replies.Sent = fits
-  leave-step-fits e (replies.Taken mail) = fits
-  leave-step-fits e replies.Empty = fits
-  leave-step-fits e replies.Settled = fits
-  leave-step-fits e replies.Told = fits
-  leave-step-fits e replies.Left = left-fits deck p e fits
-  leave-step-fits e (replies.Kept mask) = fits
-  leave-step-fits e replies.Purged = fits
-  leave-step-fits e replies.NoSuch = fits
-  leave-step-fits e replies.InStar = fits
-  leave-step-fits e replies.Resting = fits
-  leave-step-fits e replies.Over = fits
-  leave-step-fits e (replies.Stale set) = fits
-  leave-step-fits e replies.Removed = fits
+  leave-step-fits : (e : ℕ) (reply : Reply) → PartFits deck home (leave_step v p e reply).part
+  leave-step-fits e = by-reply (λ reply. PartFits deck home (leave_step v p e reply).part) (λ es k b. fits) (λ h. fits) (λ n. fits) fits fits fits fits (λ m. fits) fits fits fits (left-fits deck home p e fits) (λ m. fits) fits fits fits fits fits (λ n. fits) fits
 
 -- the task of a Send is of a system of the deck
 abbrev Sends : Deck → Choice → Type 0
 Sends deck (choices.Send t) = is_within deck t ≡ true
 Sends deck choice = Unit {0}
 
-star-step-fits : (deck : Deck) (v : TasksView) (p : StarPart) (choice : Choice) (reply : Reply) → PartFits deck p → Sends deck choice → PartFits deck (star_step deck v p choice reply).part
-star-step-fits deck v p (choices.Send t) reply h own = send-step-fits deck v p h t reply own
-star-step-fits deck v p choices.Take reply h own = take-step-fits deck v p h reply
-star-step-fits deck v p choices.Settle reply h own = settle-step-fits deck v p h reply
-star-step-fits deck v p (choices.Tell e) reply h own = tell-step-fits deck v p h e reply
-star-step-fits deck v p (choices.Leave e) reply h own = leave-step-fits deck v p h e reply
-star-step-fits deck v p (choices.Task t) reply h own = h
-star-step-fits deck v p choices.Turn reply h own = h
-star-step-fits deck v p choices.Switch reply h own = h
-star-step-fits deck v p (choices.Purge s) reply h own = h
-star-step-fits deck v p choices.Rest reply h own = h
+star-step-fits : (deck : Deck) (home : ℕ) (v : TasksView) (p : StarPart) (choice : Choice) (reply : Reply) → PartFits deck home p → Sends deck choice → PartFits deck home (star_step deck v p choice reply).part
+star-step-fits deck home v p (choices.Send t) reply h own = send-step-fits deck home v p h t reply own
+star-step-fits deck home v p choices.Take reply h own = take-step-fits deck home v p h reply
+star-step-fits deck home v p choices.Settle reply h own = settle-step-fits deck home v p h reply
+star-step-fits deck home v p (choices.Tell e) reply h own = tell-step-fits deck home v p h e reply
+star-step-fits deck home v p (choices.Leave e) reply h own = leave-step-fits deck home v p h e reply
+star-step-fits deck home v p (choices.Task t) reply h own = h
+star-step-fits deck home v p choices.Turn reply h own = h
+star-step-fits deck home v p choices.Switch reply h own = h
+star-step-fits deck home v p (choices.Purge s) reply h own = h
+star-step-fits deck home v p choices.Rest reply h own = h
 
-finish-star-fits : (deck : Deck) (n : Node) (o : Option StarPart) (choice : Choice) (reply : Reply) → n.star ≡ o → AnyPartFits deck o → Sends deck choice → AnyPartFits deck (finish_star deck n o choice reply).node.star
+finish-star-fits : (deck : Deck) (home : ℕ) (n : Node) (o : Option StarPart) (choice : Choice) (reply : Reply) → n.star ≡ o → AnyPartFits deck home o → Sends deck choice → AnyPartFits deck home (finish_star deck n o choice reply).node.star
 unfolding finish_star
-finish-star-fits deck n None choice reply is h own = subst (AnyPartFits deck) (sym is) h
-finish-star-fits deck n (Some p) choice reply is h own = star-step-fits deck n.tasks p choice reply h own
+finish-star-fits deck home n None choice reply is h own = subst (AnyPartFits deck home) (sym is) h
+finish-star-fits deck home n (Some p) choice reply is h own = star-step-fits deck home n.tasks p choice reply h own
 
-call-part : (deck : Deck) (n : Node) (choice : Choice) (reply : Reply) → NodeFits deck n → Sends deck choice → AnyPartFits deck (finish_call deck n choice reply).node.star
+call-part : (deck : Deck) (n : Node) (choice : Choice) (reply : Reply) → NodeFits deck n → Sends deck choice → AnyPartFits deck n.tasks.system (finish_call deck n choice reply).node.star
 unfolding finish_call
-call-part deck n choice (replies.Turned entries taken closed) fits own = subst (AnyPartFits deck) (sym (star-turned deck n entries taken)) fits.part
-call-part deck n choice (replies.NotYours holder) fits own = finish-star-fits deck n n.star choice (replies.NotYours holder) refl fits.part own
-call-part deck n choice (replies.Behind first) fits own = finish-star-fits deck n n.star choice (replies.Behind first) refl fits.part own
-call-part deck n choice replies.Switched fits own = finish-star-fits deck n n.star choice replies.Switched refl fits.part own
-call-part deck n choice replies.Already fits own = finish-star-fits deck n n.star choice replies.Already refl fits.part own
-call-part deck n choice replies.Sole fits own = finish-star-fits deck n n.star choice replies.Sole refl fits.part own
-call-part deck n choice replies.Sent fits own = finish-star-fits deck n n.star choice replies.Sent refl fits.part own
-call-part deck n choice (replies.Taken mail) fits own = finish-star-fits deck n n.star choice (replies.Taken mail) refl fits.part own
-call-part deck n choice replies.Empty fits own = finish-star-fits deck n n.star choice replies.Empty refl fits.part own
-call-part deck n choice replies.Settled fits own = finish-star-fits deck n n.star choice replies.Settled refl fits.part own
-call-part deck n choice replies.Told fits own = finish-star-fits deck n n.star choice replies.Told refl fits.part own
-call-part deck n choice replies.Left fits own = finish-star-fits deck n n.star choice replies.Left refl fits.part own
-call-part deck n choice (replies.Kept mask) fits own = finish-star-fits deck n n.star choice (replies.Kept mask) refl fits.part own
-call-part deck n choice replies.Purged fits own = finish-star-fits deck n n.star choice replies.Purged refl fits.part own
-call-part deck n choice replies.NoSuch fits own = finish-star-fits deck n n.star choice replies.NoSuch refl fits.part own
-call-part deck n choice replies.InStar fits own = finish-star-fits deck n n.star choice replies.InStar refl fits.part own
-call-part deck n choice replies.Resting fits own = finish-star-fits deck n n.star choice replies.Resting refl fits.part own
-call-part deck n choice replies.Over fits own = finish-star-fits deck n n.star choice replies.Over refl fits.part own
+call-part deck n choice (replies.Turned entries taken closed) fits own = subst (AnyPartFits deck n.tasks.system) (sym (star-turned deck n entries taken)) fits.part
+call-part deck n choice (replies.NotYours holder) fits own = finish-star-fits deck n.tasks.system n n.star choice (replies.NotYours holder) refl fits.part own
+call-part deck n choice (replies.Behind first) fits own = finish-star-fits deck n.tasks.system n n.star choice (replies.Behind first) refl fits.part own
+call-part deck n choice replies.Switched fits own = finish-star-fits deck n.tasks.system n n.star choice replies.Switched refl fits.part own
+call-part deck n choice replies.Already fits own = finish-star-fits deck n.tasks.system n n.star choice replies.Already refl fits.part own
+call-part deck n choice replies.Sole fits own = finish-star-fits deck n.tasks.system n n.star choice replies.Sole refl fits.part own
+call-part deck n choice replies.Sent fits own = finish-star-fits deck n.tasks.system n n.star choice replies.Sent refl fits.part own
+call-part deck n choice (replies.Taken mail) fits own = finish-star-fits deck n.tasks.system n n.star choice (replies.Taken mail) refl fits.part own
+call-part deck n choice replies.Empty fits own = finish-star-fits deck n.tasks.system n n.star choice replies.Empty refl fits.part own
+call-part deck n choice replies.Settled fits own = finish-star-fits deck n.tasks.system n n.star choice replies.Settled refl fits.part own
+call-part deck n choice replies.Told fits own = finish-star-fits deck n.tasks.system n n.star choice replies.Told refl fits.part own
+call-part deck n choice replies.Left fits own = finish-star-fits deck n.tasks.system n n.star choice replies.Left refl fits.part own
+call-part deck n choice (replies.Kept mask) fits own = finish-star-fits deck n.tasks.system n n.star choice (replies.Kept mask) refl fits.part own
+call-part deck n choice replies.Purged fits own = finish-star-fits deck n.tasks.system n n.star choice replies.Purged refl fits.part own
+call-part deck n choice replies.NoSuch fits own = finish-star-fits deck n.tasks.system n n.star choice replies.NoSuch refl fits.part own
+call-part deck n choice replies.InStar fits own = finish-star-fits deck n.tasks.system n n.star choice replies.InStar refl fits.part own
+call-part deck n choice replies.Resting fits own = finish-star-fits deck n.tasks.system n n.star choice replies.Resting refl fits.part own
+call-part deck n choice replies.Over fits own = finish-star-fits deck n.tasks.system n n.star choice replies.Over refl fits.part own
 call-part deck n choice (replies.Stale set) fits own = fits.part
-call-part deck n choice replies.Removed fits own = finish-star-fits deck n n.star choice replies.Removed refl fits.part own
+call-part deck n choice replies.Removed fits own = finish-star-fits deck n.tasks.system n n.star choice replies.Removed refl fits.part own
 
-quiet-part : (deck : Deck) (n : Node) (choice : Choice) → NodeFits deck n → Sends deck choice → AnyPartFits deck (finish_quiet deck n choice).node.star
+quiet-part : (deck : Deck) (n : Node) (choice : Choice) → NodeFits deck n → Sends deck choice → AnyPartFits deck n.tasks.system (finish_quiet deck n choice).node.star
 unfolding finish_quiet
-quiet-part deck n (choices.Task t) fits own = subst (AnyPartFits deck) (sym (star-task deck.limit n t (lines_of deck t))) fits.part
+quiet-part deck n (choices.Task t) fits own = subst (AnyPartFits deck n.tasks.system) (sym (star-task deck.limit n t (lines_of deck t))) fits.part
 quiet-part deck n (choices.Send t) fits own = go n.star refl fits.part
   where
-    go : (o : Option StarPart) → n.star ≡ o → AnyPartFits deck o → AnyPartFits deck (send_own n t o).node.star
-    go None is h = subst (AnyPartFits deck) (sym is) h
-    go (Some p) is h = own-fits deck n.tasks p t (state_of n.tasks t).outstanding h own
+    go : (o : Option StarPart) → n.star ≡ o → AnyPartFits deck n.tasks.system o → AnyPartFits deck n.tasks.system (send_own n t o).node.star
+    go None is h = subst (AnyPartFits deck n.tasks.system) (sym is) h
+    go (Some p) is h = own-fits deck n.tasks.system n.tasks p t (state_of n.tasks t).outstanding h own
 quiet-part deck n choices.Turn fits own = fits.part
 quiet-part deck n choices.Take fits own = fits.part
 quiet-part deck n choices.Settle fits own = fits.part
@@ -540,8 +471,8 @@ sends-call deck n (choices.Purge s) reply fits h = tt
 sends-call deck n choices.Rest reply fits h = tt
 
 -- the system afterwards
-fits-of : (deck : Deck) (n : Node) (m : Node) (s : Step) (fixed : List Fixed) → NodeFits deck n → m.tasks.system ≡ n.tasks.system → stepped m fixed ≡ s → AnyPartFits deck s.node.star → NodeFits deck m
-fits-of deck n m s fixed fits same is h = record { system = subst (λ (k : ℕ). k < length deck.systems) (sym same) fits.system; part = subst (λ (x : Step). AnyPartFits deck x.node.star) (sym is) h }
+fits-of : (deck : Deck) (n : Node) (m : Node) (s : Step) (fixed : List Fixed) → NodeFits deck n → m.tasks.system ≡ n.tasks.system → stepped m fixed ≡ s → AnyPartFits deck n.tasks.system s.node.star → NodeFits deck m
+fits-of deck n m s fixed fits same is h = record { system = subst (λ (k : ℕ). k < length deck.systems) (sym same) fits.system; part = subst (λ (k : ℕ). AnyPartFits deck k m.star) (sym same) (subst (λ (x : Step). AnyPartFits deck n.tasks.system x.node.star) (sym is) h) }
 
 pub quiet-fits-after : (deck : Deck) (n m : Node) (choice : Choice) (fixed : List Fixed) → NodeFits deck n → prepare deck n choice ≡ Quiet → m.tasks.system ≡ n.tasks.system → stepped m fixed ≡ finish_quiet deck n choice → NodeFits deck m
 quiet-fits-after deck n m choice fixed fits h same is = fits-of deck n m (finish_quiet deck n choice) fixed fits same is (quiet-part deck n choice fits (sends-quiet deck n choice fits h))
@@ -550,11 +481,11 @@ pub call-fits-after : (deck : Deck) (n m : Node) (choice : Choice) (reply : Repl
 call-fits-after deck n m choice reply fixed fits h same is = fits-of deck n m (finish_call deck n choice reply) fixed fits same is (call-part deck n choice reply fits (sends-call deck n choice reply fits h))
 
 pub turned-fits-after : (deck : Deck) (n m : Node) (es : List RingEntry) (taken : ℕ) (fixed : List Fixed) → NodeFits deck n → m.tasks.system ≡ n.tasks.system → stepped m fixed ≡ put_in (read_entries deck n es) taken → NodeFits deck m
-turned-fits-after deck n m es taken fixed fits same is = fits-of deck n m (put_in (read_entries deck n es) taken) fixed fits same is (subst (AnyPartFits deck) (sym (star-turned deck n es taken)) fits.part)
+turned-fits-after deck n m es taken fixed fits same is = fits-of deck n m (put_in (read_entries deck n es) taken) fixed fits same is (subst (AnyPartFits deck n.tasks.system) (sym (star-turned deck n es taken)) fits.part)
 
 -- a system that is given up has no part
 pub gone-fits : (deck : Deck) (n m : Node) → NodeFits deck n → m.tasks.system ≡ n.tasks.system → m.star ≡ None → NodeFits deck m
-gone-fits deck n m fits same is = record { system = subst (λ (k : ℕ). k < length deck.systems) (sym same) fits.system; part = subst (AnyPartFits deck) (sym is) tt }
+gone-fits deck n m fits same is = record { system = subst (λ (k : ℕ). k < length deck.systems) (sym same) fits.system; part = subst (AnyPartFits deck m.tasks.system) (sym is) tt }
 
 pub ruleset first = (first-fits)
 

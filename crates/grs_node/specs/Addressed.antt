@@ -1,5 +1,5 @@
 -- To whom the calls of a system go: to systems of the deck, and to lock entries that there are.
-use Rattle.std.specs.Prelude.{◌≡◌, ◌<◌, Bool, true, false, nat_lt, nat_le, length, Option, Some, None}
+use Rattle.std.specs.Prelude.{◌≡◌, ◌<◌, ℕ, Bool, true, false, nat_lt, nat_le, length, Option, Some, None}
 use Rattle.std.specs.List.{list_all}
 use Rattle.contention_mgr.specs.Elements.{all_of}
 use Rattle.grs_base.specs.declared.resource.TaskId.{TaskId}
@@ -11,7 +11,8 @@ use Rattle.grs_wire.specs.declared.deck.Deck.{Deck}
 use Rattle.grs_wire.specs.declared.medium.Act.{Act}
 use Rattle.grs_wire.specs.declared.medium.Act.TheVariants as acts
 
--- Whether an act names systems of the deck and lock entries that there are, and a Turn puts in no more than it may. No
+-- Whether an act goes to a system of the deck and speaks of a lock entry that there is, where it does so, and a Turn puts
+-- in no more than it may. What else an act carries isn't looked at. A Switch or a Purge isn't addressed to anything: no
 -- system changes the mode or removes another yet.
 abbrev pub is_act_addressed : Deck → Act → Bool
 is_act_addressed deck (acts.Turn out) = nat_le (length out) most_additions
@@ -34,20 +35,21 @@ is_addressed deck Nothing = true
 abbrev pub is_within : Deck → TaskId → Bool
 is_within deck t = nat_lt t.system.0 (length deck.systems)
 
--- What a system's part in star mode keeps: there are as many lock entries as the deck says, one at least, and elements and
--- held requests are of systems of the deck.
-pub record PartFits (deck : Deck) (p : StarPart) : Type 0 where
+-- What the part in star mode of the system of a number keeps: its manager is of that system, there are as many lock entries
+-- as the deck says, one at least, and elements and held requests are of systems of the deck.
+pub record PartFits (deck : Deck) (home : ℕ) (p : StarPart) : Type 0 where
+  pub system : p.manager.system.0 ≡ home
   pub some : 0 < deck.entries
   pub entries : length p.manager.entries ≡ deck.entries
   pub interest : length p.interest ≡ deck.entries
   pub elements : all_of (is_within deck) p.manager.entries ≡ true
   pub held : list_all (λ q. is_within deck q.task) p.held ≡ true
 
-abbrev pub AnyPartFits : Deck → Option StarPart → Type 0
-AnyPartFits deck None = Unit {0}
-AnyPartFits deck (Some p) = PartFits deck p
+abbrev pub AnyPartFits : Deck → ℕ → Option StarPart → Type 0
+AnyPartFits deck home None = Unit {0}
+AnyPartFits deck home (Some p) = PartFits deck home p
 
 -- a system of the deck, whose part in star mode fits
 pub record NodeFits (deck : Deck) (n : Node) : Type 0 where
   pub system : n.tasks.system < length deck.systems
-  pub part : AnyPartFits deck n.star
+  pub part : AnyPartFits deck n.tasks.system n.star
