@@ -1,5 +1,5 @@
--- A flag past the last isn't set, and setting it changes nothing.
-use Rattle.std.proofs.Common.{◌≡◌, ◌≤◌, ℕ, zero, suc, Bool, false, List, [], ◌∷◌, length, refl, ap, arith}
+-- Flags. One past the last isn't set, and setting it changes nothing.
+use Rattle.std.proofs.Common.{◌≡◌, ◌≤◌, ℕ, zero, suc, Bool, true, false, ◌&&◌, List, [], ◌∷◌, length, refl, ap, arith}
 use Rattle.std.specs.Prelude.{slice_index_or, slice_set}
 
 pub flag-past : (bs : List Bool) (e : ℕ) → length bs ≤ e → slice_index_or bs e false ≡ false
@@ -13,3 +13,13 @@ set-past (c ∷ bs) zero b h = absurd (omega (arith, h))
 set-past (c ∷ bs) (suc e) b h = ap (λ (xs : List Bool). c ∷ xs) (set-past bs e b (omega (arith, h)))
 
 pub ruleset flags = (flag-past, set-past)
+
+-- two conditions may be looked at in either order
+pub last-first : (a b c : Bool) → (a && (b && c)) ≡ (a && (c && b))
+last-first false b c = refl
+last-first true false false = refl
+last-first true false true = refl
+last-first true true false = refl
+last-first true true true = refl
+
+pub ruleset leaves = (last-first)

@@ -8,6 +8,7 @@ pub mod Finish
 pub mod Flags
 pub mod Calls
 pub mod Keeping
+pub mod Settled
 pub mod Fits
 pub mod InRing
 pub mod Samples

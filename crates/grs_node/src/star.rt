@@ -179,13 +179,15 @@ impl StarPart {
         self.manager.is_empty(entry) && !(self.manager.manages(entry) && self.any_held_of(entry))
     }
 
-    /// Whether a system of these tasks may give up its interest in an entry.
+    /// Whether a system of these tasks may give up its interest in an entry. Its tasks are looked at last, since there are
+    /// many.
+    #[tactic(auto, using(crate::proofs::Flags::leaves))]
     fn may_leave(&self, tasks: &Tasks, entry: u32) -> bool
         ensures { result ≡ star.may_leave self.now tasks.now entry }
     {
         self.has_interest(entry)
-            && !self.any_busy_in(entry, tasks.all())
             && self.is_done_with(entry)
+            && !self.any_busy_in(entry, tasks.all())
     }
 
     /// Whether something is pending: a request that is held, or an owner of another system who is still to be told.

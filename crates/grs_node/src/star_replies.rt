@@ -1,6 +1,6 @@
 //! What the events of star mode come to: what a system decides as a manager, and what the replies to its calls do to its
 //! tasks and its part.
-ghost use Rattle.std.specs.Prelude.{◌≡◌, ◌<◌, ◌==◌, [], true, false, length, drop, IfOk, IfSome, OnOk};
+ghost use Rattle.std.specs.Prelude.{◌≡◌, ◌<◌, ◌==◌, [], Some, true, false, length, drop, IfOk, IfSome, IfNone, OnOk};
 ghost use Rattle.std.specs.Option.{option_copied};
 ghost use Rattle.contention_mgr.specs.Manager.{items_of, managed_at};
 ghost use Rattle.grs_node.specs.Node as steps;
@@ -125,24 +125,15 @@ impl StarPart {
 
     /// A task's request went to the manager of its entry.
     #[tactic(auto, using(crate::proofs::Kept::kept))]
-    fn sent(
-        &mut self,
-        alloc: Global,
-        tasks: &mut Tasks,
-        task: TaskId,
-    ) -> Result<List<Fixed>, NoMemory>
+    fn sent(&mut self, tasks: &mut Tasks, task: TaskId)
         requires { is_task tasks.old task ≡ true }
-        ensures step { IfOk result (λ fixed. starred tasks.new self.new fixed ≡ star.sent_to tasks.old self.old task (star.entry_asked self.old (state_of tasks.old task).outstanding)) }
+        ensures step { starred tasks.new self.new [] ≡ star.sent_to tasks.old self.old task (star.entry_asked self.old (state_of tasks.old task).outstanding) }
         ensures system { tasks.new.system ≡ tasks.old.system }
         ensures count { length tasks.new.tasks ≡ length tasks.old.tasks }
     {
-        match self.entry_asked(tasks.asked(task)) {
-            None => Ok(List::new(alloc)),
-            Some(entry) => {
-                self.set_interest(entry, true);
-                tasks.set_phase(task, Phase::Sent);
-                Ok(List::new(alloc))
-            }
+        if let Some(entry) = self.entry_asked(tasks.asked(task)) {
+            self.set_interest(entry, true);
+            tasks.set_phase(task, Phase::Sent);
         }
     }
 
@@ -161,7 +152,10 @@ impl StarPart {
     {
         match reply {
             Reply::Sole => self.begin_own(alloc, tasks, task),
-            Reply::Sent => self.sent(alloc, tasks, task),
+            Reply::Sent => {
+                self.sent(tasks, task);
+                Ok(List::new(alloc))
+            }
             _ => Ok(List::new(alloc)),
         }
     }
@@ -232,31 +226,34 @@ impl StarPart {
         }
     }
 
-    /// Takes the request out that was held first.
-    fn pop_held(&mut self) -> Option<Req>
-        ensures first { result ≡ star.first_held self.old }
-        ensures rest { self.new ≡ record self.old { held = drop 1 self.old.held } }
+    /// Takes the request out that was held first, if it is of an entry that the system manages.
+    fn pop_served(&mut self) -> Option<Req>
+        ensures first { IfSome result (λ req. star.first_held self.old ≡ Some req) }
+        ensures served { IfSome result (λ req. star.serves self.old req ≡ true) }
+        ensures rest { IfSome result (λ _. self.new ≡ record self.old { held = drop 1 self.old.held }) }
+        ensures none { IfNone result (star.serves_any self.old (star.first_held self.old) ≡ false) }
+        ensures same { IfNone result (self.new ≡ self.old) }
     {
-        self.held.pop_front()
+        if self.serves_first() {
+            self.held.pop_front()
+        } else {
+            None
+        }
     }
 
     /// The request that was held first was settled: control for the own tasks that became owners.
+    #[tactic(auto, using(crate::proofs::Settled::settles))]
     fn settled(&mut self, alloc: Global, tasks: &mut Tasks) -> Result<List<Fixed>, NoMemory>
         ensures step { IfOk result (λ fixed. starred tasks.new self.new fixed ≡ star.settled_by tasks.old self.old (star.first_held self.old)) }
         ensures system { tasks.new.system ≡ tasks.old.system }
         ensures count { length tasks.new.tasks ≡ length tasks.old.tasks }
     {
-        if !self.serves_first() {
+        let Some(req) = self.pop_served() else {
             return Ok(List::new(alloc));
-        }
-        match self.pop_held() {
-            None => Ok(List::new(alloc)),
-            Some(req) => {
-                let outcome = self.manager.settle(&req)?;
-                tell_new(tasks, res_of(&req.want), outcome.owners.as_slice())?;
-                asked_alone(alloc, req)
-            }
-        }
+        };
+        let outcome = self.manager.settle(&req)?;
+        tell_new(tasks, res_of(&req.want), outcome.owners.as_slice())?;
+        asked_alone(alloc, req)
     }
 
     /// An owner of another system was told.
@@ -312,9 +309,8 @@ impl StarPart {
         requires { star.may_leave self.old tasks.now entry ≡ true }
         ensures { starred tasks.now self.new [] ≡ star.leave_step tasks.now self.old entry reply.now }
     {
-        match reply {
-            Reply::Left => self.left(entry),
-            _ => {}
+        if let Reply::Left = reply {
+            self.left(entry);
         }
     }
 
