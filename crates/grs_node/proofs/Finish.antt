@@ -1,13 +1,12 @@
--- A call without an entry in the journal is finished with nothing changed.
-use Rattle.std.proofs.Common.{◌≡◌, ℕ, false, [], ◌∷◌, Option, Some, None, refl, ap, sym, ◌∙◌}
+-- A reply that says nothing new leaves the system, and so does a call without an entry in the journal.
+use Rattle.std.proofs.Common.{◌≡◌, ℕ, [], ◌∷◌, Option, Some, None, refl, ap, sym, ◌∙◌}
 use Rattle.std.specs.Prelude.{◌==◌, not}
 use Rattle.std.proofs.lemmas.Bool.{and_parts, eqb-true}
 use Rattle.grs_wire.specs.declared.medium.Reply.TheVariants as replies
-use Rattle.grs_node.specs.Finish.{UnjournalledLeaves}
+use Rattle.grs_node.specs.Finish.{UnjournalledLeaves, RepliesLeave}
 use Rattle.grs_node.specs.Log.{finished}
 use Rattle.grs_base.specs.declared.resource.TaskId.{TaskId}
 use Rattle.grs_node.specs.Node.{Node, only, with_star, take_step, star_step, read_entries, all_sent, put_in, finish_star, finish_call, finish}
-use Rattle.grs_node.specs.Log.{NodeView}
 use Rattle.grs_node.specs.Star.{StarPart, quiet_step, send_step, settle_step, tell_step, leave_step}
 use Rattle.grs_wire.specs.declared.deck.Choice.{Choice}
 use Rattle.grs_wire.specs.declared.deck.Choice.TheVariants as choices
@@ -40,31 +39,32 @@ still deck n choice reply same = go n.star refl
     go None is = refl
     go (Some p) is = ap (with_star n) (same p) ∙ restored n p is
 
-still-view : (v : NodeView) (choice : Choice) (reply : Reply) → finish_star v.deck v.node v.node.star choice reply ≡ only v.node → record v { node = (finish_star v.deck v.node v.node.star choice reply).node } ≡ v
-still-view v choice reply h = ap (λ s. record v { node = s.node }) h
+pub replies_leave : RepliesLeave
+unfolding finish finish_call put_in all_sent read_entries
+replies_leave deck n choice (replies.NotYours holder) h = still deck n choice (replies.NotYours holder) (λ p. by-choice deck n.tasks p (replies.NotYours holder) (λ t. refl) refl refl (λ e. refl) (λ e. refl) choice)
+replies_leave deck n choice (replies.Behind first) h = still deck n choice (replies.Behind first) (λ p. by-choice deck n.tasks p (replies.Behind first) (λ t. refl) refl refl (λ e. refl) (λ e. refl) choice)
+replies_leave deck n choice replies.Empty h = still deck n choice replies.Empty (λ p. by-choice deck n.tasks p replies.Empty (λ t. refl) refl refl (λ e. refl) (λ e. refl) choice)
+replies_leave deck n choice (replies.Kept mask) h = still deck n choice (replies.Kept mask) (λ p. by-choice deck n.tasks p (replies.Kept mask) (λ t. refl) refl refl (λ e. refl) (λ e. refl) choice)
+replies_leave deck n choice replies.Resting h = still deck n choice replies.Resting (λ p. by-choice deck n.tasks p replies.Resting (λ t. refl) refl refl (λ e. refl) (λ e. refl) choice)
+replies_leave deck n choice replies.Over h = still deck n choice replies.Over (λ p. by-choice deck n.tasks p replies.Over (λ t. refl) refl refl (λ e. refl) (λ e. refl) choice)
+replies_leave deck n choice replies.Removed h = still deck n choice replies.Removed (λ p. by-choice deck n.tasks p replies.Removed (λ t. refl) refl refl (λ e. refl) (λ e. refl) choice)
+replies_leave deck n choice (replies.Turned [] taken closed) h =
+    let none : taken ≡ 0 = eqb-true taken 0 (and_parts (taken == 0) (not closed) h).0 in
+    ap (λ k. finish deck n choice (Some (replies.Turned [] k closed))) none
+replies_leave deck n choice (replies.Turned (e ∷ es) taken closed) h = absurd (cc)
+replies_leave deck n choice (replies.Stale set) h = absurd (cc)
+replies_leave deck n choice replies.Switched h = absurd (cc)
+replies_leave deck n choice replies.Already h = absurd (cc)
+replies_leave deck n choice replies.Sole h = absurd (cc)
+replies_leave deck n choice replies.Sent h = absurd (cc)
+replies_leave deck n choice (replies.Taken mail) h = absurd (cc)
+replies_leave deck n choice replies.Settled h = absurd (cc)
+replies_leave deck n choice replies.Told h = absurd (cc)
+replies_leave deck n choice replies.Left h = absurd (cc)
+replies_leave deck n choice replies.Purged h = absurd (cc)
+replies_leave deck n choice replies.NoSuch h = absurd (cc)
+replies_leave deck n choice replies.InStar h = absurd (cc)
 
 pub unjournalled_leaves : UnjournalledLeaves
-unfolding finished finish finish_call put_in all_sent read_entries
-unjournalled_leaves v choice (replies.NotYours holder) h = still-view v choice (replies.NotYours holder) (still v.deck v.node choice (replies.NotYours holder) (λ p. by-choice v.deck v.node.tasks p (replies.NotYours holder) (λ t. refl) refl refl (λ e. refl) (λ e. refl) choice))
-unjournalled_leaves v choice (replies.Behind first) h = still-view v choice (replies.Behind first) (still v.deck v.node choice (replies.Behind first) (λ p. by-choice v.deck v.node.tasks p (replies.Behind first) (λ t. refl) refl refl (λ e. refl) (λ e. refl) choice))
-unjournalled_leaves v choice replies.Empty h = still-view v choice replies.Empty (still v.deck v.node choice replies.Empty (λ p. by-choice v.deck v.node.tasks p replies.Empty (λ t. refl) refl refl (λ e. refl) (λ e. refl) choice))
-unjournalled_leaves v choice (replies.Kept mask) h = still-view v choice (replies.Kept mask) (still v.deck v.node choice (replies.Kept mask) (λ p. by-choice v.deck v.node.tasks p (replies.Kept mask) (λ t. refl) refl refl (λ e. refl) (λ e. refl) choice))
-unjournalled_leaves v choice replies.Resting h = still-view v choice replies.Resting (still v.deck v.node choice replies.Resting (λ p. by-choice v.deck v.node.tasks p replies.Resting (λ t. refl) refl refl (λ e. refl) (λ e. refl) choice))
-unjournalled_leaves v choice replies.Over h = still-view v choice replies.Over (still v.deck v.node choice replies.Over (λ p. by-choice v.deck v.node.tasks p replies.Over (λ t. refl) refl refl (λ e. refl) (λ e. refl) choice))
-unjournalled_leaves v choice replies.Removed h = still-view v choice replies.Removed (still v.deck v.node choice replies.Removed (λ p. by-choice v.deck v.node.tasks p replies.Removed (λ t. refl) refl refl (λ e. refl) (λ e. refl) choice))
-unjournalled_leaves v choice (replies.Turned [] taken closed) h =
-    let none : taken ≡ 0 = eqb-true taken 0 (and_parts (taken == 0) (not closed) h.1).0 in
-    ap (λ k. finished v choice (Some (replies.Turned [] k closed, false))) none
-unjournalled_leaves v choice (replies.Turned (e ∷ es) taken closed) h = absurd (let k = h.1 in cc)
-unjournalled_leaves v choice (replies.Stale set) h = absurd (let k = h.1 in cc)
-unjournalled_leaves v choice replies.Switched h = absurd (let k = h.1 in cc)
-unjournalled_leaves v choice replies.Already h = absurd (let k = h.1 in cc)
-unjournalled_leaves v choice replies.Sole h = absurd (let k = h.1 in cc)
-unjournalled_leaves v choice replies.Sent h = absurd (let k = h.1 in cc)
-unjournalled_leaves v choice (replies.Taken mail) h = absurd (let k = h.1 in cc)
-unjournalled_leaves v choice replies.Settled h = absurd (let k = h.1 in cc)
-unjournalled_leaves v choice replies.Told h = absurd (let k = h.1 in cc)
-unjournalled_leaves v choice replies.Left h = absurd (let k = h.1 in cc)
-unjournalled_leaves v choice replies.Purged h = absurd (let k = h.1 in cc)
-unjournalled_leaves v choice replies.NoSuch h = absurd (let k = h.1 in cc)
-unjournalled_leaves v choice replies.InStar h = absurd (let k = h.1 in cc)
+unfolding finished
+unjournalled_leaves v choice reply h = ap (λ s. record v { node = s.node }) (replies_leave v.deck v.node choice reply h.1)

@@ -1,12 +1,13 @@
 -- With what a choice may be finished.
 use Rattle.std.specs.Prelude.{◌≡◌, Bool, true, false, ◌&&◌, ◌||◌, ◌==◌, nat_le, not, [], length, Option, Some, None}
 use Rattle.grs_wire.specs.declared.deck.Choice.{Choice}
+use Rattle.grs_wire.specs.declared.deck.Deck.{Deck}
 use Rattle.grs_wire.specs.declared.medium.Act.{Act}
 use Rattle.grs_wire.specs.declared.medium.Act.TheVariants as acts
 use Rattle.grs_wire.specs.declared.medium.Reply.{Reply}
 use Rattle.grs_wire.specs.declared.medium.Reply.TheVariants as replies
 use Rattle.grs_node.specs.Log.{NodeView, finished}
-use Rattle.grs_node.specs.Node.{prepare}
+use Rattle.grs_node.specs.Node.{Node, only, prepare, finish}
 use Rattle.grs_node.specs.declared.prepared.Prepared.{Prepared}
 use Rattle.grs_node.specs.declared.prepared.Prepared.TheVariants.{Quiet, Call, Nothing}
 
@@ -62,3 +63,7 @@ MayFinish v choice (Some r) = (may_come (prepare v.deck v.node choice) r.0 ≡ t
 -- A finish of a call without an entry in the journal leaves the system as it is, its log too.
 abbrev pub UnjournalledLeaves : Type 0
 UnjournalledLeaves = (v : NodeView) (choice : Choice) (reply : Reply) → MayFinish v choice (Some (reply, false)) → finished v choice (Some (reply, false)) ≡ v
+
+-- A reply that leaves the system as it is leaves it so whatever the choice, and fixes nothing.
+abbrev pub RepliesLeave : Type 0
+RepliesLeave = (deck : Deck) (n : Node) (choice : Choice) (reply : Reply) → leaves_all reply ≡ true → finish deck n choice (Some reply) ≡ only n

@@ -7,6 +7,7 @@ pub mod laws;
 mod lines;
 mod node;
 mod prepared;
+mod replies;
 mod scripts;
 mod star;
 mod star_replies;
@@ -16,4 +17,5 @@ mod turn;
 
 pub use node::Node;
 pub use prepared::{Prepared, TurnCall};
+pub use replies::leaves_all;
 pub use star::Need;

@@ -15,7 +15,7 @@ ghost use Rattle.grs_world.specs.Running.{AreOf, nodes_of, node_at};
 
 use grs_base::{List, NoMemory, SysId};
 use grs_medium::{Medium, TurnReply};
-use grs_node::{Node, Prepared, TurnCall};
+use grs_node::{Node, Prepared, TurnCall, leaves_all};
 use grs_wire::{Call, Choice, Deck, Fixed, Reply, ToldLine};
 use std::alloc::Global;
 
@@ -59,9 +59,41 @@ fn finished(node: &mut Node<'_>, choice: &Choice, reply: Option<Reply>) -> Resul
     Ok(take_done(node))
 }
 
+/// Nothing fixed and nothing told.
+fn nothing_done(alloc: Global) -> Done
+    ensures { result ≡ record { fixed = []; told = [] } }
+{
+    Done {
+        fixed: List::new(alloc),
+        told: List::new(alloc),
+    }
+}
+
+/// A reply to a call that was prepared. One that leaves the system as it is, as most do where systems look into empty
+/// inboxes, costs nothing more.
+#[tactic(auto, using(crate::proofs::code::Logged::logged_steps, crate::proofs::code::Logged::leaving_steps))]
+fn replied(
+    alloc: Global,
+    node: &mut Node<'_>,
+    choice: &Choice,
+    reply: Reply,
+) -> Result<Done, NoMemory>
+    requires { MayFinish node.old choice.now (journalled (Some reply)) }
+    ensures node { OnOk result (node.new.node ≡ (steps.finish node.old.deck node.old.node choice.now (Some reply)).node) }
+    ensures done { IfOk result (λ done. done ≡ done_by node.old.node (steps.finish node.old.deck node.old.node choice.now (Some reply))) }
+    ensures deck { node.new.deck ≡ node.old.deck }
+{
+    if leaves_all(&reply) {
+        Ok(nothing_done(alloc))
+    } else {
+        finished(node, choice, Some(reply))
+    }
+}
+
 /// A call that was prepared, and its reply.
 #[tactic(auto, using(crate::proofs::code::Calls::calls, crate::proofs::code::Words::words, crate::proofs::code::Listed::listed))]
 fn called(
+    alloc: Global,
     medium: &mut Medium,
     system: SysId,
     node: &mut Node<'_>,
@@ -82,7 +114,7 @@ fn called(
 {
     medium.reserve(system, &call)?;
     let reply = medium.apply(system, call);
-    finished(node, choice, Some(reply))
+    replied(alloc, node, choice, reply)
 }
 
 /// A Turn is finished with its reply.
@@ -99,16 +131,6 @@ fn finished_turn(node: &mut Node<'_>, reply: TurnReply) -> Result<Done, NoMemory
             Ok(take_done(node))
         }
         other => finished(node, &Choice::Turn, Some(other.into_reply())),
-    }
-}
-
-/// Nothing fixed and nothing told.
-fn nothing_done(alloc: Global) -> Done
-    ensures { result ≡ record { fixed = []; told = [] } }
-{
-    Done {
-        fixed: List::new(alloc),
-        told: List::new(alloc),
     }
 }
 
@@ -181,7 +203,7 @@ fn choose(
     match node.prepare(choice)? {
         Prepared::Nothing => Ok(nothing_done(alloc)),
         Prepared::Quiet => finished(node, choice, None),
-        Prepared::Call(call) => called(medium, system, node, choice, call),
+        Prepared::Call(call) => called(alloc, medium, system, node, choice, call),
     }
 }
 

@@ -1,11 +1,13 @@
 -- What the event that is taken out of a log fixed and told.
-use Rattle.std.proofs.Common.{◌≡◌, true, false, List, [], ◌∷◌, ◌++◌, length, drop, Option, Some, None, refl}
+use Rattle.std.proofs.Common.{◌≡◌, true, false, List, [], ◌∷◌, ◌++◌, length, drop, Option, Some, None, refl, ap, sym, ◌∙◌}
 use Rattle.std.specs.Prelude.{◌≢◌}
 use Rattle.grs_wire.specs.declared.deck.Choice.{Choice}
 use Rattle.grs_wire.specs.declared.log.StepDone.{StepDone}
 use Rattle.grs_wire.specs.declared.medium.Reply.{Reply}
+use Rattle.grs_node.specs.Finish.{leaves_all}
 use Rattle.grs_node.specs.Node.{finish}
 use Rattle.grs_node.specs.Log.{NodeView, step_done, finished}
+use Rattle.grs_node.proofs.Finish.{replies_leave}
 use Rattle.grs_world.specs.Done.{done_of, last_done, done_by, journalled}
 
 -- nothing is behind all lines
@@ -39,6 +41,15 @@ pub finished-some : (v : NodeView) (choice : Choice) (reply : Option Reply) → 
 unfolding finished
 finished-some v choice None = some-behind v.log (step_done v.node choice false (finish v.deck v.node choice None))
 finished-some v choice (Some reply) = some-behind v.log (step_done v.node choice true (finish v.deck v.node choice (Some reply)))
+
+-- a reply that leaves the system as it is
+pub left-node : (v : NodeView) (choice : Choice) (reply : Reply) → leaves_all reply ≡ true → v.node ≡ (finish v.deck v.node choice (Some reply)).node
+left-node v choice reply h = sym (ap (λ s. s.node) (replies_leave v.deck v.node choice reply h))
+
+pub left-done : (v : NodeView) (choice : Choice) (reply : Reply) → leaves_all reply ≡ true → record { fixed = []; told = [] } ≡ done_by v.node (finish v.deck v.node choice (Some reply))
+left-done v choice reply h = ap (λ ls. record { fixed = []; told = ls }) (sym (drop-all v.node.tasks.told)) ∙ sym (ap (done_by v.node) (replies_leave v.deck v.node choice reply h))
+
+pub ruleset leaving_steps = (left-node, left-done)
 
 pub ruleset taken_steps = (last_done-behind)
 
