@@ -1,5 +1,6 @@
 -- Numbers of resources, and the marks under them.
-use Rattle.std.proofs.Common.{◌≡◌, ◌≤◌, ◌<◌, ◌+◌, ℕ, Bool, true, false, cond, ◌&&◌, List, [], ◌∷◌, ◌++◌, length, Option, Some, None, refl, ap, sym, ◌∙◌, arith, eqb, length-append}
+use Rattle.std.proofs.Common.{◌≡◌, ◌≤◌, ◌<◌, ◌+◌, ℕ, Bool, true, false, cond, ◌&&◌, List, [], ◌∷◌, ◌++◌, length, map, Option, Some, None, refl, ap, sym, ◌∙◌, arith, eqb, length-append}
+use Rattle.std.specs.List.{list_all}
 use Rattle.std.specs.Map.{lookup}
 use Rattle.std.proofs.lemmas.Bool.Decides.{nat_tests}
 use Rattle.std.proofs.lemmas.Bool.{ne_eqb}
@@ -7,8 +8,9 @@ use Rattle.grs_base.specs.Same.{same_res, same_task}
 use Rattle.grs_base.specs.declared.resource.Res.{Res}
 use Rattle.grs_base.specs.declared.resource.TaskId.{TaskId}
 use Rattle.grs_base.proofs.SameLaws.{same_res-exact, same_res-itself}
-use Rattle.contention_mgr.specs.Marks.{mark_under, numbered_from}
+use Rattle.contention_mgr.specs.Marks.{same_spot, mark_under, numbered_from, untold_in, is_told, with_told}
 use Rattle.contention_mgr.specs.declared.marks.Mark.{Mark}
+use Rattle.contention_mgr.specs.declared.marks.Spot.{Spot}
 
 abbrev Numbers : Type 0
 Numbers = List (Res × ℕ)
@@ -92,3 +94,40 @@ fresh-put es p n t k f g h e change fresh j u far =
     let below : n < 0 + length es = number-below 0 es p n h e in
     let apart : eqb n j ≡ false = ne_eqb n j (λ i. omega (arith, i)) in
     change j u ∙ ap (λ (b : Bool). cond (b && same_task t u) (Some k) (f j u)) apart ∙ fresh j u far
+
+-- and so does a change of a mark that leaves it away where there is none
+pub fresh-change : (m n : ℕ) (t : TaskId) (w : Option Mark → Option Mark) (f g : ℕ → TaskId → Option Mark) → ((k : ℕ) (u : TaskId) → g k u ≡ cond (eqb n k && same_task t u) (w (f k u)) (f k u)) → w None ≡ None → ((k : ℕ) (u : TaskId) → m ≤ k → f k u ≡ None) → (k : ℕ) (u : TaskId) → m ≤ k → g k u ≡ None
+fresh-change m n t w f g change none fresh k u far = change k u ∙ ap (λ (o : Option Mark). cond (eqb n k && same_task t u) (w o) o) (fresh k u far) ∙ go (eqb n k && same_task t u)
+  where
+    go : (b : Bool) → cond b (w None) None ≡ None
+    go true = none
+    go false = refl
+
+-- ---- who is told
+-- where all marks are of tasks that are told, so is each
+pub told-each : (es : List (Spot × Mark)) → list_all is_told (map (λ e. e.1) es) ≡ true → (s : Spot) → untold_in (lookup (same_spot s) es) ≡ false
+told-each [] h s = refl
+told-each (e ∷ es) h s = grind (arith, h, told-each es)
+
+-- A change of one mark to one that is told, or to none, leaves it so; and where it wasn't so, all marks were looked at.
+pub told-change : (told after : Bool) (n : ℕ) (t : TaskId) (w : Option Mark → Option Mark) (f : ℕ → TaskId → Option Mark) (es : List (Spot × Mark)) → ((k : ℕ) (u : TaskId) → lookup (same_spot (record { number = k; task = u })) es ≡ cond (eqb n k && same_task t u) (w (f k u)) (f k u))
+    → (after ≡ true → (o : Option Mark) → untold_in o ≡ false → untold_in (w o) ≡ false) → (after ≡ true → told ≡ false → list_all is_told (map (λ e. e.1) es) ≡ true) → (told ≡ true → (k : ℕ) (u : TaskId) → untold_in (f k u) ≡ false)
+    → after ≡ true → (k : ℕ) (u : TaskId) → untold_in (lookup (same_spot (record { number = k; task = u })) es) ≡ false
+told-change false after n t w f es change keeps looked old now k u = told-each es (looked now refl) (record { number = k; task = u })
+told-change true after n t w f es change keeps looked old now k u = ap untold_in (change k u) ∙ go (eqb n k && same_task t u)
+  where
+    go : (b : Bool) → untold_in (cond b (w (f k u)) (f k u)) ≡ false
+    go true = keeps now (f k u) (old refl k u)
+    go false = old refl k u
+
+-- a mark that is set to told is
+pub told-set : (untold : Bool) → untold ≡ false → (o : Option Mark) → untold_in (with_told untold o) ≡ false
+told-set untold h None = refl
+told-set untold h (Some m) = h
+
+pub told-put : (told : Bool) (m : Mark) → (told && is_told m) ≡ true → m.untold ≡ false
+told-put told m h = grind (arith, h)
+
+pub told-before : (told : Bool) (m : Mark) → (told && is_told m) ≡ true → told ≡ false → {P : Type 0} → P
+told-before true m h k = cc
+told-before false m h k = cc

@@ -1,6 +1,6 @@
 -- What is kept beside the lists of an entry: each resource that had an element has a number, and each element, by the
 -- number of its resource and its task, has its mark.
-use Rattle.std.specs.Prelude.{◌≡◌, ℕ, ◌+◌, Bool, true, false, ◌&&◌, ◌||◌, ◌==◌, List, [], ◌∷◌, map, Option, Some, None, is_some}
+use Rattle.std.specs.Prelude.{◌≡◌, ℕ, ◌+◌, Bool, true, false, not, ◌&&◌, ◌||◌, ◌==◌, List, [], ◌∷◌, map, Option, Some, None, is_some}
 use Rattle.std.specs.Map.{lookup}
 use Rattle.grs_base.specs.Same.{same_res, same_task}
 use Rattle.grs_base.specs.State.{State, is_at}
@@ -48,6 +48,10 @@ rank_in (Some m) = m.rank
 abbrev pub untold_in : Option Mark → Bool
 untold_in None = false
 untold_in (Some m) = m.untold
+
+-- whether a mark is of a task that isn't to be told
+abbrev pub is_told : Mark → Bool
+is_told m = not m.untold
 
 -- the elements with what their marks say
 abbrev pub ranked : (Res → TaskId → Option Mark) → Res × Elem → Ranked

@@ -2,14 +2,15 @@
 //! beside the lists: each resource that had an element has a number, and each element is found by that number and its
 //! task. Nothing here knows who owns.
 ghost use Rattle.std.specs.Prelude.{◌≡◌, ◌≤◌, ◌++◌, ◌∷◌, [], ◌&&◌, ℕ, true, false, cond, length, None, Some, is_some, IfSome, IfNone, IfOk, OnOk, OnErr};
+ghost use Rattle.std.specs.List.{list_all};
 ghost use Rattle.std.specs.Map.{lookup};
 ghost use Rattle.std.specs.Ordering.{is_lt};
 ghost use Rattle.grs_base.specs.ResOrder.{res_order};
-ghost use Rattle.indexmap.specs.IndexMap.{spare};
+ghost use Rattle.indexmap.specs.IndexMap.{spare, values};
 ghost use Rattle.grs_base.specs.Same.{same_res, same_task};
 ghost use Rattle.grs_base.specs.declared.resource.Res.{Res as ResValue};
 ghost use Rattle.grs_base.specs.declared.resource.TaskId.{TaskId as TaskValue};
-ghost use Rattle.contention_mgr.specs.Marks.{same_spot, mark_at, mark_in, numbered_from, with_told};
+ghost use Rattle.contention_mgr.specs.Marks.{same_spot, mark_at, mark_in, numbered_from, untold_in, is_told, with_told};
 ghost use Rattle.contention_mgr.specs.Untold.{is_to_tell};
 ghost use Rattle.contention_mgr.specs.declared.marks.Spot.{Spot as SpotValue};
 
@@ -34,13 +35,15 @@ pub(crate) struct Spot {
 }
 
 /// The marks of the elements of one entry. `names` has the resources that had an element, each with its place among
-/// them as its number.
+/// them as its number; where `told` is set, nobody is still to be told.
 #[derive(Drop)]
 pub(crate) struct Marks {
     pub names: IndexMap<Res, usize>,
     pub marks: IndexMap<Spot, Mark>,
+    told: bool,
     ghost numbered: { numbered_from 0 names.entries ≡ true },
     ghost fresh: { (n : ℕ) (t : TaskValue) → length names.entries ≤ n → mark_at marks.entries n t ≡ None },
+    ghost all_told: { told ≡ true → (n : ℕ) (t : TaskValue) → untold_in (mark_at marks.entries n t) ≡ false },
 }
 
 /// The number of a resource, if it has one.
@@ -99,11 +102,50 @@ fn put_mark(marks: &mut IndexMap<Spot, Mark>, spot: Spot, mark: Mark)
     }
 }
 
-/// Takes the mark at a spot away.
-fn take_mark(marks: &mut IndexMap<Spot, Mark>, spot: Spot)
+/// Takes the mark at a spot away, if there is one.
+fn take_mark(marks: &mut IndexMap<Spot, Mark>, spot: Spot) -> Option<Mark>
     ensures { (s : SpotValue) → lookup (same_spot s) marks.new.entries ≡ cond (same_spot spot s) None (lookup (same_spot s) marks.old.entries) }
 {
-    let _ = marks.swap_remove(&spot);
+    marks.swap_remove(&spot)
+}
+
+/// Whether by no mark a task is still to be told.
+fn are_told(marks: &IndexMap<Spot, Mark>) -> bool
+    ensures { result ≡ list_all is_told (values marks.now) }
+{
+    marks.values().all(|mark| !mark.untold)
+}
+
+/// Whether nobody is still to be told once a mark was added.
+fn told_with(told: bool, mark: Mark) -> bool
+    ensures { result ≡ (told && is_told mark) }
+{
+    told && !mark.untold
+}
+
+/// Whether nobody is still to be told once a mark was taken away. That need be looked for only where it was of a task that
+/// was still to be told.
+fn told_without(told: bool, mark: Option<Mark>, marks: &IndexMap<Spot, Mark>) -> bool
+    ensures { result ≡ true → told ≡ false → list_all is_told (values marks.now) ≡ true }
+{
+    match mark {
+        Some(mark) if mark.untold => are_told(marks),
+        _ => told,
+    }
+}
+
+/// Whether nobody is still to be told once a mark was set.
+fn told_after(told: bool, untold: bool, marks: &IndexMap<Spot, Mark>) -> bool
+    ensures set { result ≡ true → untold ≡ false }
+    ensures all { result ≡ true → told ≡ false → list_all is_told (values marks.now) ≡ true }
+{
+    if untold {
+        false
+    } else if told {
+        true
+    } else {
+        are_told(marks)
+    }
 }
 
 /// The task at a spot is still to be told, or was told.
@@ -124,6 +166,7 @@ impl Marks {
         Marks {
             names: IndexMap::new(alloc),
             marks: IndexMap::new(alloc),
+            told: true,
         }
     }
 
@@ -169,6 +212,7 @@ impl Marks {
         let number = self.number(alloc, res)?;
         reserve_mark(&mut self.marks)?;
         put_mark(&mut self.marks, Spot { number, task }, mark);
+        self.told = told_with(self.told, mark);
         Ok(())
     }
 
@@ -177,7 +221,8 @@ impl Marks {
         ensures { (r : ResValue) (t : TaskValue) → mark_in self.new.names.entries self.new.marks.entries r t ≡ cond (same_res res.now r && same_task task t) None (mark_in self.old.names.entries self.old.marks.entries r t) }
     {
         if let Some(number) = number_of(&self.names, res) {
-            take_mark(&mut self.marks, Spot { number, task });
+            let mark = take_mark(&mut self.marks, Spot { number, task });
+            self.told = told_without(self.told, mark, &self.marks);
         }
     }
 
@@ -187,6 +232,7 @@ impl Marks {
     {
         if let Some(number) = number_of(&self.names, res) {
             set_mark(&mut self.marks, Spot { number, task }, untold);
+            self.told = told_after(self.told, untold, &self.marks);
         }
     }
 
@@ -196,6 +242,9 @@ impl Marks {
         ensures there { IfSome result (λ r. (t : TaskValue) × (is_to_tell home.0 t (mark_in self.now.names.entries self.now.marks.entries r.now t) ≡ true)) }
         ensures first { IfSome result (λ r. (p : ResValue) (t : TaskValue) → is_to_tell home.0 t (mark_in self.now.names.entries self.now.marks.entries p t) ≡ true → is_lt (res_order p r.now) ≡ false) }
     {
+        if self.told {
+            return None;
+        }
         match least_number(&self.names, &self.marks, home) {
             Some(number) => match self.names.get_index(number) {
                 Some((res, _)) => Some(res),
