@@ -11,7 +11,9 @@ use Rattle.grs_node.specs.Node.{Node, only, prepare, finish}
 use Rattle.grs_node.specs.declared.prepared.Prepared.{Prepared}
 use Rattle.grs_node.specs.declared.prepared.Prepared.TheVariants.{Quiet, Call, Nothing}
 
--- Whether a reply is of a kind that the medium gives to an act. A Turn has taken at most what it was to put in.
+-- Whether a reply is of a kind that the medium gives to an act. A Turn has taken at most what it was to put in. One at a
+-- closed message is such a reply too. By it a system is to change to star mode; until that is built it changes nothing, and no
+-- message is closed.
 abbrev pub is_listed : Act → Reply → Bool
 is_listed act replies.Removed = true
 is_listed act (replies.Stale set) = true
