@@ -11,7 +11,8 @@ use Rattle.grs_base.specs.declared.resource.Res.{Res}
 use Rattle.grs_base.specs.declared.resource.TaskId.{TaskId}
 use Rattle.grs_base.proofs.SameLaws.{same_res-exact, same_res-itself, same_task-exact, same_task-itself}
 use Rattle.contention_mgr.specs.Manager.{Ranked, plain, made_exclusive, taken_out, with_mark, with_control}
-use Rattle.contention_mgr.specs.Marks.{with_told, rank_in, untold_in, ranked_all, holds, AreMarked}
+use Rattle.contention_mgr.specs.Elements.{holds}
+use Rattle.contention_mgr.specs.Marks.{with_told, rank_in, untold_in, ranked_all, AreMarked}
 use Rattle.contention_mgr.specs.declared.marks.Mark.{Mark}
 
 abbrev pub Marking : Type 0

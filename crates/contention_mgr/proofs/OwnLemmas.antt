@@ -24,7 +24,7 @@ use Rattle.grs_wire.specs.declared.request.Want.{Want}
 use Rattle.grs_wire.specs.declared.request.Want.TheVariants.{Enq, Deq, Release, Look}
 use Rattle.queue_table.proofs.OwnerLemmas.{became_owners-enq}
 use Rattle.contention_mgr.specs.Manager.{Ranked, Managed, plain, is_of, marked, made_exclusive, taken_out, with_mark, with_control, enqueued, given_up, settled}
-use Rattle.contention_mgr.specs.Marks.{holds}
+use Rattle.contention_mgr.specs.Elements.{holds}
 use Rattle.contention_mgr.specs.Loads.{RankedRow, ranked_list, ranked_rows}
 use Rattle.contention_mgr.specs.Laws.{untold_pass, owns_by, is_elsewhere, UntoldOwnBegins, LoadedUntoldOwn, UntoldStayOwners, TellingKeepsUntoldOwn, FirstUntoldOwns, untold_at, gains, UntoldFollow, GainersAreUntold, TellingTells, LoadedAreTold}
 use Rattle.contention_mgr.proofs.ItemLemmas.{holds-list, holds-push, holds-without, holds-exclusive}

@@ -21,7 +21,8 @@ use Rattle.grs_wire.specs.declared.request.Answer.TheVariants.{Coded}
 use Rattle.grs_wire.specs.declared.request.Want.{Want}
 use Rattle.grs_wire.specs.declared.request.Want.TheVariants.{Enq, Deq, Release}
 use Rattle.contention_mgr.specs.Manager.{Ranked, Managed, plain, taken_out, with_control, enqueued, given_up, settled, appends, queues, rank_given}
-use Rattle.contention_mgr.specs.Marks.{ranked_all, entry_of_parts, holds, AreMarked, is_gone}
+use Rattle.contention_mgr.specs.Elements.{holds}
+use Rattle.contention_mgr.specs.Marks.{ranked_all, entry_of_parts, AreMarked, is_gone}
 use Rattle.contention_mgr.specs.declared.marks.Mark.{Mark}
 use Rattle.contention_mgr.proofs.ItemLemmas.{Marking, plain-ranked, ranked-same, ranked-push, ranked-exclusive, holds-list, marked-push, marked-exclusive, marked-same}
 

@@ -18,7 +18,8 @@ use Rattle.grs_base.specs.declared.resource.TaskId.{TaskId}
 use Rattle.grs_base.proofs.OrderLaws.{res_total, res_order-IsAntisymmetric}
 use Rattle.grs_base.proofs.SameLaws.{same_res-exact, same_res-itself, same_task-exact, same_task-itself}
 use Rattle.contention_mgr.specs.Manager.{Ranked, is_untold, any_untold_in, sooner, first_untold, owner_of}
-use Rattle.contention_mgr.specs.Marks.{same_spot, mark_at, mark_under, mark_in, numbered_from, ranked, ranked_all, holds, AreMarked}
+use Rattle.contention_mgr.specs.Elements.{holds}
+use Rattle.contention_mgr.specs.Marks.{same_spot, mark_at, mark_under, mark_in, numbered_from, ranked, ranked_all, AreMarked}
 use Rattle.contention_mgr.specs.Untold.{is_to_tell, sooner_names, sooner_number, better_of, best_with, least_from, first_to_tell}
 use Rattle.contention_mgr.specs.declared.marks.Mark.{Mark}
 use Rattle.contention_mgr.specs.declared.marks.Spot.{Spot}

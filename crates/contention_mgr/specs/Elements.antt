@@ -1,10 +1,17 @@
 -- Whose elements a manager keeps.
-use Rattle.std.specs.Prelude.{◌≡◌, Bool, true, List, Option}
+use Rattle.std.specs.Prelude.{◌≡◌, Bool, true, false, ◌||◌, List, [], ◌∷◌, Option}
 use Rattle.std.specs.List.{list_all}
+use Rattle.grs_base.specs.Same.{same_res}
+use Rattle.grs_base.specs.State.{State, is_at}
 use Rattle.grs_base.specs.declared.resource.Res.{Res}
 use Rattle.grs_base.specs.declared.resource.TaskId.{TaskId}
 use Rattle.grs_wire.specs.declared.request.Want.{Want}
 use Rattle.contention_mgr.specs.Manager.{Ranked, Managed, ManagerView, items_of, after_request, after_telling}
+
+-- whether a task has an element on a resource
+abbrev pub holds : State → Res → TaskId → Bool
+holds [] r t = false
+holds (h ∷ hs) r t = is_at same_res r t h || holds hs r t
 
 -- whether the task of each element is such a one, of one entry and of all
 abbrev pub elements_of : (TaskId → Bool) → List Ranked → Bool

@@ -1,5 +1,6 @@
 -- What is kept beside the lists of an entry: each resource that had an element has a number, and each element, by the
--- number of its resource and its task, has its mark.
+-- number of its resource and its task, has its mark. This is how the store of a manager keeps its elements, and nothing
+-- that a reader has to believe: what a manager keeps is said in `Manager`, and its calls leave just that.
 use Rattle.std.specs.Prelude.{◌≡◌, ℕ, ◌+◌, Bool, true, false, not, ◌&&◌, ◌||◌, ◌==◌, List, [], ◌∷◌, map, Option, Some, None, is_some}
 use Rattle.std.specs.Map.{lookup}
 use Rattle.grs_base.specs.Same.{same_res, same_task}
@@ -10,6 +11,7 @@ use Rattle.grs_base.specs.declared.resource.TaskId.{TaskId}
 use Rattle.grs_base.specs.declared.decision.Code.TheVariants.{C00, C04, C08, C14, C18, Wait, End}
 use Rattle.grs_wire.specs.declared.request.Answer.{Answer}
 use Rattle.grs_wire.specs.declared.request.Answer.TheVariants.{Coded, Rows}
+use Rattle.contention_mgr.specs.Elements.{holds}
 use Rattle.contention_mgr.specs.Manager.{Ranked, Managed}
 use Rattle.contention_mgr.specs.declared.marks.Mark.{Mark}
 use Rattle.contention_mgr.specs.declared.marks.Spot.{Spot}
@@ -63,11 +65,6 @@ ranked_all f s = map (ranked f) s
 -- an entry with its next rank, lists and marks
 abbrev pub entry_of_parts : ℕ → State → (Res → TaskId → Option Mark) → Managed
 entry_of_parts next s f = record { next = next; items = ranked_all f s }
-
--- whether a task has an element on a resource
-abbrev pub holds : State → Res → TaskId → Bool
-holds [] r t = false
-holds (h ∷ hs) r t = is_at same_res r t h || holds hs r t
 
 -- whether an answer is the code 00, by which a DEQ takes its element out
 abbrev pub is_gone : Answer → Bool
