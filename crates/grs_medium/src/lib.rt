@@ -9,4 +9,4 @@ mod medium;
 mod sets;
 pub mod threads;
 
-pub use medium::{Medium, TurnReply};
+pub use medium::{Medium, TurnRefusal};

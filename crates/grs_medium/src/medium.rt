@@ -9,16 +9,19 @@ ghost use Rattle.grs_medium.specs.Medium.{first_medium, systems_of, awake, inbox
 ghost use Rattle.grs_medium.specs.Apply.{turn_row, manages, joined, submit_row, take_row, mail_row, leave_row, purge_row, rest_row, reply_to, medium_after, changes, row, row_changes, ActFits, MayCall};
 ghost use Rattle.grs_medium.specs.Room.{is_built, HasRoomFor, HasRoomOn, request_on};
 ghost use Rattle.grs_medium.specs.Acts.{act_of};
-ghost use Rattle.grs_medium.specs.TurnReplies.{reply_of};
+ghost use Rattle.grs_medium.specs.TurnReplies.{reply_of, refusal};
+ghost use Rattle.rsa_message.specs.Message.{is_at, rest_after_turn};
+ghost use Rattle.rsa_message.specs.Places.{HasPlaces};
 ghost use Rattle.rsa_message.specs.Room.{HasRoom};
+ghost use Rattle.std.specs.Option.{option_map};
 
 use crate::inboxes::Inboxes;
 use crate::sets::{all_at_rest, live_of};
 use grs_base::{List, NoMemory, SysId};
 use grs_wire::masks::{has_system, with_system, without_system};
-use grs_wire::{Act, Call, Mail, Reply, Req};
+use grs_wire::{Act, Call, Mail, Reply, Req, RingEntry};
 use lock_structure::{Route, Words};
-use rsa_message::{Given, Rsa};
+use rsa_message::Rsa;
 use std::alloc::Global;
 use std::marker::Model;
 
@@ -48,11 +51,9 @@ impl Model for Medium {
     ghost invariant = { λ m. (m.systems ≡ m.rsa.message.systems) × (m.systems ≤ most_systems) × (length m.inboxes.mail ≡ m.systems) × All (ManagerIsBelow m.systems) m.words };
 }
 
-/// What a Turn is answered.
+/// What a Turn is answered that doesn't get to the message.
 #[derive(Drop)]
-pub enum TurnReply {
-    /// The message is at the caller, and gave this.
-    Turned(Given),
+pub enum TurnRefusal {
     /// The message stands elsewhere, or nowhere any more.
     NotYours { at: Option<SysId> },
     /// The caller doesn't know of all systems that were removed: it is this set.
@@ -61,20 +62,15 @@ pub enum TurnReply {
     Removed,
 }
 
-impl TurnReply {
+impl TurnRefusal {
     /// The same among all replies.
     pub fn into_reply(self) -> Reply
         ensures { result ≡ reply_of self }
     {
         match self {
-            TurnReply::Turned(given) => Reply::Turned {
-                entries: given.entries,
-                taken: given.taken,
-                closed: given.closed,
-            },
-            TurnReply::NotYours { at } => Reply::NotYours { at },
-            TurnReply::Stale { set } => Reply::Stale { set },
-            TurnReply::Removed => Reply::Removed,
+            TurnRefusal::NotYours { at } => Reply::NotYours { at },
+            TurnRefusal::Stale { set } => Reply::Stale { set },
+            TurnRefusal::Removed => Reply::Removed,
         }
     }
 }
@@ -200,48 +196,95 @@ impl Medium {
         }
     }
 
+    /// A Turn at the message clears the flag of rest of its caller where an entry is given or put in, and at the closed
+    /// message always. The flags as they were before it are given.
+    #[tactic(auto, unfolding(rsa_message::specs::Message::rest_after_turn))]
+    fn wake_at_turn(&mut self, caller: SysId, count: u32) -> u32
+        requires { caller.0 < systems_of self.old.state }
+        ensures before { result ≡ self.old.state.rest }
+        ensures state { self.new.state ≡ record self.old.state { rest = rest_after_turn self.old.state.message caller count self.old.state.rest } }
+        ensures room { self.new.room ≡ self.old.room }
+    {
+        let rest = self.rest;
+        if self.rsa.wakes(caller, count) {
+            self.rest = without_system(rest, caller);
+        }
+        rest
+    }
+
     /// A Turn of a caller that was not removed and knows which systems were.
-    #[tactic(auto, unfolding(crate::specs::Apply::turn_row, rsa_message::specs::Message::rest_after_turn))]
-    fn give(&mut self, caller: SysId, out: List<Req>) -> TurnReply
+    #[tactic(auto, unfolding(crate::specs::Apply::turn_row))]
+    fn give(&mut self, caller: SysId, out: List<Req>) -> Reply
         requires caller { caller.0 < systems_of self.old.state }
         requires few { length out ≤ 32 }
         requires room { HasRoom self.old.room caller (length out) }
-        ensures reply { reply_of result ≡ (turn_row self.old.state caller out).0 }
+        ensures reply { result ≡ (turn_row self.old.state caller out).0 }
         ensures state { self.new.state ≡ (turn_row self.old.state caller out).1 }
         ensures systems { systems_of self.new.state ≡ systems_of self.old.state }
     {
         let live = live_of(self.systems, self.removed);
-        let rest = self.rest;
-        if self.rsa.wakes(caller, out.len() as u32) {
-            self.rest = without_system(rest, caller);
-        }
-        match self.rsa.give(caller, out, live, rest) {
-            None => TurnReply::NotYours {
-                at: self.rsa.holder(),
-            },
-            Some(given) => TurnReply::Turned(given),
-        }
+        let rest = self.wake_at_turn(caller, out.len() as u32);
+        self.rsa.turn(caller, out, live, rest)
     }
 
-    /// A Turn, its room included: what `reserve` and `apply` of that call do, without a call and a reply of any other
-    /// kind in between.
-    #[tactic(auto, unfolding(crate::specs::Apply::apply, crate::specs::Apply::row))]
-    pub fn turn(&mut self, caller: SysId, known: u32, out: List<Req>) -> Result<TurnReply, NoMemory>
-        requires caller { caller.0 < systems_of self.old.state }
-        requires few { length out ≤ 32 }
-        ensures reply { IfOk result (λ reply. reply_of reply ≡ reply_to self.old.state caller (record { known = known; act = Act.Turn out })) }
-        ensures state { OnOk result (self.new.state ≡ medium_after self.old.state caller (record { known = known; act = Act.Turn out })) }
-        ensures err { OnErr result (self.new.state ≡ self.old.state) }
-        ensures systems { systems_of self.new.state ≡ systems_of self.old.state }
+    /// What a Turn of the caller is answered whatever it would put in, which changes nothing; None exactly where the
+    /// Turn gets to the message. So whether a Turn is refused is known before its requests are copied.
+    #[tactic(auto, unfolding(crate::specs::TurnReplies::refusal))]
+    pub fn turn_refusal(&self, caller: SysId, known: u32) -> Option<TurnRefusal>
+        requires { caller.0 < systems_of self.now.state }
+        ensures { option_map reply_of result ≡ refusal self.now.state caller known }
     {
         if has_system(self.removed, caller) {
-            return Ok(TurnReply::Removed);
+            return Some(TurnRefusal::Removed);
         }
         if known != self.removed {
-            return Ok(TurnReply::Stale { set: self.removed });
+            return Some(TurnRefusal::Stale { set: self.removed });
         }
-        self.rsa.reserve(caller, out.len() as u32)?;
-        Ok(self.give(caller, out))
+        if !self.rsa.is_at(caller) {
+            return Some(TurnRefusal::NotYours {
+                at: self.rsa.holder(),
+            });
+        }
+        None
+    }
+
+    /// The entries of the message, in order.
+    pub fn entries(&self) -> &[RingEntry]
+        ensures { result.now ≡ self.now.state.message.entries }
+    {
+        self.rsa.entries()
+    }
+
+    /// Whether the message is closed.
+    pub fn is_closed(&self) -> bool
+        ensures { result ≡ self.now.state.message.closed }
+    {
+        self.rsa.is_closed()
+    }
+
+    /// Makes room for so many new entries of the message. One past the last number that one may have is answered
+    /// NoMemory.
+    pub fn reserve_places(&mut self, count: u32) -> Result<(), NoMemory>
+        ensures state { self.new.state ≡ self.old.state }
+        ensures places { OnOk result (HasPlaces self.new.room count) }
+    {
+        self.rsa.reserve_places(count)
+    }
+
+    /// What a Turn leaves that gets to the message: its requests go into the message, and the message goes on. It takes
+    /// no memory.
+    #[tactic(auto, unfolding(crate::specs::Apply::turn_row))]
+    pub fn pass_on(&mut self, caller: SysId, out: List<Req>)
+        requires caller { caller.0 < systems_of self.old.state }
+        requires here { is_at self.old.state.message.holder caller ≡ true }
+        requires few { length out ≤ 32 }
+        requires places { HasPlaces self.old.room (length out) }
+        ensures state { self.new.state ≡ (turn_row self.old.state caller out).1 }
+        ensures systems { systems_of self.new.state ≡ systems_of self.old.state }
+    {
+        let live = live_of(self.systems, self.removed);
+        let rest = self.wake_at_turn(caller, out.len() as u32);
+        self.rsa.pass_on(caller, out, live, rest);
     }
 
     /// The flag of rest of the caller is cleared.
@@ -395,7 +438,7 @@ impl Medium {
         ensures systems { systems_of self.new.state ≡ systems_of self.old.state }
     {
         match built {
-            Built::Turn(out) => self.give(caller, out).into_reply(),
+            Built::Turn(out) => self.give(caller, out),
             Built::Submit { entry, req } => self.submit(caller, entry, req),
             Built::Take => self.take(caller),
             Built::Settle { to, mail } => {

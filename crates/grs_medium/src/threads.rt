@@ -1,5 +1,5 @@
 //! What may be handed to another thread, or lent to several. There is nothing to run.
-use super::medium::{Medium, TurnReply};
+use super::medium::{Medium, TurnRefusal};
 
 /// A value that other threads may be handed and lent.
 fn crosses<T: Send + Sync>(_value: &T) {}
@@ -9,7 +9,7 @@ pub fn media_cross(medium: &Medium) {
     crosses(medium)
 }
 
-/// So may the answer to a Turn.
-pub fn turn_replies_cross(reply: &TurnReply) {
-    crosses(reply)
+/// So may what a Turn is answered that is refused.
+pub fn refusals_cross(refusal: &TurnRefusal) {
+    crosses(refusal)
 }

@@ -3,7 +3,6 @@ pub mod ScriptCounts
 pub mod Places
 pub mod Kept
 pub mod Deck
-pub mod Entries
 pub mod Finish
 pub mod Flags
 pub mod Calls

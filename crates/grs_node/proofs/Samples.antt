@@ -1,5 +1,5 @@
 -- With what a finish may come, and what entries of the message do, on examples.
-use Rattle.std.proofs.Common.{◌≡◌, ℕ, true, false, [], ◌∷◌, Some, None, refl, codes, map}
+use Rattle.std.proofs.Common.{◌≡◌, ℕ, true, false, [], ◌∷◌, None, refl, codes, map}
 use Rattle.grs_base.specs.Rnl.{no_entries}
 use Rattle.grs_base.specs.State.{State}
 use Rattle.grs_base.specs.declared.resource.Ctl.TheVariants.{E}
@@ -13,11 +13,12 @@ use Rattle.grs_node.specs.Node.{Node, read_entry}
 use Rattle.ring_mode.specs.Ring.{answer_own, process, process_entry}
 use Rattle.task_state.specs.Replies.{tell_all, tell_new}
 use Rattle.task_state.specs.View.{new_tasks}
+use Rattle.grs_wire.specs.Masks.{has}
 use Rattle.grs_wire.specs.declared.medium.Act.TheVariants as acts
 use Rattle.grs_wire.specs.declared.medium.Reply.TheVariants as replies
 use Rattle.grs_wire.specs.declared.medium.RingBody.TheVariants as bodies
 use Rattle.grs_wire.specs.declared.medium.RingEntry.{RingEntry}
-use Rattle.grs_node.specs.Entries.{removal_from}
+use Rattle.grs_node.specs.Entries.{unseen_by}
 use Rattle.grs_node.specs.Finish.{is_listed, may_come, leaves_all}
 use Rattle.grs_node.specs.declared.prepared.Prepared.TheVariants.{Quiet, Call}
 
@@ -60,8 +61,14 @@ removal = record { number = 1; from = record { 0 = 0 }; body = bodies.Remove (re
 given : leaves_all (replies.Turned (removal ∷ []) 0 false) ≡ false
 given = refl
 
-cut : removal_from 0 (removal ∷ removal ∷ []) ≡ Some (0, record { 0 = 1 })
-cut = refl
+-- systems 0 and 2 have yet to process it, and read it at their Turns
+read : unseen_by (record { 0 = 2 }) (removal ∷ []) ≡ removal ∷ []
+unfolding has
+read = refl
+
+passed : unseen_by (record { 0 = 1 }) (removal ∷ []) ≡ []
+unfolding has
+passed = refl
 
 -- ---- entries of tasks that the deck lacks
 -- a ring of two systems with a task each, and the first of them

@@ -1,14 +1,9 @@
 -- What a Turn asks, as a prepared call.
-use Rattle.std.specs.Prelude.{Option, Some, None}
+use Rattle.std.specs.Prelude.{ℕ, take}
 use Rattle.grs_wire.specs.declared.medium.Act.TheVariants as acts
-use Rattle.grs_node.specs.declared.prepared.Prepared.{Prepared}
-use Rattle.grs_node.specs.declared.prepared.Prepared.TheVariants.{Call, Nothing}
-use Rattle.grs_node.specs.declared.prepared.TurnCall.{TurnCall}
+use Rattle.grs_wire.specs.declared.medium.Call.{Call}
+use Rattle.grs_node.specs.Node.{Node, most_additions}
 
-abbrev pub call_of : TurnCall → Prepared
-call_of turn = Call (record { known = turn.known; act = acts.Turn turn.out })
-
--- the same where there may be none, as in star mode
-abbrev pub turn_prepared : Option TurnCall → Prepared
-turn_prepared None = Nothing
-turn_prepared (Some turn) = call_of turn
+-- the Turn of a system that knows this set of systems to be removed
+abbrev pub turn_of : Node → ℕ → Call
+turn_of n known = record { known = known; act = acts.Turn (take most_additions n.outbox) }

@@ -4,11 +4,10 @@ ghost use Rattle.std.specs.List.{list_any};
 ghost use Rattle.std.specs.Option.{option_copied};
 ghost use Rattle.grs_node.specs.Node as steps;
 ghost use Rattle.grs_legal.specs.Asks.{lines_in, scripts_of};
-ghost use Rattle.grs_node.specs.TurnCalls.{turn_prepared};
 ghost use Rattle.task_state.specs.View.{is_task, state_of};
 
 use super::lines::goes_on;
-use super::prepared::{Prepared, TurnCall};
+use super::prepared::Prepared;
 use super::scripts::{Script, is_of_deck, lines_among, system_at};
 use super::star::{Need, StarPart, any_to_send, is_to_send};
 use super::state::NodeState;
@@ -26,13 +25,6 @@ fn first_of(outbox: &[Req]) -> &[Req]
     ensures { result.now ≡ take steps.most_additions outbox.now }
 {
     &outbox[..MOST_ADDITIONS.min(outbox.len())]
-}
-
-/// A copy of them.
-fn additions(alloc: Global, outbox: &[Req]) -> Result<List<Req>, NoMemory>
-    ensures { IfOk result (λ out. out ≡ take steps.most_additions outbox.now) }
-{
-    copy_all(alloc, first_of(outbox))
 }
 
 /// How many lines the desk of a system has.
@@ -93,17 +85,24 @@ impl NodeState {
         self.tasks.has(task) && is_of_deck(deck, task) && is_to_send(self.tasks.phase(task))
     }
 
+    /// Copies of the requests that a Turn puts in.
+    pub(crate) fn additions(&self, alloc: Global) -> Result<List<Req>, NoMemory>
+        ensures { IfOk result (λ out. out ≡ take steps.most_additions self.now.outbox) }
+    {
+        copy_all(alloc, first_of(self.outbox.as_slice()))
+    }
+
     /// What a Turn asks. In star mode it is none.
-    pub(crate) fn prepare_turn(&self, alloc: Global) -> Result<Option<TurnCall>, NoMemory>
-        ensures { IfOk result (λ turn. turn_prepared turn ≡ steps.turn_call self.now self.now.star) }
+    fn prepare_turn(&self, alloc: Global) -> Result<Prepared, NoMemory>
+        ensures { IfOk result (λ prepared. prepared ≡ steps.turn_call self.now self.now.star) }
     {
         if self.star.is_some() {
-            return Ok(None);
+            return Ok(Prepared::Nothing);
         }
-        let out = additions(alloc, self.outbox.as_slice())?;
-        Ok(Some(TurnCall {
+        let out = self.additions(alloc)?;
+        Ok(Prepared::Call(Call {
             known: self.known,
-            out,
+            act: Act::Turn { out },
         }))
     }
 
@@ -167,13 +166,7 @@ impl NodeState {
     {
         match choice {
             Choice::Task(task) if self.may_go(scripts, task) => Ok(Prepared::Quiet),
-            Choice::Turn => match self.prepare_turn(alloc)? {
-                None => Ok(Prepared::Nothing),
-                Some(TurnCall { known, out }) => Ok(Prepared::Call(Call {
-                    known,
-                    act: Act::Turn { out },
-                })),
-            },
+            Choice::Turn => self.prepare_turn(alloc),
             Choice::Rest if !self.is_pending(deck) => Ok(Prepared::Call(Call {
                 known: self.known,
                 act: Act::Rest,

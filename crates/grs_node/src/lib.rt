@@ -16,6 +16,6 @@ pub mod threads;
 mod turn;
 
 pub use node::Node;
-pub use prepared::{Prepared, TurnCall};
+pub use prepared::Prepared;
 pub use replies::leaves_all;
 pub use star::Need;

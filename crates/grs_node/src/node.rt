@@ -1,24 +1,26 @@
 //! A system with its deck and what it keeps of its own events. A choice is prepared; it makes at most one call
 //! of the medium, which somebody else carries out; and with the reply it is finished.
-ghost use Rattle.std.specs.Prelude.{◌≡◌, ◌<◌, ◌++◌, ◌∷◌, [], Some, true, drop, length, IfOk, IfSome, IfNone, OnOk};
+ghost use Rattle.std.specs.Prelude.{◌≡◌, ◌<◌, ◌≤◌, ◌++◌, ◌∷◌, [], Some, true, take, drop, length, IfOk, IfSome, IfNone, OnOk};
+ghost use Rattle.grs_base.specs.Limits.{most_systems};
 ghost use Rattle.grs_node.specs.EitherMode.{IsDeckInEitherMode};
 ghost use Rattle.task_state.specs.Units.{counted, reserved_of};
 ghost use Rattle.task_state.specs.View.{is_task, state_of};
 ghost use Rattle.grs_node.specs.Node as steps;
 ghost use Rattle.grs_node.specs.Finish.{MayFinish, may_come};
 ghost use Rattle.grs_node.specs.Addressed.{is_addressed};
-ghost use Rattle.grs_node.specs.TurnCalls.{turn_prepared};
+ghost use Rattle.grs_node.specs.Entries.{unseen_by};
+ghost use Rattle.grs_node.specs.TurnCalls.{turn_of};
 ghost use Rattle.grs_wire.specs.declared.deck.Choice.TheVariants.{Turn};
 ghost use Rattle.grs_wire.specs.declared.medium.Reply.TheVariants.{Turned};
 ghost use Rattle.grs_node.specs.Log.{starting, stepped, finished, end_in};
-ghost use Rattle.grs_node.specs.declared.prepared.Prepared.TheVariants.{Quiet};
+ghost use Rattle.grs_node.specs.declared.prepared.Prepared.TheVariants.{Quiet, Call, Nothing};
 
 use super::lines::end_by;
-use super::prepared::{Prepared, TurnCall};
+use super::prepared::Prepared;
 use super::scripts::{Script, scripts_of, sizes_of};
 use super::state::NodeState;
 use grs_base::{List, NoMemory, SysId, TaskId, copy_all};
-use grs_wire::{Choice, Deck, Fixed, NodeLog, Reply, RingEntry, StepDone, TaskEnd, ToldLine};
+use grs_wire::{Choice, Deck, Fixed, NodeLog, Reply, Req, RingEntry, StepDone, TaskEnd, ToldLine};
 use std::alloc::Global;
 use std::marker::Model;
 
@@ -109,13 +111,26 @@ impl<'d> Node<'d> {
             .prepare(self.alloc, self.deck, self.scripts.as_slice(), *choice)
     }
 
-    /// What a Turn asks: what `prepare` gives of it, without a call of any other kind in between. In star mode it is none.
+    /// The set of the systems that the system knows to be removed, as its Turn says. None exactly in star mode, where a
+    /// Turn comes to nothing.
     #[tactic(auto, unfolding(crate::specs::Node::prepare))]
-    pub fn prepare_turn(&mut self) -> Result<Option<TurnCall>, NoMemory>
-        ensures prepared { IfOk result (λ turn. turn_prepared turn ≡ steps.prepare self.old.deck self.old.node Turn) }
-        ensures same { self.new ≡ self.old }
+    pub fn known_at_turn(&self) -> Option<u32>
+        ensures turn { IfSome result (λ known. steps.prepare self.now.deck self.now.node Turn ≡ Call (turn_of self.now.node known)) }
+        ensures none { IfNone result (steps.prepare self.now.deck self.now.node Turn ≡ Nothing) }
     {
-        self.state.prepare_turn(self.alloc)
+        if self.state.star.is_some() {
+            None
+        } else {
+            Some(self.state.known)
+        }
+    }
+
+    /// Copies of the requests that a Turn puts in.
+    pub fn additions(&self) -> Result<List<Req>, NoMemory>
+        ensures first { IfOk result (λ out. out ≡ take steps.most_additions self.now.node.outbox) }
+        ensures few { IfOk result (λ out. length out ≤ steps.most_additions) }
+    {
+        self.state.additions(self.alloc)
     }
 
     /// Puts an event behind the others, with the lines from a place on, which it told.
@@ -178,17 +193,23 @@ impl<'d> Node<'d> {
         }
     }
 
-    /// What a Turn at the message comes to.
+    /// What a Turn at the message comes to, which has these entries.
     #[tactic(auto, using(crate::proofs::Fits::finishes))]
-    fn turned(&mut self, entries: List<RingEntry>, taken: u32) -> Result<List<Fixed>, NoMemory>
-        ensures step { IfOk result (λ fixed. stepped self.new.node fixed ≡ steps.put_in (steps.read_entries self.old.deck self.old.node entries) taken) }
+    fn turned(
+        &mut self,
+        entries: &[RingEntry],
+        system: SysId,
+        taken: u32,
+    ) -> Result<List<Fixed>, NoMemory>
+        requires { system.0 < most_systems }
+        ensures step { IfOk result (λ fixed. stepped self.new.node fixed ≡ steps.put_in (steps.read_entries self.old.deck self.old.node (unseen_by system entries.now)) taken) }
         ensures log { self.new.log ≡ self.old.log }
         ensures deck { self.new.deck ≡ self.old.deck }
         ensures system { self.new.node.tasks.system ≡ self.old.node.tasks.system }
     {
         let alloc = self.alloc;
         let deck = self.deck;
-        match self.state.turned(alloc, deck, entries, taken) {
+        match self.state.turned_among(alloc, deck, entries, system, taken) {
             Ok(fixed) => Ok(fixed),
             Err(refused) => {
                 self.state.give_up();
@@ -225,21 +246,24 @@ impl<'d> Node<'d> {
         }
     }
 
-    /// Finishes a Turn by what the message gave, with an entry in the journal: what `finish` does with that reply.
+    /// Finishes a Turn at the message, which has these entries, with an entry in the journal: what `finish` does with
+    /// the reply that gives those that the system has yet to process. They are read where they lie.
     #[tactic(auto, unfolding(crate::specs::Log::finished, crate::specs::Node::finish, crate::specs::Node::finish_call))]
     pub fn finish_turn(
         &mut self,
-        entries: List<RingEntry>,
+        entries: &[RingEntry],
+        system: SysId,
         taken: u32,
         closed: bool,
     ) -> Result<(), NoMemory>
-        requires { MayFinish self.old Turn (Some (Turned entries taken closed, true)) }
-        ensures step { OnOk result (self.new ≡ finished self.old Turn (Some (Turned entries taken closed, true))) }
+        requires turn { MayFinish self.old Turn (Some (Turned (unseen_by system entries.now) taken closed, true)) }
+        requires system { system.0 < most_systems }
+        ensures step { OnOk result (self.new ≡ finished self.old Turn (Some (Turned (unseen_by system entries.now) taken closed, true))) }
         ensures deck { self.new.deck ≡ self.old.deck }
         ensures system { self.new.node.tasks.system ≡ self.old.node.tasks.system }
     {
         let place = self.state.tasks.told().len();
-        let fixed = self.turned(entries, taken)?;
+        let fixed = self.turned(entries, system, taken)?;
         self.keep(Choice::Turn, true, fixed, place)
     }
 

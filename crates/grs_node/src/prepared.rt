@@ -1,6 +1,5 @@
 //! What a choice of a system comes to before its call.
-use grs_base::List;
-use grs_wire::{Call, Req};
+use grs_wire::Call;
 
 /// What a choice comes to.
 #[derive(Drop)]
@@ -11,11 +10,4 @@ pub enum Prepared {
     Call(Call),
     /// There is nothing to do.
     Nothing,
-}
-
-/// What a Turn asks in ring mode: the set of the systems that the system knows to be removed, and the requests to put in.
-#[derive(Drop)]
-pub struct TurnCall {
-    pub known: u32,
-    pub out: List<Req>,
 }

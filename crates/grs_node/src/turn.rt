@@ -1,66 +1,23 @@
 //! A system's part of a turn: it reads the entries that it hasn't seen, and its requests are put in.
-ghost use Rattle.std.specs.Prelude.{◌≡◌, ◌<◌, ◌+◌, true, filter, take, drop, length, map, IfOk, IfSome, OnOk};
+ghost use Rattle.std.specs.Prelude.{◌≡◌, ◌<◌, true, take, drop, length, map, IfOk, IfSome, OnOk};
+ghost use Rattle.grs_base.specs.Limits.{most_systems};
+ghost use Rattle.grs_wire.specs.declared.medium.RingBody.TheVariants.{Request};
 ghost use Rattle.grs_wire.specs.declared.request.Fixed.TheVariants as fixes;
-ghost use Rattle.grs_node.specs.Entries.{is_known, removal_from};
+ghost use Rattle.grs_node.specs.Entries.{unseen_by};
 ghost use Rattle.grs_node.specs.Node as steps;
-ghost use Rattle.grs_node.specs.Node.{are_of, with_side};
+ghost use Rattle.grs_node.specs.Node.{are_of};
 ghost use Rattle.grs_node.specs.Finish.{may_come};
 ghost use Rattle.grs_node.specs.Log.{stepped};
 ghost use Rattle.grs_node.specs.Star.{may_call};
-ghost use Rattle.ring_mode.specs.Ring.{side_of, process_all, are_requests, requests_in};
 
 use super::scripts::is_of_deck;
 use super::state::NodeState;
 use grs_base::{List, NoMemory, SysId};
+use grs_wire::masks::has_system;
 use grs_wire::{Choice, Deck, Fixed, Reply, Req, RingBody, RingEntry};
-use ring_mode::on_turn;
+use ring_mode::on_request;
 use std::alloc::Global;
 use task_state::{Phase, Tasks};
-
-/// Whether an entry is of a task of the deck, or removes a system.
-fn is_known(deck: &Deck, body: &RingBody) -> bool
-    ensures { result ≡ is_known deck.now body.now }
-{
-    match body {
-        RingBody::Request(req) => is_of_deck(deck, req.task),
-        RingBody::Remove(_) => true,
-    }
-}
-
-/// Entries of tasks that aren't of the deck go.
-fn keep_known(deck: &Deck, entries: &mut Vec<RingEntry>)
-    ensures { entries.new.items ≡ filter (λ e. is_known deck.now e.body) entries.old.items }
-{
-    entries.retain(|entry| is_known(deck, &entry.body));
-}
-
-/// The place of the first entry that removes a system, and that system.
-fn first_removal(entries: &[RingEntry]) -> Option<(usize, SysId)>
-    ensures first { result ≡ removal_from 0 entries.now }
-    ensures within { IfSome result (λ found. found.0 < length entries.now) }
-{
-    for (place, entry) in entries.iter().enumerate() {
-        if let RingBody::Remove(target) = &entry.body {
-            return Some((place, *target));
-        }
-    }
-    None
-}
-
-/// Takes the entry at a place out, and gives those behind it. Those before it stay.
-fn cut(entries: &mut Vec<RingEntry>, place: usize) -> Result<Vec<RingEntry>, NoMemory>
-    requires { place < length entries.old.items }
-    ensures before { OnOk result (entries.new.items ≡ take place entries.old.items) }
-    ensures behind { IfOk result (λ behind. behind.items ≡ drop (place + 1) entries.old.items) }
-{
-    match entries.split_off(place + 1) {
-        Ok(behind) => {
-            entries.truncate(place);
-            Ok(behind)
-        }
-        Err(_) => Err(NoMemory),
-    }
-}
 
 /// The tasks of these requests have sent them.
 #[tactic(auto, using(crate::proofs::Kept::kept), unfolding(crate::specs::Node::all_sent))]
@@ -102,42 +59,77 @@ fn divided(reqs: List<Req>, taken: u32) -> Result<(Vec<Req>, List<Req>), NoMemor
 }
 
 impl NodeState {
-    /// The system processes requests of the message in order.
-    #[tactic(auto, using(crate::proofs::Kept::kept))]
-    fn read_requests(&mut self, alloc: Global, requests: Vec<RingEntry>) -> Result<(), NoMemory>
-        requires { are_requests requests.items ≡ true }
-        ensures step { OnOk result (self.new ≡ with_side self.old (process_all (side_of self.old.tasks self.old.shared) (requests_in requests.items))) }
-        ensures system { self.new.tasks.system ≡ self.old.tasks.system }
-    {
-        let requests = List::from_vec(requests);
-        on_turn(alloc, &mut self.shared, &mut self.tasks, requests)
-    }
-
     /// The system processes that another one is removed. Until removals are built it does nothing.
     fn process_removal(&mut self, _target: SysId)
         ensures { self.new ≡ steps.process_removal self.old _target }
     {}
 
-    /// The system processes the entries of the message that it was given, in order: they are cut at each removal.
-    #[tactic(auto, using(crate::proofs::Entries::cut_entries))]
-    pub(crate) fn read_entries(
+    /// The system processes a request of the message. One of a task that isn't of the deck has no effect.
+    fn read_request(&mut self, alloc: Global, deck: &Deck, req: &Req) -> Result<(), NoMemory>
+        ensures step { OnOk result (self.new ≡ steps.read_entry deck.now self.old (Request req.now)) }
+        ensures system { self.new.tasks.system ≡ self.old.tasks.system }
+    {
+        if is_of_deck(deck, req.task) {
+            on_request(alloc, &mut self.shared, &mut self.tasks, req)
+        } else {
+            Ok(())
+        }
+    }
+
+    /// The system processes an entry of the message.
+    fn read_entry(&mut self, alloc: Global, deck: &Deck, body: &RingBody) -> Result<(), NoMemory>
+        ensures step { OnOk result (self.new ≡ steps.read_entry deck.now self.old body.now) }
+        ensures system { self.new.tasks.system ≡ self.old.tasks.system }
+    {
+        match body {
+            RingBody::Request(req) => self.read_request(alloc, deck, req),
+            RingBody::Remove(target) => {
+                self.process_removal(*target);
+                Ok(())
+            }
+        }
+    }
+
+    /// The system processes the entries of the message that it was given, in order.
+    #[tactic(auto, unfolding(crate::specs::Node::read_entries))]
+    fn read_entries(
         &mut self,
         alloc: Global,
         deck: &Deck,
-        entries: List<RingEntry>,
+        entries: &[RingEntry],
     ) -> Result<(), NoMemory>
-        ensures step { OnOk result (self.new ≡ steps.read_entries deck.now self.old entries) }
+        ensures step { OnOk result (self.new ≡ steps.read_entries deck.now self.old entries.now) }
         ensures system { self.new.tasks.system ≡ self.old.tasks.system }
     {
-        let mut rest = entries.into_vec();
-        keep_known(deck, &mut rest);
-        while let Some((place, target)) = first_removal(rest.as_slice()) {
-            let behind = cut(&mut rest, place)?;
-            self.read_requests(alloc, rest)?;
-            self.process_removal(target);
-            rest = behind;
+        let mut rest = entries;
+        while let Some((entry, tail)) = rest.split_first() {
+            self.read_entry(alloc, deck, &entry.body)?;
+            rest = tail;
         }
-        self.read_requests(alloc, rest)
+        Ok(())
+    }
+
+    /// The system processes those entries of the message that it hasn't seen, in order, where they lie.
+    #[tactic(auto, unfolding(crate::specs::Node::read_entries))]
+    fn read_unseen(
+        &mut self,
+        alloc: Global,
+        deck: &Deck,
+        entries: &[RingEntry],
+        system: SysId,
+    ) -> Result<(), NoMemory>
+        requires { system.0 < most_systems }
+        ensures step { OnOk result (self.new ≡ steps.read_entries deck.now self.old (unseen_by system entries.now)) }
+        ensures system { self.new.tasks.system ≡ self.old.tasks.system }
+    {
+        let mut rest = entries;
+        while let Some((entry, tail)) = rest.split_first() {
+            if has_system(entry.mask, system) {
+                self.read_entry(alloc, deck, &entry.body)?;
+            }
+            rest = tail;
+        }
+        Ok(())
     }
 
     /// The first requests of the outbox were put in.
@@ -156,19 +148,35 @@ impl NodeState {
         all_asked(alloc, first)
     }
 
-    /// What a Turn at the message comes to.
-    #[tactic(auto, unfolding(crate::specs::Node::finish_call))]
-    pub(crate) fn turned(
+    /// What a Turn at the message comes to, of which these entries were given.
+    fn turned(
         &mut self,
         alloc: Global,
         deck: &Deck,
-        entries: List<RingEntry>,
+        entries: &[RingEntry],
         taken: u32,
     ) -> Result<List<Fixed>, NoMemory>
-        ensures step { IfOk result (λ fixed. stepped self.new fixed ≡ steps.put_in (steps.read_entries deck.now self.old entries) taken) }
+        ensures step { IfOk result (λ fixed. stepped self.new fixed ≡ steps.put_in (steps.read_entries deck.now self.old entries.now) taken) }
         ensures system { self.new.tasks.system ≡ self.old.tasks.system }
     {
         self.read_entries(alloc, deck, entries)?;
+        self.put_in(alloc, taken)
+    }
+
+    /// What a Turn at the message comes to, which has these entries.
+    pub(crate) fn turned_among(
+        &mut self,
+        alloc: Global,
+        deck: &Deck,
+        entries: &[RingEntry],
+        system: SysId,
+        taken: u32,
+    ) -> Result<List<Fixed>, NoMemory>
+        requires { system.0 < most_systems }
+        ensures step { IfOk result (λ fixed. stepped self.new fixed ≡ steps.put_in (steps.read_entries deck.now self.old (unseen_by system entries.now)) taken) }
+        ensures system { self.new.tasks.system ≡ self.old.tasks.system }
+    {
+        self.read_unseen(alloc, deck, entries, system)?;
         self.put_in(alloc, taken)
     }
 
@@ -205,7 +213,9 @@ impl NodeState {
         ensures system { self.new.tasks.system ≡ self.old.tasks.system }
     {
         match reply {
-            Reply::Turned { entries, taken, .. } => self.turned(alloc, deck, entries, taken),
+            Reply::Turned { entries, taken, .. } => {
+                self.turned(alloc, deck, entries.as_slice(), taken)
+            }
             Reply::Stale { set } => {
                 self.known = set;
                 Ok(List::new(alloc))

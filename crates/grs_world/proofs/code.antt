@@ -5,3 +5,4 @@ pub mod Words
 pub mod Nodes
 pub mod Happens
 pub mod Listed
+pub mod Turns

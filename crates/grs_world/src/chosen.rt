@@ -1,12 +1,13 @@
 //! One choice of one system: it is prepared, makes at most one call of the medium, and is finished.
-ghost use Rattle.std.specs.Prelude.{◌≡◌, ◌≢◌, ◌<◌, [], true, length, set, Some, IfOk, OnOk};
+ghost use Rattle.std.specs.Prelude.{◌≡◌, ◌≢◌, ◌<◌, ◌≤◌, [], true, cond, length, set, Some, None, IfOk, OnOk};
+ghost use Rattle.grs_base.specs.Limits.{most_systems};
 ghost use Rattle.grs_medium.specs.Apply.{reply_to, medium_after};
 ghost use Rattle.grs_medium.specs.Medium.{systems_of};
-ghost use Rattle.grs_medium.specs.TurnReplies.{reply_of};
+ghost use Rattle.grs_medium.specs.TurnReplies.{reply_of, refusal as refused_with};
 ghost use Rattle.grs_node.specs.Addressed.{is_act_addressed};
 ghost use Rattle.grs_node.specs.Finish.{MayFinish};
 ghost use Rattle.grs_node.specs.Node as steps;
-ghost use Rattle.grs_node.specs.TurnCalls.{call_of};
+ghost use Rattle.grs_node.specs.TurnCalls.{turn_of};
 ghost use Rattle.grs_node.specs.declared.prepared.Prepared.TheVariants.{Call as Calls};
 ghost use Rattle.grs_wire.specs.declared.deck.Choice.TheVariants.{Turn};
 ghost use Rattle.grs_world.specs.World.{chosen};
@@ -14,8 +15,8 @@ ghost use Rattle.grs_world.specs.Done.{last_done, done_by, journalled};
 ghost use Rattle.grs_world.specs.Running.{AreOf, nodes_of, node_at};
 
 use grs_base::{List, NoMemory, SysId};
-use grs_medium::{Medium, TurnReply};
-use grs_node::{Node, Prepared, TurnCall, leaves_all};
+use grs_medium::{Medium, TurnRefusal};
+use grs_node::{Node, Prepared, leaves_all};
 use grs_wire::{Call, Choice, Deck, Fixed, Reply, ToldLine};
 use std::alloc::Global;
 
@@ -117,33 +118,45 @@ fn called(
     replied(alloc, node, choice, reply)
 }
 
-/// A Turn is finished with its reply.
-#[tactic(auto, using(crate::proofs::code::Logged::logged_steps))]
-fn finished_turn(node: &mut Node<'_>, reply: TurnReply) -> Result<Done, NoMemory>
-    requires { MayFinish node.old Turn (journalled (Some (reply_of reply))) }
-    ensures node { OnOk result (node.new.node ≡ (steps.finish node.old.deck node.old.node Turn (Some (reply_of reply))).node) }
-    ensures done { IfOk result (λ done. done ≡ done_by node.old.node (steps.finish node.old.deck node.old.node Turn (Some (reply_of reply)))) }
+/// A Turn that the medium refuses.
+#[tactic(auto, using(crate::proofs::code::Turns::refused))]
+fn refused_turn(
+    medium: &Medium,
+    system: SysId,
+    node: &mut Node<'_>,
+    known: u32,
+    refusal: TurnRefusal,
+) -> Result<Done, NoMemory>
+    requires prepared { steps.prepare node.old.deck node.old.node Turn ≡ Calls (turn_of node.old.node known) }
+    requires refused { refused_with medium.now.state system known ≡ Some (reply_of refusal) }
+    ensures medium { OnOk result (medium.now.state ≡ (chosen node.old.deck medium.now.state system node.old.node Turn).medium) }
+    ensures node { OnOk result (node.new.node ≡ (chosen node.old.deck medium.now.state system node.old.node Turn).step.node) }
+    ensures done { IfOk result (λ done. done ≡ done_by node.old.node (chosen node.old.deck medium.now.state system node.old.node Turn).step) }
     ensures deck { node.new.deck ≡ node.old.deck }
 {
-    match reply {
-        TurnReply::Turned(given) => {
-            node.finish_turn(given.entries, given.taken, given.closed)?;
-            Ok(take_done(node))
-        }
-        other => finished(node, &Choice::Turn, Some(other.into_reply())),
-    }
+    finished(node, &Choice::Turn, Some(refusal.into_reply()))
 }
 
-/// A Turn that was prepared: its call and its reply are made of the parts that a Turn has, and of no others.
-#[tactic(auto, using(crate::proofs::code::Calls::turns, crate::proofs::code::Words::words, crate::proofs::code::Listed::listed))]
+/// How many requests of so many go into the message: none where it is closed.
+fn taken_of(closed: bool, count: u32) -> u32
+    ensures { result ≡ cond closed 0 count }
+{
+    if closed { 0 } else { count }
+}
+
+/// A Turn that gets to the message: the system reads the entries where they lie, and its requests go into the
+/// message.
+#[tactic(auto, using(crate::proofs::code::Turns::given), unfolding(grs_medium::specs::Apply::turn_row))]
 fn turned(
     medium: &mut Medium,
     system: SysId,
     node: &mut Node<'_>,
-    turn: TurnCall,
+    known: u32,
 ) -> Result<Done, NoMemory>
     requires caller { system.0 < systems_of medium.old.state }
-    requires prepared { call_of turn ≡ steps.prepare node.old.deck node.old.node Turn }
+    requires few { systems_of medium.old.state ≤ most_systems }
+    requires prepared { steps.prepare node.old.deck node.old.node Turn ≡ Calls (turn_of node.old.node known) }
+    requires given { refused_with medium.old.state system known ≡ None }
     ensures medium { OnOk result (medium.new.state ≡ (chosen node.old.deck medium.old.state system node.old.node Turn).medium) }
     ensures node { OnOk result (node.new.node ≡ (chosen node.old.deck medium.old.state system node.old.node Turn).step.node) }
     ensures done { IfOk result (λ done. done ≡ done_by node.old.node (chosen node.old.deck medium.old.state system node.old.node Turn).step) }
@@ -151,20 +164,26 @@ fn turned(
     ensures systems { systems_of medium.new.state ≡ systems_of medium.old.state }
     ensures words { length medium.new.state.words ≡ length medium.old.state.words }
 {
-    let TurnCall { known, out } = turn;
-    let reply = medium.turn(system, known, out)?;
-    finished_turn(node, reply)
+    let out = node.additions()?;
+    let count = out.len() as u32;
+    medium.reserve_places(count)?;
+    let closed = medium.is_closed();
+    let taken = taken_of(closed, count);
+    node.finish_turn(medium.entries(), system, taken, closed)?;
+    medium.pass_on(system, out);
+    Ok(take_done(node))
 }
 
-/// A Turn of a system, which is none in star mode.
-#[tactic(auto, using(crate::proofs::code::Logged::logged_steps), unfolding(crate::specs::World::chosen, crate::specs::World::carry_out))]
+/// A Turn of a system, which comes to nothing in star mode.
+#[tactic(auto, unfolding(crate::specs::World::chosen, crate::specs::World::carry_out))]
 fn turn(
     alloc: Global,
     medium: &mut Medium,
     system: SysId,
     node: &mut Node<'_>,
 ) -> Result<Done, NoMemory>
-    requires { system.0 < systems_of medium.old.state }
+    requires caller { system.0 < systems_of medium.old.state }
+    requires few { systems_of medium.old.state ≤ most_systems }
     ensures medium { OnOk result (medium.new.state ≡ (chosen node.old.deck medium.old.state system node.old.node Turn).medium) }
     ensures node { OnOk result (node.new.node ≡ (chosen node.old.deck medium.old.state system node.old.node Turn).step.node) }
     ensures done { IfOk result (λ done. done ≡ done_by node.old.node (chosen node.old.deck medium.old.state system node.old.node Turn).step) }
@@ -172,9 +191,12 @@ fn turn(
     ensures systems { systems_of medium.new.state ≡ systems_of medium.old.state }
     ensures words { length medium.new.state.words ≡ length medium.old.state.words }
 {
-    match node.prepare_turn()? {
-        None => Ok(nothing_done(alloc)),
-        Some(turn) => turned(medium, system, node, turn),
+    let Some(known) = node.known_at_turn() else {
+        return Ok(nothing_done(alloc));
+    };
+    match medium.turn_refusal(system, known) {
+        Some(refusal) => refused_turn(medium, system, node, known, refusal),
+        None => turned(medium, system, node, known),
     }
 }
 
@@ -189,6 +211,7 @@ fn choose(
 ) -> Result<Done, NoMemory>
     requires caller { system.0 < systems_of medium.old.state }
     requires systems { systems_of medium.old.state ≡ length node.old.deck.systems }
+    requires few { systems_of medium.old.state ≤ most_systems }
     requires words { length medium.old.state.words ≡ node.old.deck.entries }
     ensures medium { OnOk result (medium.new.state ≡ (chosen node.old.deck medium.old.state system node.old.node choice.now).medium) }
     ensures node { OnOk result (node.new.node ≡ (chosen node.old.deck medium.old.state system node.old.node choice.now).step.node) }
@@ -221,6 +244,7 @@ pub(crate) fn choose_at(
     requires nodes { AreOf deck.now nodes.old.items }
     requires systems { systems_of medium.old.state ≡ length nodes.old.items }
     requires all { length nodes.old.items ≡ length deck.now.systems }
+    requires few { length nodes.old.items ≤ most_systems }
     requires words { length medium.old.state.words ≡ deck.now.entries }
     ensures medium { OnOk result (medium.new.state ≡ (chosen deck.now medium.old.state system (node_at deck.now (nodes_of nodes.old.items) system) choice.now).medium) }
     ensures node { OnOk result (nodes_of nodes.new.items ≡ set (nodes_of nodes.old.items) system.0 (chosen deck.now medium.old.state system (node_at deck.now (nodes_of nodes.old.items) system) choice.now).step.node) }

@@ -1,14 +1,14 @@
-//! The entries of the authority message, at one system.
-ghost use Rattle.std.specs.Prelude.{◌≡◌, ◌&&◌, [], true, length, OnOk};
+//! A request of the authority message, at one system.
+ghost use Rattle.std.specs.Prelude.{◌≡◌, ◌&&◌, length, OnOk};
 ghost use Rattle.std.specs.Option.{option_copied};
 ghost use Rattle.grs_wire.specs.Wants.{res_wanted};
 ghost use Rattle.task_state.specs.View.{is_task, state_of, is_sent};
 ghost use Rattle.ring_mode.specs.Ring as ring;
-ghost use Rattle.ring_mode.specs.Ring.{side_of, is_request, are_requests, request_then, requests_in};
+ghost use Rattle.ring_mode.specs.Ring.{side_of};
 
 use super::same::is_asked;
-use grs_base::{List, NoMemory, Queues, Res};
-use grs_wire::{Answer, Req, RingBody, RingEntry, Want};
+use grs_base::{NoMemory, Queues, Res};
+use grs_wire::{Answer, Req, Want};
 use queue_table::Table;
 use std::alloc::Global;
 use task_state::{Tasks, settled, tell_new};
@@ -70,9 +70,11 @@ fn process<Q: Queues>(
     tell_new(tasks, res_of(&req.want), outcome.owners.as_slice())
 }
 
-/// Processes a request that the message brought. One for a resource of one system alone is passed over.
+/// Processes a request that the message brought, on the table of the Systems resources, and tells the tasks of the
+/// system what concerns them. One for a resource of one system alone is passed over. After NoMemory the system is to
+/// be given up.
 #[tactic(auto, unfolding(crate::specs::Ring::process_entry))]
-fn process_entry<Q: Queues>(
+pub fn on_request<Q: Queues>(
     alloc: Global,
     table: &mut Table<Q>,
     tasks: &mut Tasks,
@@ -87,46 +89,4 @@ fn process_entry<Q: Queues>(
     } else {
         Ok(())
     }
-}
-
-/// Processes what an entry says, which is a request.
-#[tactic(auto, unfolding(crate::specs::Ring::process_all))]
-fn process_body<Q: Queues>(
-    alloc: Global,
-    table: &mut Table<Q>,
-    tasks: &mut Tasks,
-    body: &RingBody,
-) -> Result<(), NoMemory>
-    requires { is_request body.now ≡ true }
-    ensures step { OnOk result (side_of tasks.new table.new.held ≡ ring.process_all (side_of tasks.old table.old.held) (request_then body.now [])) }
-    ensures system { tasks.new.system ≡ tasks.old.system }
-    ensures count { length tasks.new.tasks ≡ length tasks.old.tasks }
-{
-    match body {
-        RingBody::Request(req) => process_entry(alloc, table, tasks, req),
-        RingBody::Remove(_) => unreachable!(),
-    }
-}
-
-/// Processes these entries, each of which is a request, in order on the table of the Systems resources, and
-/// tells the tasks of the system what concerns them. After NoMemory some entries may be processed, and the
-/// system is to be given up.
-#[tactic(auto, using(crate::proofs::Requests::requests_first), unfolding(crate::specs::Ring::process_all))]
-pub fn on_turn<Q: Queues>(
-    alloc: Global,
-    table: &mut Table<Q>,
-    tasks: &mut Tasks,
-    entries: List<RingEntry>,
-) -> Result<(), NoMemory>
-    requires { are_requests entries ≡ true }
-    ensures step { OnOk result (side_of tasks.new table.new.held ≡ ring.process_all (side_of tasks.old table.old.held) (requests_in entries)) }
-    ensures system { tasks.new.system ≡ tasks.old.system }
-    ensures count { length tasks.new.tasks ≡ length tasks.old.tasks }
-{
-    let mut rest = entries.as_slice();
-    while let Some((entry, tail)) = rest.split_first() {
-        process_body(alloc, table, tasks, &entry.body)?;
-        rest = tail;
-    }
-    Ok(())
 }

@@ -1,3 +1,3 @@
 pub mod Message
 pub mod Room
-pub mod Given
+pub mod Places

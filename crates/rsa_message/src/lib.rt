@@ -7,4 +7,4 @@ mod entries;
 mod order;
 mod rsa;
 
-pub use rsa::{Given, Rsa};
+pub use rsa::Rsa;

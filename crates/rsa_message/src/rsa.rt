@@ -1,9 +1,9 @@
 //! The message as a whole.
-ghost use Rattle.std.specs.Prelude.{◌≡◌, ◌+◌, ◌<◌, ◌≤◌, true, length, if◌then◌else◌, Some, None, IfOk, IfNone, OnOk};
+ghost use Rattle.std.specs.Prelude.{◌≡◌, ◌+◌, ◌<◌, ◌≤◌, true, length, if◌then◌else◌, Some, None, IfOk, OnOk};
 ghost use Rattle.grs_base.specs.Limits.{most_systems, last_number};
 ghost use Rattle.rsa_message.specs.Message.{is_at, opened, never_opened, unseen, first_number, turn_reply, turned, turned_open, turned_closed, turn_changes, wakes, dropped, closed_by, message_at_end};
+ghost use Rattle.rsa_message.specs.Places.{HasPlaces};
 ghost use Rattle.rsa_message.specs.Room.{HasRoom, given_to};
-ghost use Rattle.rsa_message.specs.Given.{reply_by};
 
 use crate::entries::{clear, copy_unseen, first_of_unseen, has_unseen, put};
 use crate::order::{first_in, moved_to, next_due, stands_at};
@@ -42,15 +42,6 @@ impl Model for Rsa {
     ghost invariant = { λ r. (r.systems ≤ most_systems) × (number_of r.holder < r.systems) × (r.next + r.room ≤ last_number + 1) × (vec_len r.entries + r.room ≤ vec_capacity r.entries) × (r.given ≡ given_to r.ready r.holder r.entries.items) };
 }
 
-/// What a Turn gives where the message is at its caller: the entries that the caller had yet to process, how many of
-/// its requests were put in, and whether the message is closed.
-#[derive(Drop)]
-pub struct Given {
-    pub entries: List<RingEntry>,
-    pub taken: u32,
-    pub closed: bool,
-}
-
 impl Rsa {
     /// The message at the start: open and at the first system, or in star mode closed and nowhere. `systems` is
     /// the number of systems, from 1 to 8.
@@ -85,6 +76,25 @@ impl Rsa {
         }
     }
 
+    /// Makes room for so many new entries, at least for one, and keeps no copies for a reply. No entry may have a
+    /// number above `LAST_NUMBER`: the call that would need one answers NoMemory.
+    pub fn reserve_places(&mut self, count: u32) -> Result<(), NoMemory>
+        ensures message { self.new.message ≡ self.old.message }
+        ensures places { OnOk result (HasPlaces self.new.room count) }
+    {
+        let wanted = if count == 0 { 1 } else { count };
+        if self.next + wanted as u64 > LAST_NUMBER + 1 {
+            return Err(NoMemory);
+        }
+        if self.entries.reserve(wanted as usize).is_err() {
+            return Err(NoMemory);
+        }
+        self.ready = None;
+        self.given = List::new(self.alloc);
+        self.room = wanted;
+        Ok(())
+    }
+
     /// Makes room for one Turn of the system with at most `out` requests, or for one removal. The copies that the
     /// reply gives are made here. No entry may have a number above `LAST_NUMBER`: the call that would need one
     /// answers NoMemory.
@@ -93,16 +103,9 @@ impl Rsa {
         ensures message { self.new.message ≡ self.old.message }
         ensures room { OnOk result (HasRoom self.new.room caller out) }
     {
-        let wanted = if out == 0 { 1 } else { out };
-        if self.next + wanted as u64 > LAST_NUMBER + 1 {
-            return Err(NoMemory);
-        }
-        if self.entries.reserve(wanted as usize).is_err() {
-            return Err(NoMemory);
-        }
+        self.reserve_places(out)?;
         self.given = self.copies_for(caller)?;
         self.ready = Some(caller);
-        self.room = wanted;
         Ok(())
     }
 
@@ -154,40 +157,50 @@ impl Rsa {
         self.holder = first_in(self.systems, caller, self.still);
     }
 
-    /// A Turn of the system: it gets the entries that it has yet to process, and its requests go into the message.
-    /// `live` is the set of the systems that aren't removed, `rest` the set of those at rest. It takes no memory.
-    ///
-    /// Gives nothing exactly where the message isn't at the caller; it is then left as it is.
-    #[tactic(auto, unfolding(crate::specs::Message::turned, crate::specs::Message::turn_reply))]
-    pub fn give(&mut self, caller: SysId, out: List<Req>, live: u32, rest: u32) -> Option<Given>
+    /// The entries, in order.
+    pub fn entries(&self) -> &[RingEntry]
+        ensures { result.now ≡ self.now.message.entries }
+    {
+        self.entries.as_slice()
+    }
+
+    /// Whether the message is closed.
+    pub fn is_closed(&self) -> bool
+        ensures { result ≡ self.now.message.closed }
+    {
+        self.closed
+    }
+
+    /// Whether the message stands at the system.
+    pub fn is_at(&self, system: SysId) -> bool
+        ensures { result ≡ is_at self.now.message.holder system }
+    {
+        stands_at(self.holder, system)
+    }
+
+    /// What a Turn of the system leaves, where the message is at it: its requests go into the message, and the
+    /// message goes on. `live` is the set of the systems that aren't removed, `rest` the set of those at rest. It
+    /// takes no memory.
+    #[tactic(auto, unfolding(crate::specs::Message::turned))]
+    pub fn pass_on(&mut self, caller: SysId, out: List<Req>, live: u32, rest: u32)
         requires system { caller.0 < self.old.message.systems }
-        requires room { HasRoom self.old.room caller (length out) }
-        ensures given { reply_by self.old.message.holder result ≡ turn_reply self.old.message caller (length out) }
+        requires here { is_at self.old.message.holder caller ≡ true }
+        requires places { HasPlaces self.old.room (length out) }
         ensures message { self.new.message ≡ turned self.old.message caller out live rest }
-        ensures none { IfNone result (self.new.message ≡ self.old.message) }
         ensures systems { self.new.message.systems ≡ self.old.message.systems }
     {
-        if !stands_at(self.holder, caller) {
-            return None;
-        }
-        let closed = self.closed;
-        let entries = self.take_given(caller);
-        let taken = if closed { 0 } else { out.len() as u32 };
-        if closed {
+        if self.closed {
             self.turn_closed(caller);
         } else {
             self.turn_open(caller, out, live, rest);
         }
-        Some(Given {
-            entries,
-            taken,
-            closed,
-        })
     }
 
-    /// A Turn of the system, as `give` does it.
+    /// A Turn of the system: it gets the entries that it has yet to process, and its requests go into the message.
+    /// `live` is the set of the systems that aren't removed, `rest` the set of those at rest. It takes no memory.
     ///
     /// Answers NotYours exactly where the message isn't at the caller, with where it is; else Turned.
+    #[tactic(auto, unfolding(crate::specs::Message::turned, crate::specs::Message::turn_reply))]
     pub fn turn(&mut self, caller: SysId, out: List<Req>, live: u32, rest: u32) -> Reply
         requires system { caller.0 < self.old.message.systems }
         requires room { HasRoom self.old.room caller (length out) }
@@ -195,13 +208,17 @@ impl Rsa {
         ensures message { self.new.message ≡ turned self.old.message caller out live rest }
         ensures systems { self.new.message.systems ≡ self.old.message.systems }
     {
-        match self.give(caller, out, live, rest) {
-            None => Reply::NotYours { at: self.holder },
-            Some(given) => Reply::Turned {
-                entries: given.entries,
-                taken: given.taken,
-                closed: given.closed,
-            },
+        if !stands_at(self.holder, caller) {
+            return Reply::NotYours { at: self.holder };
+        }
+        let closed = self.closed;
+        let entries = self.take_given(caller);
+        let taken = if closed { 0 } else { out.len() as u32 };
+        self.pass_on(caller, out, live, rest);
+        Reply::Turned {
+            entries,
+            taken,
+            closed,
         }
     }
 

@@ -1,21 +1,16 @@
 -- What a system prepares fits the medium.
-use Rattle.std.proofs.Common.{◌≡◌, ◌<◌, ◌≤◌, ℕ, true, length, take, Some, None, Option, refl, ap, arith}
+use Rattle.std.proofs.Common.{◌≡◌, ◌<◌, ◌≤◌, ℕ, true, length, Some, refl, ap, arith}
 use Rattle.std.proofs.lemmas.Bool.Decides.{nat_tests}
-use Rattle.std.proofs.lemmas.List.{length-take}
 use Rattle.std.specs.Prelude.{nat_lt, nat_le}
 use Rattle.grs_base.specs.declared.resource.SysId.{SysId}
 use Rattle.grs_medium.specs.Apply.{ActFits, reply_to, medium_after}
 use Rattle.grs_medium.specs.Medium.{MediumState, systems_of}
 use Rattle.grs_medium.specs.Room.{is_built}
 use Rattle.grs_node.specs.Addressed.{is_act_addressed}
-use Rattle.grs_node.specs.Node.{Node, prepare, finish, most_additions, turn_call}
-use Rattle.grs_node.specs.Star.{StarPart}
-use Rattle.grs_node.specs.TurnCalls.{call_of}
+use Rattle.grs_node.specs.Node.{Node, prepare, finish, most_additions}
 use Rattle.grs_node.specs.declared.prepared.Prepared.{Prepared}
 use Rattle.grs_node.specs.declared.prepared.Prepared.TheVariants.{Call}
-use Rattle.grs_node.specs.declared.prepared.TurnCall.{TurnCall}
 use Rattle.grs_wire.specs.declared.deck.Choice.{Choice}
-use Rattle.grs_wire.specs.declared.deck.Choice.TheVariants as choices
 use Rattle.grs_wire.specs.declared.deck.Deck.{Deck}
 use Rattle.grs_wire.specs.declared.medium.Act.{Act}
 use Rattle.grs_wire.specs.declared.medium.Act.TheVariants as acts
@@ -50,28 +45,9 @@ act-built deck (acts.Leave e) a = refl
 act-built deck (acts.Purge t) a = refl
 act-built deck acts.Rest a = refl
 
--- a Turn puts in no more than it may
-pub turn-few : (deck : Deck) (n : Node) (turn : TurnCall) → call_of turn ≡ prepare deck n choices.Turn → length turn.out ≤ 32
-unfolding prepare
-turn-few deck n turn h = go n.star h
-  where
-    out-of : Prepared → ℕ
-    out-of (Call call) = count call.act
-      where
-        count : Act → ℕ
-        count (acts.Turn out) = length out
-        count act = 0
-    out-of p = 0
-
-    go : (o : Option StarPart) → call_of turn ≡ turn_call n o → length turn.out ≤ 32
-    go None k = let same : length turn.out ≡ length (take most_additions n.outbox) = ap out-of k in omega (arith, same, length-take most_additions n.outbox)
-    go (Some p) k = absurd (cc)
-
 -- what a call that was prepared leads to
 pub chosen-call : (deck : Deck) (m : MediumState) (c : SysId) (n : Node) (choice : Choice) (call : CallOfMedium) → prepare deck n choice ≡ Call call → chosen deck m c n choice ≡ record { medium = medium_after m c call; step = finish deck n choice (Some (reply_to m c call)) }
 unfolding chosen carry_out
 chosen-call deck m c n choice call h = ap (λ (p : Prepared). carry_out deck m c n choice p) h
 
 pub ruleset calls = (act-fits, act-built)
-
-pub ruleset turns = (turn-few)

@@ -1,10 +1,11 @@
 use Rattle.std.proofs.Common.{ap, sym, ◌∙◌}
 use Rattle.grs_legal.specs.Asks.{scripts_of}
+use Rattle.grs_node.specs.Entries.{unseen_by}
 use Rattle.grs_node.proofs.Fits.{turned-fits-after}
 use Rattle.grs_node.proofs.node.Node.turned.Goals as goal
 
 pub invariant_of-self : goal.invariant_of-self
 invariant_of-self c = (
-  c.self.invariant.0 ∙ ap (scripts_of c.self.inside.deck.now) (sym c.turned.ensures.system),
-  turned-fits-after c.self.inside.deck.now c.self.inside.state c.turned.new.self c.args.entries c.args.taken c.in-Ok.fixed c.self.invariant.1 c.in-Ok.ensures.system c.in-Ok.ensures.step,
+  c.self.invariant.0 ∙ ap (scripts_of c.self.inside.deck.now) (sym c.turned_among.ensures.system),
+  turned-fits-after c.self.inside.deck.now c.self.inside.state c.turned_among.new.self (unseen_by c.args.system c.args.entries.now) c.args.taken c.in-Ok.fixed c.self.invariant.1 c.in-Ok.ensures.system c.in-Ok.ensures.step,
 )
