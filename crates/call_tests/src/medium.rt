@@ -1,11 +1,10 @@
 //! What a call would be answered, told before it is made: no part of the program asks that yet. A removal, which no
-//! deck asks for yet, with the Turn that gets its entry; and each call of star mode. A value that is dear to drop is
-//! dropped on one path alone.
-ghost use Rattle.std.specs.Prelude.{◌≡◌, true, length, IfOk};
+//! deck asks for yet, with the Turn that gets its entry; the change to star mode, and each call of it. A value that is
+//! dear to drop is dropped on one path alone.
+ghost use Rattle.std.specs.Prelude.{◌≡◌, [], ◌∷◌, length, IfOk};
 ghost use Rattle.grs_base.specs.declared.resource.SysId.{SysId as SysIdSpec};
 ghost use Rattle.grs_medium.specs.Medium.{MediumState, systems_of};
 ghost use Rattle.grs_medium.specs.Apply.{ActFits, MayCall};
-ghost use Rattle.grs_medium.specs.Room.{is_built};
 
 use grs_base::{Code, List, NoMemory, Qname, Res, Rname, SysId, TaskId};
 use grs_medium::Medium;
@@ -18,6 +17,8 @@ use std::test::Fail;
 #[derive(Clone, Copy, Debug, PartialEq, Eq)]
 enum Brief {
     Turned(usize),
+    Switched,
+    Already,
     Sole,
     Sent,
     Asked,
@@ -47,6 +48,8 @@ fn mail_in_brief(mail: &Mail) -> Brief {
 fn in_brief(reply: &Reply) -> Brief {
     match reply {
         Reply::Turned { entries, .. } => Brief::Turned(entries.len()),
+        Reply::Switched => Brief::Switched,
+        Reply::Already => Brief::Already,
         Reply::Sole => Brief::Sole,
         Reply::Sent => Brief::Sent,
         Reply::Taken { mail } => mail_in_brief(mail),
@@ -62,8 +65,7 @@ fn in_brief(reply: &Reply) -> Brief {
 }
 
 fn previewed(medium: &Medium, caller: SysId, call: &Call) -> Result<Seen, NoMemory>
-    requires call { MayCall medium.now.state caller call.now }
-    requires built { is_built call.now.act ≡ true }
+    requires { MayCall medium.now.state caller call.now }
 {
     let (reply, changes) = medium.preview(caller, call)?;
     Ok((in_brief(&reply), changes))
@@ -81,8 +83,7 @@ fn let_go(reply: Reply) -> Brief {
 
 /// What a call is answered.
 fn made(medium: &mut Medium, caller: SysId, call: Call) -> Result<Brief, NoMemory>
-    requires call { MayCall medium.old.state caller call }
-    requires built { is_built call.act ≡ true }
+    requires { MayCall medium.old.state caller call }
     ensures { systems_of medium.new.state ≡ systems_of medium.old.state }
 {
     match medium.reserve(caller, &call) {
@@ -184,10 +185,11 @@ fn tells_before_and_removes(rt: HostRuntime) -> Result<(), Fail> {
     Ok(())
 }
 
-/// What a system asks in star mode, on the one lock entry. A Settle has its answer's rank; a Settle and a Tell go to
-/// system 1.
+/// What a system asks of the change to star mode, and in it, on the one lock entry. A Switch has the word of an entry
+/// in which nobody has interest. A Settle has its answer's rank; a Settle and a Tell go to system 1.
 #[derive(Clone, Copy)]
 enum Step {
+    Switch,
     Submit,
     Take,
     Settle(u64),
@@ -200,7 +202,7 @@ enum Step {
 type StarCase = (u8, Step, Seen);
 
 /// System 0 manages the entry. System 1 asks it for a resource and gives that up again, and each leaves.
-const STAR: [StarCase; 18] = [
+const STAR: [StarCase; 19] = [
     (0, Step::Submit, (Brief::Sole, true)),
     (1, Step::Submit, (Brief::Sent, true)),
     (0, Step::Take, (Brief::Asked, true)),
@@ -217,8 +219,16 @@ const STAR: [StarCase; 18] = [
     (1, Step::Leave, (Brief::Left, true)),
     (0, Step::Leave, (Brief::Left, true)),
     (0, Step::Leave, (Brief::Left, false)),
+    (0, Step::Switch, (Brief::Already, false)),
     (0, Step::Rest, (Brief::Resting, true)),
     (1, Step::Rest, (Brief::Over, true)),
+];
+
+/// System 1 changes the complex to star mode, and is the first to ask for a resource.
+const CHANGE: [StarCase; 3] = [
+    (1, Step::Switch, (Brief::Switched, true)),
+    (0, Step::Switch, (Brief::Already, false)),
+    (1, Step::Submit, (Brief::Sole, true)),
 ];
 
 const ASKER: TaskId = TaskId {
@@ -227,12 +237,23 @@ const ASKER: TaskId = TaskId {
     task: 0,
 };
 
+/// The word of an entry in which nobody has interest, alone.
+fn no_interest(alloc: Global) -> Result<List<u32>, NoMemory>
+    ensures { IfOk result (λ words. words ≡ 0 ∷ []) }
+{
+    let mut words = List::new(alloc);
+    words.push(0)?;
+    Ok(words)
+}
+
 fn act_of(alloc: Global, step: Step) -> Result<Act, Fail>
-    ensures built { IfOk result (λ act. is_built act ≡ true) }
-    ensures fits { IfOk result (λ act. (m : MediumState) (c : SysIdSpec) → systems_of m ≡ 2 → length m.words ≡ 1 → ActFits m c act) }
+    ensures { IfOk result (λ act. (m : MediumState) (c : SysIdSpec) → systems_of m ≡ 2 → length m.words ≡ 1 → ActFits m c act) }
 {
     let to = SysId(1);
     match step {
+        Step::Switch => Ok(Act::Switch {
+            words: no_interest(alloc)?,
+        }),
         Step::Submit => Ok(Act::Submit {
             entry: 0,
             req: request(alloc)?,
@@ -259,8 +280,7 @@ fn act_of(alloc: Global, step: Step) -> Result<Act, Fail>
 
 /// What a call would be answered, and what it is.
 fn shown_and_made(medium: &mut Medium, caller: SysId, call: Call) -> Result<(Seen, Brief), NoMemory>
-    requires call { MayCall medium.old.state caller call }
-    requires built { is_built call.act ≡ true }
+    requires { MayCall medium.old.state caller call }
     ensures { systems_of medium.new.state ≡ systems_of medium.old.state }
 {
     match previewed(medium, caller, &call) {
@@ -283,9 +303,9 @@ fn is_right(alloc: Global, medium: &mut Medium, case: &StarCase) -> Result<bool,
     Ok(answered == (seen, seen.0))
 }
 
-fn all_right(alloc: Global) -> Result<bool, Fail> {
-    let mut medium = Medium::new(alloc, 2, 1, true)?;
-    for case in &STAR {
+fn all_right(alloc: Global, star: bool, cases: &[StarCase]) -> Result<bool, Fail> {
+    let mut medium = Medium::new(alloc, 2, 1, star)?;
+    for case in cases {
         if !is_right(alloc, &mut medium, case)? {
             return Ok(false);
         }
@@ -295,6 +315,12 @@ fn all_right(alloc: Global) -> Result<bool, Fail> {
 
 #[test]
 fn calls_in_star_mode(rt: HostRuntime) -> Result<(), Fail> {
-    assert!(rt; all_right(rt.alloc())?);
+    assert!(rt; all_right(rt.alloc(), true, &STAR)?);
+    Ok(())
+}
+
+#[test]
+fn changes_to_star_mode(rt: HostRuntime) -> Result<(), Fail> {
+    assert!(rt; all_right(rt.alloc(), false, &CHANGE)?);
     Ok(())
 }

@@ -1,23 +1,38 @@
--- When the checks' answers come, and those to a Turn, a Purge and a Rest.
+-- When the checks' answers come, and those to a Turn, a Switch, a Purge and a Rest.
 use Rattle.std.proofs.Common.{◌≡◌, ℕ, Bool, true, false, cond, not, ◌&&◌, List, refl, ap, sym, eqb}
-use Rattle.std.specs.Prelude.{◌↔◌, Option, ◌==◌}
+use Rattle.std.specs.Prelude.{◌↔◌, Option, Some, None, is_none, ◌==◌}
 use Rattle.std.proofs.lemmas.Bool.{true≢false, false≢true}
 use Rattle.grs_base.specs.declared.resource.SysId.{SysId}
 use Rattle.grs_wire.specs.declared.medium.Act.{Act}
-use Rattle.grs_wire.specs.declared.medium.Act.TheVariants.{Turn, Purge, Rest}
+use Rattle.grs_wire.specs.declared.medium.Act.TheVariants.{Turn, Switch, Purge, Rest}
 use Rattle.grs_wire.specs.declared.medium.RingEntry.{RingEntry}
 use Rattle.grs_wire.specs.declared.medium.Reply.{Reply}
-use Rattle.grs_wire.specs.declared.medium.Reply.TheVariants.{Turned, NotYours, Purged, NoSuch, InStar, Resting, Over, Stale, Removed}
-use Rattle.rsa_message.specs.Message.{unseen, turn_reply, is_at}
-use Rattle.grs_medium.specs.Apply.{turn_row, is_live, without_system, purge_row, resting, rest_row, row, apply}
+use Rattle.grs_wire.specs.declared.medium.Reply.TheVariants.{Turned, NotYours, Behind, Switched, Already, Purged, NoSuch, InStar, Resting, Over, Stale, Removed}
+use Rattle.rsa_message.specs.Message.{unseen, first_number, turn_reply, is_at}
+use Rattle.grs_medium.specs.Apply.{turn_row, switch_ring, switch_row, is_live, without_system, purge_row, resting, rest_row, row, apply}
 use Rattle.grs_medium.specs.Medium.{MediumState, all_rest, medium_at_end}
-use Rattle.grs_medium.specs.Causes.{is_removed, turns_elsewhere, purges_in_star, purges_nobody, rests_last, rests_early, RemovedComes, StaleComes, NotYoursComes, InStarComes, NoSuchComes, OverComes, RestingComes}
+use Rattle.grs_medium.specs.Causes.{is_removed, turns_elsewhere, switches_in_star, switches_behind, switches, purges_in_star, purges_nobody, rests_last, rests_early, RemovedComes, StaleComes, NotYoursComes, AlreadyComes, BehindComes, SwitchedComes, InStarComes, NoSuchComes, OverComes, RestingComes}
 use Rattle.grs_medium.proofs.ReplyKinds.{kind_of, neither, other_reply, never, heard}
 
--- the rows of a Turn, a Purge and a Rest
+-- the rows of a Turn, a Switch, a Purge and a Rest
 turn_not_yours : (here : Bool) (entries : List RingEntry) (taken : ℕ) (closed : Bool) (holder at : Option SysId) → (cond here (Turned entries taken closed) (NotYours holder) ≡ NotYours at) ↔ ((not here ≡ true) × (at ≡ holder))
 turn_not_yours true entries taken closed holder at = neither (λ e. absurd cc) (λ p. false≢true p.0)
 turn_not_yours false entries taken closed holder at = (λ e. (refl, cc), λ p. ap NotYours (sym p.1))
+
+switch_already : (m : MediumState) (c : SysId) (words : List ℕ) (star : Bool) (o : Option ℕ) → ((cond star (Already, m) (switch_ring m c words o)).0 ≡ Already) ↔ (star ≡ true)
+switch_already m c words true o = (λ e. refl, λ e. refl)
+switch_already m c words false None = neither (λ e. absurd cc) false≢true
+switch_already m c words false (Some n) = neither (λ e. absurd cc) false≢true
+
+switch_behind : (m : MediumState) (c : SysId) (words : List ℕ) (first : ℕ) (star : Bool) (o : Option ℕ) → ((cond star (Already, m) (switch_ring m c words o)).0 ≡ Behind first) ↔ (cond star None o ≡ Some first)
+switch_behind m c words first true o = neither (λ e. absurd cc) (λ e. absurd cc)
+switch_behind m c words first false None = neither (λ e. absurd cc) (λ e. absurd cc)
+switch_behind m c words first false (Some n) = (λ e. cc, λ e. cc)
+
+switch_switched : (m : MediumState) (c : SysId) (words : List ℕ) (star : Bool) (o : Option ℕ) → ((cond star (Already, m) (switch_ring m c words o)).0 ≡ Switched) ↔ ((not star && is_none o) ≡ true)
+switch_switched m c words true o = neither (λ e. absurd cc) false≢true
+switch_switched m c words false None = (λ e. refl, λ e. refl)
+switch_switched m c words false (Some n) = neither (λ e. absurd cc) false≢true
 
 purge_in_star : {M : Type 0} (star living : Bool) (m gone : M) → ((cond {A = Reply × M} star (InStar, m) (cond living (Purged, gone) (NoSuch, m))).0 ≡ InStar) ↔ (star ≡ true)
 purge_in_star true living m gone = (λ e. refl, λ e. refl)
@@ -42,6 +57,21 @@ row_not_yours : (m : MediumState) (c : SysId) (act : Act) (at : Option SysId) �
 unfolding row turn_row turn_reply
 row_not_yours m c (Turn out) at = turn_not_yours (is_at m.message.holder c) (unseen c m.message.entries) _ m.message.closed m.message.holder at
 row_not_yours m c act at = neither (other_reply m c act (NotYours at) refl) (λ p. false≢true p.0)
+
+row_already : (m : MediumState) (c : SysId) (act : Act) → ((row m c act).0 ≡ Already) ↔ (switches_in_star m act ≡ true)
+unfolding row switch_row
+row_already m c (Switch words) = switch_already m c words m.star (first_number (unseen c m.message.entries))
+row_already m c act = never m c act Already refl
+
+row_behind : (m : MediumState) (c : SysId) (act : Act) (first : ℕ) → ((row m c act).0 ≡ Behind first) ↔ (switches_behind m c act ≡ Some first)
+unfolding row switch_row
+row_behind m c (Switch words) first = switch_behind m c words first m.star (first_number (unseen c m.message.entries))
+row_behind m c act first = neither (other_reply m c act (Behind first) refl) (λ e. absurd cc)
+
+row_switched : (m : MediumState) (c : SysId) (act : Act) → ((row m c act).0 ≡ Switched) ↔ (switches m c act ≡ true)
+unfolding row switch_row
+row_switched m c (Switch words) = switch_switched m c words m.star (first_number (unseen c m.message.entries))
+row_switched m c act = never m c act Switched refl
 
 row_in_star : (m : MediumState) (c : SysId) (act : Act) → ((row m c act).0 ≡ InStar) ↔ (purges_in_star m act ≡ true)
 unfolding row purge_row
@@ -89,6 +119,15 @@ stale_comes m c call set = second_check (is_removed m c) (call.known == m.remove
 
 pub not_yours_comes : NotYoursComes
 not_yours_comes m c call at = heard m c call (NotYours at) refl (row_not_yours m c call.act at)
+
+pub already_comes : AlreadyComes
+already_comes m c call = heard m c call Already refl (row_already m c call.act)
+
+pub behind_comes : BehindComes
+behind_comes m c call first = heard m c call (Behind first) refl (row_behind m c call.act first)
+
+pub switched_comes : SwitchedComes
+switched_comes m c call = heard m c call Switched refl (row_switched m c call.act)
 
 pub in_star_comes : InStarComes
 in_star_comes m c call = heard m c call InStar refl (row_in_star m c call.act)

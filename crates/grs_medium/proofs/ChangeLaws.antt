@@ -1,6 +1,6 @@
 -- A call that is said to change the medium changes it.
 use Rattle.std.proofs.Common.{◌≡◌, ℕ, ◌+◌, ◌<◌, ◌≤◌, Bool, true, false, cond, not, ◌&&◌, ◌||◌, List, [], ◌∷◌, ◌++◌, length, drop, refl, ap, sym, ◌∙◌, subst, arith}
-use Rattle.std.specs.Prelude.{Option, Some, None, map, filter, ◌==◌, nat_lt, slice_set}
+use Rattle.std.specs.Prelude.{Option, Some, None, is_none, map, filter, ◌==◌, nat_lt, slice_set}
 use Rattle.std.specs.List.{list_any}
 use Rattle.std.proofs.lemmas.Bool.{and_parts, true≢false}
 use Rattle.std.proofs.lemmas.List.{append-nil, get_or-set_same, get_or_past, length-drop, length_push}
@@ -12,16 +12,16 @@ use Rattle.grs_wire.specs.declared.medium.Act.TheVariants.{Turn, Switch, Submit,
 use Rattle.grs_wire.specs.declared.medium.Mail.{Mail}
 use Rattle.grs_wire.specs.declared.medium.RingEntry.{RingEntry}
 use Rattle.grs_wire.specs.declared.medium.Reply.{Reply}
+use Rattle.grs_wire.specs.declared.medium.Reply.TheVariants.{Already}
 use Rattle.grs_wire.specs.LockWords.{manager, manager_number, is_manager, submitted, leave_changes, left_word}
 use Rattle.grs_wire.specs.Masks.{has, only}
 use Rattle.grs_wire.proofs.MaskLaws.{has-without_same, has-with_same}
 use Rattle.lock_structure.specs.Words.{word_at, route_by, route, submitted_words}
 use Rattle.lock_structure.proofs.WordLaws.{submitted-unmanaged, left_word-changed}
-use Rattle.rsa_message.specs.Message.{Message, is_at, or_else, first_after, is_unseen, any_unseen, left_by, cleared, stamped, is_due, moves, turned_open, turned_closed, turned, turn_changes}
-use Rattle.grs_medium.specs.Apply.{turn_row, joined, submit_on, submit_row, take_from, take_row, mail_row, leave_row, purge_row, rest_row, row, row_changes, apply, changes, is_live, without_system}
+use Rattle.rsa_message.specs.Message.{Message, is_at, or_else, first_after, is_unseen, unseen, first_number, any_unseen, left_by, cleared, stamped, is_due, moves, turned_open, turned_closed, turned, turn_changes}
+use Rattle.grs_medium.specs.Apply.{turn_row, switch_ring, switch_row, joined, submit_on, submit_row, take_from, take_row, mail_row, leave_row, purge_row, rest_row, row, row_changes, apply, changes, is_live, without_system}
 use Rattle.grs_medium.specs.Inboxes.{inbox_of, is_empty, with_mail, without_first}
 use Rattle.grs_medium.specs.Medium.{MediumState, systems_of, awake, inbox, live, word}
-use Rattle.grs_medium.specs.Room.{is_built}
 use Rattle.grs_medium.specs.Changes.{ChangesWhatItSays, NamesWhatIsThere, WaitsForItsHolder}
 
 -- a call that isn't refused by the checks is its row
@@ -89,6 +89,12 @@ purge_moves true l m x y z h moves = absurd cc
 purge_moves false true m x y z h moves = moves
 purge_moves false false m x y z h moves = absurd cc
 
+-- a Switch that changes the mode
+switch_moves : (m : MediumState) (c : SysId) (words : List ℕ) (star : Bool) → m.star ≡ star → (o : Option ℕ) → (not star && is_none o) ≡ true → ¬ ((cond star (Already, m) (switch_ring m c words o)).1 ≡ m)
+switch_moves m c words true is o h = absurd cc
+switch_moves m c words false is (Some n) h = absurd cc
+switch_moves m c words false is None h = λ e. apart_by (λ (x : MediumState). x.star) _ m refl is e
+
 -- a word in place of another
 word_moves : (words : List ℕ) (entry w : ℕ) → entry < length words → ¬ (w ≡ word_at words entry) → ¬ (slice_set words entry w ≡ words)
 word_moves words entry w inside other e = other (sym (get_or-set_same words entry w 0 inside) ∙ ap (λ (x : List ℕ). word_at x entry) e)
@@ -129,21 +135,21 @@ leave_moves : (m : MediumState) (c : SysId) (entry : ℕ) → entry < length m.w
 unfolding leave_row
 leave_moves m c entry inside h = rw h (λ e. word_moves m.words entry (left_word (word m entry) c) inside (left_word-changed (word m entry) c h) (ap (λ (x : MediumState). x.words) e))
 
-row_moves : (m : MediumState) (c : SysId) (act : Act) → is_built act ≡ true → NamesWhatIsThere m act → WaitsForItsHolder m → row_changes m c act ≡ true → ¬ ((row m c act).1 ≡ m)
-unfolding row row_changes turn_row submit_row route take_row mail_row purge_row rest_row
-row_moves m c (Turn out) built there waits h = λ e. turned_moves m.message c out (live m) m.rest waits h (ap (λ (x : MediumState). x.message) e)
-row_moves m c (Purge t) built there waits h =
+row_moves : (m : MediumState) (c : SysId) (act : Act) → NamesWhatIsThere m act → WaitsForItsHolder m → row_changes m c act ≡ true → ¬ ((row m c act).1 ≡ m)
+unfolding row row_changes turn_row switch_row submit_row route take_row mail_row purge_row rest_row
+row_moves m c (Turn out) there waits h = λ e. turned_moves m.message c out (live m) m.rest waits h (ap (λ (x : MediumState). x.message) e)
+row_moves m c (Purge t) there waits h =
     let living = and_parts (not m.star) (is_live m t) h in
     let present = and_parts (nat_lt t.0 (systems_of m)) (not (has m.removed t.0)) living.1 in
     purge_moves m.star (is_live m t) m _ _ _ h (λ e. apart_by (λ (x : MediumState). has x.removed t.0) (without_system m c t) m (has-with_same m.removed t.0) (is_false (has m.removed t.0) present.1) e)
-row_moves m c Rest built there waits h = λ e. apart_by (λ (x : MediumState). has x.rest c.0) _ m (has-with_same m.rest c.0) (is_false (has m.rest c.0) h) e
-row_moves m c (Switch words) built there waits h = absurd cc
-row_moves m c (Submit entry req) built there waits h = submit_moves m c entry req (manager (word m entry)) refl there.0 there.1 h (unless _ m _ (is_false _ h))
-row_moves m c Take built there waits h = take_moves m c (inbox m c.0) refl h
-row_moves m c (Settle to mail) built there waits h = λ e. mail_moves m.inboxes to.0 mail there (ap (λ (x : MediumState). x.inboxes) e)
-row_moves m c (Tell to mail) built there waits h = λ e. mail_moves m.inboxes to.0 mail there (ap (λ (x : MediumState). x.inboxes) e)
-row_moves m c (Leave entry) built there waits h = leave_moves m c entry there h
+row_moves m c Rest there waits h = λ e. apart_by (λ (x : MediumState). has x.rest c.0) _ m (has-with_same m.rest c.0) (is_false (has m.rest c.0) h) e
+row_moves m c (Switch words) there waits h = switch_moves m c words m.star refl (first_number (unseen c m.message.entries)) h
+row_moves m c (Submit entry req) there waits h = submit_moves m c entry req (manager (word m entry)) refl there.0 there.1 h (unless _ m _ (is_false _ h))
+row_moves m c Take there waits h = take_moves m c (inbox m c.0) refl h
+row_moves m c (Settle to mail) there waits h = λ e. mail_moves m.inboxes to.0 mail there (ap (λ (x : MediumState). x.inboxes) e)
+row_moves m c (Tell to mail) there waits h = λ e. mail_moves m.inboxes to.0 mail there (ap (λ (x : MediumState). x.inboxes) e)
+row_moves m c (Leave entry) there waits h = leave_moves m c entry there h
 
 pub changes_what_it_says : ChangesWhatItSays
 unfolding apply changes
-changes_what_it_says m c call built there waits h = behind_checks (has m.removed c.0) (call.known == m.removed) (row_changes m c call.act) m (row m c call.act) _ _ (row_moves m c call.act built there waits) h
+changes_what_it_says m c call there waits h = behind_checks (has m.removed c.0) (call.known == m.removed) (row_changes m c call.act) m (row m c call.act) _ _ (row_moves m c call.act there waits) h

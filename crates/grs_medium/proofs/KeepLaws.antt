@@ -1,6 +1,6 @@
 -- A call that isn't said to change the medium leaves it as it was.
 use Rattle.std.proofs.Common.{◌≡◌, ℕ, ◌+◌, Bool, true, false, cond, not, ◌&&◌, ◌||◌, List, [], ◌∷◌, ◌++◌, length, refl, ap, sym, ◌∙◌, subst, eqb, arith, add-zero}
-use Rattle.std.specs.Prelude.{Option, Some, None, map, filter, ◌==◌}
+use Rattle.std.specs.Prelude.{Option, Some, None, is_none, map, filter, ◌==◌}
 use Rattle.std.specs.List.{list_any}
 use Rattle.std.proofs.lemmas.Bool.{eqb-true}
 use Rattle.std.proofs.lemmas.List.{append-nil}
@@ -11,16 +11,16 @@ use Rattle.grs_wire.specs.declared.medium.Act.TheVariants.{Turn, Switch, Submit,
 use Rattle.grs_wire.specs.declared.medium.Mail.{Mail}
 use Rattle.grs_wire.specs.declared.medium.RingEntry.{RingEntry}
 use Rattle.grs_wire.specs.declared.medium.Reply.{Reply}
+use Rattle.grs_wire.specs.declared.medium.Reply.TheVariants.{Already}
 use Rattle.grs_wire.specs.LockWords.{manager, is_manager}
 use Rattle.grs_wire.specs.Masks.{has, without, only}
 use Rattle.grs_wire.proofs.MaskLaws.{without-absent, with-present, has-with_same}
 use Rattle.lock_structure.specs.Words.{route_by, route}
-use Rattle.rsa_message.specs.Message.{Message, is_at, or_else, first_after, is_unseen, any_unseen, left_by, cleared, stamped, is_due, moves, wakes, rest_after_turn, turned_open, turned_closed, turned, turn_changes}
+use Rattle.rsa_message.specs.Message.{Message, is_at, or_else, first_after, is_unseen, unseen, first_number, any_unseen, left_by, cleared, stamped, is_due, moves, wakes, rest_after_turn, turned_open, turned_closed, turned, turn_changes}
 use Rattle.rsa_message.proofs.OrderLaws.{is_at-exact}
-use Rattle.grs_medium.specs.Apply.{turn_row, joined, submit_on, submit_row, take_from, take_row, leave_row, purge_row, rest_row, row, row_changes, apply, changes, is_live}
+use Rattle.grs_medium.specs.Apply.{turn_row, switch_ring, switch_row, joined, submit_on, submit_row, take_from, take_row, leave_row, purge_row, rest_row, row, row_changes, apply, changes, is_live}
 use Rattle.grs_medium.specs.Inboxes.{is_empty}
 use Rattle.grs_medium.specs.Medium.{MediumState, inbox, live, word}
-use Rattle.grs_medium.specs.Room.{is_built}
 use Rattle.grs_medium.specs.Changes.{LeavesTheRest}
 
 -- neither the removed nor the stale change anything, and else it is the row that counts
@@ -111,6 +111,12 @@ unless : {M : Type 0} (b : Bool) (x m : M) → b ≡ false → cond b x m ≡ m
 unless true x m e = absurd cc
 unless false x m e = refl
 
+-- a Switch in star mode, and one of a system that has yet to process an entry
+switch_kept : (m : MediumState) (c : SysId) (words : List ℕ) (star : Bool) (o : Option ℕ) → (not star && is_none o) ≡ false → (cond star (Already, m) (switch_ring m c words o)).1 ≡ m
+switch_kept m c words true o h = refl
+switch_kept m c words false None h = absurd cc
+switch_kept m c words false (Some n) h = refl
+
 -- the manager's own request, a Take of nothing, and a Leave that changes no word
 submit_kept : (m : MediumState) (c : SysId) (entry : ℕ) (req : Req) (o : Option SysId) → not (is_manager o c) ≡ false → joined m c entry ≡ m → (submit_on m c entry req (route_by o c)).1 ≡ m
 submit_kept m c entry req None h same = absurd cc
@@ -120,20 +126,20 @@ take_kept : (m : MediumState) (c : SysId) (mails : List Mail) → not (is_empty 
 take_kept m c [] h = refl
 take_kept m c (mail ∷ rest) h = let none : length (mail ∷ rest) ≡ 0 = eqb-true (length (mail ∷ rest)) 0 (is_true _ h) in absurd (omega arith)
 
-row_kept : (m : MediumState) (c : SysId) (act : Act) → is_built act ≡ true → row_changes m c act ≡ false → (row m c act).1 ≡ m
-unfolding row row_changes turn_row submit_row route take_row leave_row purge_row rest_row
-row_kept m c (Turn out) built h =
+row_kept : (m : MediumState) (c : SysId) (act : Act) → row_changes m c act ≡ false → (row m c act).1 ≡ m
+unfolding row row_changes turn_row switch_row submit_row route take_row leave_row purge_row rest_row
+row_kept m c (Turn out) h =
     ap (λ (x : Message). record m { message = x; rest = rest_after_turn m.message c (length out) m.rest }) (turned_kept m.message c out (live m) m.rest h)
     ∙ ap (λ (x : ℕ). record m { rest = x }) (rest_kept m.message c (length out) (live m) m.rest h)
-row_kept m c (Purge t) built h = not_purged m.star (is_live m t) m _ _ _ h
-row_kept m c Rest built h = ap (λ (x : ℕ). record m { rest = x }) (with-present m.rest c.0 (is_true (has m.rest c.0) h))
-row_kept m c (Switch words) built h = absurd cc
-row_kept m c (Submit entry req) built h = submit_kept m c entry req (manager (word m entry)) h (when _ m _ (is_true _ h))
-row_kept m c Take built h = take_kept m c (inbox m c.0) h
-row_kept m c (Settle to mail) built h = absurd cc
-row_kept m c (Tell to mail) built h = absurd cc
-row_kept m c (Leave entry) built h = unless _ _ m h
+row_kept m c (Purge t) h = not_purged m.star (is_live m t) m _ _ _ h
+row_kept m c Rest h = ap (λ (x : ℕ). record m { rest = x }) (with-present m.rest c.0 (is_true (has m.rest c.0) h))
+row_kept m c (Switch words) h = switch_kept m c words m.star (first_number (unseen c m.message.entries)) h
+row_kept m c (Submit entry req) h = submit_kept m c entry req (manager (word m entry)) h (when _ m _ (is_true _ h))
+row_kept m c Take h = take_kept m c (inbox m c.0) h
+row_kept m c (Settle to mail) h = absurd cc
+row_kept m c (Tell to mail) h = absurd cc
+row_kept m c (Leave entry) h = unless _ _ m h
 
 pub leaves_the_rest : LeavesTheRest
 unfolding apply changes
-leaves_the_rest m c call built h = behind_checks (has m.removed c.0) (call.known == m.removed) (row_changes m c call.act) m (row m c call.act) _ _ (row_kept m c call.act built) h
+leaves_the_rest m c call h = behind_checks (has m.removed c.0) (call.known == m.removed) (row_changes m c call.act) m (row m c call.act) _ _ (row_kept m c call.act) h

@@ -1,4 +1,5 @@
 pub mod Samples
+pub mod SwitchLaws
 pub mod SetLaws
 pub mod InboxLaws
 pub mod KeepLaws

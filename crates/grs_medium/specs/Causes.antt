@@ -1,15 +1,15 @@
 -- When each answer of the medium comes. Removed is looked at first, then Stale, and then what the act asks.
-use Rattle.std.specs.Prelude.{◌≡◌, ◌↔◌, ℕ, Bool, true, false, not, ◌==◌, ◌&&◌, ◌||◌, Option, Some, None, is_none}
+use Rattle.std.specs.Prelude.{◌≡◌, ◌↔◌, ℕ, Bool, true, false, cond, not, ◌==◌, ◌&&◌, ◌||◌, Option, Some, None, is_none}
 use Rattle.grs_base.specs.declared.resource.SysId.{SysId}
 use Rattle.grs_wire.specs.Masks.{has}
 use Rattle.grs_wire.specs.declared.medium.Act.{Act}
-use Rattle.grs_wire.specs.declared.medium.Act.TheVariants.{Turn, Submit, Take, Settle, Tell, Leave, Purge, Rest}
+use Rattle.grs_wire.specs.declared.medium.Act.TheVariants.{Turn, Switch, Submit, Take, Settle, Tell, Leave, Purge, Rest}
 use Rattle.grs_wire.specs.declared.medium.Call.{Call}
 use Rattle.grs_wire.specs.declared.medium.Mail.{Mail}
 use Rattle.grs_wire.specs.declared.medium.Reply.TheVariants as replies
 use Rattle.grs_wire.specs.LockWords.{interest, manager, is_manager}
 use Rattle.lock_structure.specs.Laws.{has_others}
-use Rattle.rsa_message.specs.Message.{is_at}
+use Rattle.rsa_message.specs.Message.{is_at, unseen, first_number}
 use Rattle.grs_medium.specs.Apply.{is_live, resting, reply_to}
 use Rattle.grs_medium.specs.Inboxes.{is_empty, first_mail}
 use Rattle.grs_medium.specs.Medium.{MediumState, all_rest, inbox, medium_at_end, word}
@@ -30,6 +30,21 @@ is_heard m c call = not (is_removed m c) && not (is_uninformed m call)
 abbrev pub turns_elsewhere : MediumState → SysId → Act → Bool
 turns_elsewhere m c (Turn out) = not (is_at m.message.holder c)
 turns_elsewhere m c act = false
+
+-- a Switch in star mode
+abbrev pub switches_in_star : MediumState → Act → Bool
+switches_in_star m (Switch words) = m.star
+switches_in_star m act = false
+
+-- the entry that a Switch of the caller in ring mode is behind by: the first that the caller has yet to process
+abbrev pub switches_behind : MediumState → SysId → Act → Option ℕ
+switches_behind m c (Switch words) = cond m.star None (first_number (unseen c m.message.entries))
+switches_behind m c act = None
+
+-- a Switch in ring mode of a caller that has processed every entry
+abbrev pub switches : MediumState → SysId → Act → Bool
+switches m c (Switch words) = not m.star && is_none (first_number (unseen c m.message.entries))
+switches m c act = false
 
 -- a Purge in star mode
 abbrev pub purges_in_star : MediumState → Act → Bool
@@ -105,6 +120,16 @@ StaleComes = (m : MediumState) (c : SysId) (call : Call) (set : ℕ) → (reply_
 -- it carries where the message is
 abbrev pub NotYoursComes : Type 0
 NotYoursComes = (m : MediumState) (c : SysId) (call : Call) (at : Option SysId) → (reply_to m c call ≡ replies.NotYours at) ↔ ((is_heard m c call ≡ true) × ((turns_elsewhere m c call.act ≡ true) × (at ≡ m.message.holder)))
+
+abbrev pub AlreadyComes : Type 0
+AlreadyComes = (m : MediumState) (c : SysId) (call : Call) → (reply_to m c call ≡ replies.Already) ↔ ((is_heard m c call ≡ true) × (switches_in_star m call.act ≡ true))
+
+-- it carries the number of the first entry that the caller has yet to process
+abbrev pub BehindComes : Type 0
+BehindComes = (m : MediumState) (c : SysId) (call : Call) (first : ℕ) → (reply_to m c call ≡ replies.Behind first) ↔ ((is_heard m c call ≡ true) × (switches_behind m c call.act ≡ Some first))
+
+abbrev pub SwitchedComes : Type 0
+SwitchedComes = (m : MediumState) (c : SysId) (call : Call) → (reply_to m c call ≡ replies.Switched) ↔ ((is_heard m c call ≡ true) × (switches m c call.act ≡ true))
 
 abbrev pub InStarComes : Type 0
 InStarComes = (m : MediumState) (c : SysId) (call : Call) → (reply_to m c call ≡ replies.InStar) ↔ ((is_heard m c call ≡ true) × (purges_in_star m call.act ≡ true))

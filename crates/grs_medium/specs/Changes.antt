@@ -9,11 +9,10 @@ use Rattle.grs_wire.specs.declared.medium.Act.TheVariants.{Submit, Settle, Tell,
 use Rattle.grs_wire.specs.declared.medium.Call.{Call}
 use Rattle.grs_medium.specs.Apply.{medium_after, changes}
 use Rattle.grs_medium.specs.Medium.{MediumState, word}
-use Rattle.grs_medium.specs.Room.{is_built}
 
 -- A call that isn't said to change the medium leaves it as it was.
 abbrev pub LeavesTheRest : Type 0
-LeavesTheRest = (m : MediumState) (c : SysId) (call : Call) → is_built call.act ≡ true → changes m c call ≡ false → medium_after m c call ≡ m
+LeavesTheRest = (m : MediumState) (c : SysId) (call : Call) → changes m c call ≡ false → medium_after m c call ≡ m
 
 -- where a closed message stands at a system, that one has yet to change to star mode
 abbrev pub WaitsForItsHolder : MediumState → Type 0
@@ -29,4 +28,4 @@ NamesWhatIsThere m act = Unit {0}
 
 -- A call that is said to change the medium doesn't leave it as it was.
 abbrev pub ChangesWhatItSays : Type 0
-ChangesWhatItSays = (m : MediumState) (c : SysId) (call : Call) → is_built call.act ≡ true → NamesWhatIsThere m call.act → WaitsForItsHolder m → changes m c call ≡ true → ¬ (medium_after m c call ≡ m)
+ChangesWhatItSays = (m : MediumState) (c : SysId) (call : Call) → NamesWhatIsThere m call.act → WaitsForItsHolder m → changes m c call ≡ true → ¬ (medium_after m c call ≡ m)

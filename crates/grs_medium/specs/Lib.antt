@@ -2,7 +2,6 @@ pub mod Inboxes
 pub mod Medium
 pub mod Apply
 pub mod Room
-pub mod Acts
 pub mod Changes
 pub mod Causes
 pub mod TurnReplies

@@ -1,8 +1,8 @@
 -- The room that a call of the medium was given beforehand, so that it takes no memory.
-use Rattle.std.specs.Prelude.{◌≡◌, ℕ, Bool, true, false, length, Option, Some, None}
+use Rattle.std.specs.Prelude.{◌≡◌, ℕ, length, Option, Some, None}
 use Rattle.grs_base.specs.declared.resource.SysId.{SysId}
 use Rattle.grs_wire.specs.declared.medium.Act.{Act}
-use Rattle.grs_wire.specs.declared.medium.Act.TheVariants.{Turn, Switch, Submit, Settle, Tell, Purge}
+use Rattle.grs_wire.specs.declared.medium.Act.TheVariants.{Turn, Submit, Settle, Tell, Purge}
 use Rattle.grs_wire.specs.declared.medium.Mail.{Mail}
 use Rattle.grs_wire.specs.declared.medium.Mail.TheVariants as mails
 use Rattle.grs_wire.specs.declared.request.Req.{Req}
@@ -17,11 +17,6 @@ pub record MediumValue : Type 0 where
   pub state : MediumState
   pub room : Room
   pub ready : Option SysId
-
--- the acts that can be asked for today
-abbrev pub is_built : Act → Bool
-is_built (Switch words) = false
-is_built _ = true
 
 -- the mail of a request, and whom it goes to, where it goes to the manager
 abbrev pub request_on : Route → ℕ → SysId → Req → Option (SysId × Mail)

@@ -1,5 +1,5 @@
 //! Laws of the medium: each function's contract is one, and there is nothing to run.
-ghost use Rattle.grs_medium.specs.Causes.{RemovedComes, StaleComes, NotYoursComes, InStarComes, NoSuchComes, OverComes, RestingComes, SoleComes, SentComes, TakenComes, EmptyComes, SettledComes, ToldComes, KeptComes, LeftComes};
+ghost use Rattle.grs_medium.specs.Causes.{RemovedComes, StaleComes, NotYoursComes, AlreadyComes, BehindComes, SwitchedComes, InStarComes, NoSuchComes, OverComes, RestingComes, SoleComes, SentComes, TakenComes, EmptyComes, SettledComes, ToldComes, KeptComes, LeftComes};
 ghost use Rattle.grs_medium.specs.Changes.{LeavesTheRest, ChangesWhatItSays};
 
 /// A call that isn't said to change the medium leaves it as it was.
@@ -28,6 +28,23 @@ pub fn stale_comes()
 /// where it is.
 pub fn not_yours_comes()
     ensures { NotYoursComes }
+{}
+
+/// A call that is heard is answered Already exactly where it is a Switch in star mode.
+pub fn already_comes()
+    ensures { AlreadyComes }
+{}
+
+/// A call that is heard is answered Behind exactly where it is a Switch in ring mode and its caller has yet to process
+/// an entry, with the number of the first.
+pub fn behind_comes()
+    ensures { BehindComes }
+{}
+
+/// A call that is heard is answered Switched exactly where it is a Switch in ring mode and its caller has processed
+/// every entry.
+pub fn switched_comes()
+    ensures { SwitchedComes }
 {}
 
 /// A call that is heard is answered InStar exactly where it is a Purge in star mode.

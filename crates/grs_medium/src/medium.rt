@@ -1,16 +1,15 @@
 //! The medium and its calls.
-ghost use Rattle.std.specs.Prelude.{◌≡◌, ◌<◌, ◌≤◌, true, not, length, Some, IfOk, OnOk, OnErr};
+ghost use Rattle.std.specs.Prelude.{◌≡◌, ◌<◌, ◌≤◌, ◌&&◌, ℕ, not, is_none, length, List as ListSpec, None, Some, IfOk, OnOk, OnErr};
 ghost use Rattle.grs_base.specs.Limits.{most_systems};
 ghost use Rattle.grs_wire.specs.LockWords.{leave_changes};
 ghost use Rattle.grs_wire.specs.declared.request.Req.{Req as ReqSpec};
 ghost use Rattle.lock_structure.specs.Words.{route};
 ghost use Rattle.grs_medium.specs.Inboxes.{is_empty};
 ghost use Rattle.grs_medium.specs.Medium.{first_medium, systems_of, awake, inbox, medium_at_end, word};
-ghost use Rattle.grs_medium.specs.Apply.{turn_row, manages, joined, submit_row, take_row, mail_row, leave_row, purge_row, rest_row, reply_to, medium_after, changes, row, row_changes, ActFits, MayCall};
-ghost use Rattle.grs_medium.specs.Room.{is_built, HasRoomFor, HasRoomOn, request_on};
-ghost use Rattle.grs_medium.specs.Acts.{act_of};
+ghost use Rattle.grs_medium.specs.Apply.{turn_row, manages, joined, submit_row, switch_ring, switch_row, take_row, mail_row, leave_row, purge_row, rest_row, reply_to, medium_after, changes, row, row_changes, ActFits, MayCall};
+ghost use Rattle.grs_medium.specs.Room.{HasRoomFor, HasRoomOn, request_on};
 ghost use Rattle.grs_medium.specs.TurnReplies.{reply_of, refusal};
-ghost use Rattle.rsa_message.specs.Message.{is_at, rest_after_turn};
+ghost use Rattle.rsa_message.specs.Message.{is_at, rest_after_turn, unseen, first_number};
 ghost use Rattle.rsa_message.specs.Places.{HasPlaces};
 ghost use Rattle.rsa_message.specs.Room.{HasRoom};
 ghost use Rattle.std.specs.Option.{option_map};
@@ -72,37 +71,6 @@ impl TurnRefusal {
             TurnRefusal::Stale { set } => Reply::Stale { set },
             TurnRefusal::Removed => Reply::Removed,
         }
-    }
-}
-
-/// The acts that can be asked for today.
-#[derive(Drop)]
-enum Built {
-    Turn(List<Req>),
-    Submit { entry: u32, req: Req },
-    Take,
-    Settle { to: SysId, mail: Mail },
-    Tell { to: SysId, mail: Mail },
-    Leave { entry: u32 },
-    Purge(SysId),
-    Rest,
-}
-
-/// An act that can be asked for.
-fn built_of(act: Act) -> Built
-    requires { is_built act ≡ true }
-    ensures { act ≡ act_of result }
-{
-    match act {
-        Act::Turn { out } => Built::Turn(out),
-        Act::Submit { entry, req } => Built::Submit { entry, req },
-        Act::Take => Built::Take,
-        Act::Settle { to, mail } => Built::Settle { to, mail },
-        Act::Tell { to, mail } => Built::Tell { to, mail },
-        Act::Leave { entry } => Built::Leave { entry },
-        Act::Purge { target } => Built::Purge(target),
-        Act::Rest => Built::Rest,
-        _ => unreachable!(),
     }
 }
 
@@ -181,8 +149,7 @@ impl Medium {
     /// Makes room for one `apply` of this call. An entry of the message past the last number that one may have is
     /// answered NoMemory.
     pub fn reserve(&mut self, caller: SysId, call: &Call) -> Result<(), NoMemory>
-        requires call { MayCall self.old.state caller call.now }
-        requires built { is_built call.now.act ≡ true }
+        requires { MayCall self.old.state caller call.now }
         ensures state { self.new.state ≡ self.old.state }
         ensures room { OnOk result (HasRoomFor self.new caller call.now.act) }
     {
@@ -191,8 +158,7 @@ impl Medium {
             Act::Submit { entry, req: _ } => self.reserve_request(caller, *entry),
             Act::Settle { to, mail: _ } | Act::Tell { to, mail: _ } => self.inboxes.reserve(*to),
             Act::Purge { target: _ } => self.rsa.reserve(caller, 0),
-            Act::Take | Act::Leave { entry: _ } | Act::Rest => Ok(()),
-            Act::Switch { words: _ } => unreachable!(),
+            Act::Switch { words: _ } | Act::Take | Act::Leave { entry: _ } | Act::Rest => Ok(()),
         }
     }
 
@@ -312,6 +278,40 @@ impl Medium {
         self.words.submit(entry, caller)
     }
 
+    /// The complex changes to star mode with these lock words. The message is closed.
+    fn change_to_star(&mut self, caller: SysId, words: List<u32>)
+        requires caller { caller.0 < systems_of self.old.state }
+        requires fits { ActFits self.old.state caller (Act.Switch words) }
+        ensures { self.new.state ≡ (switch_ring self.old.state caller words None).1 }
+    {
+        let live = live_of(self.systems, self.removed);
+        self.wake(caller);
+        self.star = true;
+        self.words.install(words);
+        self.rsa.close(caller, live);
+    }
+
+    /// A Switch.
+    #[tactic(auto, unfolding(crate::specs::Apply::switch_row, rsa_message::specs::Message::closed_by))]
+    fn switch(&mut self, caller: SysId, words: List<u32>) -> Reply
+        requires caller { caller.0 < systems_of self.old.state }
+        requires fits { ActFits self.old.state caller (Act.Switch words) }
+        ensures reply { result ≡ (switch_row self.old.state caller words).0 }
+        ensures state { self.new.state ≡ (switch_row self.old.state caller words).1 }
+        ensures systems { systems_of self.new.state ≡ systems_of self.old.state }
+    {
+        if self.star {
+            return Reply::Already;
+        }
+        match self.rsa.first_unseen(caller) {
+            Some(first) => Reply::Behind { first },
+            None => {
+                self.change_to_star(caller, words);
+                Reply::Switched
+            }
+        }
+    }
+
     /// A Submit.
     #[tactic(auto, unfolding(crate::specs::Apply::submit_row))]
     fn submit(&mut self, caller: SysId, entry: u32, req: Req) -> Reply
@@ -429,58 +429,59 @@ impl Medium {
 
     /// The row of an act.
     #[tactic(auto, unfolding(crate::specs::Apply::row, crate::specs::Apply::mail_row))]
-    fn act(&mut self, caller: SysId, built: Built) -> Reply
+    fn act(&mut self, caller: SysId, act: Act) -> Reply
         requires caller { caller.0 < systems_of self.old.state }
-        requires fits { ActFits self.old.state caller (act_of built) }
-        requires room { HasRoomFor self.old caller (act_of built) }
-        ensures reply { result ≡ (row self.old.state caller (act_of built)).0 }
-        ensures state { self.new.state ≡ (row self.old.state caller (act_of built)).1 }
+        requires fits { ActFits self.old.state caller act }
+        requires room { HasRoomFor self.old caller act }
+        ensures reply { result ≡ (row self.old.state caller act).0 }
+        ensures state { self.new.state ≡ (row self.old.state caller act).1 }
         ensures systems { systems_of self.new.state ≡ systems_of self.old.state }
     {
-        match built {
-            Built::Turn(out) => self.give(caller, out),
-            Built::Submit { entry, req } => self.submit(caller, entry, req),
-            Built::Take => self.take(caller),
-            Built::Settle { to, mail } => {
+        match act {
+            Act::Turn { out } => self.give(caller, out),
+            Act::Switch { words } => self.switch(caller, words),
+            Act::Submit { entry, req } => self.submit(caller, entry, req),
+            Act::Take => self.take(caller),
+            Act::Settle { to, mail } => {
                 self.send(caller, to, mail);
                 Reply::Settled
             }
-            Built::Tell { to, mail } => {
+            Act::Tell { to, mail } => {
                 self.send(caller, to, mail);
                 Reply::Told
             }
-            Built::Leave { entry } => self.leave(caller, entry),
-            Built::Purge(target) => self.purge(caller, target),
-            Built::Rest => self.rest(caller),
+            Act::Leave { entry } => self.leave(caller, entry),
+            Act::Purge { target } => self.purge(caller, target),
+            Act::Rest => self.rest(caller),
         }
     }
 
     /// One call of the medium: its reply, by the table of the medium. It takes no memory.
     ///
     /// Removed comes exactly where the caller was removed; else Stale exactly where the caller doesn't know of all
-    /// removed systems. A Turn is answered NotYours exactly where the message isn't at the caller. A Purge is
-    /// answered InStar exactly in star mode, and else NoSuch exactly where the target was removed or is no system.
+    /// removed systems. A Turn is answered NotYours exactly where the message isn't at the caller. A Switch is
+    /// answered Already exactly in star mode, and else Behind exactly where the caller has yet to process an entry. A
+    /// Purge is answered InStar exactly in star mode, and else NoSuch exactly where the target was removed or is no
+    /// system.
     /// A Rest is answered Over exactly where all that aren't removed are then at rest and nothing is left to do.
     /// A Take is answered Empty exactly where the caller's inbox is empty, and a Leave Kept exactly where the caller
     /// manages the lock entry and others have interest in it as well.
     #[tactic(auto, unfolding(crate::specs::Apply::apply))]
     pub fn apply(&mut self, caller: SysId, call: Call) -> Reply
         requires call { MayCall self.old.state caller call }
-        requires built { is_built call.act ≡ true }
         requires room { HasRoomFor self.old caller call.act }
         ensures reply { result ≡ reply_to self.old.state caller call }
         ensures state { self.new.state ≡ medium_after self.old.state caller call }
         ensures systems { systems_of self.new.state ≡ systems_of self.old.state }
     {
         let Call { known, act } = call;
-        let built = built_of(act);
         if has_system(self.removed, caller) {
             return Reply::Removed;
         }
         if known != self.removed {
             return Reply::Stale { set: self.removed };
         }
-        self.act(caller, built)
+        self.act(caller, act)
     }
 
     /// What a Purge would be answered, and whether it would change the medium.
@@ -497,6 +498,22 @@ impl Medium {
             return (Reply::NoSuch, false);
         }
         (Reply::Purged, true)
+    }
+
+    /// What a Switch would be answered, whatever words it has.
+    #[tactic(auto, unfolding(crate::specs::Apply::switch_row))]
+    fn preview_switch(&self, caller: SysId) -> (Reply, bool)
+        requires { caller.0 < systems_of self.now.state }
+        ensures reply { (words : ListSpec ℕ) → result.0 ≡ (switch_row self.now.state caller words).0 }
+        ensures changes { result.1 ≡ (not self.now.state.star && is_none (first_number (unseen caller self.now.state.message.entries))) }
+    {
+        if self.star {
+            return (Reply::Already, false);
+        }
+        match self.rsa.first_unseen(caller) {
+            Some(first) => (Reply::Behind { first }, false),
+            None => (Reply::Switched, true),
+        }
     }
 
     /// What a Submit would be answered.
@@ -544,8 +561,7 @@ impl Medium {
     /// a Purge would have a number past the last that one may have is for `reserve` to say, and not said here.
     #[tactic(auto, unfolding(crate::specs::Apply::apply, crate::specs::Apply::row, crate::specs::Apply::turn_row, crate::specs::Apply::mail_row, crate::specs::Apply::changes, crate::specs::Apply::row_changes))]
     pub fn preview(&self, caller: SysId, call: &Call) -> Result<(Reply, bool), NoMemory>
-        requires call { MayCall self.now.state caller call.now }
-        requires built { is_built call.now.act ≡ true }
+        requires { MayCall self.now.state caller call.now }
         ensures reply { IfOk result (λ shown. shown.0 ≡ reply_to self.now.state caller call.now) }
         ensures changes { IfOk result (λ shown. shown.1 ≡ changes self.now.state caller call.now) }
     {
@@ -560,6 +576,7 @@ impl Medium {
             Act::Turn { out } => self
                 .rsa
                 .preview_turn(caller, out.len() as u32, live, self.rest),
+            Act::Switch { words: _ } => Ok(self.preview_switch(caller)),
             Act::Submit { entry, req: _ } => Ok(self.preview_submit(caller, *entry)),
             Act::Take => self.preview_take(caller),
             Act::Settle { to: _, mail: _ } => Ok((Reply::Settled, true)),
@@ -567,7 +584,6 @@ impl Medium {
             Act::Leave { entry } => Ok(self.preview_leave(caller, *entry)),
             Act::Purge { target } => Ok(self.preview_purge(caller, *target)),
             Act::Rest => Ok((self.rest_reply(caller), !has_system(self.rest, caller))),
-            Act::Switch { words: _ } => unreachable!(),
         }
     }
 }

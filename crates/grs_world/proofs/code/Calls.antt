@@ -1,11 +1,10 @@
 -- What a system prepares fits the medium.
-use Rattle.std.proofs.Common.{◌≡◌, ◌<◌, ◌≤◌, ℕ, true, length, Some, refl, ap, arith}
+use Rattle.std.proofs.Common.{◌≡◌, ◌<◌, ◌≤◌, ℕ, true, length, Some, ap, arith}
 use Rattle.std.proofs.lemmas.Bool.Decides.{nat_tests}
 use Rattle.std.specs.Prelude.{nat_lt, nat_le}
 use Rattle.grs_base.specs.declared.resource.SysId.{SysId}
 use Rattle.grs_medium.specs.Apply.{ActFits, reply_to, medium_after}
 use Rattle.grs_medium.specs.Medium.{MediumState, systems_of}
-use Rattle.grs_medium.specs.Room.{is_built}
 use Rattle.grs_node.specs.Addressed.{is_act_addressed}
 use Rattle.grs_node.specs.Node.{Node, prepare, finish, most_additions}
 use Rattle.grs_node.specs.declared.prepared.Prepared.{Prepared}
@@ -34,20 +33,10 @@ act-fits m c deck (acts.Leave e) a s w = below e deck.entries (length m.words) a
 act-fits m c deck (acts.Purge t) a s w = absurd (cc)
 act-fits m c deck acts.Rest a s w = tt
 
-pub act-built : (deck : Deck) (act : Act) → is_act_addressed deck act ≡ true → is_built act ≡ true
-act-built deck (acts.Turn out) a = refl
-act-built deck (acts.Switch words) a = absurd (cc)
-act-built deck (acts.Submit e q) a = refl
-act-built deck acts.Take a = refl
-act-built deck (acts.Settle to mail) a = refl
-act-built deck (acts.Tell to mail) a = refl
-act-built deck (acts.Leave e) a = refl
-act-built deck (acts.Purge t) a = refl
-act-built deck acts.Rest a = refl
 
 -- what a call that was prepared leads to
 pub chosen-call : (deck : Deck) (m : MediumState) (c : SysId) (n : Node) (choice : Choice) (call : CallOfMedium) → prepare deck n choice ≡ Call call → chosen deck m c n choice ≡ record { medium = medium_after m c call; step = finish deck n choice (Some (reply_to m c call)) }
 unfolding chosen carry_out
 chosen-call deck m c n choice call h = ap (λ (p : Prepared). carry_out deck m c n choice p) h
 
-pub ruleset calls = (act-fits, act-built)
+pub ruleset calls = (act-fits)

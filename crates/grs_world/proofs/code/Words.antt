@@ -1,10 +1,9 @@
--- There are as many lock words as before, whatever a call does.
-use Rattle.std.proofs.Common.{◌≡◌, ℕ, zero, suc, Bool, true, false, cond, List, [], ◌∷◌, length, refl, ap}
+-- There are as many lock words as before, whatever a call does that fits the medium.
+use Rattle.std.proofs.Common.{◌≡◌, ℕ, zero, suc, Bool, true, false, cond, List, [], ◌∷◌, length, Option, Some, None, refl, ap}
 use Rattle.std.specs.Prelude.{slice_set, ◌==◌}
 use Rattle.grs_base.specs.declared.resource.SysId.{SysId}
-use Rattle.grs_medium.specs.Apply.{turn_row, manages, joined, submit_on, submit_row, take_from, take_row, mail_row, leave_row, is_live, without_system, purge_row, rest_row, row, apply, medium_after}
+use Rattle.grs_medium.specs.Apply.{turn_row, switch_ring, switch_row, manages, joined, submit_on, submit_row, take_from, take_row, mail_row, leave_row, is_live, without_system, purge_row, rest_row, row, apply, medium_after, ActFits}
 use Rattle.grs_medium.specs.Medium.{MediumState, inbox, word}
-use Rattle.grs_medium.specs.Room.{is_built}
 use Rattle.grs_wire.specs.LockWords.{leave_changes}
 use Rattle.grs_wire.specs.Masks.{has}
 use Rattle.grs_wire.specs.declared.medium.Act.{Act}
@@ -12,8 +11,9 @@ use Rattle.grs_wire.specs.declared.medium.Act.TheVariants as acts
 use Rattle.grs_wire.specs.declared.medium.Call.{Call}
 use Rattle.grs_wire.specs.declared.medium.Mail.{Mail}
 use Rattle.grs_wire.specs.declared.medium.Reply.{Reply}
-use Rattle.grs_wire.specs.declared.medium.Reply.TheVariants.{Purged, NoSuch, InStar, Stale, Removed}
+use Rattle.grs_wire.specs.declared.medium.Reply.TheVariants.{Already, Purged, NoSuch, InStar, Stale, Removed}
 use Rattle.grs_wire.specs.declared.request.Req.{Req}
+use Rattle.rsa_message.specs.Message.{unseen, first_number}
 use Rattle.lock_structure.specs.Words.{route}
 use Rattle.lock_structure.specs.declared.word.Route.{Route}
 use Rattle.lock_structure.specs.declared.word.Route.TheVariants as routes
@@ -29,6 +29,15 @@ Keeps m after = length after.words ≡ length m.words
 keeps-either : (m : MediumState) (b : Bool) (x y : MediumState) → Keeps m x → Keeps m y → Keeps m (cond b x y)
 keeps-either m true x y p q = p
 keeps-either m false x y p q = q
+
+switches : (m : MediumState) (c : SysId) (words : List ℕ) → length words ≡ length m.words → Keeps m (switch_row m c words).1
+unfolding switch_row
+switches m c words same = go m.star (first_number (unseen c m.message.entries))
+  where
+    go : (b : Bool) (o : Option ℕ) → Keeps m (cond {A = Reply × MediumState} b (Already, m) (switch_ring m c words o)).1
+    go true o = refl
+    go false None = same
+    go false (Some n) = refl
 
 joins : (m : MediumState) (c : SysId) (e : ℕ) → Keeps m (joined m c e)
 joins m c e = keeps-either m (manages m c e) m _ refl (length-set m.words e _)
@@ -62,10 +71,10 @@ purges m c t = go m.star (is_live m t)
     go false true = refl
     go false false = refl
 
-rows : (m : MediumState) (c : SysId) (act : Act) → is_built act ≡ true → Keeps m (row m c act).1
+rows : (m : MediumState) (c : SysId) (act : Act) → ActFits m c act → Keeps m (row m c act).1
 unfolding row mail_row turn_row rest_row
 rows m c (acts.Turn out) h = refl
-rows m c (acts.Switch words) h = cc
+rows m c (acts.Switch words) h = switches m c words h.0
 rows m c (acts.Submit e q) h = submits m c e q
 rows m c acts.Take h = takes m c
 rows m c (acts.Settle to mail) h = refl
@@ -74,7 +83,7 @@ rows m c (acts.Leave e) h = leaves m c e
 rows m c (acts.Purge t) h = purges m c t
 rows m c acts.Rest h = refl
 
-pub keeps_words : (m : MediumState) (c : SysId) (call : Call) → is_built call.act ≡ true → length (medium_after m c call).words ≡ length m.words
+pub keeps_words : (m : MediumState) (c : SysId) (call : Call) → ActFits m c call.act → length (medium_after m c call).words ≡ length m.words
 unfolding apply
 keeps_words m c call h = go (has m.removed c.0) (call.known == m.removed)
   where
