@@ -16,19 +16,22 @@ pub enum Act<'t> {
     },
     /// It takes its turn at the message.
     Turn,
-    /// Read and not carried out, like all below but `Rest`.
+    /// A request of a task of it is sent to the manager of its lock entry.
     Send {
         job: GivenName<'t>,
         task: GivenName<'t>,
     },
+    /// It takes the first mail of its inbox.
     Take,
+    /// It settles the first request that it has taken from another system.
     Settle,
-    /// A lock entry, below the deck's number of them.
+    /// An owner of another system in this lock entry, which is below the deck's number of them, is told control.
     Tell(u32),
-    /// A lock entry, below the deck's number of them.
+    /// It gives up its interest in this lock entry, which is below the deck's number of them.
     Leave(u32),
+    /// It changes the complex to star mode. This is read and not carried out, as the next is.
     Switch,
-    /// The system that is removed.
+    /// It removes this system.
     Purge(GivenName<'t>),
     /// It comes to rest.
     Rest,

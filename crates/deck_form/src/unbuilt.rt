@@ -1,7 +1,7 @@
-//! The forms that are read and not yet carried out. Each line of these two functions is one of them.
+//! The forms that are read and not yet carried out: statements by their first word, and events.
 ghost use Rattle.std.specs.Prelude.{◌≡◌};
 ghost use Rattle.deck_form.specs.UnbuiltWord.{is_unbuilt_word};
-ghost use Rattle.deck_form.specs.Unbuilt.{is_star, is_unbuilt_act, is_unbuilt};
+ghost use Rattle.deck_form.specs.Unbuilt.{is_unbuilt_act, is_unbuilt};
 
 use crate::event::Act;
 use crate::form::Stmt;
@@ -17,40 +17,30 @@ pub fn is_unbuilt_word(w: &[u8]) -> bool
         || w == b"D".as_slice()
 }
 
-fn is_star(star: Option<bool>) -> bool
-    ensures { result ≡ is_star star }
-{
-    match star {
-        None => false,
-        Some(star) => star,
-    }
-}
-
 fn is_unbuilt_act(act: &Act<'_>) -> bool
     ensures { result ≡ is_unbuilt_act act.now }
 {
     match act {
         Act::Task { .. } => false,
         Act::Turn => false,
-        Act::Send { .. } => true,
-        Act::Take => true,
-        Act::Settle => true,
-        Act::Tell(_) => true,
-        Act::Leave(_) => true,
+        Act::Send { .. } => false,
+        Act::Take => false,
+        Act::Settle => false,
+        Act::Tell(_) => false,
+        Act::Leave(_) => false,
         Act::Switch => true,
         Act::Purge(_) => true,
         Act::Rest => false,
     }
 }
 
-/// Whether a statement has a form that is not built: one of those words, MODE(STAR), or an event other than
-/// TASK, TURN and REST.
+/// Whether a statement has a form that is not built: one of those words, or the event SWITCH or PURGE.
 pub fn is_unbuilt(st: &Stmt<'_>) -> bool
     ensures { result ≡ is_unbuilt st.now }
 {
     match st {
         Stmt::Unbuilt => true,
-        Stmt::Complex(setup) => is_star(setup.star),
+        Stmt::Complex(_) => false,
         Stmt::Rnldef(_) => false,
         Stmt::System(_) => false,
         Stmt::Job(_) => false,

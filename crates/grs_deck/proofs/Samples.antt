@@ -128,31 +128,35 @@ name_lists :
 unfolding is_word is_hex digit is_allowed bad_line put put_word put_open end_line break_off begin_word begin step_in step scan_from finish_in lines_of lines_or_fault is_name_byte all_name is_name short_at dotted_at digits number_of unit_of ret_of rnl_of chosen option_at options_at ctl_at scope_at names_at place_at controlled_at uncontrolled_at enq_at reserve_at deq_at wait_at said_at line_verb which_of form_of value_of rnl_operand_at whole_rnl rnldef_at mode_of entries_of limit_of with_operand operand_at complex_at verb pair_at entry_at act_at event_at is_unbuilt_word named_at key plain_form first_form event_form form statements_from statements system_place job_place task_place judge judge_all reading fault
 name_lists = (refl, refl, refl, refl, refl, refl, refl, refl, refl, refl)
 
--- what is not built: words; MODE(STAR); and what is wrong comes first
+-- what is not built: words; and what is wrong comes first. MODE(STAR) is
 unbuilt :
     FaultOf (text (codes "SYSTEM SYA" ∷ codes "AT 0 VARY GRS(SYA),PURGE" ∷ [])) (at 2 NotBuilt)
     × FaultOf (text (codes "D" ∷ [])) (at 1 NotBuilt)
     × FaultOf (in_task (codes "GQSCAN SCOPE=GLOBAL" ∷ [])) (at 4 NotBuilt)
-    × FaultOf (text (codes "COMPLEX MODE(STAR)" ∷ [])) (at 1 NotBuilt)
+    × FaultOf (text (codes "COMPLEX MODE(STAR)" ∷ [])) (at 0 NoSystem)
+    × FaultOf (text (codes "COMPLEX MODE(STAR) MODE(STAR)" ∷ [])) (at 1 BadOperand)
     × FaultOf (in_task (codes "ENQ (A,B,E,SYSTEMS)" ∷ [])) None
     × FaultOf (in_task (codes "ENQ (A,B,E,SYSTEM),RNL=YES" ∷ [])) None
     × FaultOf (in_task (codes "ENQ ('',B,E,SYSTEMS)" ∷ [])) (at 4 NameLength)
 unfolding is_word is_hex digit is_allowed bad_line put put_word put_open end_line break_off begin_word begin step_in step scan_from finish_in lines_of lines_or_fault is_name_byte all_name is_name short_at dotted_at digits number_of unit_of ret_of rnl_of chosen option_at options_at ctl_at scope_at names_at place_at controlled_at uncontrolled_at enq_at reserve_at deq_at wait_at said_at line_verb which_of form_of value_of rnl_operand_at whole_rnl rnldef_at mode_of entries_of limit_of with_operand operand_at complex_at verb pair_at entry_at act_at event_at is_unbuilt_word named_at key plain_form first_form event_form form statements_from statements system_place job_place task_place judge judge_all reading fault
-unbuilt = (refl, refl, refl, refl, refl, refl, refl)
+unbuilt = (refl, refl, refl, refl, refl, refl, refl, refl)
 
--- event lines: SCHEDULE again; no system; no task; no form; an entry out of range; one in range; a system that is itself; SCHEDULE behind a turn; a switch behind a rest
+-- event lines: SCHEDULE again; no system; no task; no form; an entry out of range; one in range; a system that is itself; SCHEDULE behind a turn; what is not built: a switch behind a rest, a removal; no task to send; a word too many
 events :
     FaultOf (text (codes "SYSTEM SYA" ∷ codes "SCHEDULE" ∷ codes "SCHEDULE" ∷ [])) (at 3 BadOperand)
     × FaultOf (text (codes "SYSTEM SYA" ∷ codes "SCHEDULE" ∷ codes "SYB TURN" ∷ [])) (at 3 UnknownName)
     × FaultOf (in_task (codes "SCHEDULE" ∷ codes "SYA TASK J1.T2" ∷ [])) (at 5 UnknownName)
     × FaultOf (in_task (codes "SCHEDULE" ∷ codes "SYA TASK J1 .T1" ∷ [])) (at 5 BadOperand)
     × FaultOf (text (codes "COMPLEX ENTRIES(4)" ∷ codes "SYSTEM SYA" ∷ codes "SCHEDULE" ∷ codes "SYA TELL 4" ∷ [])) (at 4 BadOperand)
-    × FaultOf (text (codes "COMPLEX ENTRIES(4)" ∷ codes "SYSTEM SYA" ∷ codes "SCHEDULE" ∷ codes "SYA LEAVE 03" ∷ [])) (at 4 NotBuilt)
+    × FaultOf (text (codes "COMPLEX ENTRIES(4)" ∷ codes "SYSTEM SYA" ∷ codes "SCHEDULE" ∷ codes "SYA LEAVE 03" ∷ [])) None
     × FaultOf (text (codes "SYSTEM SYA" ∷ codes "SCHEDULE" ∷ codes "SYA PURGE SYA" ∷ [])) (at 3 UnknownName)
     × FaultOf (text (codes "SYSTEM SYA" ∷ codes "SCHEDULE" ∷ codes "SYA TURN" ∷ codes "SCHEDULE" ∷ [])) (at 4 BadOperand)
     × FaultOf (text (codes "SYSTEM SYA" ∷ codes "SCHEDULE" ∷ codes "SYA REST" ∷ codes "SYA SWITCH" ∷ [])) (at 4 NotBuilt)
+    × FaultOf (text (codes "SYSTEM SYA" ∷ codes "SYSTEM SYB" ∷ codes "SCHEDULE" ∷ codes "SYA PURGE SYB" ∷ [])) (at 4 NotBuilt)
+    × FaultOf (in_task (codes "SCHEDULE" ∷ codes "SYA SEND J1.T2" ∷ [])) (at 5 UnknownName)
+    × FaultOf (in_task (codes "SCHEDULE" ∷ codes "SYA TAKE 1" ∷ [])) (at 5 BadOperand)
 unfolding is_word is_hex digit is_allowed bad_line put put_word put_open end_line break_off begin_word begin step_in step scan_from finish_in lines_of lines_or_fault is_name_byte all_name is_name short_at dotted_at digits number_of unit_of ret_of rnl_of chosen option_at options_at ctl_at scope_at names_at place_at controlled_at uncontrolled_at enq_at reserve_at deq_at wait_at said_at line_verb which_of form_of value_of rnl_operand_at whole_rnl rnldef_at mode_of entries_of limit_of with_operand operand_at complex_at verb pair_at entry_at act_at event_at is_unbuilt_word named_at key plain_form first_form event_form form statements_from statements system_place job_place task_place judge judge_all reading fault
-events = (refl, refl, refl, refl, refl, refl, refl, refl, refl)
+events = (refl, refl, refl, refl, refl, refl, refl, refl, refl, refl, refl, refl)
 
 -- several systems: a name twice, behind another; a job of the other's name; a job twice in one; a task of the other system; a system that there isn't; a task behind another system; nine
 systems :
@@ -221,6 +225,28 @@ ring_deck : reading ring ≡ Ok (record no_deck {
 })
 unfolding is_word is_hex digit is_allowed bad_line put put_word put_open end_line break_off begin_word begin step_in step scan_from finish_in lines_of lines_or_fault is_name_byte all_name is_name short_at dotted_at digits number_of unit_of ret_of rnl_of chosen option_at options_at ctl_at scope_at names_at place_at controlled_at uncontrolled_at enq_at reserve_at deq_at wait_at said_at line_verb which_of form_of value_of rnl_operand_at whole_rnl rnldef_at mode_of entries_of limit_of with_operand operand_at complex_at verb pair_at entry_at act_at event_at is_unbuilt_word named_at key plain_form first_form event_form form statements_from statements system_place job_place task_place judge judge_all reading fault
 ring_deck = refl
+
+-- two systems in star mode, with each event of that mode
+abbrev star : List ℕ
+star = text (codes "COMPLEX MODE(STAR) ENTRIES(2)" ∷ codes "SYSTEM SYA" ∷ codes "JOB J1" ∷ codes "TASK T1" ∷ codes "SYSTEM SYB" ∷ codes "SCHEDULE" ∷ codes "SYA SEND J1.T1" ∷ codes "SYB TAKE" ∷ codes "SYA SETTLE" ∷ codes "SYA TELL 1" ∷ codes "SYB LEAVE 0" ∷ [])
+
+star_deck : reading star ≡ Ok (record no_deck {
+  star = true;
+  entries = 2;
+  systems = record {
+    name = codes "SYA";
+    desk = [];
+    jobs = record { name = codes "J1"; tasks = record { name = codes "T1"; lines = [] } ∷ [] } ∷ [];
+  } ∷ record { name = codes "SYB"; desk = []; jobs = [] } ∷ [];
+  events = record { system = record { 0 = 0 }; choice = choices.Send (record { system = record { 0 = 0 }; job = 0; task = 0 }) }
+      ∷ record { system = record { 0 = 1 }; choice = choices.Take }
+      ∷ record { system = record { 0 = 0 }; choice = choices.Settle }
+      ∷ record { system = record { 0 = 0 }; choice = choices.Tell 1 }
+      ∷ record { system = record { 0 = 1 }; choice = choices.Leave 0 }
+      ∷ [];
+})
+unfolding is_word is_hex digit is_allowed bad_line put put_word put_open end_line break_off begin_word begin step_in step scan_from finish_in lines_of lines_or_fault is_name_byte all_name is_name short_at dotted_at digits number_of unit_of ret_of rnl_of chosen option_at options_at ctl_at scope_at names_at place_at controlled_at uncontrolled_at enq_at reserve_at deq_at wait_at said_at line_verb which_of form_of value_of rnl_operand_at whole_rnl rnldef_at mode_of entries_of limit_of with_operand operand_at complex_at verb pair_at entry_at act_at event_at is_unbuilt_word named_at key plain_form first_form event_form form statements_from statements system_place job_place task_place judge judge_all reading fault
+star_deck = refl
 
 -- the declared fault of a text: a system that is named again
 twice : IsFault (text (codes "SYSTEM SYA" ∷ codes "SYSTEM SYA" ∷ [])) (record { line = 2; kind = Repeated })

@@ -29,7 +29,7 @@ use Rattle.deck_form.specs.declared.form.Stmt.{Stmt}
 use Rattle.deck_form.specs.declared.form.Stmt.TheVariants as stmts
 use Rattle.deck_form.specs.Complex.{no_setup}
 use Rattle.deck_form.specs.Statements.{statements}
-use Rattle.deck_form.specs.Unbuilt.{is_unbuilt_act, is_star, is_unbuilt}
+use Rattle.deck_form.specs.Unbuilt.{is_unbuilt_act, is_unbuilt}
 use Rattle.deck_scan.specs.Next.{◌>>=◌, Sets}
 use Rattle.deck_form.specs.Spelled.{Operand, Mode, Entries, Limit, IsFreeOperand, set_operand, IsComplex, IsAct, Spells}
 use Rattle.deck_scan.proofs.Taking.{bind_some}
@@ -143,11 +143,13 @@ built_is systems id s (acts.Task j t) c b e =
     let k = bind_some (task_in id s j t) (λ k. Some (choices.Task k)) c e in
     subst IsBuilt (some_is (choices.Task k.0) c k.2) tt
 built_is systems id s acts.Turn c b e = subst IsBuilt (some_is choices.Turn c e) tt
-built_is systems id s (acts.Send j t) c b e = absurd cc
-built_is systems id s acts.Take c b e = absurd cc
-built_is systems id s acts.Settle c b e = absurd cc
-built_is systems id s (acts.Tell n) c b e = absurd cc
-built_is systems id s (acts.Leave n) c b e = absurd cc
+built_is systems id s (acts.Send j t) c b e =
+    let k = bind_some (task_in id s j t) (λ k. Some (choices.Send k)) c e in
+    subst IsBuilt (some_is (choices.Send k.0) c k.2) tt
+built_is systems id s acts.Take c b e = subst IsBuilt (some_is choices.Take c e) tt
+built_is systems id s acts.Settle c b e = subst IsBuilt (some_is choices.Settle c e) tt
+built_is systems id s (acts.Tell n) c b e = subst IsBuilt (some_is (choices.Tell n) c e) tt
+built_is systems id s (acts.Leave n) c b e = subst IsBuilt (some_is (choices.Leave n) c e) tt
 built_is systems id s acts.Switch c b e = absurd cc
 built_is systems id s (acts.Purge n) c b e = absurd cc
 built_is systems id s acts.Rest c b e = subst IsBuilt (some_is choices.Rest c e) tt
@@ -206,7 +208,6 @@ are_orders systems n (s ∷ ss) h = (subst (λ (desk : List Desk). All (λ (c : 
 -- before SCHEDULE there is no event
 pub record IsDraft (d : Draft) : Type 0 where
   pub fits : Fits d.deck.systems
-  pub ring : d.deck.star ≡ false
   pub entries : is_entries d.deck.entries ≡ true
   pub limit : is_limit d.deck.limit ≡ true
   pub lists : AreLists d.deck.lists
@@ -217,33 +218,28 @@ no_events : (systems : List SystemDef) (entries : ℕ) (events : List Event) →
 no_events systems entries events e = rw e (All-nil (IsEventOf systems entries))
 
 -- a statement before SCHEDULE that leaves the events
-first_keeps : (d : Draft) (st : Stmt) → IsDraft d → Fits (grow d st).deck.systems → AreLists (grow d st).deck.lists → (grow d st).deck.star ≡ false → is_entries (grow d st).deck.entries ≡ true → is_limit (grow d st).deck.limit ≡ true → (grow d st).deck.events ≡ [] → IsDraft (grow d st)
-first_keeps d st h fits lists ring entries limit none = record { fits = fits; ring = ring; entries = entries; limit = limit; lists = lists; events = no_events (grow d st).deck.systems (grow d st).deck.entries (grow d st).deck.events none; quiet = λ e. none }
-
-star_not : (o : Option Bool) → is_star o ≡ false → unwrap_or o false ≡ false
-star_not None h = refl
-star_not (Some b) h = h
+first_keeps : (d : Draft) (st : Stmt) → IsDraft d → Fits (grow d st).deck.systems → AreLists (grow d st).deck.lists → is_entries (grow d st).deck.entries ≡ true → is_limit (grow d st).deck.limit ≡ true → (grow d st).deck.events ≡ [] → IsDraft (grow d st)
+first_keeps d st h fits lists entries limit none = record { fits = fits; entries = entries; limit = limit; lists = lists; events = no_events (grow d st).deck.systems (grow d st).deck.entries (grow d st).deck.events none; quiet = λ e. none }
 
 spelled_first : (d : Draft) (l : TokenLine) (st : Stmt) → d.scheduled ≡ false → IsDraft d → Spells d.scheduled d.deck.entries l st → is_unbuilt st ≡ false → Fits (grow d st).deck.systems → AreLists (grow d st).deck.lists → IsDraft (grow d st)
-spelled_first d l stmts.Unbuilt e h s b fits lists = first_keeps d stmts.Unbuilt h fits lists h.ring h.entries h.limit (h.quiet e)
+spelled_first d l stmts.Unbuilt e h s b fits lists = first_keeps d stmts.Unbuilt h fits lists h.entries h.limit (h.quiet e)
 spelled_first d l (stmts.Complex c) e h s b fits lists =
     let at : Spells false d.deck.entries l (stmts.Complex c) = subst (λ (b : Bool). Spells b d.deck.entries l (stmts.Complex c)) e s in
     let g = setup_of at.1.0 c at.1.2 in
-    first_keeps d (stmts.Complex c) h fits lists (star_not c.star b) (given_or is_entries c.entries 64 refl g.entries) (given_or is_limit c.limit 4096 refl g.limit) (h.quiet e)
-spelled_first d l (stmts.System n) e h s b fits lists = first_keeps d (stmts.System n) h fits lists h.ring h.entries h.limit (h.quiet e)
-spelled_first d l (stmts.Job n) e h s b fits lists = first_keeps d (stmts.Job n) h fits lists h.ring h.entries h.limit (h.quiet e)
-spelled_first d l (stmts.Task n) e h s b fits lists = first_keeps d (stmts.Task n) h fits lists h.ring h.entries h.limit (h.quiet e)
-spelled_first d l (stmts.Rnldef r) e h s b fits lists = first_keeps d (stmts.Rnldef r) h fits lists h.ring h.entries h.limit (h.quiet e)
-spelled_first d l (stmts.Line a) e h s b fits lists = first_keeps d (stmts.Line a) h fits lists h.ring h.entries h.limit (h.quiet e)
-spelled_first d l stmts.Schedule e h s b fits lists = first_keeps d stmts.Schedule h fits lists h.ring h.entries h.limit (h.quiet e)
+    first_keeps d (stmts.Complex c) h fits lists (given_or is_entries c.entries 64 refl g.entries) (given_or is_limit c.limit 4096 refl g.limit) (h.quiet e)
+spelled_first d l (stmts.System n) e h s b fits lists = first_keeps d (stmts.System n) h fits lists h.entries h.limit (h.quiet e)
+spelled_first d l (stmts.Job n) e h s b fits lists = first_keeps d (stmts.Job n) h fits lists h.entries h.limit (h.quiet e)
+spelled_first d l (stmts.Task n) e h s b fits lists = first_keeps d (stmts.Task n) h fits lists h.entries h.limit (h.quiet e)
+spelled_first d l (stmts.Rnldef r) e h s b fits lists = first_keeps d (stmts.Rnldef r) h fits lists h.entries h.limit (h.quiet e)
+spelled_first d l (stmts.Line a) e h s b fits lists = first_keeps d (stmts.Line a) h fits lists h.entries h.limit (h.quiet e)
+spelled_first d l stmts.Schedule e h s b fits lists = first_keeps d stmts.Schedule h fits lists h.entries h.limit (h.quiet e)
 spelled_first d l (stmts.Event n a) e h s b fits lists = absurd (let at : Spells false d.deck.entries l (stmts.Event n a) = subst (λ (b : Bool). Spells b d.deck.entries l (stmts.Event n a)) e s in at.1)
 
 -- an event more
 event_more : (d : Draft) (room : ℕ) (n : List ℕ) (a : Act) (rest : List Token) (o : Option Event) → event_of d.deck.systems n a ≡ o → d.scheduled ≡ true → IsAct d.deck.entries rest a → is_unbuilt_act a ≡ false → IsDraft d → IsDraft (record { deck = with_event o d.deck; begun = true; scheduled = true; room = room })
-event_more d room n a rest None is e act b h = record { fits = h.fits; ring = h.ring; entries = h.entries; limit = h.limit; lists = h.lists; events = h.events; quiet = λ k. absurd cc }
+event_more d room n a rest None is e act b h = record { fits = h.fits; entries = h.entries; limit = h.limit; lists = h.lists; events = h.events; quiet = λ k. absurd cc }
 event_more d room n a rest (Some v) is e act b h = record {
   fits = h.fits;
-  ring = h.ring;
   entries = h.entries;
   limit = h.limit;
   lists = h.lists;
@@ -270,7 +266,7 @@ no_list : (which : Which) → IsListOf which (no_entries which)
 no_list which = record { which_is = refl; few = omega arith; own = All-nil (λ (e : RnlEntry). e.which ≡ which) }
 
 first_draft : IsDraft no_draft
-first_draft = record { lists = record { incl = no_list Incl; excl = no_list Excl; con = no_list Con }; fits = record { few = omega arith; each = λ k x lt. absurd (omega (arith, lt)) }; ring = refl; entries = refl; limit = refl; events = All-nil (IsEventOf [] 64); quiet = λ e. refl }
+first_draft = record { lists = record { incl = no_list Incl; excl = no_list Excl; con = no_list Con }; fits = record { few = omega arith; each = λ k x lt. absurd (omega (arith, lt)) }; entries = refl; limit = refl; events = All-nil (IsEventOf [] 64); quiet = λ e. refl }
 
 says_keep : (ls : List TokenLine) (d e : Draft) → list_all are_of_bytes ls ≡ true → Says d ls e → Keeps d → Keeps e
 says_keep [] d e all s h = subst Keeps s h
@@ -293,7 +289,7 @@ spelled_whole text d h =
     let w = says_keeps (statements h.lines) no_draft h.draft h.says first_draft in
     let some : 0 < length h.draft.deck.systems = subst (λ (x : Deck). 0 < length x.systems) (sym h.is) h.system in
     let k = says_keep (statements h.lines) no_draft h.draft (statements_bytes h.lines (spelled_bytes text h.lines h.spelled)) h.says keeps_none in
-    let made : IsDeck h.draft.deck = record { some = some; fits = w.fits; names = k.names; once = says_once (statements h.lines) no_draft h.draft h.says once_none; orders = are_orders (length h.draft.deck.systems) 0 h.draft.deck.systems (says_orders (statements h.lines) no_draft h.draft h.says no_orders); lines = lines_of_deck h.draft k; named = k.entries; ring = w.ring; entries = w.entries; limit = w.limit; lists = w.lists; events = w.events } in
+    let made : IsDeck h.draft.deck = record { some = some; fits = w.fits; names = k.names; once = says_once (statements h.lines) no_draft h.draft h.says once_none; orders = are_orders (length h.draft.deck.systems) 0 h.draft.deck.systems (says_orders (statements h.lines) no_draft h.draft h.says no_orders); lines = lines_of_deck h.draft k; named = k.entries; entries = w.entries; limit = w.limit; lists = w.lists; events = w.events } in
     subst IsDeck h.is made
 
 pub whole : (text : List ℕ) (r : Result Deck ReadError) → Gives r (reading text) → IfOk r IsDeck

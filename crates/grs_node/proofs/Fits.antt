@@ -14,7 +14,6 @@ use Rattle.grs_base.specs.declared.resource.Res.TheVariants.{Step as StepRes, Sy
 use Rattle.contention_mgr.proofs.ElementLemmas.{elements_are_askers, telling_keeps_elements, elements-kept, elements-set}
 use Rattle.contention_mgr.specs.Elements.{all_of, elements_of}
 use Rattle.contention_mgr.specs.Manager.{Ranked, Managed, ManagerView, no_elements, first_untold, owner_of, sooner, is_untold, entry_of_res, are_of, entry_wanted, managed_at, managed_of, managed_for, items_of, with_entry, settled, told, after_request, after_telling}
-use Rattle.grs_base.specs.Limits.{is_entries}
 use Rattle.grs_base.specs.declared.resource.Res.{Res}
 use Rattle.grs_base.specs.declared.resource.SysId.{SysId}
 use Rattle.grs_base.specs.declared.resource.TaskId.{TaskId}
@@ -32,7 +31,8 @@ use Rattle.grs_legal.specs.Asks.{scripts_at, lines_in, lines_of, meanings}
 use Rattle.grs_wire.specs.declared.deck.SystemDef.{SystemDef}
 use Rattle.grs_wire.specs.declared.request.Fixed.{Fixed}
 use Rattle.std.proofs.lemmas.Option.{slice_get_within}
-use Rattle.grs_node.specs.EitherMode.{IsDeckInEitherMode}
+use Rattle.grs_wire.specs.Decks.{IsDeck}
+use Rattle.grs_wire.proofs.DeckLaws.{entries_some}
 use Rattle.grs_wire.specs.declared.deck.Choice.{Choice}
 use Rattle.grs_wire.specs.declared.deck.Choice.TheVariants as choices
 use Rattle.grs_wire.specs.declared.deck.Deck.{Deck}
@@ -100,11 +100,7 @@ length-replicate : {X : Type 0} (n : ℕ) (x : X) → length (replicate n x) ≡
 length-replicate zero x = refl
 length-replicate (suc n) x = ap suc (length-replicate n x)
 
-some-entries : (n : ℕ) → is_entries n ≡ true → 0 < n
-some-entries zero h = cc
-some-entries (suc n) h = omega arith
-
-pub first-fits : (deck : Deck) (s : ℕ) → IsDeckInEitherMode deck → s < length deck.systems → NodeFits deck (first_node deck s)
+pub first-fits : (deck : Deck) (s : ℕ) → IsDeck deck → s < length deck.systems → NodeFits deck (first_node deck s)
 unfolding first_node
 first-fits deck s h within = record { system = within; part = go deck.star }
   where
@@ -112,7 +108,7 @@ first-fits deck s h within = record { system = within; part = go deck.star }
     go false = tt
     go true = record {
       system = refl;
-      some = some-entries deck.entries h.entries;
+      some = entries_some deck.entries h.entries;
       entries = length-replicate deck.entries None;
       interest = length-replicate deck.entries false;
       elements = all-none (is_within deck) deck.entries;

@@ -1,4 +1,3 @@
-pub mod EitherLaws
 pub mod ScriptCounts
 pub mod Places
 pub mod Kept

@@ -1,7 +1,7 @@
 //! Which task has which lines. The lines stay in the deck.
 ghost use Rattle.std.specs.Prelude.{◌≡◌, ◌≤◌, ◌++◌, map, length, slice_get, is_some, sum, option_copied, All, IfOk, IfSome};
 ghost use Rattle.grs_base.specs.Limits.{most_lines, most_tasks};
-ghost use Rattle.grs_node.specs.EitherMode.{IsDeckInEitherMode};
+ghost use Rattle.grs_wire.specs.Decks.{IsDeck};
 ghost use Rattle.grs_legal.specs.Asks as asks;
 ghost use Rattle.grs_legal.specs.Asks.{lines_in, scripts_in, scripts_from};
 ghost use Rattle.grs_node.specs.Node.{is_of_deck};
@@ -85,13 +85,13 @@ pub(crate) fn system_at(deck: &Deck, system: SysId) -> Option<&SystemDef>
 }
 
 /// The scripts of the tasks of a system.
-#[tactic(auto, using(crate::proofs::EitherLaws::parts))]
+#[tactic(auto, using(grs_wire::proofs::DeckLaws::parts))]
 pub(crate) fn scripts_of(
     alloc: Global,
     deck: &Deck,
     system: SysId,
 ) -> Result<List<Script<'_>>, NoMemory>
-    requires { IsDeckInEitherMode deck.now }
+    requires { IsDeck deck.now }
     ensures { IfOk result (λ scripts. scripts ≡ asks.scripts_of deck.now system.0) }
 {
     match system_at(deck, system) {
@@ -101,9 +101,9 @@ pub(crate) fn scripts_of(
 }
 
 /// The numbers of tasks of the jobs of a system.
-#[tactic(auto, using(crate::proofs::EitherLaws::parts, crate::proofs::ScriptCounts::counts))]
+#[tactic(auto, using(grs_wire::proofs::DeckLaws::parts, crate::proofs::ScriptCounts::counts))]
 pub(crate) fn sizes_of(alloc: Global, deck: &Deck, system: SysId) -> Result<Vec<u32>, NoMemory>
-    requires { IsDeckInEitherMode deck.now }
+    requires { IsDeck deck.now }
     ensures { IfOk result (λ sizes. sum sizes.items ≡ length (asks.scripts_of deck.now system.0)) }
 {
     match system_at(deck, system) {

@@ -1,9 +1,9 @@
 -- Each part of a deck is within the limits of the deck.
-use Rattle.std.proofs.Common.{◌≡◌, ◌<◌, ◌≤◌, ℕ, zero, suc, List, [], ◌∷◌, length, get_or, Some, subst, arith, length-append}
+use Rattle.std.proofs.Common.{◌≡◌, ◌<◌, ◌≤◌, ◌≢◌, ℕ, zero, suc, true, List, [], ◌∷◌, length, get_or, Some, subst, arith, length-append}
 use Rattle.std.specs.Prelude.{slice_get, All}
 use Rattle.std.specs.List.{flat_map}
 use Rattle.std.proofs.lemmas.Option.{slice_get_within, get_or_from_slice_get}
-use Rattle.grs_base.specs.Limits.{most_lines, most_tasks}
+use Rattle.grs_base.specs.Limits.{most_lines, most_tasks, is_entries}
 use Rattle.grs_wire.specs.declared.deck.TaskDef.{TaskDef}
 use Rattle.grs_wire.specs.declared.deck.JobDef.{JobDef}
 use Rattle.grs_wire.specs.declared.deck.SystemDef.{SystemDef}
@@ -41,4 +41,13 @@ lines_few d n s h at k j in_jobs i t in_tasks =
     let system : length (of_system s) ≤ length (flat_map of_system d.systems) = subst (λ x. length (of_system x) ≤ length (flat_map of_system d.systems)) (get_or_from_slice_get d.systems n s s at) whole in
     omega (arith, one, job, system, h.lines.few)
 
-pub ruleset parts = (tasks_few, lines_few)
+-- ---- the lock entries
+pub entries_some : (n : ℕ) → is_entries n ≡ true → 0 < n
+entries_some zero h = absurd (cc)
+entries_some (suc n) h = omega arith
+
+-- a deck has one at least
+pub some_entry : (d : Deck) → IsDeck d → d.entries ≢ 0
+some_entry d h = let k = entries_some d.entries h.entries in λ z. omega (arith, z, k)
+
+pub ruleset parts = (tasks_few, lines_few, some_entry)

@@ -92,12 +92,11 @@ IsChoiceOf systems entries s id (choices.Leave e) = e < entries
 IsChoiceOf systems entries s id (choices.Purge other) = (other.0 < length systems) × (other.0 ≢ id.0)
 IsChoiceOf systems entries s id _ = Unit {0}
 
--- What a system does is built: it goes on with a task, takes its turn or rests.
+-- What a system does is built: all but the change to star mode and the removal of another system.
 abbrev pub IsBuilt : Choice → Type 0
-IsBuilt (choices.Task t) = Unit {0}
-IsBuilt choices.Turn = Unit {0}
-IsBuilt choices.Rest = Unit {0}
-IsBuilt _ = ⊥
+IsBuilt choices.Switch = ⊥
+IsBuilt (choices.Purge other) = ⊥
+IsBuilt _ = Unit {0}
 
 -- An event of a system that there is, of a kind that is built.
 pub record IsEventOf (systems : List SystemDef) (entries : ℕ) (e : Event) : Type 0 where
@@ -107,10 +106,10 @@ pub record IsEventOf (systems : List SystemDef) (entries : ℕ) (e : Event) : Ty
   pub choice : IsChoiceOf systems entries found e.system e.choice
   pub built : IsBuilt e.choice
 
--- A deck: at least one system and at most eight, each with at most 64 commands at its desk, 64 jobs and 64
--- tasks, all with names of their form that are given once; no system that is to remove itself, or one that isn't there;
--- at most 16,384 task lines, of which at most 256 show something; ring mode; one of the numbers of entries and of the
--- limits that there may be; the three name lists; and events of its systems.
+-- A deck, in ring mode or in star mode: at least one system and at most eight, each with at most 64 commands at its
+-- desk, 64 jobs and 64 tasks, all with names of their form that are given once; no system that is to remove itself, or
+-- one that isn't there; at most 16,384 task lines, of which at most 256 show something; one of the numbers of entries
+-- and of the limits that there may be; the three name lists; and events of its systems.
 pub record IsDeck (d : Deck) : Type 0 where
   pub some : 0 < length d.systems
   pub fits : Fits d.systems
@@ -118,7 +117,6 @@ pub record IsDeck (d : Deck) : Type 0 where
   pub once : AreNamedOnce d.systems
   pub orders : AreOrders (length d.systems) 0 d.systems
   pub lines : AreLines (all_lines d.systems)
-  pub ring : d.star ≡ false
   pub entries : is_entries d.entries ≡ true
   pub limit : is_limit d.limit ≡ true
   pub lists : AreLists d.lists

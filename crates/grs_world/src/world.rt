@@ -3,7 +3,6 @@
 ghost use Rattle.std.specs.Prelude.{◌≡◌, ◌<◌, ◌+◌, ◌++◌, ◌∷◌, [], true, length, IfOk, OnOk};
 ghost use Rattle.grs_base.specs.Limits.{last_number};
 ghost use Rattle.grs_wire.specs.Decks.{IsDeck};
-ghost use Rattle.grs_node.specs.EitherMode.{IsDeckInEitherMode};
 ghost use Rattle.grs_node.specs.Node.{first_node};
 ghost use Rattle.grs_world.specs.World as runs;
 ghost use Rattle.grs_world.specs.Running.{starting, after, ran, nodes_of, AreOf, is_live, at_rest, units_of, task_end};
@@ -58,7 +57,7 @@ fn add_node<'d>(
     nodes: &mut List<Node<'d>>,
     system: SysId,
 ) -> Result<(), NoMemory>
-    requires deck { IsDeckInEitherMode deck.now }
+    requires deck { IsDeck deck.now }
     requires system { system.0 < length deck.now.systems }
     requires nodes { AreOf deck.now nodes.old }
     ensures nodes { OnOk result (nodes_of nodes.new ≡ nodes_of nodes.old ++ first_node deck.now system.0 ∷ []) }
@@ -72,7 +71,7 @@ fn add_node<'d>(
 /// The systems of a deck before their first events.
 #[tactic(auto, using(crate::proofs::system::First::first))]
 fn first_nodes<'d>(alloc: Global, deck: &'d Deck) -> Result<Vec<Node<'d>>, NoMemory>
-    requires { IsDeckInEitherMode deck.now }
+    requires { IsDeck deck.now }
     ensures nodes { IfOk result (λ nodes. nodes_of nodes.items ≡ runs.first_nodes deck.now 0 deck.now.systems) }
     ensures deck { IfOk result (λ nodes. AreOf deck.now nodes.items) }
     ensures count { IfOk result (λ nodes. length nodes.items ≡ length deck.now.systems) }
@@ -121,7 +120,7 @@ impl<'d> World<'d> {
     /// A deck before its first event: nothing is queued and no task has begun.
     #[tactic(auto, using(crate::proofs::system::First::first), unfolding(crate::specs::World::first_world))]
     pub fn new(alloc: Global, deck: &'d Deck) -> Result<World<'d>, NoMemory>
-        requires { IsDeckInEitherMode deck.now }
+        requires { IsDeck deck.now }
         ensures { IfOk result (λ w. w ≡ starting deck.now) }
     {
         let systems = deck.systems.len() as u32;
@@ -248,7 +247,7 @@ impl<'d> World<'d> {
 }
 
 /// The run of a list of events.
-#[tactic(auto, using(crate::proofs::code::Happens::runs, grs_node::proofs::EitherLaws::either))]
+#[tactic(auto, using(crate::proofs::code::Happens::runs))]
 pub fn replay<'d>(alloc: Global, deck: &'d Deck, events: &[Event]) -> Result<World<'d>, NoMemory>
     requires { IsDeck deck.now }
     ensures { IfOk result (λ w. w ≡ ran deck.now events.now) }

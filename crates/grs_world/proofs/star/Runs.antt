@@ -5,7 +5,6 @@ use Rattle.std.proofs.lemmas.List.{length-replicate}
 use Rattle.std.proofs.lemmas.Option.{slice_get_within, same_Some}
 use Rattle.contention_mgr.specs.Manager.{plain, items_of, entry_of_res, kept_at, kept_for}
 use Rattle.contention_mgr.proofs.ManagerLaws.{well_kept_begins}
-use Rattle.grs_base.specs.Limits.{is_entries}
 use Rattle.grs_base.specs.Slices.{slice_of, entry_of}
 use Rattle.grs_base.specs.State.{list_of, is_systems}
 use Rattle.grs_base.specs.declared.resource.Res.{Res}
@@ -18,6 +17,7 @@ use Rattle.grs_wire.specs.Masks.{has}
 use Rattle.grs_wire.specs.declared.deck.Deck.{Deck}
 use Rattle.grs_wire.specs.declared.deck.Event.{Event}
 use Rattle.grs_wire.specs.declared.deck.SystemDef.{SystemDef}
+use Rattle.grs_wire.proofs.DeckLaws.{entries_some}
 use Rattle.grs_wire.proofs.MaskLaws.{has-zero}
 use Rattle.lock_structure.specs.Laws.{IsManaged, is_interested, manager_at}
 use Rattle.lock_structure.specs.Words.{word_at}
@@ -70,10 +70,6 @@ none_interested : (k e : ℕ) → slice_index_or (replicate k false) e false ≡
 none_interested zero e = refl
 none_interested (suc k) zero = refl
 none_interested (suc k) (suc e) = none_interested k e
-
-pub entries_some : (n : ℕ) → is_entries n ≡ true → 0 < n
-entries_some zero h = absurd (cc)
-entries_some (suc n) h = omega arith
 
 first_fits : (deck : Deck) (s : ℕ) → IsPart deck (replicate deck.entries 0) [] s (first_part (record { 0 = s }) deck.entries)
 first_fits deck s = record {

@@ -16,6 +16,7 @@ use Rattle.grs_wire.specs.declared.deck.Choice.TheVariants as choices
 use Rattle.grs_wire.specs.declared.deck.Deck.{Deck}
 use Rattle.grs_wire.specs.declared.deck.Event.{Event}
 use Rattle.grs_wire.specs.declared.medium.Mail.{Mail}
+use Rattle.grs_wire.proofs.DeckLaws.{entries_some}
 use Rattle.grs_world.specs.Agree.{Sound}
 use Rattle.grs_world.specs.Kept.{KeptArePlaces}
 use Rattle.grs_world.specs.World.{World, Turnout, chosen, counted, first_nodes, first_world, fixed_by, happens, placed, run}
@@ -27,7 +28,7 @@ use Rattle.grs_world.proofs.system.Begun.{first_seen}
 use Rattle.grs_world.specs.Decks.{IsStarDeck}
 use Rattle.grs_world.proofs.star.Events.{good_choice}
 use Rattle.grs_world.proofs.star.Ghosts.{without-box}
-use Rattle.grs_world.proofs.star.Runs.{counted-star, entries_some, star_run}
+use Rattle.grs_world.proofs.star.Runs.{counted-star, star_run}
 use Rattle.grs_world.proofs.star.Systems.{IsSystem}
 use Rattle.grs_world.proofs.star.Worlds.{IsWhole, Hands, in_hands, kept-whole}
 use Rattle.grs_world.proofs.star.steps.Outcome.{IsOutcome, Comes}
