@@ -202,13 +202,16 @@ parts :
     × (words_text three (0 ∷ 263 ∷ 4096 ∷ []) ≡ ended (codes "WORDS") ++ ended (codes "W 1 MASK 7 MANAGER SYA EPOCH 0") ++ ended (codes "W 2 MASK 0 MANAGER NONE EPOCH 1"))
     × (event_line three (record { system = system 1; choice = choices.Purge (system 2) }) ≡ ended (codes "SYB PURGE SYC"))
     × (event_line three (record { system = system 0; choice = choices.Tell 15 }) ≡ ended (codes "SYA TELL 15"))
+    × (event_line three (record { system = system 1; choice = choices.Send (task_of 1 1) }) ≡ ended (codes "SYB SEND J1.T2"))
+    × (event_line three (record { system = system 2; choice = choices.Settle }) ≡ ended (codes "SYC SETTLE"))
+    × (mode_line true ≡ ended (codes "MODE STAR"))
     × (told_line three 18 (lines.Post (task_of 2 0) 1) ≡ ended (codes "T 1 POST @18"))
     × (told_line three 7 (lines.Ended (task_of 0 1) 138) ≡ ended (codes "T END 138 @7"))
     × (history_line three 5 (entries.Deq (task_of 0 1) (local_res (codes "C")) true replies.C08) ≡ ended (codes "H 5 SYA.J1.T2 DEQ SYSTEM(SYA,A,C) HAVE 08"))
     × (history_line three 6 (entries.Enq (task_of 0 1) (local_res (codes "B")) E rets.RetChng (replies.End 138)) ≡ ended (codes "H 6 SYA.J1.T2 ENQ SYSTEM(SYA,A,B) E CHNG 138"))
     × (history_line three 12 (entries.Release (task_of 0 1) (local_res (codes "B"))) ≡ ended (codes "H 12 SYA.J1.T2 RELEASE SYSTEM(SYA,A,B)"))
-unfolding digits line name_at name_in task_in_job task_word names_word res_word elem_word row_line choice_words event_line history_line told_line unit_line units_text manager word_line words_text
-parts = (refl, refl, refl, refl, refl, refl, refl, refl, refl, refl, refl)
+unfolding digits line name_at name_in task_in_job task_word names_word res_word elem_word row_line choice_words event_line history_line told_line unit_line units_text manager word_line words_text mode_line
+parts = (refl, refl, refl, refl, refl, refl, refl, refl, refl, refl, refl, refl, refl, refl)
 
 -- (A,B) held exclusively by the first task
 abbrev held_row : Row

@@ -3,3 +3,4 @@ pub mod Complete
 pub mod DueLemmas
 pub mod OneItem
 mod Samples
+mod StarSamples
