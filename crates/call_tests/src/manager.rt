@@ -1,5 +1,5 @@
-//! The manager of star mode, which no event reaches yet: each call that may want memory, once with ample memory, and its
-//! answers.
+//! A manager that begins with lists, as none does before a complex can change to star mode, and looks at the lists of an
+//! entry, for which no task asks yet. What else a manager does is run by decks.
 ghost use Rattle.std.specs.Prelude.{◌≡◌, [], ◌∷◌, IfOk};
 ghost use Rattle.grs_base.specs.declared.resource.Res.TheVariants.{Systems};
 ghost use Rattle.call_tests.specs.Rows.{elem_of, two_rows};
@@ -32,23 +32,12 @@ fn named(alloc: Global, rname: &[u8]) -> Result<Res, NameFault>
     Ok(Res::Systems { q, r })
 }
 
-fn enq(alloc: Global, system: u8, rname: &[u8], ret: Ret) -> Result<Req, NameFault> {
+fn enq(alloc: Global, system: u8, rname: &[u8]) -> Result<Req, NameFault> {
     let want = Want::Enq {
         res: named(alloc, rname)?,
         ctl: Ctl::E,
-        ret,
+        ret: Ret::RetNone,
         full: false,
-    };
-    Ok(Req {
-        task: task(system),
-        want,
-    })
-}
-
-fn deq(alloc: Global, system: u8, rname: &[u8]) -> Result<Req, NameFault> {
-    let want = Want::Deq {
-        res: named(alloc, rname)?,
-        have: false,
     };
     Ok(Req {
         task: task(system),
@@ -66,17 +55,17 @@ fn release(alloc: Global, system: u8, rname: &[u8]) -> Result<Req, NameFault> {
     })
 }
 
-/// A look at the slice of the resource.
-fn look(alloc: Global, system: u8) -> Result<Req, NameFault> {
+/// A look at the slices of both resources.
+fn look(system: u8) -> Req {
     let want = Want::Look {
         first: 13,
-        count: 1,
+        count: 2,
         filter: Filter::All,
     };
-    Ok(Req {
+    Req {
         task: task(system),
         want,
-    })
+    }
 }
 
 fn code_of(answer: &Answer) -> Option<Code> {
@@ -141,30 +130,6 @@ fn told(manager: &mut Manager) -> Result<(u8, u8), NameFault> {
         }
         None => Ok((9, 0)),
     }
-}
-
-/// A manager of one lock entry, which it manages with empty lists.
-fn begun(alloc: Global) -> Result<Manager, NameFault> {
-    let mut manager = Manager::new(alloc, SysId(0), 1)?;
-    if !manager.manages(0) {
-        manager.begin(0)?;
-    }
-    Ok(manager)
-}
-
-/// Two tasks ask for a resource, one looks at it, and both give it up.
-fn goes_round(alloc: Global, manager: &mut Manager) -> Result<[[Given; 2]; 5], NameFault> {
-    let first = given(manager, &enq(alloc, 0, b"Q", Ret::RetNone)?)?;
-    let second = given(manager, &enq(alloc, 1, b"Q", Ret::RetNone)?)?;
-    let third = given(manager, &look(alloc, 1)?)?;
-    let fourth = given(manager, &deq(alloc, 0, b"Q")?)?;
-    let fifth = given(manager, &release(alloc, 1, b"Q")?)?;
-    Ok([first, second, third, fourth, fifth])
-}
-
-fn given_by(alloc: Global) -> Result<[[Given; 2]; 5], NameFault> {
-    let mut manager = begun(alloc)?;
-    goes_round(alloc, &mut manager)
 }
 
 /// These items as a list.
@@ -232,80 +197,30 @@ fn loaded(alloc: Global) -> Result<Manager, NameFault> {
     loaded_with(alloc, &rows)
 }
 
-/// The only shared owner of a resource asks for exclusive control, one of two of the other does, a task comes, and owners
-/// give up control until both resources are the third's.
-fn goes_on(alloc: Global, manager: &mut Manager) -> Result<[[Given; 2]; 6], NameFault> {
-    let first = given(manager, &enq(alloc, 1, b"R", Ret::RetChng)?)?;
-    let second = given(manager, &enq(alloc, 0, b"Q", Ret::RetChng)?)?;
-    let third = given(manager, &enq(alloc, 0, b"R", Ret::RetNone)?)?;
-    let fourth = given(manager, &deq(alloc, 1, b"R")?)?;
-    let fifth = given(manager, &release(alloc, 0, b"Q")?)?;
-    let sixth = given(manager, &release(alloc, 1, b"Q")?)?;
-    Ok([first, second, third, fourth, fifth, sixth])
-}
-
-/// The third gives up both, and the last task what is left.
-fn goes_out(alloc: Global, manager: &mut Manager) -> Result<[[Given; 2]; 3], NameFault> {
-    let first = given(manager, &release(alloc, 2, b"Q")?)?;
-    let second = given(manager, &release(alloc, 2, b"R")?)?;
-    let third = given(manager, &release(alloc, 0, b"R")?)?;
-    Ok([first, second, third])
-}
-
-/// Whether the entry is still managed once it is given up, if its lists are empty.
-fn ended(manager: &mut Manager) -> bool {
-    if manager.manages(0) && manager.is_empty(0) {
-        manager.end(0);
-    }
-    manager.manages(0)
-}
-
-fn tells_three(manager: &mut Manager) -> Result<[(u8, u8); 3], NameFault> {
-    Ok([told(manager)?, told(manager)?, told(manager)?])
+/// A task of the manager's own system looks at both lists and so does one of another; a task comes, and an owner gives up
+/// control.
+fn goes_on(alloc: Global, manager: &mut Manager) -> Result<[[Given; 2]; 4], NameFault> {
+    let first = given(manager, &look(0))?;
+    let second = given(manager, &look(1))?;
+    let third = given(manager, &enq(alloc, 0, b"R")?)?;
+    let fourth = given(manager, &release(alloc, 1, b"R")?)?;
+    Ok([first, second, third, fourth])
 }
 
 #[test]
-fn begins(rt: HostRuntime) -> Result<(), Fail> {
-    let alloc = rt.alloc();
-    assert_eq!(rt;
-        given_by(alloc)?,
-        [
-            [(Some(Code::C00), 1, 0), (Some(Code::C00), 1, 0)],
-            [(Some(Code::Wait), 2, 0), (Some(Code::Wait), 2, 0)],
-            [(None, 0, 1), (None, 0, 1)],
-            [(Some(Code::C00), 0, 0), (Some(Code::C00), 0, 1)],
-            [(Some(Code::C00), 0, 0), (Some(Code::C00), 0, 0)],
-        ]
-    );
-    Ok(())
-}
-
-#[test]
-fn loads(rt: HostRuntime) -> Result<(), Fail> {
+fn loads_and_looks(rt: HostRuntime) -> Result<(), Fail> {
     let alloc = rt.alloc();
     let mut manager = loaded(alloc)?;
     assert_eq!(rt; told(&mut manager)?, (9, 0));
     assert_eq!(rt;
         goes_on(alloc, &mut manager)?,
         [
-            [(Some(Code::C00), 0, 0), (Some(Code::C00), 0, 0)],
-            [(Some(Code::C04), 0, 0), (Some(Code::C04), 0, 0)],
+            [(None, 0, 2), (None, 0, 2)],
+            [(None, 0, 2), (None, 0, 2)],
             [(Some(Code::Wait), 10, 0), (Some(Code::Wait), 10, 0)],
             [(Some(Code::C00), 0, 0), (Some(Code::C00), 0, 1)],
-            [(Some(Code::C00), 0, 0), (Some(Code::C00), 0, 0)],
-            [(Some(Code::C00), 0, 0), (Some(Code::C00), 0, 1)],
         ]
     );
-    assert_eq!(rt; tells_three(&mut manager)?, [(2, b'Q'), (2, b'R'), (9, 0)]);
-    assert_eq!(rt;
-        goes_out(alloc, &mut manager)?,
-        [
-            [(Some(Code::C00), 0, 0), (Some(Code::C00), 0, 0)],
-            [(Some(Code::C00), 0, 0), (Some(Code::C00), 0, 1)],
-            [(Some(Code::C00), 0, 0), (Some(Code::C00), 0, 0)],
-        ]
-    );
-    assert_eq!(rt; told(&mut manager)?, (9, 0));
-    assert!(rt; !ended(&mut manager));
+    assert_eq!(rt; told(&mut manager)?, (2, b'R'));
     Ok(())
 }

@@ -1,7 +1,7 @@
 //! What a call would be answered, told before it is made: no part of the program asks that yet. A removal, which no
-//! deck asks for yet, with the Turn that gets its entry; the change to star mode, and each call of it. A value that is
-//! dear to drop is dropped on one path alone.
-ghost use Rattle.std.specs.Prelude.{◌≡◌, [], ◌∷◌, length, IfOk};
+//! deck asks for yet, with the Turn that gets its entry; and the change to star mode. A value that is dear to drop is
+//! dropped on one path alone.
+ghost use Rattle.std.specs.Prelude.{◌≡◌, ◌<◌, [], ◌∷◌, length, IfOk};
 ghost use Rattle.grs_base.specs.declared.resource.SysId.{SysId as SysIdSpec};
 ghost use Rattle.grs_medium.specs.Medium.{MediumState, systems_of};
 ghost use Rattle.grs_medium.specs.Apply.{ActFits, MayCall};
@@ -12,60 +12,42 @@ use grs_wire::{Act, Answer, Call, Mail, Reply, Req, Want};
 use std::alloc::Global;
 use std::test::Fail;
 
-/// A reply in brief: how many entries a Turn gives, the rank of an answer that is taken, and the systems that have
-/// interest in what a manager keeps.
+/// A reply in brief: how many entries a Turn gives, whether a request is taken, and the systems that have interest in what
+/// a manager keeps.
 #[derive(Clone, Copy, Debug, PartialEq, Eq)]
 enum Brief {
     Turned(usize),
     Switched,
     Already,
-    Sole,
     Sent,
     Asked,
-    Answered(u64),
-    Granted,
-    Empty,
     Settled,
     Told,
     Kept(u32),
-    Left,
-    Resting,
-    Over,
     Other,
 }
 
 /// What a call would be answered, and whether it changes the medium.
 type Seen = (Brief, bool);
 
-fn mail_in_brief(mail: &Mail) -> Brief {
-    match mail {
-        Mail::Request { .. } => Brief::Asked,
-        Mail::Answered { rank, .. } => Brief::Answered(*rank),
-        Mail::Granted { .. } => Brief::Granted,
-    }
-}
-
 fn in_brief(reply: &Reply) -> Brief {
     match reply {
         Reply::Turned { entries, .. } => Brief::Turned(entries.len()),
         Reply::Switched => Brief::Switched,
         Reply::Already => Brief::Already,
-        Reply::Sole => Brief::Sole,
         Reply::Sent => Brief::Sent,
-        Reply::Taken { mail } => mail_in_brief(mail),
-        Reply::Empty => Brief::Empty,
+        Reply::Taken {
+            mail: Mail::Request { .. },
+        } => Brief::Asked,
         Reply::Settled => Brief::Settled,
         Reply::Told => Brief::Told,
         Reply::Kept { mask } => Brief::Kept(*mask),
-        Reply::Left => Brief::Left,
-        Reply::Resting => Brief::Resting,
-        Reply::Over => Brief::Over,
         _ => Brief::Other,
     }
 }
 
 fn previewed(medium: &Medium, caller: SysId, call: &Call) -> Result<Seen, NoMemory>
-    requires { MayCall medium.now.state caller call.now }
+    requires call { MayCall medium.now.state caller call.now }
 {
     let (reply, changes) = medium.preview(caller, call)?;
     Ok((in_brief(&reply), changes))
@@ -83,7 +65,7 @@ fn let_go(reply: Reply) -> Brief {
 
 /// What a call is answered.
 fn made(medium: &mut Medium, caller: SysId, call: Call) -> Result<Brief, NoMemory>
-    requires { MayCall medium.old.state caller call }
+    requires call { MayCall medium.old.state caller call }
     ensures { systems_of medium.new.state ≡ systems_of medium.old.state }
 {
     match medium.reserve(caller, &call) {
@@ -185,57 +167,107 @@ fn tells_before_and_removes(rt: HostRuntime) -> Result<(), Fail> {
     Ok(())
 }
 
-/// What a system asks of the change to star mode, and in it, on the one lock entry. A Switch has the word of an entry
-/// in which nobody has interest. A Settle has its answer's rank; a Settle and a Tell go to system 1.
-#[derive(Clone, Copy)]
-enum Step {
-    Switch,
-    Submit,
-    Take,
-    Settle(u64),
-    Tell,
-    Leave,
-    Rest,
+/// A system asks in star mode, on the one lock entry.
+fn ask(alloc: Global, medium: &mut Medium, caller: SysId) -> Result<(), Fail>
+    requires caller { caller.0 < 2 }
+    requires systems { systems_of medium.old.state ≡ 2 }
+    requires entries { length medium.old.state.words ≡ 1 }
+    ensures { systems_of medium.new.state ≡ 2 }
+{
+    let req = request(alloc)?;
+    let act = Act::Submit { entry: 0, req };
+    made(medium, caller, Call { known: 0, act })?;
+    Ok(())
 }
 
-/// Who asks, what, and what it is to be answered.
-type StarCase = (u8, Step, Seen);
-
-/// System 0 manages the entry. System 1 asks it for a resource and gives that up again, and each leaves.
-const STAR: [StarCase; 19] = [
-    (0, Step::Submit, (Brief::Sole, true)),
-    (1, Step::Submit, (Brief::Sent, true)),
-    (0, Step::Take, (Brief::Asked, true)),
-    (0, Step::Settle(2), (Brief::Settled, true)),
-    (1, Step::Take, (Brief::Answered(2), true)),
-    (1, Step::Submit, (Brief::Sent, true)),
-    (0, Step::Take, (Brief::Asked, true)),
-    (0, Step::Settle(0), (Brief::Settled, true)),
-    (1, Step::Take, (Brief::Answered(0), true)),
-    (1, Step::Take, (Brief::Empty, false)),
-    (0, Step::Tell, (Brief::Told, true)),
-    (1, Step::Take, (Brief::Granted, true)),
-    (0, Step::Leave, (Brief::Kept(3), false)),
-    (1, Step::Leave, (Brief::Left, true)),
-    (0, Step::Leave, (Brief::Left, true)),
-    (0, Step::Leave, (Brief::Left, false)),
-    (0, Step::Switch, (Brief::Already, false)),
-    (0, Step::Rest, (Brief::Resting, true)),
-    (1, Step::Rest, (Brief::Over, true)),
-];
-
-/// System 1 changes the complex to star mode, and is the first to ask for a resource.
-const CHANGE: [StarCase; 3] = [
-    (1, Step::Switch, (Brief::Switched, true)),
-    (0, Step::Switch, (Brief::Already, false)),
-    (1, Step::Submit, (Brief::Sole, true)),
-];
+/// What a call would be answered; it isn't made.
+fn shown(medium: &Medium, caller: SysId, call: Call) -> Result<Seen, NoMemory>
+    requires call { MayCall medium.now.state caller call }
+{
+    previewed(medium, caller, &call)
+}
 
 const ASKER: TaskId = TaskId {
     system: SysId(1),
     job: 0,
     task: 0,
 };
+
+/// An answer to a task of system 1.
+fn answered() -> Mail {
+    Mail::Answered {
+        task: ASKER,
+        answer: Answer::Coded(Code::C00),
+        rank: 2,
+    }
+}
+
+/// Control for a task of system 1.
+fn granted(alloc: Global) -> Result<Mail, Fail> {
+    let res = shared(alloc)?;
+    Ok(Mail::Granted { task: ASKER, res })
+}
+
+/// What system 1 would be answered if it asked again, and what system 0, which manages the entry: by a Take, a Settle, a
+/// Tell and a Leave.
+fn shown_in_star(alloc: Global, medium: &Medium) -> Result<[Seen; 5], Fail>
+    requires systems { systems_of medium.now.state ≡ 2 }
+    requires entries { length medium.now.state.words ≡ 1 }
+{
+    let req = request(alloc)?;
+    let act = Act::Submit { entry: 0, req };
+    let asked = shown(medium, SysId(1), Call { known: 0, act })?;
+    let act = Act::Take;
+    let taken = shown(medium, SysId(0), Call { known: 0, act })?;
+    let to = SysId(1);
+    let mail = answered();
+    let act = Act::Settle { to, mail };
+    let settled = shown(medium, SysId(0), Call { known: 0, act })?;
+    let mail = granted(alloc)?;
+    let act = Act::Tell { to, mail };
+    let told = shown(medium, SysId(0), Call { known: 0, act })?;
+    let act = Act::Leave { entry: 0 };
+    let left = shown(medium, SysId(0), Call { known: 0, act })?;
+    Ok([asked, taken, settled, told, left])
+}
+
+/// The same once both systems have asked, where the medium has as many lock words as it was given.
+fn after_both(alloc: Global) -> Result<[Seen; 5], Fail> {
+    let none = [(Brief::Other, false); 5];
+    let mut medium = Medium::new(alloc, 2, 1, true)?;
+    ask(alloc, &mut medium, SysId(0))?;
+    if medium.words().len() != 1 {
+        return Ok(none);
+    }
+    ask(alloc, &mut medium, SysId(1))?;
+    if medium.words().len() != 1 {
+        return Ok(none);
+    }
+    shown_in_star(alloc, &medium)
+}
+
+#[test]
+fn tells_before_in_star_mode(rt: HostRuntime) -> Result<(), Fail> {
+    assert_eq!(rt;
+        after_both(rt.alloc())?,
+        [
+            (Brief::Sent, true),
+            (Brief::Asked, true),
+            (Brief::Settled, true),
+            (Brief::Told, true),
+            (Brief::Kept(3), false),
+        ]
+    );
+    Ok(())
+}
+
+/// Who asks for the change to star mode, and what it is to be answered: a complex changes once.
+type Change = (u8, Seen);
+
+const CHANGES: [Change; 2] = [
+    (1, (Brief::Switched, true)),
+    (0, (Brief::Already, false)),
+];
 
 /// The word of an entry in which nobody has interest, alone.
 fn no_interest(alloc: Global) -> Result<List<u32>, NoMemory>
@@ -246,36 +278,11 @@ fn no_interest(alloc: Global) -> Result<List<u32>, NoMemory>
     Ok(words)
 }
 
-fn act_of(alloc: Global, step: Step) -> Result<Act, Fail>
+fn change(alloc: Global) -> Result<Act, NoMemory>
     ensures { IfOk result (λ act. (m : MediumState) (c : SysIdSpec) → systems_of m ≡ 2 → length m.words ≡ 1 → ActFits m c act) }
 {
-    let to = SysId(1);
-    match step {
-        Step::Switch => Ok(Act::Switch {
-            words: no_interest(alloc)?,
-        }),
-        Step::Submit => Ok(Act::Submit {
-            entry: 0,
-            req: request(alloc)?,
-        }),
-        Step::Take => Ok(Act::Take),
-        Step::Settle(rank) => {
-            let answer = Answer::Coded(Code::C00);
-            let mail = Mail::Answered {
-                task: ASKER,
-                answer,
-                rank,
-            };
-            Ok(Act::Settle { to, mail })
-        }
-        Step::Tell => {
-            let res = shared(alloc)?;
-            let mail = Mail::Granted { task: ASKER, res };
-            Ok(Act::Tell { to, mail })
-        }
-        Step::Leave => Ok(Act::Leave { entry: 0 }),
-        Step::Rest => Ok(Act::Rest),
-    }
+    let words = no_interest(alloc)?;
+    Ok(Act::Switch { words })
 }
 
 /// What a call would be answered, and what it is.
@@ -289,22 +296,22 @@ fn shown_and_made(medium: &mut Medium, caller: SysId, call: Call) -> Result<(See
     }
 }
 
-/// Whether a case is answered as it is to be.
-fn is_right(alloc: Global, medium: &mut Medium, case: &StarCase) -> Result<bool, Fail>
+/// Whether a change is answered as it is to be.
+fn is_right(alloc: Global, medium: &mut Medium, case: &Change) -> Result<bool, Fail>
     requires { systems_of medium.old.state ≡ 2 }
     ensures { systems_of medium.new.state ≡ 2 }
 {
-    let (caller, step, seen) = *case;
+    let (caller, seen) = *case;
     if caller > 1 || medium.words().len() != 1 {
         return Ok(false);
     }
-    let act = act_of(alloc, step)?;
+    let act = change(alloc)?;
     let answered = shown_and_made(medium, SysId(caller), Call { known: 0, act })?;
     Ok(answered == (seen, seen.0))
 }
 
-fn all_right(alloc: Global, star: bool, cases: &[StarCase]) -> Result<bool, Fail> {
-    let mut medium = Medium::new(alloc, 2, 1, star)?;
+fn all_right(alloc: Global, cases: &[Change]) -> Result<bool, Fail> {
+    let mut medium = Medium::new(alloc, 2, 1, false)?;
     for case in cases {
         if !is_right(alloc, &mut medium, case)? {
             return Ok(false);
@@ -314,13 +321,7 @@ fn all_right(alloc: Global, star: bool, cases: &[StarCase]) -> Result<bool, Fail
 }
 
 #[test]
-fn calls_in_star_mode(rt: HostRuntime) -> Result<(), Fail> {
-    assert!(rt; all_right(rt.alloc(), true, &STAR)?);
-    Ok(())
-}
-
-#[test]
 fn changes_to_star_mode(rt: HostRuntime) -> Result<(), Fail> {
-    assert!(rt; all_right(rt.alloc(), false, &CHANGE)?);
+    assert!(rt; all_right(rt.alloc(), &CHANGES)?);
     Ok(())
 }
