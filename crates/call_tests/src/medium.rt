@@ -264,10 +264,7 @@ fn tells_before_in_star_mode(rt: HostRuntime) -> Result<(), Fail> {
 /// Who asks for the change to star mode, and what it is to be answered: a complex changes once.
 type Change = (u8, Seen);
 
-const CHANGES: [Change; 2] = [
-    (1, (Brief::Switched, true)),
-    (0, (Brief::Already, false)),
-];
+const CHANGES: [Change; 2] = [(1, (Brief::Switched, true)), (0, (Brief::Already, false))];
 
 /// The word of an entry in which nobody has interest, alone.
 fn no_interest(alloc: Global) -> Result<List<u32>, NoMemory>

@@ -19,8 +19,8 @@ mod slice;
 pub use decision::{Code, Decision, Effect, Standing};
 pub use fault::{DeckFault, Kind, NameFault, NoMemory, ReadError};
 pub use limits::{
-    LAST_NUMBER, MOST_ENTRIES, MOST_JOBS, MOST_LIMIT, MOST_LINES, MOST_NAME_BYTES, MOST_QNAME_BYTES,
-    MOST_RNAME_BYTES, MOST_SYSTEMS, MOST_TASKS,
+    LAST_NUMBER, MOST_ENTRIES, MOST_JOBS, MOST_LIMIT, MOST_LINES, MOST_NAME_BYTES,
+    MOST_QNAME_BYTES, MOST_RNAME_BYTES, MOST_SYSTEMS, MOST_TASKS,
 };
 pub use line::{Item, Line, Scope};
 pub use list::{Copied, List, copy_all};

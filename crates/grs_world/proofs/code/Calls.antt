@@ -33,7 +33,6 @@ act-fits m c deck (acts.Leave e) a s w = below e deck.entries (length m.words) a
 act-fits m c deck (acts.Purge t) a s w = absurd (cc)
 act-fits m c deck acts.Rest a s w = tt
 
-
 -- what a call that was prepared leads to
 pub chosen-call : (deck : Deck) (m : MediumState) (c : SysId) (n : Node) (choice : Choice) (call : CallOfMedium) → prepare deck n choice ≡ Call call → chosen deck m c n choice ≡ record { medium = medium_after m c call; step = finish deck n choice (Some (reply_to m c call)) }
 unfolding chosen carry_out
