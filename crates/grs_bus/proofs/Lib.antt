@@ -1,0 +1,6 @@
+pub mod Samples
+pub mod KeepWords
+pub mod JournalLaws
+pub mod RuleLaws
+pub mod CallLaws
+pub mod EndLaws

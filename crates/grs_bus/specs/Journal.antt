@@ -1,0 +1,55 @@
+-- A journal of calls: which calls are entered, the medium that a journal leads to, which journals are right, and the
+-- part of one system.
+use Rattle.std.specs.Prelude.{◌≡◌, ℕ, Bool, true, false, ◌||◌, ◌==◌, List, [], ◌∷◌, ◌++◌, filter}
+use Rattle.grs_base.specs.declared.resource.SysId.{SysId}
+use Rattle.grs_wire.specs.declared.medium.Call.{Call}
+use Rattle.grs_wire.specs.declared.medium.JEntry.{JEntry}
+use Rattle.grs_wire.specs.declared.medium.Reply.{Reply}
+use Rattle.grs_wire.specs.declared.medium.Reply.TheVariants.{Stale, Already, NoSuch, InStar, Sole, Left}
+use Rattle.grs_medium.specs.Apply.{reply_to, medium_after, changes, MayCall}
+use Rattle.grs_medium.specs.Medium.{MediumState}
+use Rattle.grs_medium.specs.Room.{is_built}
+
+-- replies that are entered also where the medium stays as it was, since a system acts on them
+abbrev pub is_acted_on : Reply → Bool
+is_acted_on (Stale set) = true
+is_acted_on Already = true
+is_acted_on NoSuch = true
+is_acted_on InStar = true
+is_acted_on Sole = true
+is_acted_on Left = true
+is_acted_on reply = false
+
+-- whether a call is entered into the journal: it changes the medium, or its reply is one of these
+unfoldable pub is_entered : MediumState → SysId → Call → Bool
+is_entered m c call = changes m c call || is_acted_on (reply_to m c call)
+
+-- a call that the medium can be asked
+abbrev pub CanBeAsked : MediumState → SysId → Call → Type 0
+CanBeAsked m c call = MayCall m c call × (is_built call.act ≡ true)
+
+abbrev pub entry_of : SysId → Call → Reply → JEntry
+entry_of c call reply = record { system = c; call = call; reply = reply }
+
+-- the medium after the calls of a journal
+abbrev pub after_all : MediumState → List JEntry → MediumState
+after_all m [] = m
+after_all m (e ∷ es) = after_all (medium_after m e.system e.call) es
+
+-- An entry that is right where the medium is m: the medium could be asked its call, the reply is the medium's, and
+-- the call is one that is entered.
+abbrev pub IsRight : MediumState → JEntry → Type 0
+IsRight m e = CanBeAsked m e.system e.call × (e.reply ≡ reply_to m e.system e.call) × (is_entered m e.system e.call ≡ true)
+
+-- each entry is right at its place
+abbrev pub AreRight : MediumState → List JEntry → Type 0
+AreRight m [] = Unit {0}
+AreRight m (e ∷ es) = IsRight m e × AreRight (medium_after m e.system e.call) es
+
+-- the entries of the system with this number, in order
+abbrev pub entries_of : ℕ → List JEntry → List JEntry
+entries_of s journal = filter (λ (e : JEntry). e.system.0 == s) journal
+
+-- the first journal is how the second one begins
+abbrev pub Begins : List JEntry → List JEntry → Type 0
+Begins xs ys = (more : List JEntry) × (ys ≡ xs ++ more)

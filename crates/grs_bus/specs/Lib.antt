@@ -1,0 +1,6 @@
+pub mod Journal
+pub mod Seats
+pub mod Places
+pub mod Rule
+pub mod Steps
+pub mod Slots
