@@ -8,9 +8,9 @@ use Rattle.grs_base.specs.declared.resource.SysId.{SysId}
 use Rattle.grs_wire.specs.declared.medium.Call.{Call}
 use Rattle.grs_wire.specs.declared.medium.JEntry.{JEntry}
 use Rattle.grs_wire.specs.declared.medium.Reply.{Reply}
-use Rattle.grs_medium.specs.Apply.{reply_to, medium_after}
+use Rattle.grs_medium.specs.Apply.{reply_to, medium_after, MayCall}
 use Rattle.grs_medium.specs.Medium.{MediumState}
-use Rattle.grs_bus.specs.Journal.{is_entered, CanBeAsked, entry_of, after_all, AreRight, entries_of, Begins}
+use Rattle.grs_bus.specs.Journal.{is_entered, entry_of, after_all, AreRight, entries_of, Begins}
 use Rattle.grs_bus.specs.Places.{Holds, seat_of}
 use Rattle.grs_bus.specs.Rule.{IsSettled}
 use Rattle.grs_bus.specs.Seats.{BusValue, SeatValue, with_entry, IsAnswered, IsRefused}
@@ -35,22 +35,22 @@ held word m m' k none_left = ap (λ (x : M). x.1) k.me ∙ ap (λ (l : List (ℕ
 -- What is known of a call before it: its seat has no slot and is of the system s, and its first medium is this one,
 -- which can be asked the call.
 abbrev pub Asks : MediumState → SysId → Call → M → Type 0
-Asks first s call m = (m.1 ≡ []) × (m.0.system ≡ s) × (m.0.first.state ≡ first) × CanBeAsked first s call
+Asks first s call m = (m.1 ≡ []) × (m.0.system ≡ s) × (m.0.first.state ≡ first) × MayCall first s call
 
-pub asks : (b : BusValue) (table : TableId) (seat : SeatValue) (s : SysId) (call : Call) (m : M) → seat_of table m.0 ≡ seat → m.1 ≡ [] → m.0.system ≡ s → seat.bus ≡ b → CanBeAsked b.first seat.system call → Asks b.first s call m
+pub asks : (b : BusValue) (table : TableId) (seat : SeatValue) (s : SysId) (call : Call) (m : M) → seat_of table m.0 ≡ seat → m.1 ≡ [] → m.0.system ≡ s → seat.bus ≡ b → MayCall b.first seat.system call → Asks b.first s call m
 asks b table seat s call m shown none_left is of can = (
   none_left,
   is,
   ap (λ (v : SeatValue). v.bus.first) shown ∙ ap (λ (x : BusValue). x.first) of,
-  subst (λ (t : SysId). CanBeAsked b.first t call) (sym (ap (λ (v : SeatValue). v.system) shown) ∙ is) can,
+  subst (λ (t : SysId). MayCall b.first t call) (sym (ap (λ (v : SeatValue). v.system) shown) ∙ is) can,
 )
 
 -- what the medium could be asked at the start it can be asked where the word was taken
-pub may_work : (first : MediumState) (word : ℕ) (s : SysId) (call : Call) (m m' : M) → Asks first s call m → Took word m m' → Holds m' (λ slot. CanBeAsked slot.medium.state s call)
+pub may_work : (first : MediumState) (word : ℕ) (s : SysId) (call : Call) (m m' : M) → Asks first s call m → Took word m m' → Holds m' (λ slot. MayCall slot.medium.state s call)
 may_work first word s call m m' asks k = (
   k.slot,
   held word m m' k asks.0,
-  subst (λ (x : MediumState). CanBeAsked x s call) (sym (k.settled.1 ∙ ap (λ (x : MediumState). after_all x k.journal) asks.2)) (can_be_asked first k.journal s call (subst (λ (x : MediumState). AreRight x k.journal) asks.2 k.right) asks.3),
+  subst (λ (x : MediumState). MayCall x s call) (sym (k.settled.1 ∙ ap (λ (x : MediumState). after_all x k.journal) asks.2)) (can_be_asked first k.journal s call (subst (λ (x : MediumState). AreRight x k.journal) asks.2 k.right) asks.3),
 )
 
 -- what the work on the slot says
@@ -66,7 +66,7 @@ record Grew (v : View) (journal : List JEntry) (call : Call) (new : Slot) (told 
   seen : new.journal.items ≡ with_entry journal v.system call told
 
 grew : (v : View) (journal : List JEntry) (old new : Slot) (call : Call) (told : Reply × Bool) → IsSettled v.first.state journal old → AreRight v.first.state journal → v.own ≡ entries_of v.system.0 journal
-    → CanBeAsked (after_all v.first.state journal) v.system call → Answers v.system call old new told → Grew v journal call new told
+    → MayCall (after_all v.first.state journal) v.system call → Answers v.system call old new told → Grew v journal call new told
 grew v journal old new call (reply, true) settled right own can a =
     let e : JEntry = entry_of v.system call reply in
     let m : MediumState = after_all v.first.state journal in
@@ -87,7 +87,7 @@ grew v journal old new call (reply, false) settled right own can a =
     let items : new.journal.items ≡ journal = a.2 ∙ settled.0 in
     let left_out : false ≡ is_entered (after_all v.first.state journal) v.system call = a.1 ∙ ap (λ (x : MediumState). is_entered x v.system call) settled.1 in record {
       home = record {
-        medium = a.3 ∙ (ap (λ (x : MediumState). medium_after x v.system call) settled.1 ∙ (stays (after_all v.first.state journal) v.system call can.1 (sym left_out) ∙ ap (after_all v.first.state) (sym items)));
+        medium = a.3 ∙ (ap (λ (x : MediumState). medium_after x v.system call) settled.1 ∙ (stays (after_all v.first.state journal) v.system call (sym left_out) ∙ ap (after_all v.first.state) (sym items)));
         right = subst (AreRight v.first.state) (sym items) right;
         more = inl items;
       };
@@ -105,7 +105,7 @@ unchanged_home v journal old new settled right u = let items : new.journal.items
 }
 
 either_home : (v : View) (journal : List JEntry) (old new : Slot) (call : Call) (answer : Answer) → IsSettled v.first.state journal old → AreRight v.first.state journal → v.own ≡ entries_of v.system.0 journal
-    → CanBeAsked (after_all v.first.state journal) v.system call → MatchResult answer (λ told. Answers v.system call old new told) (λ _. IsUnchanged old new) → MayComeHome (taken v journal) new
+    → MayCall (after_all v.first.state journal) v.system call → MatchResult answer (λ told. Answers v.system call old new told) (λ _. IsUnchanged old new) → MayComeHome (taken v journal) new
 either_home v journal old new call (Ok told) settled right own can a = (grew v journal old new call told settled right own can a).home
 either_home v journal old new call (Err e) settled right own can u = unchanged_home v journal old new settled right u
 
@@ -120,7 +120,7 @@ record Parts (call : Call) (answer : Answer) (count : ℕ) (m m' : M) : Type 0 w
   settled : IsSettled m.0.first.state journal old
   right : AreRight m.0.first.state journal
   own : m.0.own ≡ entries_of m.0.system.0 journal
-  can : CanBeAsked (after_all m.0.first.state journal) m.0.system call
+  can : MayCall (after_all m.0.first.state journal) m.0.system call
   moved : MatchResult answer (λ told. Answers m.0.system call old new told) (λ _. IsUnchanged old new)
   size : count ≡ length new.journal.items
 
@@ -135,7 +135,7 @@ parts first word s call answer count m₀ m₁ m₂ asks k same w = let e : k.sl
   settled = subst (IsSettled m₀.0.first.state k.journal) e k.settled;
   right = k.right;
   own = k.own;
-  can = can_be_asked m₀.0.first.state k.journal m₀.0.system call k.right (subst (λ (x : MediumState). CanBeAsked x m₀.0.system call) (sym asks.2) (subst (λ (t : SysId). CanBeAsked first t call) (sym asks.1) asks.3));
+  can = can_be_asked m₀.0.first.state k.journal m₀.0.system call k.right (subst (λ (x : MediumState). MayCall x m₀.0.system call) (sym asks.2) (subst (λ (t : SysId). MayCall first t call) (sym asks.1) asks.3));
   moved = subst (λ (t : SysId). MatchResult answer (λ told. Answers t call w.0 w.2.0 told) (λ _. IsUnchanged w.0 w.2.0)) (sym asks.1) w.2.2.0;
   size = w.2.2.1;
 }

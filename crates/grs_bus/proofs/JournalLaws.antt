@@ -7,13 +7,12 @@ use Rattle.grs_wire.specs.Masks.{has}
 use Rattle.grs_wire.specs.declared.medium.Call.{Call}
 use Rattle.grs_wire.specs.declared.medium.JEntry.{JEntry}
 use Rattle.grs_wire.specs.declared.medium.Reply.TheVariants as replies
-use Rattle.grs_medium.specs.Apply.{reply_to, medium_after, changes, row_changes}
+use Rattle.grs_medium.specs.Apply.{reply_to, medium_after, changes, row_changes, MayCall}
 use Rattle.grs_medium.specs.Medium.{MediumState}
-use Rattle.grs_medium.specs.Room.{is_built}
 use Rattle.grs_medium.proofs.CauseLaws.{removed_comes}
 use Rattle.grs_medium.proofs.KeepLaws.{leaves_the_rest}
 use Rattle.grs_bus.proofs.KeepWords.{may_call_behind}
-use Rattle.grs_bus.specs.Journal.{is_acted_on, is_entered, CanBeAsked, after_all, IsRight, AreRight, entries_of, Begins}
+use Rattle.grs_bus.specs.Journal.{is_acted_on, is_entered, after_all, IsRight, AreRight, entries_of, Begins}
 
 pub after_all-snoc : (m : MediumState) (xs : List JEntry) (e : JEntry) → after_all m (xs ++ e ∷ []) ≡ medium_after (after_all m xs) e.system e.call
 after_all-snoc m [] e = refl
@@ -36,9 +35,9 @@ pub Begins-snoc : (xs ys : List JEntry) (e : JEntry) → Begins xs ys → Begins
 Begins-snoc xs ys e p = (p.0 ++ e ∷ [], ap (λ z. z ++ e ∷ []) p.1 ∙ append_assoc xs p.0 (e ∷ []))
 
 -- what the medium can be asked at the start it can be asked behind any journal
-pub can_be_asked : (m : MediumState) (xs : List JEntry) (c : SysId) (call : Call) → AreRight m xs → CanBeAsked m c call → CanBeAsked (after_all m xs) c call
+pub can_be_asked : (m : MediumState) (xs : List JEntry) (c : SysId) (call : Call) → AreRight m xs → MayCall m c call → MayCall (after_all m xs) c call
 can_be_asked m [] c call right can = can
-can_be_asked m (x ∷ xs) c call right can = can_be_asked (medium_after m x.system x.call) xs c call right.1 (may_call_behind m x.system x.call c call right.0.0.1 can.0, can.1)
+can_be_asked m (x ∷ xs) c call right can = can_be_asked (medium_after m x.system x.call) xs c call right.1 (may_call_behind m x.system x.call c call right.0.0.1 can)
 
 neither : (a b : Bool) → (a || b) ≡ false → a ≡ false
 neither false b h = refl
@@ -50,9 +49,9 @@ unfolding is_entered
 left_out m c call h k = λ i. h i || k i
 
 -- a call that isn't entered leaves the medium as it was
-pub stays : (m : MediumState) (c : SysId) (call : Call) → is_built call.act ≡ true → is_entered m c call ≡ false → medium_after m c call ≡ m
+pub stays : (m : MediumState) (c : SysId) (call : Call) → is_entered m c call ≡ false → medium_after m c call ≡ m
 unfolding is_entered
-stays m c call built h = leaves_the_rest m c call built (neither (changes m c call) (is_acted_on (reply_to m c call)) h)
+stays m c call h = leaves_the_rest m c call (neither (changes m c call) (is_acted_on (reply_to m c call)) h)
 
 -- no entry is replied that its system was removed
 right_not_removed : (m : MediumState) (e : JEntry) → IsRight m e → e.reply ≢ replies.Removed

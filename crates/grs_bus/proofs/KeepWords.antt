@@ -1,7 +1,7 @@
--- There are as many lock words and systems as before, whatever a call does. So what the medium can be asked it can be
+-- There are as many lock words and systems as before, whatever a call does that the medium may be asked. So what the medium can be asked it can be
 -- asked behind any other call as well.
 use Rattle.std.proofs.Common.{◌≡◌, ◌<◌, ℕ, Bool, true, false, cond, List, [], ◌∷◌, length, refl, ap, sym, ◌∙◌, subst}
-use Rattle.std.specs.Prelude.{◌==◌}
+use Rattle.std.specs.Prelude.{◌==◌, Option, Some, None}
 use Rattle.std.specs.List.{list_all}
 use Rattle.std.proofs.lemmas.List.{length-set}
 use Rattle.grs_base.specs.declared.resource.SysId.{SysId}
@@ -12,15 +12,14 @@ use Rattle.grs_wire.specs.declared.medium.Act.TheVariants as acts
 use Rattle.grs_wire.specs.declared.medium.Call.{Call}
 use Rattle.grs_wire.specs.declared.medium.Mail.{Mail}
 use Rattle.grs_wire.specs.declared.medium.Reply.{Reply}
-use Rattle.grs_wire.specs.declared.medium.Reply.TheVariants.{Purged, NoSuch, InStar, Stale, Removed}
+use Rattle.grs_wire.specs.declared.medium.Reply.TheVariants.{Already, Purged, NoSuch, InStar, Stale, Removed}
 use Rattle.grs_wire.specs.declared.request.Req.{Req}
 use Rattle.lock_structure.specs.Words.{route}
 use Rattle.lock_structure.specs.declared.word.Route.{Route}
 use Rattle.lock_structure.specs.declared.word.Route.TheVariants as routes
-use Rattle.rsa_message.specs.Message.{is_at, turned_closed, turned_open, turned, dropped}
-use Rattle.grs_medium.specs.Apply.{turn_row, manages, joined, submit_on, submit_row, take_from, take_row, mail_row, leave_row, is_live, without_system, purge_row, rest_row, row, apply, medium_after, word_fits, ActFits, MayCall}
+use Rattle.rsa_message.specs.Message.{unseen, first_number, is_at, closed_by, turned_closed, turned_open, turned, dropped}
+use Rattle.grs_medium.specs.Apply.{turn_row, switch_ring, switch_row, manages, joined, submit_on, submit_row, take_from, take_row, mail_row, leave_row, is_live, without_system, purge_row, rest_row, row, apply, medium_after, word_fits, ActFits, MayCall}
 use Rattle.grs_medium.specs.Medium.{MediumState, systems_of, live, inbox, word}
-use Rattle.grs_medium.specs.Room.{is_built}
 
 -- as many lock words, and as many systems
 abbrev Keeps : MediumState → MediumState → Type 0
@@ -38,6 +37,15 @@ turns m c out = (refl, go (is_at m.message.holder c) m.message.closed)
     go true true = refl
     go true false = refl
     go false d = refl
+
+switches : (m : MediumState) (c : SysId) (words : List ℕ) → length words ≡ length m.words → Keeps m (switch_row m c words).1
+unfolding switch_row closed_by
+switches m c words same = go m.star (first_number (unseen c m.message.entries))
+  where
+    go : (b : Bool) (o : Option ℕ) → Keeps m (cond {A = Reply × MediumState} b (Already, m) (switch_ring m c words o)).1
+    go true o = (refl, refl)
+    go false None = (same, refl)
+    go false (Some n) = (refl, refl)
 
 joins : (m : MediumState) (c : SysId) (e : ℕ) → Keeps m (joined m c e)
 joins m c e = keeps-either m (manages m c e) m _ (refl, refl) (length-set m.words e _, refl)
@@ -71,10 +79,10 @@ purges m c t = go m.star (is_live m t)
     go false true = (refl, refl)
     go false false = (refl, refl)
 
-rows : (m : MediumState) (c : SysId) (act : Act) → is_built act ≡ true → Keeps m (row m c act).1
+rows : (m : MediumState) (c : SysId) (act : Act) → ActFits m c act → Keeps m (row m c act).1
 unfolding row mail_row rest_row
 rows m c (acts.Turn out) h = turns m c out
-rows m c (acts.Switch words) h = cc
+rows m c (acts.Switch words) h = switches m c words h.0
 rows m c (acts.Submit e q) h = submits m c e q
 rows m c acts.Take h = takes m c
 rows m c (acts.Settle to mail) h = (refl, refl)
@@ -83,7 +91,7 @@ rows m c (acts.Leave e) h = leaves m c e
 rows m c (acts.Purge t) h = purges m c t
 rows m c acts.Rest h = (refl, refl)
 
-keeps_both : (m : MediumState) (c : SysId) (call : Call) → is_built call.act ≡ true → Keeps m (medium_after m c call)
+keeps_both : (m : MediumState) (c : SysId) (call : Call) → ActFits m c call.act → Keeps m (medium_after m c call)
 unfolding apply
 keeps_both m c call h = go (has m.removed c.0) (call.known == m.removed)
   where
@@ -104,5 +112,5 @@ fits_also m after c (acts.Leave e) k h = subst (λ n. e < n) (sym k.0) h
 fits_also m after c (acts.Purge t) k h = h
 fits_also m after c acts.Rest k h = tt
 
-pub may_call_behind : (m : MediumState) (c : SysId) (call : Call) (d : SysId) (other : Call) → is_built call.act ≡ true → MayCall m d other → MayCall (medium_after m c call) d other
+pub may_call_behind : (m : MediumState) (c : SysId) (call : Call) (d : SysId) (other : Call) → ActFits m c call.act → MayCall m d other → MayCall (medium_after m c call) d other
 may_call_behind m c call d other h may = let k = keeps_both m c call h in (subst (λ n. d.0 < n) (sym k.1) may.0, fits_also m (medium_after m c call) d other.act k may.1)

@@ -8,7 +8,6 @@ use Rattle.grs_wire.specs.declared.medium.Reply.{Reply}
 use Rattle.grs_wire.specs.declared.medium.Reply.TheVariants.{Stale, Already, NoSuch, InStar, Sole, Left}
 use Rattle.grs_medium.specs.Apply.{reply_to, medium_after, changes, MayCall}
 use Rattle.grs_medium.specs.Medium.{MediumState}
-use Rattle.grs_medium.specs.Room.{is_built}
 
 -- replies that are entered also where the medium stays as it was, since a system acts on them
 abbrev pub is_acted_on : Reply → Bool
@@ -24,10 +23,6 @@ is_acted_on reply = false
 unfoldable pub is_entered : MediumState → SysId → Call → Bool
 is_entered m c call = changes m c call || is_acted_on (reply_to m c call)
 
--- a call that the medium can be asked
-abbrev pub CanBeAsked : MediumState → SysId → Call → Type 0
-CanBeAsked m c call = MayCall m c call × (is_built call.act ≡ true)
-
 abbrev pub entry_of : SysId → Call → Reply → JEntry
 entry_of c call reply = record { system = c; call = call; reply = reply }
 
@@ -39,7 +34,7 @@ after_all m (e ∷ es) = after_all (medium_after m e.system e.call) es
 -- An entry that is right where the medium is m: the medium could be asked its call, the reply is the medium's, and
 -- the call is one that is entered.
 abbrev pub IsRight : MediumState → JEntry → Type 0
-IsRight m e = CanBeAsked m e.system e.call × (e.reply ≡ reply_to m e.system e.call) × (is_entered m e.system e.call ≡ true)
+IsRight m e = MayCall m e.system e.call × (e.reply ≡ reply_to m e.system e.call) × (is_entered m e.system e.call ≡ true)
 
 -- each entry is right at its place
 abbrev pub AreRight : MediumState → List JEntry → Type 0

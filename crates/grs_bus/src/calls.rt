@@ -1,6 +1,6 @@
 //! One call: the word is taken, the slot is worked on, and the word is given back.
 ghost use Rattle.std.specs.Prelude.{◌≡◌, ◌<◌, ◌+◌, ◌^◌, [], true, false, IfOk, OnErr, MatchResult, length};
-ghost use Rattle.grs_bus.specs.Journal.{CanBeAsked};
+ghost use Rattle.grs_medium.specs.Apply.{MayCall};
 ghost use Rattle.grs_bus.specs.Places.{Rests, IsSamePlace, Holds};
 ghost use Rattle.grs_bus.specs.Seats.{IsSameSeat, IsAnswered, IsRefused};
 ghost use Rattle.grs_bus.specs.Slots.{Answers, IsUnchanged};
@@ -43,7 +43,7 @@ impl Bus {
         call: Call,
     ) -> (Result<(Reply, bool), NoMemory>, u64)
         requires table { place.old.table_id ≡ self.now.table }
-        requires holds { Holds place.old.me (λ slot. CanBeAsked slot.medium.state system call) }
+        requires holds { Holds place.old.me (λ slot. MayCall slot.medium.state system call) }
         ensures same { IsSamePlace place.old place.new }
         ensures view { place.new.me.0 ≡ place.old.me.0 }
         ensures answer { Holds place.old.me (λ old. Holds place.new.me (λ new. MatchResult result.0 (λ told. Answers system call old new told) (λ _. IsUnchanged old new) × (result.1 ≡ length new.journal.items) × (length old.journal.items < 2 ^ 58 → result.1 < 2 ^ 58))) }
@@ -76,7 +76,7 @@ impl Bus {
         call: Call,
     ) -> Result<(Reply, bool), NoMemory>
         requires seat { seat.old.bus ≡ self.now }
-        requires call { CanBeAsked self.now.first seat.old.system call }
+        requires call { MayCall self.now.first seat.old.system call }
         ensures same { IsSameSeat seat.old seat.new }
         ensures takes { seat.new.takes ≡ seat.old.takes + 1 }
         ensures ok { IfOk result (λ told. IsAnswered seat.old call told seat.new) }

@@ -1,6 +1,7 @@
 //! The medium with its journal: what a seat that has the word works on.
 ghost use Rattle.std.specs.Prelude.{◌≡◌, ◌<◌, ◌^◌, IfOk, OnErr, vec_len};
-ghost use Rattle.grs_bus.specs.Journal.{is_acted_on, CanBeAsked};
+ghost use Rattle.grs_medium.specs.Apply.{MayCall};
+ghost use Rattle.grs_bus.specs.Journal.{is_acted_on};
 ghost use Rattle.grs_bus.specs.Slots.{Answers, IsUnchanged};
 
 use grs_base::{NoMemory, SysId};
@@ -39,7 +40,7 @@ impl Slot {
     /// taken before the medium changes.
     #[tactic(auto, unfolding(crate::specs::Journal::is_entered))]
     pub fn answer(&mut self, caller: SysId, call: Call) -> Result<(Reply, bool), NoMemory>
-        requires { CanBeAsked self.old.medium.state caller call }
+        requires { MayCall self.old.medium.state caller call }
         ensures ok { IfOk result (λ told. Answers caller call self.old self.new told) }
         ensures err { OnErr result (IsUnchanged self.old self.new) }
         ensures short { vec_len self.old.journal < 2 ^ 58 → vec_len self.new.journal < 2 ^ 58 }

@@ -2,7 +2,7 @@ use Rattle.std.proofs.Common.{rules, ◌≡◌, ℕ, List, [], ◌∷◌, ap, sy
 use Rattle.atomic_table.specs.Table.{rest}
 use Rattle.grs_base.specs.declared.fault.NoMemory.{NoMemory}
 use Rattle.grs_wire.specs.declared.medium.Reply.{Reply}
-use Rattle.grs_bus.specs.Journal.{CanBeAsked}
+use Rattle.grs_medium.specs.Apply.{MayCall}
 use Rattle.grs_bus.specs.Seats.{BusValue}
 use Rattle.grs_bus.specs.Slots.{Answers, IsUnchanged}
 use Rattle.grs_bus.specs.declared.slot.Slot.{Slot}
@@ -17,7 +17,7 @@ slot_mut-slot-requires c = let t = c.requires.holds in (c.requires.table ∙ sym
 
 pub answer-answer-requires : goal.answer-answer-requires
 answer-answer-requires c = let t = c.requires.holds in let same : t.0 ≡ c.slot_mut-slot.result.now = ap (λ (l : List (ℕ × Slot)). (get_or l 0 (0, t.0)).1) (sym t.1 ∙ c.slot_mut-slot.ensures.value) in
-    subst (λ (s : Slot). CanBeAsked s.medium.state c.args.system c.args.call) same t.2
+    subst (λ (s : Slot). MayCall s.medium.state c.args.system c.args.call) same t.2
 
 pub returns-clause-answer : goal.returns-clause-answer
 returns-clause-answer c = let t = c.requires.holds in let none_left : rest c.args.place.now.me.1 ≡ [] = ap rest t.1 in let held = c.slot_mut-slot.result.now in let left = c.answer-answer.new.self in (
