@@ -1,0 +1,188 @@
+//! What a system comes to by a table: the entries that it manages and has interest in, and the ranks of all elements.
+ghost use Rattle.std.specs.Prelude.{◌≡◌, ◌≢◌, ◌≤◌, ◌+◌, ◌++◌, ◌∷◌, [], true, cond, filter, length, nat_le, IfOk, OnOk};
+ghost use Rattle.std.specs.List.{range_with_len, flat_map, list_all};
+ghost use Rattle.grs_base.specs.Limits.{last_number};
+ghost use Rattle.grs_wire.specs.LockWords.{is_manager};
+ghost use Rattle.contention_mgr.specs.Loads.{ranks_of};
+ghost use Rattle.mode_migrate.specs.Migrate.{has_elements, manager_by, managed_by, interested_by, numbered_in, ranked_by};
+
+use crate::words::{has_elements, is_of, manager};
+use grs_base::{LAST_NUMBER, List, NoMemory, Queues, Row, SysId};
+use queue_table::Table;
+use std::alloc::Global;
+
+/// What a system is in star mode by a table.
+#[derive(Drop)]
+pub struct Roles {
+    /// The lock entries that it manages.
+    pub managed: List<u32>,
+    /// The lock entries in which it has interest.
+    pub interest: List<u32>,
+    /// The lists of all resources that have a lock entry, entry by entry and there by name, with the ranks of their
+    /// elements.
+    pub ranked: List<(Row, List<u64>)>,
+}
+
+/// So many numbers, from this one on.
+#[tactic(auto, using(crate::proofs::Ranges::ranges, crate::proofs::Ranges::small_ranks))]
+fn numbers(alloc: Global, first: u64, count: usize) -> Result<List<u64>, NoMemory>
+    requires { first + count ≤ last_number + 1 }
+    ensures numbers { IfOk result (λ list. list ≡ range_with_len first count) }
+    ensures small { IfOk result (λ list. list_all (λ n. nat_le n last_number) list ≡ true) }
+{
+    let mut list = List::with_room(alloc, count)?;
+    for i in 0..count {
+        list.push(first + i as u64)?;
+    }
+    Ok(list)
+}
+
+/// Puts a row with ranks from this number on behind others, and gives the number behind its last.
+#[tactic(auto, using(crate::proofs::Ranges::small_ranks))]
+fn add_row(
+    alloc: Global,
+    ranked: &mut List<(Row, List<u64>)>,
+    row: &Row,
+    next: u64,
+) -> Result<u64, NoMemory>
+    requires next { next ≤ last_number + 1 }
+    requires small { list_all (λ n. nat_le n last_number) (ranks_of ranked.old) ≡ true }
+    ensures rows { OnOk result (ranked.new ≡ ranked.old ++ (row.now, range_with_len next (length row.now.elems)) ∷ []) }
+    ensures next { IfOk result (λ after. after ≡ next + length row.now.elems) }
+    ensures last { IfOk result (λ after. after ≤ last_number + 1) }
+    ensures small { OnOk result (list_all (λ n. nat_le n last_number) (ranks_of ranked.new) ≡ true) }
+{
+    let count = row.elems.len();
+    if count as u64 > LAST_NUMBER + 1 - next {
+        return Err(NoMemory);
+    }
+    let ranks = numbers(alloc, next, count)?;
+    let copy = row.copy(alloc)?;
+    ranked.push((copy, ranks))?;
+    Ok(next + count as u64)
+}
+
+/// Puts the rows of a lock entry with their ranks behind others.
+fn add_entry(
+    alloc: Global,
+    ranked: &mut List<(Row, List<u64>)>,
+    rows: &[Row],
+    entries: u32,
+    entry: u32,
+) -> Result<(), NoMemory>
+    requires entries { entries ≢ 0 }
+    requires small { list_all (λ n. nat_le n last_number) (ranks_of ranked.old) ≡ true }
+    ensures rows { OnOk result (ranked.new ≡ ranked.old ++ numbered_in entries entry rows.now) }
+    ensures small { OnOk result (list_all (λ n. nat_le n last_number) (ranks_of ranked.new) ≡ true) }
+{
+    let mut next = 1;
+    for row in rows {
+        if is_of(row, entries, entry) {
+            next = add_row(alloc, ranked, row, next)?;
+        }
+    }
+    Ok(())
+}
+
+/// The rows of all lock entries with their ranks.
+#[tactic(auto, using(crate::proofs::Ranges::ranges))]
+fn ranked_rows(
+    alloc: Global,
+    rows: &[Row],
+    entries: u32,
+) -> Result<List<(Row, List<u64>)>, NoMemory>
+    requires { entries ≢ 0 }
+    ensures rows { IfOk result (λ ranked. ranked ≡ flat_map (λ e. numbered_in entries e rows.now) (range_with_len 0 entries)) }
+    ensures small { IfOk result (λ ranked. list_all (λ n. nat_le n last_number) (ranks_of ranked) ≡ true) }
+{
+    let mut ranked = List::new(alloc);
+    for entry in 0..entries {
+        add_entry(alloc, &mut ranked, rows, entries, entry)?;
+    }
+    Ok(ranked)
+}
+
+/// Whether a system manages a lock entry.
+fn manages(rows: &[Row], entries: u32, entry: u32, system: SysId) -> bool
+    requires { entries ≢ 0 }
+    ensures { result ≡ is_manager (manager_by entries entry rows.now) system }
+{
+    match manager(rows, entries, entry) {
+        Some(least) => least.0 == system.0,
+        None => false,
+    }
+}
+
+/// Puts a lock entry behind others where it passes.
+fn push_if(list: &mut List<u32>, entry: u32, passes: bool) -> Result<(), NoMemory>
+    ensures { OnOk result (list.new ≡ list.old ++ cond passes (entry ∷ []) []) }
+{
+    if passes { list.push(entry) } else { Ok(()) }
+}
+
+/// The lock entries that a system manages.
+#[tactic(auto, using(crate::proofs::Ranges::ranges))]
+fn managed_entries(
+    alloc: Global,
+    rows: &[Row],
+    entries: u32,
+    system: SysId,
+) -> Result<List<u32>, NoMemory>
+    requires { entries ≢ 0 }
+    ensures { IfOk result (λ managed. managed ≡ filter (λ e. is_manager (manager_by entries e rows.now) system) (range_with_len 0 entries)) }
+{
+    let mut managed = List::new(alloc);
+    for entry in 0..entries {
+        push_if(&mut managed, entry, manages(rows, entries, entry, system))?;
+    }
+    Ok(managed)
+}
+
+/// The lock entries in which a system has interest.
+#[tactic(auto, using(crate::proofs::Ranges::ranges))]
+fn interesting_entries(
+    alloc: Global,
+    rows: &[Row],
+    entries: u32,
+    system: SysId,
+) -> Result<List<u32>, NoMemory>
+    requires { entries ≢ 0 }
+    ensures { IfOk result (λ interest. interest ≡ filter (λ e. has_elements entries e rows.now system.0) (range_with_len 0 entries)) }
+{
+    let mut interest = List::new(alloc);
+    for entry in 0..entries {
+        push_if(
+            &mut interest,
+            entry,
+            has_elements(rows, entries, entry, system),
+        )?;
+    }
+    Ok(interest)
+}
+
+/// What a system comes to by a table, where there are so many lock entries. It manages the entries in which it is the
+/// least system that has elements, and has interest in all in which it has any. The elements on resources of an entry are
+/// ranked 1, 2 and so on, resources by name and the elements of one in the order of its list; all systems rank them
+/// alike. NoMemory comes where there is none for the copies, or an element would have a rank above `LAST_NUMBER`.
+pub fn roles_of<Q: Queues>(
+    alloc: Global,
+    table: &Table<Q>,
+    entries: u32,
+    system: SysId,
+) -> Result<Roles, NoMemory>
+    requires { entries ≢ 0 }
+    ensures managed { IfOk result (λ roles. roles.managed ≡ managed_by entries system table.now.held) }
+    ensures interest { IfOk result (λ roles. roles.interest ≡ interested_by entries system table.now.held) }
+    ensures ranked { IfOk result (λ roles. roles.ranked ≡ ranked_by entries table.now.held) }
+    ensures small { IfOk result (λ roles. list_all (λ n. nat_le n last_number) (ranks_of roles.ranked) ≡ true) }
+{
+    let rows = table.rows(alloc)?;
+    let managed = managed_entries(alloc, rows.as_slice(), entries, system)?;
+    let interest = interesting_entries(alloc, rows.as_slice(), entries, system)?;
+    let ranked = ranked_rows(alloc, rows.as_slice(), entries)?;
+    Ok(Roles {
+        managed,
+        interest,
+        ranked,
+    })
+}
