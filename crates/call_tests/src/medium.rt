@@ -21,9 +21,12 @@ enum Brief {
     Already,
     Sent,
     Asked,
+    Empty,
     Settled,
     Told,
     Kept(u32),
+    Purged,
+    Resting,
     Other,
 }
 
@@ -39,9 +42,12 @@ fn in_brief(reply: &Reply) -> Brief {
         Reply::Taken {
             mail: Mail::Request { .. },
         } => Brief::Asked,
+        Reply::Empty => Brief::Empty,
         Reply::Settled => Brief::Settled,
         Reply::Told => Brief::Told,
         Reply::Kept { mask } => Brief::Kept(*mask),
+        Reply::Purged => Brief::Purged,
+        Reply::Resting => Brief::Resting,
         _ => Brief::Other,
     }
 }
@@ -103,6 +109,13 @@ fn alone(alloc: Global, req: Req) -> Result<List<Req>, NoMemory>
     Ok(out)
 }
 
+/// What a call would be answered; it isn't made.
+fn shown(medium: &Medium, caller: SysId, call: Call) -> Result<Seen, NoMemory>
+    requires call { MayCall medium.now.state caller call }
+{
+    previewed(medium, caller, &call)
+}
+
 /// System 0 puts in a request.
 fn put(alloc: Global, medium: &mut Medium) -> Result<(), Fail>
     requires { systems_of medium.old.state ≡ 2 }
@@ -122,6 +135,15 @@ fn turn_of(alloc: Global, medium: &Medium) -> Result<Seen, NoMemory>
     let act = Act::Turn { out };
     let call = Call { known: 0, act };
     previewed(medium, SysId(1), &call)
+}
+
+/// What system 0 would be answered if it removed system 1.
+fn purge_of(medium: &Medium) -> Result<Seen, NoMemory>
+    requires { systems_of medium.now.state ≡ 2 }
+{
+    let target = SysId(1);
+    let act = Act::Purge { target };
+    shown(medium, SysId(0), Call { known: 0, act })
 }
 
 /// System 0 removes system 1.
@@ -144,24 +166,26 @@ fn turn_after(alloc: Global, medium: &mut Medium) -> Result<Brief, NoMemory>
     made(medium, SysId(0), Call { known: 2, act })
 }
 
-fn seen_of(alloc: Global, medium: &mut Medium) -> Result<(Seen, Brief), Fail>
+fn seen_of(alloc: Global, medium: &mut Medium) -> Result<(Seen, Seen, Brief), Fail>
     requires { systems_of medium.old.state ≡ 2 }
 {
     put(alloc, medium)?;
-    let seen = turn_of(alloc, medium)?;
+    let turn = turn_of(alloc, medium)?;
+    let purge = purge_of(medium)?;
     remove(medium)?;
-    Ok((seen, turn_after(alloc, medium)?))
+    Ok((turn, purge, turn_after(alloc, medium)?))
 }
 
-fn two_systems(alloc: Global) -> Result<(Seen, Brief), Fail> {
+fn two_systems(alloc: Global) -> Result<(Seen, Seen, Brief), Fail> {
     let mut medium = Medium::new(alloc, 2, 1, false)?;
     seen_of(alloc, &mut medium)
 }
 
 #[test]
 fn tells_before_and_removes(rt: HostRuntime) -> Result<(), Fail> {
-    let (seen, given) = two_systems(rt.alloc())?;
-    assert_eq!(rt; seen, (Brief::Turned(1), true));
+    let (turn, purge, given) = two_systems(rt.alloc())?;
+    assert_eq!(rt; turn, (Brief::Turned(1), true));
+    assert_eq!(rt; purge, (Brief::Purged, true));
     // the request that came back without system 1, and the removal
     assert_eq!(rt; given, Brief::Turned(2));
     Ok(())
@@ -178,13 +202,6 @@ fn ask(alloc: Global, medium: &mut Medium, caller: SysId) -> Result<(), Fail>
     let act = Act::Submit { entry: 0, req };
     made(medium, caller, Call { known: 0, act })?;
     Ok(())
-}
-
-/// What a call would be answered; it isn't made.
-fn shown(medium: &Medium, caller: SysId, call: Call) -> Result<Seen, NoMemory>
-    requires call { MayCall medium.now.state caller call }
-{
-    previewed(medium, caller, &call)
 }
 
 const ASKER: TaskId = TaskId {
@@ -208,15 +225,17 @@ fn granted(alloc: Global) -> Result<Mail, Fail> {
     Ok(Mail::Granted { task: ASKER, res })
 }
 
-/// What system 1 would be answered if it asked again, and what system 0, which manages the entry: by a Take, a Settle, a
-/// Tell and a Leave.
-fn shown_in_star(alloc: Global, medium: &Medium) -> Result<[Seen; 5], Fail>
+/// What system 1 would be answered if it asked again, and if it took a mail, of which it has none; and what system 0, which
+/// manages the entry: by a Take, a Settle, a Tell, a Leave and a Rest.
+fn shown_in_star(alloc: Global, medium: &Medium) -> Result<[Seen; 7], Fail>
     requires systems { systems_of medium.now.state ≡ 2 }
     requires entries { length medium.now.state.words ≡ 1 }
 {
     let req = request(alloc)?;
     let act = Act::Submit { entry: 0, req };
     let asked = shown(medium, SysId(1), Call { known: 0, act })?;
+    let act = Act::Take;
+    let empty = shown(medium, SysId(1), Call { known: 0, act })?;
     let act = Act::Take;
     let taken = shown(medium, SysId(0), Call { known: 0, act })?;
     let to = SysId(1);
@@ -228,12 +247,14 @@ fn shown_in_star(alloc: Global, medium: &Medium) -> Result<[Seen; 5], Fail>
     let told = shown(medium, SysId(0), Call { known: 0, act })?;
     let act = Act::Leave { entry: 0 };
     let left = shown(medium, SysId(0), Call { known: 0, act })?;
-    Ok([asked, taken, settled, told, left])
+    let act = Act::Rest;
+    let rested = shown(medium, SysId(0), Call { known: 0, act })?;
+    Ok([asked, empty, taken, settled, told, left, rested])
 }
 
 /// The same once both systems have asked, where the medium has as many lock words as it was given.
-fn after_both(alloc: Global) -> Result<[Seen; 5], Fail> {
-    let none = [(Brief::Other, false); 5];
+fn after_both(alloc: Global) -> Result<[Seen; 7], Fail> {
+    let none = [(Brief::Other, false); 7];
     let mut medium = Medium::new(alloc, 2, 1, true)?;
     ask(alloc, &mut medium, SysId(0))?;
     if medium.words().len() != 1 {
@@ -252,10 +273,12 @@ fn tells_before_in_star_mode(rt: HostRuntime) -> Result<(), Fail> {
         after_both(rt.alloc())?,
         [
             (Brief::Sent, true),
+            (Brief::Empty, false),
             (Brief::Asked, true),
             (Brief::Settled, true),
             (Brief::Told, true),
             (Brief::Kept(3), false),
+            (Brief::Resting, true),
         ]
     );
     Ok(())
