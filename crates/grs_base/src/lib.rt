@@ -15,6 +15,7 @@ mod queues;
 mod resource;
 mod rnl;
 mod slice;
+mod steps;
 
 pub use decision::{Code, Decision, Effect, Standing};
 pub use fault::{DeckFault, Kind, NameFault, NoMemory, ReadError};
@@ -31,3 +32,4 @@ pub use queues::Queues;
 pub use resource::{Ctl, Elem, Res, Ret, Row, SysId, TaskId, is_same_res, is_same_task};
 pub use rnl::{Form, Lists, RnlEntry, RnlList, Which};
 pub use slice::{SLICES, entry_of, slice_of};
+pub use steps::Steps;
