@@ -12,11 +12,11 @@ use Rattle.deck_scan.specs.declared.token.TokenLine.{TokenLine}
 use Rattle.deck_scan.specs.Next.{Sets}
 use Rattle.deck_scan.proofs.Again.{is_free, all_again}
 use Rattle.deck_scan.proofs.Taking.{same_bytes}
-use Rattle.job_syntax.specs.declared.said.Verb.{Verb}
-use Rattle.job_syntax.specs.declared.said.Verb.TheVariants as lines
-use Rattle.job_syntax.specs.Said.{verb}
-use Rattle.job_syntax.specs.Spelled.{IsWord, verb_for}
-use Rattle.job_syntax.proofs.Again.{said_again}
+use Rattle.job_syntax.specs.declared.line_ask.LineWord.{LineWord}
+use Rattle.job_syntax.specs.declared.line_ask.LineWord.TheVariants as lines
+use Rattle.job_syntax.specs.LineAsk.{line_word}
+use Rattle.job_syntax.specs.Spelled.{IsWord, line_word_for}
+use Rattle.job_syntax.proofs.Again.{line_ask_again}
 use Rattle.rnl_syntax.proofs.Again.{rnldef_again}
 use Rattle.deck_form.specs.declared.complex.Setup.{Setup}
 use Rattle.deck_form.specs.declared.event.Act.{Act}
@@ -26,7 +26,7 @@ use Rattle.deck_form.specs.declared.form.Stmt.TheVariants as stmts
 use Rattle.deck_form.specs.declared.form.Key.TheVariants as keys
 use Rattle.deck_form.specs.Words.{short_at, parted, dotted_at, number_of, named_at}
 use Rattle.deck_form.specs.Complex.{no_setup, mode_of, entries_of, limit_of, with_operand, operand_at, complex_at}
-use Rattle.deck_form.specs.Event.{verb as event_verb, pair_at, entry_at, act_at, event_at}
+use Rattle.deck_form.specs.Event.{event_word, pair_at, entry_at, act_at, event_at}
 use Rattle.deck_form.specs.UnbuiltWord.{is_unbuilt_word}
 use Rattle.deck_form.specs.Form.{key, plain_form, keyed, first_form, event_form, form}
 use Rattle.deck_form.specs.Spelled.{IsName, Operand, Mode, Entries, Limit, operand, IsFreeOperand, set_operand, IsComplex, IsFirst, IsAct, IsEvent, Spells}
@@ -105,8 +105,8 @@ unbuilt_again w rest h =
     rw (other_word w (codes "COMPLEX") h built_complex, other_word w (codes "RNLDEF") h built_rnldef, other_word w (codes "SYSTEM") h built_system, other_word w (codes "JOB") h built_job, other_word w (codes "TASK") h built_task, other_word w (codes "SCHEDULE") h built_schedule, h) refl
 
 -- the key of a task line whose word is built
-line_again : (v : Verb) (w : List ℕ) → IsWord v w → is_unbuilt_word w ≡ false → key w ≡ keys.Line v
-unfolding key is_unbuilt_word verb
+line_again : (v : LineWord) (w : List ℕ) → IsWord v w → is_unbuilt_word w ≡ false → key w ≡ keys.Line v
+unfolding key is_unbuilt_word line_word
 line_again lines.Enq w h k = rw h refl
 line_again lines.Reserve w h k = rw h refl
 line_again lines.Deq w h k = rw h refl
@@ -123,7 +123,7 @@ first_again ts (stmts.Rnldef d) h = rw (h.1, rnldef_again h.0 d h.2) refl
 first_again ts (stmts.System n) h = rw (h.0, named_again n h.1) refl
 first_again ts (stmts.Job n) h = rw (h.0, named_again n h.1) refl
 first_again ts (stmts.Task n) h = rw (h.0, named_again n h.1) refl
-first_again ts (stmts.Line s) h = rw (h.0.parts, line_again (verb_for s) h.0.word h.0.is_word h.1, said_again h.0.behind s h.0.is_behind) refl
+first_again ts (stmts.Line s) h = rw (h.0.parts, line_again (line_word_for s) h.0.word h.0.is_word h.1, line_ask_again h.0.behind s h.0.is_behind) refl
 first_again ts stmts.Schedule h = rw h refl
 first_again ts (stmts.Event s a) h = absurd h
 
@@ -164,11 +164,11 @@ entry_again entries w e h lt = rw (h, lt-ltb e entries lt) refl
 
 -- the word of an event and what stands behind it
 abbrev acted : ℕ → List Token → Option Act
-acted entries (Word w ∷ ts) = act_at entries (event_verb w) ts
+acted entries (Word w ∷ ts) = act_at entries (event_word w) ts
 acted entries _ = None
 
 act_again : (entries : ℕ) (ts : List Token) (a : Act) → IsAct entries ts a → acted entries ts ≡ Some a
-unfolding act_at event_verb
+unfolding act_at event_word
 act_again entries ts (acts.Task j t) h = rw (h.0, pair_again j t h.1 h.2) refl
 act_again entries ts acts.Turn h = rw h refl
 act_again entries ts (acts.Send j t) h = rw (h.0, pair_again j t h.1 h.2) refl

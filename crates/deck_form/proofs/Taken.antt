@@ -12,25 +12,25 @@ use Rattle.deck_scan.specs.declared.token.Token.TheVariants.{Word, Open, Unclose
 use Rattle.deck_scan.specs.declared.token.TokenLine.{TokenLine}
 use Rattle.deck_scan.specs.Next.{◌>>=◌, open_at, close_at, end_at, any_word_at}
 use Rattle.deck_scan.proofs.Taking.{bind_some, guard_some, some_is, same_bytes, IsWordOf, row, once_some, open_taken, close_taken, end_taken, any_word_taken, TookOne, all_taken}
-use Rattle.job_syntax.specs.declared.said.Verb.{Verb as LineVerb}
-use Rattle.job_syntax.specs.Said.{verb as line_verb, said_at}
-use Rattle.job_syntax.specs.Spelled.{IsWord, IsSaid}
-use Rattle.job_syntax.proofs.Taken.{said_taken, verb_taken}
+use Rattle.job_syntax.specs.declared.line_ask.LineWord.{LineWord}
+use Rattle.job_syntax.specs.LineAsk.{line_word, line_ask_at}
+use Rattle.job_syntax.specs.Spelled.{IsWord, IsLineAsk}
+use Rattle.job_syntax.proofs.Taken.{line_ask_taken, line_word_taken}
 use Rattle.rnl_syntax.specs.Lines.{is_rnldef_word}
 use Rattle.rnl_syntax.specs.Operands.{rnldef_at}
 use Rattle.rnl_syntax.proofs.Taken.{rnldef_taken}
 use Rattle.deck_form.specs.declared.complex.Setup.{Setup}
 use Rattle.deck_form.specs.declared.event.Act.{Act}
 use Rattle.deck_form.specs.declared.event.Act.TheVariants as acts
-use Rattle.deck_form.specs.declared.event.Verb.{Verb}
-use Rattle.deck_form.specs.declared.event.Verb.TheVariants as verbs
+use Rattle.deck_form.specs.declared.event.EventWord.{EventWord}
+use Rattle.deck_form.specs.declared.event.EventWord.TheVariants as words
 use Rattle.deck_form.specs.declared.form.Stmt.{Stmt}
 use Rattle.deck_form.specs.declared.form.Stmt.TheVariants as stmts
 use Rattle.deck_form.specs.declared.form.Key.{Key}
 use Rattle.deck_form.specs.declared.form.Key.TheVariants as keys
 use Rattle.deck_form.specs.Words.{short_at, parted, dotted_at, number_of, named_at}
 use Rattle.deck_form.specs.Complex.{no_setup, mode_of, entries_of, limit_of, with_star, with_entries, with_limit, with_operand, operand_at, complex_at}
-use Rattle.deck_form.specs.Event.{verb, pair_at, entry_at, alone_at, act_at, event_at}
+use Rattle.deck_form.specs.Event.{event_word, pair_at, entry_at, alone_at, act_at, event_at}
 use Rattle.deck_form.specs.UnbuiltWord.{is_unbuilt_word}
 use Rattle.deck_form.specs.Form.{line_key, key, plain_form, or_bad, keyed, first_form, event_form, form}
 use Rattle.deck_form.specs.Spelled.{IsName, mode_word, Operand, Mode, Entries, Limit, enclosed, operand, IsFreeOperand, set_operand, IsComplex, IsFirst, IsAct, IsEvent, Spells}
@@ -177,81 +177,81 @@ entry_taken entries ts e h =
     let g = guard_some (ltb n.0 entries) n.0 e z.2 in
     subst (λ (m : ℕ). (w : List ℕ) × (ts ≡ Word w ∷ []) × (number_of w ≡ Some m) × (m < entries)) g.1 (w.0.0, any_word_taken ts w.0 w.1 ∙ front w.0.0 _ w.0.1 _ refl (end_taken w.0.1 z.0 z.1), n.1, ltb-true n.0 entries g.0)
 
--- the word of a verb
-abbrev SaysVerb : List ℕ → Verb → Type 0
-SaysVerb w verbs.Task = w ≡ codes "TASK"
-SaysVerb w verbs.Turn = w ≡ codes "TURN"
-SaysVerb w verbs.Send = w ≡ codes "SEND"
-SaysVerb w verbs.Take = w ≡ codes "TAKE"
-SaysVerb w verbs.Settle = w ≡ codes "SETTLE"
-SaysVerb w verbs.Tell = w ≡ codes "TELL"
-SaysVerb w verbs.Leave = w ≡ codes "LEAVE"
-SaysVerb w verbs.Switch = w ≡ codes "SWITCH"
-SaysVerb w verbs.Purge = w ≡ codes "PURGE"
-SaysVerb w verbs.Rest = w ≡ codes "REST"
-SaysVerb w verbs.Unknown = Unit {0}
+-- the word of an event
+abbrev SaysWord : List ℕ → EventWord → Type 0
+SaysWord w words.Task = w ≡ codes "TASK"
+SaysWord w words.Turn = w ≡ codes "TURN"
+SaysWord w words.Send = w ≡ codes "SEND"
+SaysWord w words.Take = w ≡ codes "TAKE"
+SaysWord w words.Settle = w ≡ codes "SETTLE"
+SaysWord w words.Tell = w ≡ codes "TELL"
+SaysWord w words.Leave = w ≡ codes "LEAVE"
+SaysWord w words.Switch = w ≡ codes "SWITCH"
+SaysWord w words.Purge = w ≡ codes "PURGE"
+SaysWord w words.Rest = w ≡ codes "REST"
+SaysWord w words.Unknown = Unit {0}
 
-verb_by : (P : Verb → Type 0) (b : Bool) (x y : Verb) → (b ≡ true → P x) → P y → P (cond b x y)
-verb_by P true x y p q = p refl
-verb_by P false x y p q = q
+word_by : (P : EventWord → Type 0) (b : Bool) (x y : EventWord) → (b ≡ true → P x) → P y → P (cond b x y)
+word_by P true x y p q = p refl
+word_by P false x y p q = q
 
-says_verb : (w : List ℕ) → SaysVerb w (verb w)
-unfolding verb
-says_verb w =
-    verb_by (SaysVerb w) (bytes_eq w (codes "TASK")) _ _ (same_bytes w _)
-    (verb_by (SaysVerb w) (bytes_eq w (codes "TURN")) _ _ (same_bytes w _)
-    (verb_by (SaysVerb w) (bytes_eq w (codes "SEND")) _ _ (same_bytes w _)
-    (verb_by (SaysVerb w) (bytes_eq w (codes "TAKE")) _ _ (same_bytes w _)
-    (verb_by (SaysVerb w) (bytes_eq w (codes "SETTLE")) _ _ (same_bytes w _)
-    (verb_by (SaysVerb w) (bytes_eq w (codes "TELL")) _ _ (same_bytes w _)
-    (verb_by (SaysVerb w) (bytes_eq w (codes "LEAVE")) _ _ (same_bytes w _)
-    (verb_by (SaysVerb w) (bytes_eq w (codes "SWITCH")) _ _ (same_bytes w _)
-    (verb_by (SaysVerb w) (bytes_eq w (codes "PURGE")) _ _ (same_bytes w _)
-    (verb_by (SaysVerb w) (bytes_eq w (codes "REST")) _ _ (same_bytes w _) tt)))))))))
+says_word : (w : List ℕ) → SaysWord w (event_word w)
+unfolding event_word
+says_word w =
+    word_by (SaysWord w) (bytes_eq w (codes "TASK")) _ _ (same_bytes w _)
+    (word_by (SaysWord w) (bytes_eq w (codes "TURN")) _ _ (same_bytes w _)
+    (word_by (SaysWord w) (bytes_eq w (codes "SEND")) _ _ (same_bytes w _)
+    (word_by (SaysWord w) (bytes_eq w (codes "TAKE")) _ _ (same_bytes w _)
+    (word_by (SaysWord w) (bytes_eq w (codes "SETTLE")) _ _ (same_bytes w _)
+    (word_by (SaysWord w) (bytes_eq w (codes "TELL")) _ _ (same_bytes w _)
+    (word_by (SaysWord w) (bytes_eq w (codes "LEAVE")) _ _ (same_bytes w _)
+    (word_by (SaysWord w) (bytes_eq w (codes "SWITCH")) _ _ (same_bytes w _)
+    (word_by (SaysWord w) (bytes_eq w (codes "PURGE")) _ _ (same_bytes w _)
+    (word_by (SaysWord w) (bytes_eq w (codes "REST")) _ _ (same_bytes w _) tt)))))))))
 
 alone_taken : (entries : ℕ) (w word : List ℕ) (ts : List Token) (a act : Act) → w ≡ word → alone_at a ts ≡ Some act → (Word w ∷ ts ≡ Word word ∷ []) × (a ≡ act)
 alone_taken entries w word ts a act is e =
     let z = bind_some (end_at ts) (λ end. Some a) act e in
     (front w word ts [] is (end_taken ts z.0 z.1), some_is a act z.2)
 
-act_taken : (entries : ℕ) (v : Verb) (w : List ℕ) (ts : List Token) (act : Act) → SaysVerb w v → act_at entries v ts ≡ Some act → IsAct entries (Word w ∷ ts) act
+act_taken : (entries : ℕ) (v : EventWord) (w : List ℕ) (ts : List Token) (act : Act) → SaysWord w v → act_at entries v ts ≡ Some act → IsAct entries (Word w ∷ ts) act
 unfolding act_at
-act_taken entries verbs.Task w ts act is e =
+act_taken entries words.Task w ts act is e =
     let p = bind_some (pair_at ts) (λ p. Some (acts.Task p.0 p.1)) act e in
     let d = pair_taken ts p.0 p.1 in
     subst (IsAct entries (Word w ∷ ts)) (some_is (acts.Task p.0.0 p.0.1) act p.2) (front w _ ts _ is d.0, d.1, d.2)
-act_taken entries verbs.Send w ts act is e =
+act_taken entries words.Send w ts act is e =
     let p = bind_some (pair_at ts) (λ p. Some (acts.Send p.0 p.1)) act e in
     let d = pair_taken ts p.0 p.1 in
     subst (IsAct entries (Word w ∷ ts)) (some_is (acts.Send p.0.0 p.0.1) act p.2) (front w _ ts _ is d.0, d.1, d.2)
-act_taken entries verbs.Turn w ts act is e = let k = alone_taken entries w _ ts acts.Turn act is e in subst (IsAct entries (Word w ∷ ts)) k.1 k.0
-act_taken entries verbs.Take w ts act is e = let k = alone_taken entries w _ ts acts.Take act is e in subst (IsAct entries (Word w ∷ ts)) k.1 k.0
-act_taken entries verbs.Settle w ts act is e = let k = alone_taken entries w _ ts acts.Settle act is e in subst (IsAct entries (Word w ∷ ts)) k.1 k.0
-act_taken entries verbs.Switch w ts act is e = let k = alone_taken entries w _ ts acts.Switch act is e in subst (IsAct entries (Word w ∷ ts)) k.1 k.0
-act_taken entries verbs.Rest w ts act is e = let k = alone_taken entries w _ ts acts.Rest act is e in subst (IsAct entries (Word w ∷ ts)) k.1 k.0
-act_taken entries verbs.Tell w ts act is e =
+act_taken entries words.Turn w ts act is e = let k = alone_taken entries w _ ts acts.Turn act is e in subst (IsAct entries (Word w ∷ ts)) k.1 k.0
+act_taken entries words.Take w ts act is e = let k = alone_taken entries w _ ts acts.Take act is e in subst (IsAct entries (Word w ∷ ts)) k.1 k.0
+act_taken entries words.Settle w ts act is e = let k = alone_taken entries w _ ts acts.Settle act is e in subst (IsAct entries (Word w ∷ ts)) k.1 k.0
+act_taken entries words.Switch w ts act is e = let k = alone_taken entries w _ ts acts.Switch act is e in subst (IsAct entries (Word w ∷ ts)) k.1 k.0
+act_taken entries words.Rest w ts act is e = let k = alone_taken entries w _ ts acts.Rest act is e in subst (IsAct entries (Word w ∷ ts)) k.1 k.0
+act_taken entries words.Tell w ts act is e =
     let p = bind_some (entry_at entries ts) (λ n. Some (acts.Tell n)) act e in
     let d = entry_taken entries ts p.0 p.1 in
     subst (IsAct entries (Word w ∷ ts)) (some_is (acts.Tell p.0) act p.2) (d.0, front w _ ts _ is d.1, d.2, d.3)
-act_taken entries verbs.Leave w ts act is e =
+act_taken entries words.Leave w ts act is e =
     let p = bind_some (entry_at entries ts) (λ n. Some (acts.Leave n)) act e in
     let d = entry_taken entries ts p.0 p.1 in
     subst (IsAct entries (Word w ∷ ts)) (some_is (acts.Leave p.0) act p.2) (d.0, front w _ ts _ is d.1, d.2, d.3)
-act_taken entries verbs.Purge w ts act is e =
+act_taken entries words.Purge w ts act is e =
     let p = bind_some (named_at ts) (λ n. Some (acts.Purge n)) act e in
     let d = named_taken ts p.0 p.1 in
     subst (IsAct entries (Word w ∷ ts)) (some_is (acts.Purge p.0) act p.2) (front w _ ts _ is d.0, d.1)
-act_taken entries verbs.Unknown w ts act is e = absurd cc
+act_taken entries words.Unknown w ts act is e = absurd cc
 
 event_taken : (entries : ℕ) (ts : List Token) (st : Stmt) → event_form entries ts ≡ Some st → IsEvent entries ts st
 unfolding event_form event_at
 event_taken entries ts st e =
     let x = bind_some (event_at entries ts) (λ x. Some (stmts.Event x.0 x.1)) st e in
-    let s = bind_some (short_at ts) (λ s. any_word_at s.1 >>= λ w. act_at entries (verb w.0) w.1 >>= λ a. Some (s.0, a)) x.0 x.1 in
-    let w = bind_some (any_word_at s.0.1) (λ w. act_at entries (verb w.0) w.1 >>= λ a. Some (s.0.0, a)) x.0 s.2 in
-    let a = bind_some (act_at entries (verb w.0.0) w.0.1) (λ a. Some (s.0.0, a)) x.0 w.2 in
+    let s = bind_some (short_at ts) (λ s. any_word_at s.1 >>= λ w. act_at entries (event_word w.0) w.1 >>= λ a. Some (s.0, a)) x.0 x.1 in
+    let w = bind_some (any_word_at s.0.1) (λ w. act_at entries (event_word w.0) w.1 >>= λ a. Some (s.0.0, a)) x.0 s.2 in
+    let a = bind_some (act_at entries (event_word w.0.0) w.0.1) (λ a. Some (s.0.0, a)) x.0 w.2 in
     let system = short_taken ts s.0 s.1 in
-    let act : IsAct entries s.0.1 a.0 = subst (λ (t : List Token). IsAct entries t a.0) (sym (any_word_taken s.0.1 w.0 w.1)) (act_taken entries (verb w.0.0) w.0.0 w.0.1 a.0 (says_verb w.0.0) a.1) in
+    let act : IsAct entries s.0.1 a.0 = subst (λ (t : List Token). IsAct entries t a.0) (sym (any_word_taken s.0.1 w.0 w.1)) (act_taken entries (event_word w.0.0) w.0.0 w.0.1 a.0 (says_word w.0.0) a.1) in
     let made : IsEvent entries ts (stmts.Event s.0.0 a.0) = (s.0.1, system.0, system.1, act) in
     let at_x : IsEvent entries ts (stmts.Event x.0.0 x.0.1) = subst (λ (y : List ℕ × Act). IsEvent entries ts (stmts.Event y.0 y.1)) (some_is (s.0.0, a.0) x.0 a.2) made in
     subst (IsEvent entries ts) (some_is (stmts.Event x.0.0 x.0.1) st x.2) at_x
@@ -267,7 +267,7 @@ Worded w keys.Job = w ≡ codes "JOB"
 Worded w keys.Task = w ≡ codes "TASK"
 Worded w keys.Schedule = w ≡ codes "SCHEDULE"
 Worded w keys.Unbuilt = is_unbuilt_word w ≡ true
-Worded w (keys.Line v) = (line_verb w ≡ Some v) × (is_unbuilt_word w ≡ false)
+Worded w (keys.Line v) = (line_word w ≡ Some v) × (is_unbuilt_word w ≡ false)
 Worded w keys.Unknown = Unit {0}
 
 by_test : (P : Key → Type 0) (b : Bool) (x y : Key) → (b ≡ true → P x) → P y → P (cond b x y)
@@ -278,7 +278,7 @@ by_both : (P : Key → Type 0) (b : Bool) (x y : Key) → (b ≡ true → P x) �
 by_both P true x y p q = p refl
 by_both P false x y p q = q refl
 
-line_worded : (w : List ℕ) (o : Option LineVerb) → line_verb w ≡ o → is_unbuilt_word w ≡ false → Worded w (line_key o)
+line_worded : (w : List ℕ) (o : Option LineWord) → line_word w ≡ o → is_unbuilt_word w ≡ false → Worded w (line_key o)
 line_worded w None is h = tt
 line_worded w (Some v) is h = (is, h)
 
@@ -291,7 +291,7 @@ worded w =
     (by_test (Worded w) (bytes_eq w (codes "JOB")) _ _ (same_bytes w _)
     (by_test (Worded w) (bytes_eq w (codes "TASK")) _ _ (same_bytes w _)
     (by_test (Worded w) (bytes_eq w (codes "SCHEDULE")) _ _ (same_bytes w _)
-    (by_both (Worded w) (is_unbuilt_word w) _ _ (λ h. h) (line_worded w (line_verb w) refl)))))))
+    (by_both (Worded w) (is_unbuilt_word w) _ _ (λ h. h) (line_worded w (line_word w) refl)))))))
 
 ok_taken : (o : Option Stmt) (st : Stmt) → or_bad o ≡ Ok st → o ≡ Some st
 ok_taken (Some x) st e = cc
@@ -320,9 +320,9 @@ keyed_taken keys.Task w ts st is e =
     let n = named_taken ts b.0 b.1 in
     subst (IsFirst (Word w ∷ ts)) (some_is (stmts.Task b.0) st b.2) (front w _ ts _ is n.0, n.1)
 keyed_taken (keys.Line v) w ts st is e =
-    let b = bind_some (said_at v ts) (λ x. Some (stmts.Line x)) st (ok_taken _ st e) in
-    let said = said_taken v ts b.0 b.1 in
-    let made : IsSaid (Word w ∷ ts) b.0 = record { word = w; behind = ts; parts = refl; is_word = subst (λ (x : LineVerb). IsWord x w) (sym said.of) (verb_taken w v is.0); is_behind = said.behind } in
+    let b = bind_some (line_ask_at v ts) (λ x. Some (stmts.Line x)) st (ok_taken _ st e) in
+    let line_ask = line_ask_taken v ts b.0 b.1 in
+    let made : IsLineAsk (Word w ∷ ts) b.0 = record { word = w; behind = ts; parts = refl; is_word = subst (λ (x : LineWord). IsWord x w) (sym line_ask.of) (line_word_taken w v is.0); is_behind = line_ask.behind } in
     subst (IsFirst (Word w ∷ ts)) (some_is (stmts.Line b.0) st b.2) (made, is.1)
 keyed_taken keys.Schedule w ts st is e =
     let b = bind_some (end_at ts) (λ end. Some stmts.Schedule) st (ok_taken _ st e) in

@@ -12,8 +12,8 @@ use Rattle.deck_form.specs.declared.form.Stmt.{Stmt}
 use Rattle.deck_form.specs.declared.form.Key.{Key}
 use Rattle.deck_form.specs.declared.form.Key.TheVariants as keys
 use Rattle.deck_form.specs.UnbuiltWord.{is_unbuilt_word}
-use Rattle.job_syntax.specs.declared.said.Verb.{Verb}
-use Rattle.job_syntax.specs.Said.{verb}
+use Rattle.job_syntax.specs.declared.line_ask.LineWord.{LineWord}
+use Rattle.job_syntax.specs.LineAsk.{line_word}
 use Rattle.rnl_syntax.specs.Lines.{is_rnldef_word}
 use Rattle.deck_form.specs.Form.{line_key, key, plain_form, or_bad, keyed, first_form, event_form, form}
 use Rattle.deck_form.specs.Spelled.{Spells, is_statement_word, BeginsOtherwise, NoWord, IsNoStatement, Answers}
@@ -41,11 +41,11 @@ test_fails : (b : Bool) (k r : Key) → (k ≡ keys.Unknown → ⊥) → cond b 
 test_fails true k r other h = absurd (other h)
 test_fails false k r other h = (refl, h)
 
-no_line : (o : Option Verb) → line_key o ≡ keys.Unknown → is_some o ≡ false
+no_line : (o : Option LineWord) → line_key o ≡ keys.Unknown → is_some o ≡ false
 no_line None h = refl
 no_line (Some v) h = absurd cc
 
-line_none : (o : Option Verb) → is_some o ≡ false → line_key o ≡ keys.Unknown
+line_none : (o : Option LineWord) → is_some o ≡ false → line_key o ≡ keys.Unknown
 line_none None h = refl
 line_none (Some v) h = absurd cc
 
@@ -60,7 +60,7 @@ key_unknown w h =
     let d = test_fails (bytes_eq w (codes "TASK")) keys.Task _ (λ e. cc) c.1 in
     let f = test_fails (bytes_eq w (codes "SCHEDULE")) keys.Schedule _ (λ e. cc) d.1 in
     let g = test_fails (is_unbuilt_word w) keys.Unbuilt _ (λ e. cc) f.1 in
-    rw (a.0, r.0, b.0, c.0, d.0, f.0, g.0, no_line (verb w) g.1) refl
+    rw (a.0, r.0, b.0, c.0, d.0, f.0, g.0, no_line (line_word w) g.1) refl
 
 unknown_key : (w : List ℕ) → is_statement_word w ≡ false → key w ≡ keys.Unknown
 unfolding key
@@ -71,8 +71,8 @@ unknown_key w h =
     let c = or_parts (bytes_eq w (codes "JOB")) _ b.1 in
     let d = or_parts (bytes_eq w (codes "TASK")) _ c.1 in
     let f = or_parts (bytes_eq w (codes "SCHEDULE")) _ d.1 in
-    let g = or_parts (is_unbuilt_word w) (is_some (verb w)) f.1 in
-    rw (a.0, r.0, b.0, c.0, d.0, f.0, g.0) (line_none (verb w) g.1)
+    let g = or_parts (is_unbuilt_word w) (is_some (line_word w)) f.1 in
+    rw (a.0, r.0, b.0, c.0, d.0, f.0, g.0) (line_none (line_word w) g.1)
 
 bad_not_unknown : (o : Option Stmt) → or_bad o ≡ failed UnknownStatement → ⊥
 bad_not_unknown (Some st) h = cc

@@ -4,24 +4,24 @@ use Rattle.std.specs.Str.{bytes_eq}
 use Rattle.deck_scan.specs.declared.token.Token.{Token}
 use Rattle.deck_form.specs.declared.event.Act.{Act}
 use Rattle.deck_form.specs.declared.event.Act.TheVariants as acts
-use Rattle.deck_form.specs.declared.event.Verb.{Verb}
-use Rattle.deck_form.specs.declared.event.Verb.TheVariants as verbs
+use Rattle.deck_form.specs.declared.event.EventWord.{EventWord}
+use Rattle.deck_form.specs.declared.event.EventWord.TheVariants as words
 use Rattle.deck_scan.specs.Next.{◌>>=◌, end_at, any_word_at}
 use Rattle.deck_form.specs.Words.{short_at, named_at, dotted_at, number_of}
 
-unfoldable pub verb : List ℕ → Verb
-verb w =
-    if bytes_eq w (codes "TASK") then verbs.Task
-    else if bytes_eq w (codes "TURN") then verbs.Turn
-    else if bytes_eq w (codes "SEND") then verbs.Send
-    else if bytes_eq w (codes "TAKE") then verbs.Take
-    else if bytes_eq w (codes "SETTLE") then verbs.Settle
-    else if bytes_eq w (codes "TELL") then verbs.Tell
-    else if bytes_eq w (codes "LEAVE") then verbs.Leave
-    else if bytes_eq w (codes "SWITCH") then verbs.Switch
-    else if bytes_eq w (codes "PURGE") then verbs.Purge
-    else if bytes_eq w (codes "REST") then verbs.Rest
-    else verbs.Unknown
+unfoldable pub event_word : List ℕ → EventWord
+event_word w =
+    if bytes_eq w (codes "TASK") then words.Task
+    else if bytes_eq w (codes "TURN") then words.Turn
+    else if bytes_eq w (codes "SEND") then words.Send
+    else if bytes_eq w (codes "TAKE") then words.Take
+    else if bytes_eq w (codes "SETTLE") then words.Settle
+    else if bytes_eq w (codes "TELL") then words.Tell
+    else if bytes_eq w (codes "LEAVE") then words.Leave
+    else if bytes_eq w (codes "SWITCH") then words.Switch
+    else if bytes_eq w (codes "PURGE") then words.Purge
+    else if bytes_eq w (codes "REST") then words.Rest
+    else words.Unknown
 
 -- The names of a job and a task, and nothing after them.
 unfoldable pub pair_at : List Token → Option (List ℕ × List ℕ)
@@ -45,23 +45,23 @@ alone_at act ts = do
   Some act
 
 -- What stands behind the word of an event.
-unfoldable pub act_at : ℕ → Verb → List Token → Option Act
-act_at entries verbs.Task ts = pair_at ts >>= λ p. Some (acts.Task p.0 p.1)
-act_at entries verbs.Turn ts = alone_at acts.Turn ts
-act_at entries verbs.Send ts = pair_at ts >>= λ p. Some (acts.Send p.0 p.1)
-act_at entries verbs.Take ts = alone_at acts.Take ts
-act_at entries verbs.Settle ts = alone_at acts.Settle ts
-act_at entries verbs.Tell ts = entry_at entries ts >>= λ e. Some (acts.Tell e)
-act_at entries verbs.Leave ts = entry_at entries ts >>= λ e. Some (acts.Leave e)
-act_at entries verbs.Switch ts = alone_at acts.Switch ts
-act_at entries verbs.Purge ts = named_at ts >>= λ n. Some (acts.Purge n)
-act_at entries verbs.Rest ts = alone_at acts.Rest ts
-act_at entries verbs.Unknown ts = None
+unfoldable pub act_at : ℕ → EventWord → List Token → Option Act
+act_at entries words.Task ts = pair_at ts >>= λ p. Some (acts.Task p.0 p.1)
+act_at entries words.Turn ts = alone_at acts.Turn ts
+act_at entries words.Send ts = pair_at ts >>= λ p. Some (acts.Send p.0 p.1)
+act_at entries words.Take ts = alone_at acts.Take ts
+act_at entries words.Settle ts = alone_at acts.Settle ts
+act_at entries words.Tell ts = entry_at entries ts >>= λ e. Some (acts.Tell e)
+act_at entries words.Leave ts = entry_at entries ts >>= λ e. Some (acts.Leave e)
+act_at entries words.Switch ts = alone_at acts.Switch ts
+act_at entries words.Purge ts = named_at ts >>= λ n. Some (acts.Purge n)
+act_at entries words.Rest ts = alone_at acts.Rest ts
+act_at entries words.Unknown ts = None
 
 -- A system and what it does.
 unfoldable pub event_at : ℕ → List Token → Option (List ℕ × Act)
 event_at entries ts = do
   s ← short_at ts
   w ← any_word_at s.1
-  a ← act_at entries (verb w.0) w.1
+  a ← act_at entries (event_word w.0) w.1
   Some (s.0, a)

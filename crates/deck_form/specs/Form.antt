@@ -11,8 +11,8 @@ use Rattle.deck_form.specs.declared.form.Stmt.TheVariants as stmts
 use Rattle.deck_form.specs.declared.form.Key.{Key}
 use Rattle.deck_form.specs.declared.form.Key.TheVariants as keys
 use Rattle.deck_scan.specs.Next.{◌>>=◌, end_at}
-use Rattle.job_syntax.specs.declared.said.Verb.{Verb}
-use Rattle.job_syntax.specs.Said.{verb, said_at}
+use Rattle.job_syntax.specs.declared.line_ask.LineWord.{LineWord}
+use Rattle.job_syntax.specs.LineAsk.{line_word, line_ask_at}
 use Rattle.rnl_syntax.specs.Lines.{is_rnldef_word}
 use Rattle.rnl_syntax.specs.Operands.{rnldef_at}
 use Rattle.deck_form.specs.Words.{named_at}
@@ -20,7 +20,7 @@ use Rattle.deck_form.specs.Complex.{complex_at}
 use Rattle.deck_form.specs.Event.{event_at}
 use Rattle.deck_form.specs.UnbuiltWord.{is_unbuilt_word}
 
-abbrev pub line_key : Option Verb → Key
+abbrev pub line_key : Option LineWord → Key
 line_key None = keys.Unknown
 line_key (Some v) = keys.Line v
 
@@ -34,7 +34,7 @@ key w =
     else if bytes_eq w (codes "TASK") then keys.Task
     else if bytes_eq w (codes "SCHEDULE") then keys.Schedule
     else if is_unbuilt_word w then keys.Unbuilt
-    else line_key (verb w)
+    else line_key (line_word w)
 
 -- What stands behind the first word.
 unfoldable pub plain_form : Key → List Token → Option Stmt
@@ -43,7 +43,7 @@ plain_form keys.Rnldef ts = rnldef_at ts >>= λ d. Some (stmts.Rnldef d)
 plain_form keys.System ts = named_at ts >>= λ n. Some (stmts.System n)
 plain_form keys.Job ts = named_at ts >>= λ n. Some (stmts.Job n)
 plain_form keys.Task ts = named_at ts >>= λ n. Some (stmts.Task n)
-plain_form (keys.Line v) ts = said_at v ts >>= λ x. Some (stmts.Line x)
+plain_form (keys.Line v) ts = line_ask_at v ts >>= λ x. Some (stmts.Line x)
 plain_form keys.Schedule ts = end_at ts >>= λ end. Some stmts.Schedule
 plain_form keys.Unbuilt ts = Some stmts.Unbuilt
 plain_form keys.Unknown ts = None

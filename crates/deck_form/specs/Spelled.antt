@@ -15,8 +15,8 @@ use Rattle.deck_form.specs.declared.event.Act.TheVariants as acts
 use Rattle.deck_form.specs.declared.form.Stmt.{Stmt}
 use Rattle.deck_form.specs.declared.form.Stmt.TheVariants as stmts
 use Rattle.deck_scan.specs.Next.{Sets}
-use Rattle.job_syntax.specs.Said.{verb}
-use Rattle.job_syntax.specs.Spelled.{IsSaid}
+use Rattle.job_syntax.specs.LineAsk.{line_word}
+use Rattle.job_syntax.specs.Spelled.{IsLineAsk}
 use Rattle.rnl_syntax.specs.Lines.{is_rnldef_word}
 use Rattle.rnl_syntax.specs.Spelled.{IsRnldef}
 use Rattle.deck_form.specs.Words.{number_of}
@@ -69,7 +69,7 @@ IsFirst ts (stmts.Rnldef d) = (rest : List Token) × (ts ≡ Word (codes "RNLDEF
 IsFirst ts (stmts.System n) = (ts ≡ Word (codes "SYSTEM") ∷ Word n ∷ []) × IsName n
 IsFirst ts (stmts.Job n) = (ts ≡ Word (codes "JOB") ∷ Word n ∷ []) × IsName n
 IsFirst ts (stmts.Task n) = (ts ≡ Word (codes "TASK") ∷ Word n ∷ []) × IsName n
-IsFirst ts (stmts.Line s) = (h : IsSaid ts s) × (is_unbuilt_word h.word ≡ false)
+IsFirst ts (stmts.Line s) = (h : IsLineAsk ts s) × (is_unbuilt_word h.word ≡ false)
 IsFirst ts stmts.Schedule = ts ≡ Word (codes "SCHEDULE") ∷ []
 IsFirst ts (stmts.Event s a) = ⊥
 
@@ -113,7 +113,7 @@ is_statement_word w =
     || (bytes_eq w (codes "TASK")
     || (bytes_eq w (codes "SCHEDULE")
     || (is_unbuilt_word w
-    || is_some (verb w)))))))
+    || is_some (line_word w)))))))
 
 abbrev pub BeginsOtherwise : List Token → Type 0
 BeginsOtherwise (Word w ∷ ts) = is_statement_word w ≡ false

@@ -1,7 +1,7 @@
 //! Event lines: a system, what it does, and on what.
 ghost use Rattle.std.specs.Prelude.{◌≡◌};
 ghost use Rattle.deck_scan.specs.Next.{Reads};
-ghost use Rattle.deck_form.specs.Event.{verb, pair_at, alone_at, entry_at, act_at, event_at};
+ghost use Rattle.deck_form.specs.Event.{event_word, pair_at, alone_at, entry_at, act_at, event_at};
 
 use crate::words::{dotted_at, named_at, number_of, short_at};
 use deck_scan::{GivenName, Miss, Token, any_word_at, end_at};
@@ -39,7 +39,7 @@ pub enum Act<'t> {
 
 /// The words of events.
 #[derive(Clone, Copy)]
-pub enum Verb {
+pub enum EventWord {
     Task,
     Turn,
     Send,
@@ -53,32 +53,32 @@ pub enum Verb {
     Unknown,
 }
 
-#[tactic(auto, unfolding(crate::specs::Event::verb))]
-fn verb_of(w: &[u8]) -> Verb
-    ensures { result ≡ verb w.now }
+#[tactic(auto, unfolding(crate::specs::Event::event_word))]
+fn event_word_of(w: &[u8]) -> EventWord
+    ensures { result ≡ event_word w.now }
 {
     if w == b"TASK".as_slice() {
-        Verb::Task
+        EventWord::Task
     } else if w == b"TURN".as_slice() {
-        Verb::Turn
+        EventWord::Turn
     } else if w == b"SEND".as_slice() {
-        Verb::Send
+        EventWord::Send
     } else if w == b"TAKE".as_slice() {
-        Verb::Take
+        EventWord::Take
     } else if w == b"SETTLE".as_slice() {
-        Verb::Settle
+        EventWord::Settle
     } else if w == b"TELL".as_slice() {
-        Verb::Tell
+        EventWord::Tell
     } else if w == b"LEAVE".as_slice() {
-        Verb::Leave
+        EventWord::Leave
     } else if w == b"SWITCH".as_slice() {
-        Verb::Switch
+        EventWord::Switch
     } else if w == b"PURGE".as_slice() {
-        Verb::Purge
+        EventWord::Purge
     } else if w == b"REST".as_slice() {
-        Verb::Rest
+        EventWord::Rest
     } else {
-        Verb::Unknown
+        EventWord::Unknown
     }
 }
 
@@ -116,27 +116,27 @@ fn alone_at<'a>(act: Act<'a>, ts: &[Token<'_>]) -> Result<Act<'a>, Miss>
 
 /// What stands behind the word of an event.
 #[tactic(auto, unfolding(crate::specs::Event::act_at))]
-fn act_at<'a, 't>(entries: u32, verb: Verb, ts: &'a [Token<'t>]) -> Result<Act<'a>, Miss>
-    ensures { Reads (λ x. x) result (act_at entries verb ts.now) }
+fn act_at<'a, 't>(entries: u32, event_word: EventWord, ts: &'a [Token<'t>]) -> Result<Act<'a>, Miss>
+    ensures { Reads (λ x. x) result (act_at entries event_word ts.now) }
 {
-    match verb {
-        Verb::Task => {
+    match event_word {
+        EventWord::Task => {
             let (job, task) = pair_at(ts)?;
             Ok(Act::Task { job, task })
         }
-        Verb::Turn => alone_at(Act::Turn, ts),
-        Verb::Send => {
+        EventWord::Turn => alone_at(Act::Turn, ts),
+        EventWord::Send => {
             let (job, task) = pair_at(ts)?;
             Ok(Act::Send { job, task })
         }
-        Verb::Take => alone_at(Act::Take, ts),
-        Verb::Settle => alone_at(Act::Settle, ts),
-        Verb::Tell => Ok(Act::Tell(entry_at(entries, ts)?)),
-        Verb::Leave => Ok(Act::Leave(entry_at(entries, ts)?)),
-        Verb::Switch => alone_at(Act::Switch, ts),
-        Verb::Purge => Ok(Act::Purge(named_at(ts)?)),
-        Verb::Rest => alone_at(Act::Rest, ts),
-        Verb::Unknown => Err(Miss),
+        EventWord::Take => alone_at(Act::Take, ts),
+        EventWord::Settle => alone_at(Act::Settle, ts),
+        EventWord::Tell => Ok(Act::Tell(entry_at(entries, ts)?)),
+        EventWord::Leave => Ok(Act::Leave(entry_at(entries, ts)?)),
+        EventWord::Switch => alone_at(Act::Switch, ts),
+        EventWord::Purge => Ok(Act::Purge(named_at(ts)?)),
+        EventWord::Rest => alone_at(Act::Rest, ts),
+        EventWord::Unknown => Err(Miss),
     }
 }
 
@@ -147,6 +147,6 @@ pub fn event_at<'a, 't>(entries: u32, ts: &'a [Token<'t>]) -> Result<(GivenName<
 {
     let (system, ts) = short_at(ts)?;
     let (w, ts) = any_word_at(ts)?;
-    let act = act_at(entries, verb_of(w), ts)?;
+    let act = act_at(entries, event_word_of(w), ts)?;
     Ok((system, act))
 }

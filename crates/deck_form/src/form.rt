@@ -11,7 +11,7 @@ use crate::unbuilt::is_unbuilt_word;
 use crate::words::named_at;
 use deck_scan::{GivenName, Miss, Token, TokenLine, end_at};
 use grs_base::Kind;
-use job_syntax::{Said, Verb, said_at, verb_of};
+use job_syntax::{LineAsk, LineWord, line_ask_at, line_word_of};
 use rnl_syntax::{Rnldef, is_rnldef_word, rnldef_at};
 
 /// A statement, with names of any length.
@@ -31,7 +31,7 @@ pub enum Stmt<'t> {
     /// The name of a task.
     Task(GivenName<'t>),
     /// What a task is to ask or to wait for.
-    Line(Said<'t>),
+    Line(LineAsk<'t>),
     /// Every line behind it is an event.
     Schedule,
     /// What a system does next.
@@ -46,7 +46,7 @@ pub enum Key {
     System,
     Job,
     Task,
-    Line(Verb),
+    Line(LineWord),
     Schedule,
     Unbuilt,
     Unknown,
@@ -62,12 +62,12 @@ fn or_bad<'a>(read: Result<Stmt<'a>, Miss>) -> Result<Stmt<'a>, Kind>
     }
 }
 
-fn line_key(verb: Option<Verb>) -> Key
-    ensures { result ≡ line_key verb }
+fn line_key(line_word: Option<LineWord>) -> Key
+    ensures { result ≡ line_key line_word }
 {
-    match verb {
+    match line_word {
         None => Key::Unknown,
-        Some(verb) => Key::Line(verb),
+        Some(line_word) => Key::Line(line_word),
     }
 }
 
@@ -90,7 +90,7 @@ fn key_of(w: &[u8]) -> Key
     } else if is_unbuilt_word(w) {
         Key::Unbuilt
     } else {
-        line_key(verb_of(w))
+        line_key(line_word_of(w))
     }
 }
 
@@ -105,7 +105,7 @@ fn plain_form<'a, 't>(key: Key, ts: &'a [Token<'t>]) -> Result<Stmt<'a>, Miss>
         Key::System => Ok(Stmt::System(named_at(ts)?)),
         Key::Job => Ok(Stmt::Job(named_at(ts)?)),
         Key::Task => Ok(Stmt::Task(named_at(ts)?)),
-        Key::Line(verb) => Ok(Stmt::Line(said_at(verb, ts)?)),
+        Key::Line(line_word) => Ok(Stmt::Line(line_ask_at(line_word, ts)?)),
         Key::Schedule => {
             end_at(ts)?;
             Ok(Stmt::Schedule)

@@ -27,10 +27,10 @@ use Rattle.deck_scan.specs.declared.token.Token.{Token}
 use Rattle.deck_scan.specs.declared.token.TokenLine.{TokenLine}
 use Rattle.deck_scan.specs.declared.token.Token.TheVariants.{Word}
 use Rattle.job_syntax.specs.declared.ask.Ask.{Ask}
-use Rattle.job_syntax.specs.declared.said.Said.{Said}
-use Rattle.job_syntax.specs.declared.said.Said.TheVariants as said
+use Rattle.job_syntax.specs.declared.line_ask.LineAsk.{LineAsk}
+use Rattle.job_syntax.specs.declared.line_ask.LineAsk.TheVariants as asks
 use Rattle.job_syntax.specs.Lines.{are_bad_names, has_bad_name as line_has_bad_name, line_of}
-use Rattle.job_syntax.specs.Spelled.{IsAsk, IsSaid}
+use Rattle.job_syntax.specs.Spelled.{IsAsk, IsLineAsk}
 use Rattle.rnl_syntax.specs.declared.operands.Rnldef.{Rnldef}
 use Rattle.rnl_syntax.specs.Operands.{entry_of, has_bad_name as rnldef_has_bad_name}
 use Rattle.rnl_syntax.specs.Spelled.{IsRnldef}
@@ -186,21 +186,21 @@ named q r good bytes =
 asked : (front ts : List Token) (a : Ask) → IsAsk front ts a → list_all says_bytes ts ≡ true → are_bad_names a.q a.r ≡ false → AreNames (trim_blanks a.q) a.r
 asked front ts a h all good = named a.q a.r good (ask_bytes front ts a h all)
 
-said_built : (ts : List Token) (s : Said) (h : IsSaid ts s) → is_unbuilt_word h.word ≡ false → list_all says_bytes h.behind ≡ true → line_has_bad_name s ≡ false → IsBuiltLine (line_of s)
+line_ask_built : (ts : List Token) (s : LineAsk) (h : IsLineAsk ts s) → is_unbuilt_word h.word ≡ false → list_all says_bytes h.behind ≡ true → line_has_bad_name s ≡ false → IsBuiltLine (line_of s)
 unfolding is_unbuilt_word
-said_built ts (said.Enq e) h known all good = ((_, refl, asked _ h.behind e.ask h.is_behind.0 all good), refl)
-said_built ts (said.Reserve e) h known all good = ((asked _ h.behind e.ask h.is_behind.0 all good, unit_or e.ask.opts.unit (ask_unit _ h.behind e.ask h.is_behind.0)), refl)
-said_built ts (said.Deq a) h known all good = ((asked _ h.behind a h.is_behind.0 all good, ask_unit _ h.behind a h.is_behind.0), refl)
-said_built ts (said.Wait a) h known all good = (asked _ h.behind a h.is_behind.0 all good, refl)
-said_built ts (said.Gqscan x) h known all good = absurd (let k : true ≡ false = subst (λ (w : List ℕ). is_unbuilt_word w ≡ false) h.is_word known in cc)
-said_built ts (said.Display x) h known all good = absurd (other h.is_word)
+line_ask_built ts (asks.Enq e) h known all good = ((_, refl, asked _ h.behind e.ask h.is_behind.0 all good), refl)
+line_ask_built ts (asks.Reserve e) h known all good = ((asked _ h.behind e.ask h.is_behind.0 all good, unit_or e.ask.opts.unit (ask_unit _ h.behind e.ask h.is_behind.0)), refl)
+line_ask_built ts (asks.Deq a) h known all good = ((asked _ h.behind a h.is_behind.0 all good, ask_unit _ h.behind a h.is_behind.0), refl)
+line_ask_built ts (asks.Wait a) h known all good = (asked _ h.behind a h.is_behind.0 all good, refl)
+line_ask_built ts (asks.Gqscan x) h known all good = absurd (let k : true ≡ false = subst (λ (w : List ℕ). is_unbuilt_word w ≡ false) h.is_word known in cc)
+line_ask_built ts (asks.Display x) h known all good = absurd (other h.is_word)
   where
     other : (h.word ≡ codes "DISPLAY") ⊎ (h.word ≡ codes "D") → ⊥
     other (inl is) = let k : true ≡ false = subst (λ (w : List ℕ). is_unbuilt_word w ≡ false) is known in cc
     other (inr is) = let k : true ≡ false = subst (λ (w : List ℕ). is_unbuilt_word w ≡ false) is known in cc
 
-line_built : (ts : List Token) (s : Said) → list_all says_bytes ts ≡ true → IsFirst ts (stmts.Line s) → line_has_bad_name s ≡ false → IsBuiltLine (line_of s)
-line_built ts s all h good = said_built ts s h.0 h.1 (behind_bytes h.0.word ts h.0.behind h.0.parts all) good
+line_built : (ts : List Token) (s : LineAsk) → list_all says_bytes ts ≡ true → IsFirst ts (stmts.Line s) → line_has_bad_name s ≡ false → IsBuiltLine (line_of s)
+line_built ts s all h good = line_ask_built ts s h.0 h.1 (behind_bytes h.0.word ts h.0.behind h.0.parts all) good
 
 -- ---- a deck so far
 

@@ -15,8 +15,8 @@ use Rattle.deck_scan.specs.Lengths.{is_bad_qname, is_bad_rname}
 use Rattle.deck_scan.specs.Reading.{lines_or_fault}
 use Rattle.deck_scan.proofs.Texts.{bind_ok, read_text, text_read}
 use Rattle.job_syntax.specs.declared.display.Shown.TheVariants as shown
-use Rattle.job_syntax.specs.declared.said.Said.{Said}
-use Rattle.job_syntax.specs.declared.said.Said.TheVariants as said
+use Rattle.job_syntax.specs.declared.line_ask.LineAsk.{LineAsk}
+use Rattle.job_syntax.specs.declared.line_ask.LineAsk.TheVariants as asks
 use Rattle.job_syntax.specs.Lines.{are_bad_names, has_bad_name as line_has_bad_name}
 use Rattle.deck_form.specs.declared.event.Act.{Act}
 use Rattle.deck_form.specs.declared.event.Act.TheVariants as acts
@@ -107,14 +107,14 @@ both_names q r h =
     let k = or_parts (not (is_qname q)) (not (is_rname r)) h in
     (passed (is_qname q) k.0, passed (is_rname r) k.1)
 
-names_by : (s : Said) → line_has_bad_name s ≡ false → HasNames s
-names_by (said.Enq e) h = both_names e.ask.q e.ask.r h
-names_by (said.Reserve e) h = both_names e.ask.q e.ask.r h
-names_by (said.Deq a) h = both_names a.q a.r h
-names_by (said.Wait a) h = both_names a.q a.r h
-names_by (said.Gqscan s) h = or_parts (is_bad_qname s.names.q) (is_bad_rname s.names.r) h
-names_by (said.Display shown.Contended) h = tt
-names_by (said.Display (shown.Resource q r)) h = both_names q r h
+names_by : (s : LineAsk) → line_has_bad_name s ≡ false → HasNames s
+names_by (asks.Enq e) h = both_names e.ask.q e.ask.r h
+names_by (asks.Reserve e) h = both_names e.ask.q e.ask.r h
+names_by (asks.Deq a) h = both_names a.q a.r h
+names_by (asks.Wait a) h = both_names a.q a.r h
+names_by (asks.Gqscan s) h = or_parts (is_bad_qname s.names.q) (is_bad_rname s.names.r) h
+names_by (asks.Display shown.Contended) h = tt
+names_by (asks.Display (shown.Resource q r)) h = both_names q r h
 
 none_yet : {A : Type 0} (xs : List A) → length xs ≡ 0 → xs ≡ []
 none_yet [] h = refl
@@ -164,14 +164,14 @@ right_of d st h =
 names_fail : (q r : List ℕ) → MakeNames q r → are_bad_names q r ≡ false
 names_fail q r h = rw (h.0, h.1) refl
 
-no_bad : (s : Said) → HasNames s → line_has_bad_name s ≡ false
-no_bad (said.Enq e) h = names_fail e.ask.q e.ask.r h
-no_bad (said.Reserve e) h = names_fail e.ask.q e.ask.r h
-no_bad (said.Deq a) h = names_fail a.q a.r h
-no_bad (said.Wait a) h = names_fail a.q a.r h
-no_bad (said.Gqscan s) h = both_false (is_bad_qname s.names.q) (is_bad_rname s.names.r) h.0 h.1
-no_bad (said.Display shown.Contended) h = refl
-no_bad (said.Display (shown.Resource q r)) h = names_fail q r h
+no_bad : (s : LineAsk) → HasNames s → line_has_bad_name s ≡ false
+no_bad (asks.Enq e) h = names_fail e.ask.q e.ask.r h
+no_bad (asks.Reserve e) h = names_fail e.ask.q e.ask.r h
+no_bad (asks.Deq a) h = names_fail a.q a.r h
+no_bad (asks.Wait a) h = names_fail a.q a.r h
+no_bad (asks.Gqscan s) h = both_false (is_bad_qname s.names.q) (is_bad_rname s.names.r) h.0 h.1
+no_bad (asks.Display shown.Contended) h = refl
+no_bad (asks.Display (shown.Resource q r)) h = names_fail q r h
 
 pub of_sized : (st : Stmt) → IsSized st → has_bad_name st ≡ false
 of_sized (stmts.Rnldef r) h = rw h.0 h.1

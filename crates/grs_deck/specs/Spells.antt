@@ -10,8 +10,8 @@ use Rattle.deck_scan.specs.Pieces.{SpellsLines}
 use Rattle.deck_scan.specs.Reading.{most_text_bytes}
 use Rattle.job_syntax.specs.declared.display.Shown.{Shown}
 use Rattle.job_syntax.specs.declared.display.Shown.TheVariants as shown
-use Rattle.job_syntax.specs.declared.said.Said.{Said}
-use Rattle.job_syntax.specs.declared.said.Said.TheVariants as said
+use Rattle.job_syntax.specs.declared.line_ask.LineAsk.{LineAsk}
+use Rattle.job_syntax.specs.declared.line_ask.LineAsk.TheVariants as asks
 use Rattle.deck_form.specs.declared.event.Act.{Act}
 use Rattle.deck_form.specs.declared.event.Act.TheVariants as acts
 use Rattle.deck_form.specs.declared.form.Stmt.{Stmt}
@@ -49,13 +49,13 @@ HasShownNames shown.Contended = Unit {0}
 HasShownNames (shown.Resource q r) = MakeNames q r
 
 -- The names of a task line are right.
-abbrev pub HasNames : Said → Type 0
-HasNames (said.Enq e) = MakeNames e.ask.q e.ask.r
-HasNames (said.Reserve e) = MakeNames e.ask.q e.ask.r
-HasNames (said.Deq a) = MakeNames a.q a.r
-HasNames (said.Wait a) = MakeNames a.q a.r
-HasNames (said.Gqscan s) = MakeGivenNames s.names.q s.names.r
-HasNames (said.Display s) = HasShownNames s
+abbrev pub HasNames : LineAsk → Type 0
+HasNames (asks.Enq e) = MakeNames e.ask.q e.ask.r
+HasNames (asks.Reserve e) = MakeNames e.ask.q e.ask.r
+HasNames (asks.Deq a) = MakeNames a.q a.r
+HasNames (asks.Wait a) = MakeNames a.q a.r
+HasNames (asks.Gqscan s) = MakeGivenNames s.names.q s.names.r
+HasNames (asks.Display s) = HasShownNames s
 
 -- ---- what a statement must be behind those that made this deck: one fact for each kind of fault
 

@@ -173,8 +173,8 @@ pub fn grow_deck(
             let name = kept_name(alloc, name)?;
             push_system_task(&mut deck.systems, alloc, name)
         }
-        Stmt::Line(said) => {
-            let line = line_of(alloc, said)?;
+        Stmt::Line(line_ask) => {
+            let line = line_of(alloc, line_ask)?;
             push_system_line(&mut deck.systems, line)
         }
         Stmt::Schedule => Ok(()),

@@ -48,7 +48,7 @@ fn has_bad_name(st: &Stmt<'_>) -> bool
         Stmt::Job(n) => is_too_long(n.bytes()),
         Stmt::Task(n) => is_too_long(n.bytes()),
         Stmt::Rnldef(rnldef) => rnl_syntax::has_bad_name(rnldef),
-        Stmt::Line(said) => job_syntax::has_bad_name(said),
+        Stmt::Line(line_ask) => job_syntax::has_bad_name(line_ask),
         Stmt::Event { system, act } => is_too_long(system.bytes()) || has_long_name(act),
         _ => false,
     }

@@ -18,16 +18,16 @@ use Rattle.job_syntax.specs.declared.display.Wanted.{Wanted}
 use Rattle.job_syntax.specs.declared.display.ScanAsk.{ScanAsk}
 use Rattle.job_syntax.specs.declared.display.Shown.{Shown}
 use Rattle.job_syntax.specs.declared.display.Shown.TheVariants as shown
-use Rattle.job_syntax.specs.declared.said.Said.{Said}
-use Rattle.job_syntax.specs.declared.said.Said.TheVariants as said
-use Rattle.job_syntax.specs.declared.said.Verb.{Verb}
-use Rattle.job_syntax.specs.declared.said.Verb.TheVariants as verbs
+use Rattle.job_syntax.specs.declared.line_ask.LineAsk.{LineAsk}
+use Rattle.job_syntax.specs.declared.line_ask.LineAsk.TheVariants as asks
+use Rattle.job_syntax.specs.declared.line_ask.LineWord.{LineWord}
+use Rattle.job_syntax.specs.declared.line_ask.LineWord.TheVariants as words
 use Rattle.job_syntax.specs.Options.{no_opts, ret_of, rnl_of, chosen, option_at, options_at}
 use Rattle.job_syntax.specs.Ask.{ctl_at, scope_at, names_at, place_at, controlled_at, uncontrolled_at, enq_at, reserve_at, deq_at, wait_at}
 use Rattle.job_syntax.specs.Display.{no_names, reach_of, want_of, want_at, scan_at, resource_at, shown_at, display_at}
-use Rattle.job_syntax.specs.Said.{verb, said_at}
+use Rattle.job_syntax.specs.LineAsk.{line_word, line_ask_at}
 use Rattle.grs_base.specs.Printed.{ctl_word}
-use Rattle.job_syntax.specs.Spelled.{scope_word, reach_word, Opt, WithRet, WithRnl, WithUcb, option, IsFree, set, IsAsk, Want, WithQname, WithRname, want, IsFreeWant, set_want, IsScan, IsShown, IsBehind, verb_for, IsWord}
+use Rattle.job_syntax.specs.Spelled.{scope_word, reach_word, Opt, WithRet, WithRnl, WithUcb, option, IsFree, set, IsAsk, Want, WithQname, WithRname, want, IsFreeWant, set_want, IsScan, IsShown, IsBehind, line_word_for, IsWord}
 
 names_again : (q r : Token) (qname rname : List ℕ) (rest : List Token) → Names q qname → Names r rname → names_at (Open ∷ q ∷ Comma ∷ r ∷ Comma ∷ rest) ≡ Some (qname, rname, rest)
 unfolding names_at
@@ -139,21 +139,21 @@ display_again ts (shown.Resource q r) h = rw (h.spelled, name_again h.q q (Comma
 
 -- ---- task lines
 
-pub said_again : (ts : List Token) (s : Said) → IsBehind ts s → said_at (verb_for s) ts ≡ Some s
-unfolding said_at enq_at reserve_at deq_at wait_at
-said_again ts (said.Enq e) h = rw (controlled_again ts e h.0, h.1) refl
-said_again ts (said.Reserve e) h = rw (controlled_again ts e h.0, h.1) refl
-said_again ts (said.Deq a) h = rw (uncontrolled_again ts a h.0, h.1) refl
-said_again ts (said.Wait a) h = rw (uncontrolled_again ts a h.0, h.1) refl
-said_again ts (said.Gqscan s) h = rw (scan_again ts s h) refl
-said_again ts (said.Display s) h = rw (display_again ts s h) refl
+pub line_ask_again : (ts : List Token) (s : LineAsk) → IsBehind ts s → line_ask_at (line_word_for s) ts ≡ Some s
+unfolding line_ask_at enq_at reserve_at deq_at wait_at
+line_ask_again ts (asks.Enq e) h = rw (controlled_again ts e h.0, h.1) refl
+line_ask_again ts (asks.Reserve e) h = rw (controlled_again ts e h.0, h.1) refl
+line_ask_again ts (asks.Deq a) h = rw (uncontrolled_again ts a h.0, h.1) refl
+line_ask_again ts (asks.Wait a) h = rw (uncontrolled_again ts a h.0, h.1) refl
+line_ask_again ts (asks.Gqscan s) h = rw (scan_again ts s h) refl
+line_ask_again ts (asks.Display s) h = rw (display_again ts s h) refl
 
-pub verb_again : (v : Verb) (w : List ℕ) → IsWord v w → verb w ≡ Some v
-unfolding verb
-verb_again verbs.Enq w h = rw h refl
-verb_again verbs.Reserve w h = rw h refl
-verb_again verbs.Deq w h = rw h refl
-verb_again verbs.Wait w h = rw h refl
-verb_again verbs.Gqscan w h = rw h refl
-verb_again verbs.Display w (inl h) = rw h refl
-verb_again verbs.Display w (inr h) = rw h refl
+pub line_word_again : (v : LineWord) (w : List ℕ) → IsWord v w → line_word w ≡ Some v
+unfolding line_word
+line_word_again words.Enq w h = rw h refl
+line_word_again words.Reserve w h = rw h refl
+line_word_again words.Deq w h = rw h refl
+line_word_again words.Wait w h = rw h refl
+line_word_again words.Gqscan w h = rw h refl
+line_word_again words.Display w (inl h) = rw h refl
+line_word_again words.Display w (inr h) = rw h refl

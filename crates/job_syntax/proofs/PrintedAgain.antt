@@ -31,12 +31,12 @@ use Rattle.deck_scan.proofs.Print.{name_names}
 use Rattle.deck_scan.proofs.Bits.{Bit, Of, Called, Mark, text_of, tokens_of, is_bit, starts_apart, are_bits, line_of_bits, bits_line, size}
 use Rattle.job_syntax.specs.declared.options.Opts.{Opts}
 use Rattle.job_syntax.specs.declared.display.Shown.TheVariants as shown
-use Rattle.job_syntax.specs.declared.said.Said.{Said}
-use Rattle.job_syntax.specs.declared.said.Said.TheVariants as said
+use Rattle.job_syntax.specs.declared.line_ask.LineAsk.{LineAsk}
+use Rattle.job_syntax.specs.declared.line_ask.LineAsk.TheVariants as asks
 use Rattle.job_syntax.specs.Unit.{hex_of, unit_of}
 use Rattle.job_syntax.specs.Options.{no_opts}
 use Rattle.job_syntax.specs.Ask.{is_deq_ret}
-use Rattle.job_syntax.specs.Spelled.{scope_word, reach_word, Opt, WithRet, WithRnl, WithUcb, option, IsFree, set, IsAsk, Want, WithQname, WithRname, IsScan, IsResource, IsBehind, verb_for, IsWord}
+use Rattle.job_syntax.specs.Spelled.{scope_word, reach_word, Opt, WithRet, WithRnl, WithUcb, option, IsFree, set, IsAsk, Want, WithQname, WithRname, IsScan, IsResource, IsBehind, line_word_for, IsWord}
 use Rattle.job_syntax.specs.Lines.{are_bad_names, has_bad_name, ret_or_none, rnl_or_yes, is_have, filter_of, line_of}
 use Rattle.job_syntax.specs.Printed.{printed_ret, printed_have, printed_rnl, maybe_unit, printed_line}
 use Rattle.job_syntax.specs.Reading.{SpellsLine}
@@ -296,12 +296,12 @@ names_are q r h = record {
 -- ---- lines
 
 -- A line that is spelled by a word and bits.
-spells_so : (l : Line) (word : List ℕ) (bs : List Bit) (s : Said) → is_piece (Plain word) ≡ true → are_bits bs ≡ true → length word + size bs ≤ 2000 → word ++ 32 ∷ text_of bs ≡ printed_line l → IsWord (verb_for s) word → IsBehind (tokens_of bs) s → has_bad_name s ≡ false → line_of s ≡ l → SpellsLine (printed_line l) l
+spells_so : (l : Line) (word : List ℕ) (bs : List Bit) (s : LineAsk) → is_piece (Plain word) ≡ true → are_bits bs ≡ true → length word + size bs ≤ 2000 → word ++ 32 ∷ text_of bs ≡ printed_line l → IsWord (line_word_for s) word → IsBehind (tokens_of bs) s → has_bad_name s ≡ false → line_of s ≡ l → SpellsLine (printed_line l) l
 spells_so l word bs s is are few text of behind names makes = record {
   tokens = line_of_bits word bs;
   spelled = subst (λ (t : List ℕ). SpellsLines (readable t) (line_of_bits word bs ∷ [])) text (any_text (word ++ 32 ∷ text_of bs) (line_of_bits word bs ∷ []) (bits_line word bs is are));
   apart = refl;
-  said = s;
+  line_ask = s;
   says = record { word = word; behind = tokens_of bs; parts = refl; is_word = of; is_behind = behind };
   names = names;
   makes = makes;
@@ -369,9 +369,9 @@ ask_of q r c s o rest given tokens options = record { q = name_token q; r = name
 place_of : (q r : List ℕ) (s : Scope) (o : Opts) (rest : List Bit) (given : List Opt) → tokens_of rest ≡ flat_map option given → Sets IsFree set no_opts given o → IsAsk [] (tokens_of (placed q r s rest)) (record { q = q; r = r; scope = s; opts = o })
 place_of q r s o rest given tokens options = record { q = name_token q; r = name_token r; given = given; spelled = rw tokens refl; named_q = name_names q; named_r = name_names r; options = options }
 
-verb_words : (is_piece (Plain (codes "ENQ")) ≡ true) × (is_piece (Plain (codes "RESERVE")) ≡ true) × (is_piece (Plain (codes "DEQ")) ≡ true) × (is_piece (Plain (codes "WAIT")) ≡ true) × (is_piece (Plain (codes "GQSCAN")) ≡ true) × (is_piece (Plain (codes "DISPLAY")) ≡ true)
+line_word_words : (is_piece (Plain (codes "ENQ")) ≡ true) × (is_piece (Plain (codes "RESERVE")) ≡ true) × (is_piece (Plain (codes "DEQ")) ≡ true) × (is_piece (Plain (codes "WAIT")) ≡ true) × (is_piece (Plain (codes "GQSCAN")) ≡ true) × (is_piece (Plain (codes "DISPLAY")) ≡ true)
 unfolding is_word
-verb_words = (refl, refl, refl, refl, refl, refl)
+line_word_words = (refl, refl, refl, refl, refl, refl)
 
 -- ---- ENQ
 
@@ -381,8 +381,8 @@ enq_rest ret rnl = ret_bits ret (rnl_bits rnl)
 enq_options : (ret : Ret) (rnl : Bool) → AreOptions (enq_rest ret rnl) 100
 enq_options ret rnl = more_room (enq_rest ret rnl) 16 100 (omega arith) (ret_are ret (rnl_bits rnl) 7 (rnl_are rnl))
 
-abbrev enq_said : Item → Ret → Bool → Said
-enq_said i ret rnl = said.Enq (record { ctl = i.ctl; ask = record { q = i.q; r = i.r; scope = i.scope; opts = record { ret = ret_option ret; rnl = rnl_option rnl; unit = None } } })
+abbrev enq_line_ask : Item → Ret → Bool → LineAsk
+enq_line_ask i ret rnl = asks.Enq (record { ctl = i.ctl; ask = record { q = i.q; r = i.r; scope = i.scope; opts = record { ret = ret_option ret; rnl = rnl_option rnl; unit = None } } })
 
 enq_text : (i : Item) (ret : Ret) (rnl : Bool) → codes "ENQ" ++ 32 ∷ text_of (controlled i.q i.r i.ctl i.scope (enq_rest ret rnl)) ≡ printed_line (lines.Enq (i ∷ []) ret rnl)
 enq_text i ret rnl = rw (ret_text ret (rnl_bits rnl), rnl_text rnl) (simp (append_assoc, append-nil))
@@ -393,7 +393,7 @@ enq_again i ret rnl h =
     let rest = enq_rest ret rnl in
     let bits = controlled_are i.q i.r i.ctl i.scope rest n (enq_options ret rnl) in
     let ask = ask_of i.q i.r i.ctl i.scope (record { ret = ret_option ret; rnl = rnl_option rnl; unit = None }) rest (ret_given ret (rnl_given rnl)) (ret_tokens ret (rnl_bits rnl) (rnl_given rnl) (rnl_tokens rnl)) (enq_set ret rnl) in
-    spells_so (lines.Enq (i ∷ []) ret rnl) (codes "ENQ") (controlled i.q i.r i.ctl i.scope rest) (enq_said i ret rnl) verb_words.0 bits.are (omega (arith, bits.few)) (enq_text i ret rnl) refl (ask, refl) n.good
+    spells_so (lines.Enq (i ∷ []) ret rnl) (codes "ENQ") (controlled i.q i.r i.ctl i.scope rest) (enq_line_ask i ret rnl) line_word_words.0 bits.are (omega (arith, bits.few)) (enq_text i ret rnl) refl (ask, refl) n.good
     (rw (h.qname.trimmed, ret_back ret, rnl_back rnl) refl)
 
 -- ---- RESERVE
@@ -412,7 +412,7 @@ reserve_again q r ctl unit ret rnl h lt =
     let opts : Opts = record { ret = ret_option ret; rnl = rnl_option rnl; unit = Some unit } in
     let tokens : tokens_of rest ≡ flat_map option (WithUcb (unit_digits unit) unit ∷ ret_given ret (rnl_given rnl)) = rw (ret_tokens ret (rnl_bits rnl) (rnl_given rnl) (rnl_tokens rnl)) refl in
     let ask = ask_of q r ctl scopes.Systems opts rest (WithUcb (unit_digits unit) unit ∷ ret_given ret (rnl_given rnl)) tokens (reserve_set ret rnl unit lt) in
-    spells_so (lines.Reserve q r ctl unit ret rnl) (codes "RESERVE") (controlled q r ctl scopes.Systems rest) (said.Reserve (record { ctl = ctl; ask = record { q = q; r = r; scope = scopes.Systems; opts = opts } })) verb_words.1 bits.are (omega (arith, bits.few)) (reserve_text q r ctl unit ret rnl) refl (ask, refl) n.good
+    spells_so (lines.Reserve q r ctl unit ret rnl) (codes "RESERVE") (controlled q r ctl scopes.Systems rest) (asks.Reserve (record { ctl = ctl; ask = record { q = q; r = r; scope = scopes.Systems; opts = opts } })) line_word_words.1 bits.are (omega (arith, bits.few)) (reserve_text q r ctl unit ret rnl) refl (ask, refl) n.good
     (rw (h.qname.trimmed, ret_back ret, rnl_back rnl) refl)
 
 -- ---- DEQ and WAIT
@@ -438,7 +438,7 @@ deq_again q r s have unit rnl h lt =
     let opts : Opts = record { ret = have_option have; rnl = rnl_option rnl; unit = unit } in
     let tokens = maybe_tokens unit (have_bits have (rnl_bits rnl)) (have_given have (rnl_given rnl)) (have_tokens have (rnl_bits rnl) (rnl_given rnl) (rnl_tokens rnl)) in
     let ask = place_of q r s opts rest (maybe_given unit (have_given have (rnl_given rnl))) tokens (deq_set unit have rnl lt) in
-    spells_so (lines.Deq q r s have unit rnl) (codes "DEQ") (placed q r s rest) (said.Deq (record { q = q; r = r; scope = s; opts = opts })) verb_words.2 bits.are (omega (arith, bits.few)) (deq_text q r s have unit rnl) refl (ask, deq_good have) n.good
+    spells_so (lines.Deq q r s have unit rnl) (codes "DEQ") (placed q r s rest) (asks.Deq (record { q = q; r = r; scope = s; opts = opts })) line_word_words.2 bits.are (omega (arith, bits.few)) (deq_text q r s have unit rnl) refl (ask, deq_good have) n.good
     (rw (h.qname.trimmed, have_back have, rnl_back rnl) refl)
 
 wait_text : (q r : List ℕ) (s : Scope) (rnl : Bool) → codes "WAIT" ++ 32 ∷ text_of (placed q r s (rnl_bits rnl)) ≡ printed_line (lines.Wait q r s rnl)
@@ -450,7 +450,7 @@ wait_again q r s rnl h =
     let bits = placed_are q r s (rnl_bits rnl) n (more_room (rnl_bits rnl) 7 100 (omega arith) (rnl_are rnl)) in
     let opts : Opts = record { ret = None; rnl = rnl_option rnl; unit = None } in
     let ask = place_of q r s opts (rnl_bits rnl) (rnl_given rnl) (rnl_tokens rnl) (wait_set rnl) in
-    spells_so (lines.Wait q r s rnl) (codes "WAIT") (placed q r s (rnl_bits rnl)) (said.Wait (record { q = q; r = r; scope = s; opts = opts })) verb_words.3 bits.are (omega (arith, bits.few)) (wait_text q r s rnl) refl (ask, refl) n.good
+    spells_so (lines.Wait q r s rnl) (codes "WAIT") (placed q r s (rnl_bits rnl)) (asks.Wait (record { q = q; r = r; scope = s; opts = opts })) line_word_words.3 bits.are (omega (arith, bits.few)) (wait_text q r s rnl) refl (ask, refl) n.good
     (rw (h.qname.trimmed, rnl_back rnl) refl)
 
 -- ---- GQSCAN and DISPLAY
@@ -525,14 +525,14 @@ named_back (Some q) r h some = rw h.0.trimmed refl
 scan_again : (global : Bool) (filter : Filter) → IsFilter filter → SpellsLine (printed_line (lines.Gqscan global filter)) (lines.Gqscan global filter)
 scan_again global filters.All h =
     let bits = scan_are global None None tt tt in
-    spells_so (lines.Gqscan global filters.All) (codes "GQSCAN") (scan_bits global None None) (said.Gqscan (record { global = global; names = record { q = None; r = None } })) verb_words.4 bits.are (omega (arith, bits.few)) (all_text global) refl (scan_says global None None) refl refl
+    spells_so (lines.Gqscan global filters.All) (codes "GQSCAN") (scan_bits global None None) (asks.Gqscan (record { global = global; names = record { q = None; r = None } })) line_word_words.4 bits.are (omega (arith, bits.few)) (all_text global) refl (scan_says global None None) refl refl
 scan_again global filters.Contended h = absurd h
 scan_again global (filters.Named q r) h =
     let bits = scan_are global q r h.0 h.1 in
-    spells_so (lines.Gqscan global (filters.Named q r)) (codes "GQSCAN") (scan_bits global q r) (said.Gqscan (record { global = global; names = record { q = q; r = r } })) verb_words.4 bits.are (omega (arith, bits.few)) (named_text global q r) refl (scan_says global q r) (scan_good q r h.0 h.1) (ap (lines.Gqscan global) (named_back q r h.0 h.2))
+    spells_so (lines.Gqscan global (filters.Named q r)) (codes "GQSCAN") (scan_bits global q r) (asks.Gqscan (record { global = global; names = record { q = q; r = r } })) line_word_words.4 bits.are (omega (arith, bits.few)) (named_text global q r) refl (scan_says global q r) (scan_good q r h.0 h.1) (ap (lines.Gqscan global) (named_back q r h.0 h.2))
 
 contended_again : SpellsLine (printed_line lines.DisplayC) lines.DisplayC
-contended_again = spells_so lines.DisplayC (codes "DISPLAY") (Of (codes "GRS") ∷ Mark Comma ∷ Of (codes "C") ∷ []) (said.Display shown.Contended) verb_words.5 (rw (scan_words.3, scan_words.4) refl) (omega arith) refl (inl refl) refl refl refl
+contended_again = spells_so lines.DisplayC (codes "DISPLAY") (Of (codes "GRS") ∷ Mark Comma ∷ Of (codes "C") ∷ []) (asks.Display shown.Contended) line_word_words.5 (rw (scan_words.3, scan_words.4) refl) (omega arith) refl (inl refl) refl refl refl
 
 abbrev resource_bits : List ℕ → List ℕ → List Bit
 resource_bits q r = Of (codes "GRS") ∷ Mark Comma ∷ Of (codes "RES") ∷ Mark Equals ∷ Mark Open ∷ Called q ∷ Mark Comma ∷ Called r ∷ Mark Close ∷ []
@@ -544,7 +544,7 @@ resource_again : (q r : List ℕ) → AreNames q r → SpellsLine (printed_line 
 resource_again q r h =
     let n = names_are q r h in
     let says : IsResource (tokens_of (resource_bits q r)) q r = record { q = name_token q; r = name_token r; spelled = refl; named_q = name_names q; named_r = name_names r } in
-    spells_so (lines.DisplayRes q r) (codes "DISPLAY") (resource_bits q r) (said.Display (shown.Resource q r)) verb_words.5 (rw (scan_words.3, scan_words.5, n.q_bit, n.r_bit) refl) (omega (arith, n.q_few, n.r_few)) (resource_text q r) (inl refl) says n.good
+    spells_so (lines.DisplayRes q r) (codes "DISPLAY") (resource_bits q r) (asks.Display (shown.Resource q r)) line_word_words.5 (rw (scan_words.3, scan_words.5, n.q_bit, n.r_bit) refl) (omega (arith, n.q_few, n.r_few)) (resource_text q r) (inl refl) says n.good
     (ap (λ (x : List ℕ). lines.DisplayRes x r) h.qname.trimmed)
 
 -- What is printed of a line is read as that line.

@@ -12,9 +12,9 @@ use Rattle.job_syntax.specs.Unit.{unit_of}
 use Rattle.job_syntax.specs.Options.{ret_of, rnl_of, chosen, option_at, options_at}
 use Rattle.job_syntax.specs.Ask.{ctl_at, scope_at, names_at, place_at, controlled_at, uncontrolled_at, enq_at, reserve_at, deq_at, wait_at}
 use Rattle.job_syntax.specs.Display.{reach_of, want_of, want_at, scan_at, resource_at, shown_at, display_at}
-use Rattle.job_syntax.specs.Said.{verb, said_at}
+use Rattle.job_syntax.specs.LineAsk.{line_word, line_ask_at}
 use Rattle.job_syntax.specs.Printed.{printed_line}
-use Rattle.job_syntax.specs.Reading.{said_on, one_line}
+use Rattle.job_syntax.specs.Reading.{line_ask_on, one_line}
 
 -- what is read of a text
 abbrev reading : List ℕ → Result Line DeckFault
@@ -43,7 +43,7 @@ printed_lines :
     × Prints (codes "D GRS,RES=(A,'b c')") (codes "DISPLAY GRS,RES=(A,'b c')")
     × Prints (codes "GQSCAN SCOPE=GLOBAL,RNAME=B,QNAME=A") (codes "GQSCAN SCOPE=GLOBAL,QNAME=A,RNAME=B")
     × Prints (codes "GQSCAN SCOPE=LOCAL") (codes "GQSCAN SCOPE=LOCAL")
-unfolding is_word is_hex digit is_allowed bad_line put put_word put_open end_line break_off begin_word begin step_in step scan_from finish_in lines_of readable unit_of ret_of rnl_of chosen option_at options_at ctl_at scope_at names_at place_at controlled_at uncontrolled_at enq_at reserve_at deq_at wait_at reach_of want_of want_at scan_at resource_at shown_at display_at verb said_at said_on one_line
+unfolding is_word is_hex digit is_allowed bad_line put put_word put_open end_line break_off begin_word begin step_in step scan_from finish_in lines_of readable unit_of ret_of rnl_of chosen option_at options_at ctl_at scope_at names_at place_at controlled_at uncontrolled_at enq_at reserve_at deq_at wait_at reach_of want_of want_at scan_at resource_at shown_at display_at line_word line_ask_at line_ask_on one_line
 printed_lines = ((refl, refl), (refl, refl), (refl, refl), (refl, refl), (refl, refl), (refl, refl), (refl, refl), (refl, refl), (refl, refl), (refl, refl))
 
 -- nothing; a comment alone; no word; a word of other statements; a further statement; an error on the third line; a long name; an empty one
@@ -56,7 +56,7 @@ faults :
     × (reading (10 ∷ 10 ∷ codes "ENQ (A,B,X,SYSTEM)") ≡ fault_at 3 BadOperand)
     × (reading (codes "DEQ (ABCDEFGHI,B,SYSTEM)") ≡ fault_at 1 NameLength)
     × (reading (codes "GQSCAN SCOPE=LOCAL,QNAME=''") ≡ fault_at 1 NameLength)
-unfolding is_word is_hex digit is_allowed bad_line put put_word put_open end_line break_off begin_word begin step_in step scan_from finish_in lines_of readable unit_of ret_of rnl_of chosen option_at options_at ctl_at scope_at names_at place_at controlled_at uncontrolled_at enq_at reserve_at deq_at wait_at reach_of want_of want_at scan_at resource_at shown_at display_at verb said_at said_on one_line
+unfolding is_word is_hex digit is_allowed bad_line put put_word put_open end_line break_off begin_word begin step_in step scan_from finish_in lines_of readable unit_of ret_of rnl_of chosen option_at options_at ctl_at scope_at names_at place_at controlled_at uncontrolled_at enq_at reserve_at deq_at wait_at reach_of want_of want_at scan_at resource_at shown_at display_at line_word line_ask_at line_ask_on one_line
 faults = (refl, refl, refl, refl, refl, refl, refl, refl)
 
 -- bytes that no deck may have: a tab in the first word; before it; behind it; in a name between quotes; in a comment before the first word; in one behind it; behind a name that is too long; on a further line; CR alone
@@ -71,5 +71,5 @@ bad_bytes :
     × (reading (codes "ENQ (A,B,E,SYSTEM)" ++ 10 ∷ 9 ∷ []) ≡ fault_at 2 BadOperand)
     × (reading (codes "ENQ (A,B,E,SYSTEM)" ++ 13 ∷ []) ≡ fault_at 1 BadOperand)
     × (printed_of (reading (codes "ENQ (A,B,E,SYSTEM)" ++ 13 ∷ 10 ∷ [])) ≡ codes "ENQ (A,B,E,SYSTEM)")
-unfolding is_word is_hex digit is_allowed bad_line put put_word put_open end_line break_off begin_word begin step_in step scan_from finish_in lines_of readable unit_of ret_of rnl_of chosen option_at options_at ctl_at scope_at names_at place_at controlled_at uncontrolled_at enq_at reserve_at deq_at wait_at reach_of want_of want_at scan_at resource_at shown_at display_at verb said_at said_on one_line
+unfolding is_word is_hex digit is_allowed bad_line put put_word put_open end_line break_off begin_word begin step_in step scan_from finish_in lines_of readable unit_of ret_of rnl_of chosen option_at options_at ctl_at scope_at names_at place_at controlled_at uncontrolled_at enq_at reserve_at deq_at wait_at reach_of want_of want_at scan_at resource_at shown_at display_at line_word line_ask_at line_ask_on one_line
 bad_bytes = (refl, refl, refl, refl, refl, refl, refl, refl, refl, refl)

@@ -20,17 +20,17 @@ use Rattle.job_syntax.specs.declared.display.Wanted.{Wanted}
 use Rattle.job_syntax.specs.declared.display.ScanAsk.{ScanAsk}
 use Rattle.job_syntax.specs.declared.display.Shown.{Shown}
 use Rattle.job_syntax.specs.declared.display.Shown.TheVariants as shown
-use Rattle.job_syntax.specs.declared.said.Said.{Said}
-use Rattle.job_syntax.specs.declared.said.Said.TheVariants as said
-use Rattle.job_syntax.specs.declared.said.Verb.{Verb}
-use Rattle.job_syntax.specs.declared.said.Verb.TheVariants as verbs
+use Rattle.job_syntax.specs.declared.line_ask.LineAsk.{LineAsk}
+use Rattle.job_syntax.specs.declared.line_ask.LineAsk.TheVariants as asks
+use Rattle.job_syntax.specs.declared.line_ask.LineWord.{LineWord}
+use Rattle.job_syntax.specs.declared.line_ask.LineWord.TheVariants as words
 use Rattle.job_syntax.specs.Unit.{unit_of}
 use Rattle.job_syntax.specs.Options.{no_opts, ret_of, rnl_of, with_ret, with_rnl, with_unit, chosen, option_at, options_at}
 use Rattle.job_syntax.specs.Ask.{ctl_at, scope_at, names_at, place_at, enq_may, reserve_may, deq_may, wait_may, controlled_at, uncontrolled_at, enq_at, reserve_at, deq_at, wait_at}
 use Rattle.job_syntax.specs.Display.{no_names, reach_of, with_q, with_r, named_at, want_of, want_at, scan_at, resource_at, shown_at, display_at}
-use Rattle.job_syntax.specs.Said.{verb, said_at}
+use Rattle.job_syntax.specs.LineAsk.{line_word, line_ask_at}
 use Rattle.grs_base.specs.Printed.{ctl_word}
-use Rattle.job_syntax.specs.Spelled.{scope_word, rnl_word, reach_word, Opt, WithRet, WithRnl, WithUcb, valued, option, IsFree, set, IsAsk, WithQname, WithRname, want, IsFreeWant, set_want, IsScan, IsShown, IsBehind, verb_for, IsWord, IsSaid}
+use Rattle.job_syntax.specs.Spelled.{scope_word, rnl_word, reach_word, Opt, WithRet, WithRnl, WithUcb, valued, option, IsFree, set, IsAsk, WithQname, WithRname, want, IsFreeWant, set_want, IsScan, IsShown, IsBehind, line_word_for, IsWord, IsLineAsk}
 
 -- ---- options
 
@@ -406,49 +406,49 @@ display_taken ts x e =
 
 -- ---- task lines
 
--- what is read is of this verb
-pub record Behind (v : Verb) (ts : List Token) (s : Said) : Type 0 where
-  pub of : verb_for s ≡ v
+-- what is read is of this word
+pub record Behind (v : LineWord) (ts : List Token) (s : LineAsk) : Type 0 where
+  pub of : line_word_for s ≡ v
   pub behind : IsBehind ts s
 
-pub said_taken : (v : Verb) (ts : List Token) (s : Said) → said_at v ts ≡ Some s → Behind v ts s
-unfolding said_at
-said_taken verbs.Enq ts s e =
-    let b = bind_some (enq_at ts) (λ x. Some (said.Enq x)) s e in
-    subst (Behind verbs.Enq ts) (some_is (said.Enq b.0) s b.2) (record { of = refl; behind = enq_taken ts b.0 b.1 })
-said_taken verbs.Reserve ts s e =
-    let b = bind_some (reserve_at ts) (λ x. Some (said.Reserve x)) s e in
-    subst (Behind verbs.Reserve ts) (some_is (said.Reserve b.0) s b.2) (record { of = refl; behind = reserve_taken ts b.0 b.1 })
-said_taken verbs.Deq ts s e =
-    let b = bind_some (deq_at ts) (λ x. Some (said.Deq x)) s e in
-    subst (Behind verbs.Deq ts) (some_is (said.Deq b.0) s b.2) (record { of = refl; behind = deq_taken ts b.0 b.1 })
-said_taken verbs.Wait ts s e =
-    let b = bind_some (wait_at ts) (λ x. Some (said.Wait x)) s e in
-    subst (Behind verbs.Wait ts) (some_is (said.Wait b.0) s b.2) (record { of = refl; behind = wait_taken ts b.0 b.1 })
-said_taken verbs.Gqscan ts s e =
-    let b = bind_some (scan_at ts) (λ x. Some (said.Gqscan x)) s e in
-    subst (Behind verbs.Gqscan ts) (some_is (said.Gqscan b.0) s b.2) (record { of = refl; behind = scan_taken ts b.0 b.1 })
-said_taken verbs.Display ts s e =
-    let b = bind_some (display_at ts) (λ x. Some (said.Display x)) s e in
-    subst (Behind verbs.Display ts) (some_is (said.Display b.0) s b.2) (record { of = refl; behind = display_taken ts b.0 b.1 })
+pub line_ask_taken : (v : LineWord) (ts : List Token) (s : LineAsk) → line_ask_at v ts ≡ Some s → Behind v ts s
+unfolding line_ask_at
+line_ask_taken words.Enq ts s e =
+    let b = bind_some (enq_at ts) (λ x. Some (asks.Enq x)) s e in
+    subst (Behind words.Enq ts) (some_is (asks.Enq b.0) s b.2) (record { of = refl; behind = enq_taken ts b.0 b.1 })
+line_ask_taken words.Reserve ts s e =
+    let b = bind_some (reserve_at ts) (λ x. Some (asks.Reserve x)) s e in
+    subst (Behind words.Reserve ts) (some_is (asks.Reserve b.0) s b.2) (record { of = refl; behind = reserve_taken ts b.0 b.1 })
+line_ask_taken words.Deq ts s e =
+    let b = bind_some (deq_at ts) (λ x. Some (asks.Deq x)) s e in
+    subst (Behind words.Deq ts) (some_is (asks.Deq b.0) s b.2) (record { of = refl; behind = deq_taken ts b.0 b.1 })
+line_ask_taken words.Wait ts s e =
+    let b = bind_some (wait_at ts) (λ x. Some (asks.Wait x)) s e in
+    subst (Behind words.Wait ts) (some_is (asks.Wait b.0) s b.2) (record { of = refl; behind = wait_taken ts b.0 b.1 })
+line_ask_taken words.Gqscan ts s e =
+    let b = bind_some (scan_at ts) (λ x. Some (asks.Gqscan x)) s e in
+    subst (Behind words.Gqscan ts) (some_is (asks.Gqscan b.0) s b.2) (record { of = refl; behind = scan_taken ts b.0 b.1 })
+line_ask_taken words.Display ts s e =
+    let b = bind_some (display_at ts) (λ x. Some (asks.Display x)) s e in
+    subst (Behind words.Display ts) (some_is (asks.Display b.0) s b.2) (record { of = refl; behind = display_taken ts b.0 b.1 })
 
-abbrev Worded : List ℕ → Option Verb → Type 0
+abbrev Worded : List ℕ → Option LineWord → Type 0
 Worded w None = Unit {0}
 Worded w (Some v) = IsWord v w
 
-pub verb_taken : (w : List ℕ) (v : Verb) → verb w ≡ Some v → IsWord v w
-unfolding verb
-verb_taken w v e = subst (Worded w) e
-    (by_row (Worded w) w (codes "ENQ") verbs.Enq _ (λ h. h)
-    (by_row (Worded w) w (codes "RESERVE") verbs.Reserve _ (λ h. h)
-    (by_row (Worded w) w (codes "DEQ") verbs.Deq _ (λ h. h)
-    (by_row (Worded w) w (codes "WAIT") verbs.Wait _ (λ h. h)
-    (by_row (Worded w) w (codes "GQSCAN") verbs.Gqscan _ (λ h. h)
-    (by_row (Worded w) w (codes "DISPLAY") verbs.Display _ (λ h. inl h)
-    (by_row (Worded w) w (codes "D") verbs.Display None (λ h. inr h) tt)))))))
+pub line_word_taken : (w : List ℕ) (v : LineWord) → line_word w ≡ Some v → IsWord v w
+unfolding line_word
+line_word_taken w v e = subst (Worded w) e
+    (by_row (Worded w) w (codes "ENQ") words.Enq _ (λ h. h)
+    (by_row (Worded w) w (codes "RESERVE") words.Reserve _ (λ h. h)
+    (by_row (Worded w) w (codes "DEQ") words.Deq _ (λ h. h)
+    (by_row (Worded w) w (codes "WAIT") words.Wait _ (λ h. h)
+    (by_row (Worded w) w (codes "GQSCAN") words.Gqscan _ (λ h. h)
+    (by_row (Worded w) w (codes "DISPLAY") words.Display _ (λ h. inl h)
+    (by_row (Worded w) w (codes "D") words.Display None (λ h. inr h) tt)))))))
 
 -- What is read behind a word is spelled so.
-pub line_taken : (w : List ℕ) (ts : List Token) (v : Verb) (s : Said) → verb w ≡ Some v → said_at v ts ≡ Some s → IsSaid (Word w ∷ ts) s
+pub line_taken : (w : List ℕ) (ts : List Token) (v : LineWord) (s : LineAsk) → line_word w ≡ Some v → line_ask_at v ts ≡ Some s → IsLineAsk (Word w ∷ ts) s
 line_taken w ts v s h k =
-    let b = said_taken v ts s k in
-    record { word = w; behind = ts; parts = refl; is_word = subst (λ (x : Verb). IsWord x w) (sym b.of) (verb_taken w v h); is_behind = b.behind }
+    let b = line_ask_taken v ts s k in
+    record { word = w; behind = ts; parts = refl; is_word = subst (λ (x : LineWord). IsWord x w) (sym b.of) (line_word_taken w v h); is_behind = b.behind }

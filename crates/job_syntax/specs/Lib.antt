@@ -2,7 +2,7 @@ pub mod Unit
 pub mod Options
 pub mod Ask
 pub mod Display
-pub mod Said
+pub mod LineAsk
 pub mod Spelled
 pub mod Lines
 pub mod Printed

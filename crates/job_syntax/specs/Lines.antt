@@ -13,8 +13,8 @@ use Rattle.job_syntax.specs.declared.ask.EnqAsk.{EnqAsk}
 use Rattle.job_syntax.specs.declared.display.Wanted.{Wanted}
 use Rattle.job_syntax.specs.declared.display.Shown.{Shown}
 use Rattle.job_syntax.specs.declared.display.Shown.TheVariants as shown
-use Rattle.job_syntax.specs.declared.said.Said.{Said}
-use Rattle.job_syntax.specs.declared.said.Said.TheVariants as said
+use Rattle.job_syntax.specs.declared.line_ask.LineAsk.{LineAsk}
+use Rattle.job_syntax.specs.declared.line_ask.LineAsk.TheVariants as asks
 
 -- Names of wrong lengths.
 abbrev pub are_bad_names : List ℕ → List ℕ → Bool
@@ -24,13 +24,13 @@ abbrev pub is_bad_shown : Shown → Bool
 is_bad_shown shown.Contended = false
 is_bad_shown (shown.Resource q r) = are_bad_names q r
 
-abbrev pub has_bad_name : Said → Bool
-has_bad_name (said.Enq e) = are_bad_names e.ask.q e.ask.r
-has_bad_name (said.Reserve e) = are_bad_names e.ask.q e.ask.r
-has_bad_name (said.Deq a) = are_bad_names a.q a.r
-has_bad_name (said.Wait a) = are_bad_names a.q a.r
-has_bad_name (said.Gqscan s) = is_bad_qname s.names.q || is_bad_rname s.names.r
-has_bad_name (said.Display s) = is_bad_shown s
+abbrev pub has_bad_name : LineAsk → Bool
+has_bad_name (asks.Enq e) = are_bad_names e.ask.q e.ask.r
+has_bad_name (asks.Reserve e) = are_bad_names e.ask.q e.ask.r
+has_bad_name (asks.Deq a) = are_bad_names a.q a.r
+has_bad_name (asks.Wait a) = are_bad_names a.q a.r
+has_bad_name (asks.Gqscan s) = is_bad_qname s.names.q || is_bad_rname s.names.r
+has_bad_name (asks.Display s) = is_bad_shown s
 
 -- Without RET an ENQ is unconditional.
 abbrev pub ret_or_none : Option Ret → Ret
@@ -67,10 +67,10 @@ display_line shown.Contended = lines.DisplayC
 display_line (shown.Resource q r) = lines.DisplayRes (trim_blanks q) r
 
 -- The line that a task line makes.
-abbrev pub line_of : Said → Line
-line_of (said.Enq e) = enq_line e
-line_of (said.Reserve e) = reserve_line e
-line_of (said.Deq a) = deq_line a
-line_of (said.Wait a) = wait_line a
-line_of (said.Gqscan s) = lines.Gqscan s.global (filter_of s.names)
-line_of (said.Display s) = display_line s
+abbrev pub line_of : LineAsk → Line
+line_of (asks.Enq e) = enq_line e
+line_of (asks.Reserve e) = reserve_line e
+line_of (asks.Deq a) = deq_line a
+line_of (asks.Wait a) = wait_line a
+line_of (asks.Gqscan s) = lines.Gqscan s.global (filter_of s.names)
+line_of (asks.Display s) = display_line s

@@ -13,43 +13,43 @@ use Rattle.deck_scan.specs.declared.token.TokenLine.{TokenLine}
 use Rattle.deck_scan.specs.Gives.{◌>>=◌, refused, or_bad}
 use Rattle.deck_scan.specs.Pieces.{SpellsLines}
 use Rattle.deck_scan.specs.AnyBytes.{readable}
-use Rattle.job_syntax.specs.declared.said.Said.{Said}
-use Rattle.job_syntax.specs.declared.said.Verb.{Verb}
-use Rattle.job_syntax.specs.Said.{verb, said_at}
-use Rattle.job_syntax.specs.Spelled.{IsWord, IsSaid}
+use Rattle.job_syntax.specs.declared.line_ask.LineAsk.{LineAsk}
+use Rattle.job_syntax.specs.declared.line_ask.LineWord.{LineWord}
+use Rattle.job_syntax.specs.LineAsk.{line_word, line_ask_at}
+use Rattle.job_syntax.specs.Spelled.{IsWord, IsLineAsk}
 use Rattle.job_syntax.specs.Lines.{has_bad_name, line_of}
 
 -- ---- as the reader finds them
 
-abbrev pub said_by : ℕ → Option Verb → List Token → Result Said DeckFault
-said_by at (Some v) ts = or_bad at (said_at v ts)
-said_by at None ts = refused at UnknownStatement
+abbrev pub line_ask_by : ℕ → Option LineWord → List Token → Result LineAsk DeckFault
+line_ask_by at (Some v) ts = or_bad at (line_ask_at v ts)
+line_ask_by at None ts = refused at UnknownStatement
 
 -- A first word that begins no task line is no statement word here; an unclosed comment is wrong for itself.
-abbrev pub said_first : ℕ → List Token → Result Said DeckFault
-said_first at (Word w ∷ ts) = said_by at (verb w) ts
-said_first at (Unclosed ∷ ts) = refused at BadOperand
-said_first at _ = refused at UnknownStatement
+abbrev pub line_ask_first : ℕ → List Token → Result LineAsk DeckFault
+line_ask_first at (Word w ∷ ts) = line_ask_by at (line_word w) ts
+line_ask_first at (Unclosed ∷ ts) = refused at BadOperand
+line_ask_first at _ = refused at UnknownStatement
 
 -- Nothing but a parenthesis stands directly behind the first word.
-unfoldable pub said_on : TokenLine → Result Said DeckFault
-said_on l = if l.joined then refused l.at UnknownStatement else said_first l.at l.tokens
+unfoldable pub line_ask_on : TokenLine → Result LineAsk DeckFault
+line_ask_on l = if l.joined then refused l.at UnknownStatement else line_ask_first l.at l.tokens
 
-abbrev pub sized : ℕ → Said → Result Said DeckFault
+abbrev pub sized : ℕ → LineAsk → Result LineAsk DeckFault
 sized at s = if has_bad_name s then refused at NameLength else Ok s
 
 -- A further statement is wrong where it begins.
-abbrev pub alone : Said → List TokenLine → Result Line DeckFault
+abbrev pub alone : LineAsk → List TokenLine → Result Line DeckFault
 alone s [] = Ok (line_of s)
 alone s (l ∷ ls) = refused l.at BadOperand
 
-abbrev pub sized_alone : ℕ → Said → List TokenLine → Result Line DeckFault
+abbrev pub sized_alone : ℕ → LineAsk → List TokenLine → Result Line DeckFault
 sized_alone at s ls = sized at s >>= λ t. alone t ls
 
 -- A text without a statement is told as an unknown one on its first line.
 unfoldable pub one_line : List TokenLine → Result Line DeckFault
 one_line [] = refused 1 UnknownStatement
-one_line (l ∷ ls) = said_on l >>= λ s. sized_alone l.at s ls
+one_line (l ∷ ls) = line_ask_on l >>= λ s. sized_alone l.at s ls
 
 -- ---- which texts spell which line
 
@@ -59,17 +59,17 @@ pub record SpellsLine (text : List ℕ) (line : Line) : Type 0 where
   pub tokens : TokenLine
   pub spelled : SpellsLines (readable text) (tokens ∷ [])
   pub apart : tokens.joined ≡ false
-  pub said : Said
-  pub says : IsSaid tokens.tokens said
-  pub names : has_bad_name said ≡ false
-  pub makes : line_of said ≡ line
+  pub line_ask : LineAsk
+  pub says : IsLineAsk tokens.tokens line_ask
+  pub names : has_bad_name line_ask ≡ false
+  pub makes : line_of line_ask ≡ line
 
 -- ---- which fault a text has
 
 -- The first word of tokens, if there is one, begins no task line. A comment that is not closed has no first
 -- word, and is wrong for itself.
 abbrev pub BeginsOtherwise : List Token → Type 0
-BeginsOtherwise (Word w ∷ ts) = (v : Verb) → IsWord v w → ⊥
+BeginsOtherwise (Word w ∷ ts) = (v : LineWord) → IsWord v w → ⊥
 BeginsOtherwise (Unclosed ∷ ts) = ⊥
 BeginsOtherwise _ = Unit {0}
 
@@ -79,11 +79,11 @@ NoWord l = (l.joined ≡ true) ⊎ BeginsOtherwise l.tokens
 
 -- The word is right, and the form is none of a task line.
 abbrev pub NoForm : TokenLine → Type 0
-NoForm l = (NoWord l → ⊥) × ((s : Said) → IsSaid l.tokens s → ⊥)
+NoForm l = (NoWord l → ⊥) × ((s : LineAsk) → IsLineAsk l.tokens s → ⊥)
 
 -- The line spells a task line, of names that are all right (false) or not (true).
 abbrev pub IsTaskLine : Bool → TokenLine → Type 0
-IsTaskLine bad l = (l.joined ≡ false) × ((s : Said) × IsSaid l.tokens s × (has_bad_name s ≡ bad))
+IsTaskLine bad l = (l.joined ≡ false) × ((s : LineAsk) × IsLineAsk l.tokens s × (has_bad_name s ≡ bad))
 
 -- A further line stands, behind one without a fault, and begins here.
 abbrev pub IsFurther : ℕ → TokenLine → List TokenLine → Type 0

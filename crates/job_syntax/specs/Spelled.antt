@@ -16,10 +16,10 @@ use Rattle.job_syntax.specs.declared.display.Wanted.{Wanted}
 use Rattle.job_syntax.specs.declared.display.ScanAsk.{ScanAsk}
 use Rattle.job_syntax.specs.declared.display.Shown.{Shown}
 use Rattle.job_syntax.specs.declared.display.Shown.TheVariants as shown
-use Rattle.job_syntax.specs.declared.said.Said.{Said}
-use Rattle.job_syntax.specs.declared.said.Said.TheVariants as said
-use Rattle.job_syntax.specs.declared.said.Verb.{Verb}
-use Rattle.job_syntax.specs.declared.said.Verb.TheVariants as verbs
+use Rattle.job_syntax.specs.declared.line_ask.LineAsk.{LineAsk}
+use Rattle.job_syntax.specs.declared.line_ask.LineAsk.TheVariants as asks
+use Rattle.job_syntax.specs.declared.line_ask.LineWord.{LineWord}
+use Rattle.job_syntax.specs.declared.line_ask.LineWord.TheVariants as words
 use Rattle.job_syntax.specs.Unit.{unit_of}
 use Rattle.job_syntax.specs.Options.{no_opts}
 use Rattle.job_syntax.specs.Ask.{enq_may, reserve_may, deq_may, wait_may}
@@ -114,41 +114,41 @@ IsShown ts shown.Contended = ts ≡ Word (codes "GRS") ∷ Comma ∷ Word (codes
 IsShown ts (shown.Resource q r) = IsResource ts q r
 
 -- What stands behind the first word.
-abbrev pub IsBehind : List Token → Said → Type 0
-IsBehind ts (said.Enq e) = IsAsk (Word (ctl_word e.ctl) ∷ Comma ∷ []) ts e.ask × (enq_may e.ask ≡ true)
-IsBehind ts (said.Reserve e) = IsAsk (Word (ctl_word e.ctl) ∷ Comma ∷ []) ts e.ask × (reserve_may e.ask ≡ true)
-IsBehind ts (said.Deq a) = IsAsk [] ts a × (deq_may a ≡ true)
-IsBehind ts (said.Wait a) = IsAsk [] ts a × (wait_may a ≡ true)
-IsBehind ts (said.Gqscan s) = IsScan ts s
-IsBehind ts (said.Display s) = IsShown ts s
+abbrev pub IsBehind : List Token → LineAsk → Type 0
+IsBehind ts (asks.Enq e) = IsAsk (Word (ctl_word e.ctl) ∷ Comma ∷ []) ts e.ask × (enq_may e.ask ≡ true)
+IsBehind ts (asks.Reserve e) = IsAsk (Word (ctl_word e.ctl) ∷ Comma ∷ []) ts e.ask × (reserve_may e.ask ≡ true)
+IsBehind ts (asks.Deq a) = IsAsk [] ts a × (deq_may a ≡ true)
+IsBehind ts (asks.Wait a) = IsAsk [] ts a × (wait_may a ≡ true)
+IsBehind ts (asks.Gqscan s) = IsScan ts s
+IsBehind ts (asks.Display s) = IsShown ts s
 
-abbrev pub verb_for : Said → Verb
-verb_for (said.Enq e) = verbs.Enq
-verb_for (said.Reserve e) = verbs.Reserve
-verb_for (said.Deq a) = verbs.Deq
-verb_for (said.Wait a) = verbs.Wait
-verb_for (said.Gqscan s) = verbs.Gqscan
-verb_for (said.Display s) = verbs.Display
+abbrev pub line_word_for : LineAsk → LineWord
+line_word_for (asks.Enq e) = words.Enq
+line_word_for (asks.Reserve e) = words.Reserve
+line_word_for (asks.Deq a) = words.Deq
+line_word_for (asks.Wait a) = words.Wait
+line_word_for (asks.Gqscan s) = words.Gqscan
+line_word_for (asks.Display s) = words.Display
 
 -- Which word it is. DISPLAY may be written D.
-abbrev pub IsWord : Verb → List ℕ → Type 0
-IsWord verbs.Enq w = w ≡ codes "ENQ"
-IsWord verbs.Reserve w = w ≡ codes "RESERVE"
-IsWord verbs.Deq w = w ≡ codes "DEQ"
-IsWord verbs.Wait w = w ≡ codes "WAIT"
-IsWord verbs.Gqscan w = w ≡ codes "GQSCAN"
-IsWord verbs.Display w = (w ≡ codes "DISPLAY") ⊎ (w ≡ codes "D")
+abbrev pub IsWord : LineWord → List ℕ → Type 0
+IsWord words.Enq w = w ≡ codes "ENQ"
+IsWord words.Reserve w = w ≡ codes "RESERVE"
+IsWord words.Deq w = w ≡ codes "DEQ"
+IsWord words.Wait w = w ≡ codes "WAIT"
+IsWord words.Gqscan w = w ≡ codes "GQSCAN"
+IsWord words.Display w = (w ≡ codes "DISPLAY") ⊎ (w ≡ codes "D")
 
 -- Tokens spell a task line: its word, and what belongs behind it.
-pub record IsSaid (ts : List Token) (s : Said) : Type 0 where
+pub record IsLineAsk (ts : List Token) (s : LineAsk) : Type 0 where
   pub word : List ℕ
   pub behind : List Token
   pub parts : ts ≡ Word word ∷ behind
-  pub is_word : IsWord (verb_for s) word
+  pub is_word : IsWord (line_word_for s) word
   pub is_behind : IsBehind behind s
 
 -- What is answered of the tokens behind a first word: the task line of this word that they spell, or that they
 -- spell none.
-abbrev pub Answers : Result Said Miss → Verb → List Token → Type 0
-Answers (Ok s) v ts = (verb_for s ≡ v) × IsBehind ts s
-Answers (Err e) v ts = (s : Said) → verb_for s ≡ v → IsBehind ts s → ⊥
+abbrev pub Answers : Result LineAsk Miss → LineWord → List Token → Type 0
+Answers (Ok s) v ts = (line_word_for s ≡ v) × IsBehind ts s
+Answers (Err e) v ts = (s : LineAsk) → line_word_for s ≡ v → IsBehind ts s → ⊥

@@ -5,19 +5,19 @@ ghost use Rattle.grs_base.specs.declared.fault.DeckFault.{DeckFault as FaultValu
 ghost use Rattle.grs_base.specs.declared.line.Line.{Line as LineValue};
 ghost use Rattle.grs_base.specs.Lines.{IsDeckLine};
 ghost use Rattle.deck_scan.specs.declared.token.Token.{Token as TokenValue};
-ghost use Rattle.job_syntax.specs.declared.said.Said.{Said as SaidValue};
-ghost use Rattle.job_syntax.specs.declared.said.Verb.{Verb as VerbValue};
-ghost use Rattle.job_syntax.specs.Said.{verb, said_at};
-ghost use Rattle.job_syntax.specs.Spelled.{IsWord, IsBehind, verb_for};
+ghost use Rattle.job_syntax.specs.declared.line_ask.LineAsk.{LineAsk as LineAskValue};
+ghost use Rattle.job_syntax.specs.declared.line_ask.LineWord.{LineWord as LineWordValue};
+ghost use Rattle.job_syntax.specs.LineAsk.{line_word, line_ask_at};
+ghost use Rattle.job_syntax.specs.Spelled.{IsWord, IsBehind, line_word_for};
 ghost use Rattle.job_syntax.specs.Printed.{printed_line};
 ghost use Rattle.job_syntax.specs.Reading.{SpellsLine, IsFault};
 
 /// Of a word and the tokens behind it, exactly the task lines that they spell are read.
 pub fn spelled_tokens()
-    ensures word { (w : List ℕ) (v : VerbValue) → verb w ≡ Some v → IsWord v w }
-    ensures every_word { (w : List ℕ) (v : VerbValue) → IsWord v w → verb w ≡ Some v }
-    ensures behind { (v : VerbValue) (ts : List TokenValue) (s : SaidValue) → said_at v ts ≡ Some s → (verb_for s ≡ v) × IsBehind ts s }
-    ensures every_behind { (ts : List TokenValue) (s : SaidValue) → IsBehind ts s → said_at (verb_for s) ts ≡ Some s }
+    ensures word { (w : List ℕ) (v : LineWordValue) → line_word w ≡ Some v → IsWord v w }
+    ensures every_word { (w : List ℕ) (v : LineWordValue) → IsWord v w → line_word w ≡ Some v }
+    ensures behind { (v : LineWordValue) (ts : List TokenValue) (s : LineAskValue) → line_ask_at v ts ≡ Some s → (line_word_for s ≡ v) × IsBehind ts s }
+    ensures every_behind { (ts : List TokenValue) (s : LineAskValue) → IsBehind ts s → line_ask_at (line_word_for s) ts ≡ Some s }
 {}
 
 /// Each text spells a line or has a fault, never both, and no two of either.

@@ -6,7 +6,7 @@ ghost use Rattle.job_syntax.specs.Lines.{are_bad_names, is_bad_shown, has_bad_na
 
 use crate::ask::{Ask, EnqAsk};
 use crate::display::{Shown, Wanted};
-use crate::said::Said;
+use crate::line_ask::LineAsk;
 use deck_scan::{is_bad_qname, is_bad_rname, maybe_qname, maybe_rname, qname_of, rname_of};
 use grs_base::{Filter, Item, Line, List, NoMemory, Qname, Ret, Rname, is_qname, is_rname};
 use std::alloc::Global;
@@ -28,16 +28,16 @@ fn is_bad_shown(shown: &Shown<'_>) -> bool
 
 /// Whether a name has a length that it may not have: a qname of blanks alone or over 8 bytes, an rname of
 /// no byte or over 255.
-pub fn has_bad_name(said: &Said<'_>) -> bool
-    ensures { result ≡ has_bad_name said.now }
+pub fn has_bad_name(line_ask: &LineAsk<'_>) -> bool
+    ensures { result ≡ has_bad_name line_ask.now }
 {
-    match said {
-        Said::Enq(enq) => are_bad_names(enq.ask.q.bytes(), enq.ask.r.bytes()),
-        Said::Reserve(enq) => are_bad_names(enq.ask.q.bytes(), enq.ask.r.bytes()),
-        Said::Deq(ask) => are_bad_names(ask.q.bytes(), ask.r.bytes()),
-        Said::Wait(ask) => are_bad_names(ask.q.bytes(), ask.r.bytes()),
-        Said::Gqscan(scan) => is_bad_qname(&scan.names.q) || is_bad_rname(&scan.names.r),
-        Said::Display(shown) => is_bad_shown(shown),
+    match line_ask {
+        LineAsk::Enq(enq) => are_bad_names(enq.ask.q.bytes(), enq.ask.r.bytes()),
+        LineAsk::Reserve(enq) => are_bad_names(enq.ask.q.bytes(), enq.ask.r.bytes()),
+        LineAsk::Deq(ask) => are_bad_names(ask.q.bytes(), ask.r.bytes()),
+        LineAsk::Wait(ask) => are_bad_names(ask.q.bytes(), ask.r.bytes()),
+        LineAsk::Gqscan(scan) => is_bad_qname(&scan.names.q) || is_bad_rname(&scan.names.r),
+        LineAsk::Display(shown) => is_bad_shown(shown),
     }
 }
 
@@ -170,19 +170,19 @@ fn display_line(alloc: Global, shown: &Shown<'_>) -> Result<Line, NoMemory>
 }
 
 /// The line that a task line makes whose names have the right lengths.
-pub fn line_of(alloc: Global, said: &Said<'_>) -> Result<Line, NoMemory>
-    requires { has_bad_name said.now ≡ false }
-    ensures { IfOk result (λ l. l ≡ line_of said.now) }
+pub fn line_of(alloc: Global, line_ask: &LineAsk<'_>) -> Result<Line, NoMemory>
+    requires { has_bad_name line_ask.now ≡ false }
+    ensures { IfOk result (λ l. l ≡ line_of line_ask.now) }
 {
-    match said {
-        Said::Enq(enq) => enq_line(alloc, enq),
-        Said::Reserve(enq) => reserve_line(alloc, enq),
-        Said::Deq(ask) => deq_line(alloc, ask),
-        Said::Wait(ask) => wait_line(alloc, ask),
-        Said::Gqscan(scan) => Ok(Line::Gqscan {
+    match line_ask {
+        LineAsk::Enq(enq) => enq_line(alloc, enq),
+        LineAsk::Reserve(enq) => reserve_line(alloc, enq),
+        LineAsk::Deq(ask) => deq_line(alloc, ask),
+        LineAsk::Wait(ask) => wait_line(alloc, ask),
+        LineAsk::Gqscan(scan) => Ok(Line::Gqscan {
             global: scan.global,
             filter: filter_of(alloc, &scan.names)?,
         }),
-        Said::Display(shown) => display_line(alloc, shown),
+        LineAsk::Display(shown) => display_line(alloc, shown),
     }
 }

@@ -1,48 +1,57 @@
 //! Reads the line of a task from a text of its own.
 ghost use Rattle.grs_base.specs.declared.line.Line.{Line as LineValue};
 ghost use Rattle.deck_scan.specs.Gives.{Gives, IsOkUnlessMemory};
-ghost use Rattle.job_syntax.specs.Reading.{said_by, said_on, sized_alone, one_line, SpellsLine, Answers};
+ghost use Rattle.job_syntax.specs.Reading.{line_ask_by, line_ask_on, sized_alone, one_line, SpellsLine, Answers};
 
 use crate::line::{has_bad_name, line_of};
-use crate::said::{Said, Verb, said_at, verb_of};
+use crate::line_ask::{LineAsk, LineWord, line_ask_at, line_word_of};
 use deck_scan::{Lines, Token, TokenLine, or_bad, refused};
 use grs_base::{Kind, Line, ReadError};
 use std::alloc::Global;
 
-fn said_by<'a, 't>(at: u32, verb: Option<Verb>, ts: &'a [Token<'t>]) -> Result<Said<'a>, ReadError>
-    ensures { Gives result (said_by at verb ts.now) }
+fn line_ask_by<'a, 't>(
+    at: u32,
+    line_word: Option<LineWord>,
+    ts: &'a [Token<'t>],
+) -> Result<LineAsk<'a>, ReadError>
+    ensures { Gives result (line_ask_by at line_word ts.now) }
 {
-    match verb {
+    match line_word {
         None => Err(refused(at, Kind::UnknownStatement)),
-        Some(verb) => or_bad(at, said_at(verb, ts)),
+        Some(line_word) => or_bad(at, line_ask_at(line_word, ts)),
     }
 }
 
 /// What a line says.
-#[tactic(auto, unfolding(crate::specs::Reading::said_on))]
-fn said_on<'a, 't>(line: &'a TokenLine<'t>) -> Result<Said<'a>, ReadError>
-    ensures { Gives result (said_on line.now) }
+#[tactic(auto, unfolding(crate::specs::Reading::line_ask_on))]
+fn line_ask_on<'a, 't>(line: &'a TokenLine<'t>) -> Result<LineAsk<'a>, ReadError>
+    ensures { Gives result (line_ask_on line.now) }
 {
     if line.joined {
         return Err(refused(line.at, Kind::UnknownStatement));
     }
     match line.tokens.as_slice().split_first() {
-        Some((Token::Word(w), rest)) => said_by(line.at, verb_of(w.bytes()), rest),
+        Some((Token::Word(w), rest)) => line_ask_by(line.at, line_word_of(w.bytes()), rest),
         Some((Token::Unclosed, _)) => Err(refused(line.at, Kind::BadOperand)),
         _ => Err(refused(line.at, Kind::UnknownStatement)),
     }
 }
 
 /// The line that a task line makes which stands alone. Of what stands behind it at most the next line is read.
-fn alone(alloc: Global, at: u32, said: &Said<'_>, behind: &mut Lines<'_>) -> Result<Line, ReadError>
-    ensures { Gives result (sized_alone at said.now behind.old) }
+fn alone(
+    alloc: Global,
+    at: u32,
+    line_ask: &LineAsk<'_>,
+    behind: &mut Lines<'_>,
+) -> Result<Line, ReadError>
+    ensures { Gives result (sized_alone at line_ask.now behind.old) }
 {
-    if has_bad_name(said) {
+    if has_bad_name(line_ask) {
         return Err(refused(at, Kind::NameLength));
     }
     match behind.next(alloc)? {
         Some(next) => Err(refused(next.at, Kind::BadOperand)),
-        None => Ok(line_of(alloc, said)?),
+        None => Ok(line_of(alloc, line_ask)?),
     }
 }
 
@@ -53,8 +62,8 @@ fn one_line(alloc: Global, lines: &mut Lines<'_>) -> Result<Line, ReadError>
     match lines.next(alloc)? {
         None => Err(refused(1, Kind::UnknownStatement)),
         Some(line) => {
-            let said = said_on(&line)?;
-            alone(alloc, line.at, &said, lines)
+            let line_ask = line_ask_on(&line)?;
+            alone(alloc, line.at, &line_ask, lines)
         }
     }
 }

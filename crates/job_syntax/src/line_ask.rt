@@ -1,7 +1,7 @@
 //! Task lines, by their first words. It knows the forms, and not which names have the right length.
 ghost use Rattle.std.specs.Prelude.{◌≡◌};
 ghost use Rattle.deck_scan.specs.Next.{Reads};
-ghost use Rattle.job_syntax.specs.Said.{verb, said_at};
+ghost use Rattle.job_syntax.specs.LineAsk.{line_word, line_ask_at};
 ghost use Rattle.job_syntax.specs.Spelled.{Answers};
 
 use crate::ask::{Ask, EnqAsk, deq_at, enq_at, reserve_at, wait_at};
@@ -10,7 +10,7 @@ use deck_scan::{Miss, Token};
 
 /// What a task line says, with names of any length.
 #[derive(Drop)]
-pub enum Said<'t> {
+pub enum LineAsk<'t> {
     /// No unit stands.
     Enq(EnqAsk<'t>),
     /// The scope is SYSTEMS, and a unit stands.
@@ -23,7 +23,7 @@ pub enum Said<'t> {
 
 /// The words with which task lines begin. `D` is `Display` too.
 #[derive(Clone, Copy, Debug, PartialEq, Eq)]
-pub enum Verb {
+pub enum LineWord {
     Enq,
     Reserve,
     Deq,
@@ -33,49 +33,49 @@ pub enum Verb {
 }
 
 /// Which word of a task line this is, or none.
-#[tactic(auto, unfolding(crate::specs::Said::verb))]
-pub fn verb_of(w: &[u8]) -> Option<Verb>
-    ensures { result ≡ verb w.now }
+#[tactic(auto, unfolding(crate::specs::LineAsk::line_word))]
+pub fn line_word_of(w: &[u8]) -> Option<LineWord>
+    ensures { result ≡ line_word w.now }
 {
     if w == b"ENQ".as_slice() {
-        Some(Verb::Enq)
+        Some(LineWord::Enq)
     } else if w == b"RESERVE".as_slice() {
-        Some(Verb::Reserve)
+        Some(LineWord::Reserve)
     } else if w == b"DEQ".as_slice() {
-        Some(Verb::Deq)
+        Some(LineWord::Deq)
     } else if w == b"WAIT".as_slice() {
-        Some(Verb::Wait)
+        Some(LineWord::Wait)
     } else if w == b"GQSCAN".as_slice() {
-        Some(Verb::Gqscan)
+        Some(LineWord::Gqscan)
     } else if w == b"DISPLAY".as_slice() {
-        Some(Verb::Display)
+        Some(LineWord::Display)
     } else if w == b"D".as_slice() {
-        Some(Verb::Display)
+        Some(LineWord::Display)
     } else {
         None
     }
 }
 
 /// What stands behind the first word, by that word.
-#[tactic(auto, unfolding(crate::specs::Said::said_at))]
-fn by_verb<'a, 't>(verb: Verb, ts: &'a [Token<'t>]) -> Result<Said<'a>, Miss>
-    ensures { Reads (λ x. x) result (said_at verb ts.now) }
+#[tactic(auto, unfolding(crate::specs::LineAsk::line_ask_at))]
+fn by_line_word<'a, 't>(line_word: LineWord, ts: &'a [Token<'t>]) -> Result<LineAsk<'a>, Miss>
+    ensures { Reads (λ x. x) result (line_ask_at line_word ts.now) }
 {
-    match verb {
-        Verb::Enq => Ok(Said::Enq(enq_at(ts)?)),
-        Verb::Reserve => Ok(Said::Reserve(reserve_at(ts)?)),
-        Verb::Deq => Ok(Said::Deq(deq_at(ts)?)),
-        Verb::Wait => Ok(Said::Wait(wait_at(ts)?)),
-        Verb::Gqscan => Ok(Said::Gqscan(scan_at(ts)?)),
-        Verb::Display => Ok(Said::Display(display_at(ts)?)),
+    match line_word {
+        LineWord::Enq => Ok(LineAsk::Enq(enq_at(ts)?)),
+        LineWord::Reserve => Ok(LineAsk::Reserve(reserve_at(ts)?)),
+        LineWord::Deq => Ok(LineAsk::Deq(deq_at(ts)?)),
+        LineWord::Wait => Ok(LineAsk::Wait(wait_at(ts)?)),
+        LineWord::Gqscan => Ok(LineAsk::Gqscan(scan_at(ts)?)),
+        LineWord::Display => Ok(LineAsk::Display(display_at(ts)?)),
     }
 }
 
 /// What the tokens behind the first word of a task line say. Behind `WAIT` the tokens of `(A,B,STEP)` say that a task
 /// waits for control of the resource `A`, `B` of its step, and those of `(A,B)` are a `Miss`.
-pub fn said_at<'a, 't>(verb: Verb, ts: &'a [Token<'t>]) -> Result<Said<'a>, Miss>
-    ensures exact { Answers result verb ts.now }
-    ensures read { Reads (λ x. x) result (said_at verb ts.now) }
+pub fn line_ask_at<'a, 't>(line_word: LineWord, ts: &'a [Token<'t>]) -> Result<LineAsk<'a>, Miss>
+    ensures exact { Answers result line_word ts.now }
+    ensures read { Reads (λ x. x) result (line_ask_at line_word ts.now) }
 {
-    by_verb(verb, ts)
+    by_line_word(line_word, ts)
 }
