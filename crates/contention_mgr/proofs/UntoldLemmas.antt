@@ -320,14 +320,6 @@ first-found home f s r t least e =
     sym (ap (option_map owner_of) found.1 ∙ (λ i. Some (found.3 i, found.2 i)))
 
 -- ---- whether there are elements
-pub no-marks : (es : List (Spot × Mark)) (names : List (Res × ℕ)) → slice_get es 0 ≡ None → (r : Res) (t : TaskId) → mark_in names es r t ≡ None
-no-marks [] names h r t = go (lookup (same_res r) names)
-  where
-    go : (o : Option ℕ) → mark_under (mark_at []) o t ≡ None
-    go None = refl
-    go (Some n) = refl
-no-marks (e ∷ es) names h r t = cc
-
 pub number-marked : (names : List (Res × ℕ)) (ms : List (Spot × Mark)) (k : ℕ) (r : Res) (v : ℕ) (t : TaskId) (m : Mark) → numbered_from 0 names ≡ true → slice_get names k ≡ Some (r, v) → lookup (same_res r) names ≡ Some v → mark_at ms k t ≡ Some m → is_some (mark_in names ms r t) ≡ true
 number-marked names ms k r v t m h at named is =
     let number : v ≡ 0 + k = number-at 0 names k (r, v) h at in

@@ -214,26 +214,6 @@ bits_line word bs is h =
 
 -- ---- how long they are
 
-doubled_long : (bs : List ℕ) → length (quotes_doubled bs) ≤ 2 * length bs
-doubled_long [] = omega arith
-doubled_long (b ∷ bs) = go (eqb b 39) (doubled_long bs)
-  where
-    go : (x : Bool) → length (quotes_doubled bs) ≤ 2 * length bs → length (cond x (39 ∷ 39 ∷ quotes_doubled bs) (b ∷ quotes_doubled bs)) ≤ 2 * length (b ∷ bs)
-    go true h = omega (arith, h)
-    go false h = omega (arith, h)
-
-digits_long : (bs : List ℕ) → length (hex_digits bs) ≤ 2 * length bs
-digits_long [] = omega arith
-digits_long (b ∷ bs) = let h = digits_long bs in omega (arith, h)
-
-name_long : (bs : List ℕ) → length (printed_name bs) ≤ 2 * length bs + 3
-name_long bs = go (list_all is_plain_byte bs) (list_all is_printable bs)
-  where
-    go : (x y : Bool) → length (cond x bs (cond y (39 ∷ (quotes_doubled bs ++ 39 ∷ [])) (88 ∷ 39 ∷ (hex_digits bs ++ 39 ∷ [])))) ≤ 2 * length bs + 3
-    go true y = omega arith
-    go false true = omega (arith, doubled_long bs, length-append (quotes_doubled bs) (39 ∷ []))
-    go false false = omega (arith, digits_long bs, length-append (hex_digits bs) (39 ∷ []))
-
 -- at most so many bytes
 abbrev pub size : List Bit → ℕ
 size [] = 0
@@ -241,10 +221,3 @@ size (Of w ∷ bs) = length w + size bs
 size (Called n ∷ bs) = 2 * length n + 3 + size bs
 size (Mark t ∷ bs) = 1 + size bs
 size (Gap ∷ bs) = 1 + size bs
-
-pub bits_long : (bs : List Bit) → length (text_of bs) ≤ size bs
-bits_long [] = omega arith
-bits_long (Of w ∷ bs) = let h = bits_long bs in omega (arith, h, length-append w (text_of bs))
-bits_long (Called n ∷ bs) = let h = bits_long bs in omega (arith, h, name_long n, length-append (printed_name n) (text_of bs))
-bits_long (Mark t ∷ bs) = let h = bits_long bs in omega (arith, h)
-bits_long (Gap ∷ bs) = let h = bits_long bs in omega (arith, h)

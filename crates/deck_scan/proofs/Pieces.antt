@@ -109,9 +109,6 @@ pub record Undoubled (text name rest : List ℕ) : Type 0 where
   pub every : list_all is_printable name ≡ true
   pub printable : list_all is_printable rest ≡ true
 
-pub undoubled_none : (text name : List ℕ) → name ≡ [] → list_all is_printable text ≡ true → Undoubled text name text
-undoubled_none text name is ok = rw is (record { parts = refl; every = refl; printable = ok })
-
 undoubled_part : (text name rest part back : List ℕ) → IsSplit is_no_quote rest part back → Undoubled text name rest → (text ≡ quotes_doubled (name ++ part) ++ back) × (list_all is_printable (name ++ part) ≡ true)
 undoubled_part text name rest part back s h =
     let both = all_parts is_printable rest part back s.parts h.printable in (
@@ -129,11 +126,6 @@ two_quotes : (back : List ℕ) → starts is_no_quote back ≡ false → is_doub
 two_quotes [] h d = absurd cc
 two_quotes (b ∷ []) h d = absurd cc
 two_quotes (b ∷ c ∷ bs) h d = rw (quote_here b h, eqb-true c 39 d) refl
-
-pub two_bytes : (back : List ℕ) → is_doubled back ≡ true → 2 ≤ length back
-two_bytes [] d = absurd cc
-two_bytes (b ∷ []) d = absurd cc
-two_bytes (b ∷ c ∷ bs) d = omega arith
 
 pub undoubled_more : (text name rest part back new : List ℕ) → IsSplit is_no_quote rest part back → is_doubled back ≡ true → new ≡ (name ++ part) ++ 39 ∷ [] → Undoubled text name rest → Undoubled text new (drop 2 back)
 undoubled_more text name rest part back new s d is h =
@@ -311,12 +303,6 @@ closes_later text b tail rest front other k = record { inside = b ∷ k.inside; 
 pub open_later : (text : List ℕ) (b : ℕ) (tail : List ℕ) → text ≡ b ∷ tail → (b == 42 && begins 47 tail) ≡ false → has_no_end tail ≡ true → has_no_end text ≡ true
 open_later text b tail front other h = rw (front, other) h
 
-pub closes_now : (text : List ℕ) (b : ℕ) (tail : List ℕ) → text ≡ b ∷ tail → (b == 42 && begins 47 tail) ≡ true → ClosesComment text (drop 1 tail)
-closes_now text b [] front h = let k = and_parts (eqb b 42) false h in absurd (let z : false ≡ true = k.1 in cc)
-closes_now text b (c ∷ cs) front h =
-    let k = and_parts (eqb b 42) (eqb c 47) h in
-    record { inside = []; parts = front ∙ rw (eqb-true b 42 k.0, eqb-true c 47 k.1) refl; first = refl }
-
 pub over-printable : (c : List ℕ) (p : Place) → list_all is_printable c ≡ true → over c p ≡ p
 over-printable [] p h = refl
 over-printable (b ∷ bs) p h = let k = and_parts (is_printable b) (list_all is_printable bs) h in rw (test_not is_printable b 10 k.0 refl) (over-printable bs p k.1)
@@ -344,16 +330,3 @@ takes_comment text old behind new c ok front k is =
 -- what stands behind the first bytes
 pub rest_is : (k : ℕ) (xs : List ℕ) → take (length xs - k) (drop k xs) ≡ drop k xs
 rest_is k xs = take_all (length xs - k) (drop k xs) (let long = length-drop k xs in omega (arith, long))
-
-pub no_mark : (b : ℕ) → eqb b 39 ≡ false → is_single b ≡ false → is_mark b ≡ false
-no_mark b quote h = go (eqb b 32) (eqb b 39) (eqb b 40) (eqb b 41) (eqb b 44) (eqb b 47) (eqb b 61) quote h
-  where
-    go : (a q c d e f g : Bool) → q ≡ false → (a || (c || (d || (e || (g || f))))) ≡ false → (a || (q || (c || (d || (e || (f || g)))))) ≡ false
-    go true q c d e f g k h = absurd cc
-    go false true c d e f g k h = absurd cc
-    go false false true d e f g k h = absurd cc
-    go false false false true e f g k h = absurd cc
-    go false false false false true f g k h = absurd cc
-    go false false false false false f true k h = absurd cc
-    go false false false false false true false k h = absurd cc
-    go false false false false false false false k h = refl

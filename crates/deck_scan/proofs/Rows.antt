@@ -303,10 +303,6 @@ last_wrong line begun text (b ∷ bs) row ok some h k r = same ∙ r.ends
     same : to_come line begun (text ++ b ∷ bs) ≡ to_come line begun (text ++ wrong_byte)
     same = ap (λ (t : List ℕ). at_end (scan_from (at_row line begun) t)) (readable_row text (b ∷ bs) ok ∙ ap (λ (t : List ℕ). text ++ t) (readable_wrong b bs h k ∙ sym wrong_readable) ∙ sym (readable_row text wrong_byte ok))
 
-pub last_row : (line : ℕ) (begun : Option ℕ) (text behind : List ℕ) (row : Row) → length behind ≡ 0 → IsRow line begun text row → IsLast line begun (text ++ behind) row
-last_row line begun text [] row none r = ap (λ (t : List ℕ). to_come line begun t) (append-nil text) ∙ r.ends
-last_row line begun text (b ∷ bs) row none r = absurd (omega (arith, none))
-
 -- ---- the end of the text
 
 pub none_comes : (line : ℕ) → to_come line None [] ≡ []

@@ -39,20 +39,6 @@ dealt_next b seats n first table m m' dealt len at start is cut =
     subst (λ (v : View). AreDealt b (seats ++ seat_of table v ∷ [])) (sym view)
     (dealt_more b seats (seat_of table (newcomer first (record { 0 = n }) [] 0)) dealt (λ i. record { table = at i; first = start i }) (sym len) (refl, refl, refl))
 
-pub all_dealt : (b : BusValue) (lead : SeatValue) (seats : List SeatValue) (n : ℕ) → AreDealt b seats → length seats + 1 ≡ n → lead.bus ≡ b → lead.system.0 ≡ 0 → lead.seats ≡ n → AreTheSeats b (lead ∷ seats)
-all_dealt b lead seats n dealt len at number given = record {
-  some_seat = omega arith;
-  each = each;
-  count = λ v e. subst (λ (x : SeatValue). x.seats ≡ length (lead ∷ seats)) (some-injective lead v e) (omega arith);
-} where
-  each : (i : ℕ) (v : SeatValue) → get_elem? (lead ∷ seats) i ≡ some v → (v.bus ≡ b) × (v.system.0 ≡ i)
-  each zero v e = subst (λ (x : SeatValue). (x.bus ≡ b) × (x.system.0 ≡ 0)) (some-injective lead v e) (at, number)
-  each (suc i) v e = let t = dealt i v e in let k : v.system.0 ≡ i + 1 = t.1 in (t.0, omega arith)
-
-pub all_new : (b : BusValue) (lead : SeatValue) (seats : List SeatValue) → AreDealt b seats → IsNew lead → AllSeats IsNew (lead ∷ seats)
-all_new b lead seats dealt new zero v e = subst IsNew (some-injective lead v e) new
-all_new b lead seats dealt new (suc i) v e = (dealt i v e).2
-
 pub joined_all-same : (v : View) (seats : List SeatValue) → joined_all v seats ≡ record v { olds = (joined_all v seats).olds }
 joined_all-same v [] = refl
 joined_all-same v (s ∷ seats) = ap (λ (w : View). record w { olds = (joined_all v seats).olds ++ past_of_seat s ∷ [] }) (joined_all-same v seats)

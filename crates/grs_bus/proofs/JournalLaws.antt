@@ -11,7 +11,7 @@ use Rattle.grs_medium.specs.Apply.{reply_to, medium_after, changes, row_changes,
 use Rattle.grs_medium.specs.Medium.{MediumState}
 use Rattle.grs_medium.proofs.CauseLaws.{removed_comes}
 use Rattle.grs_medium.proofs.KeepLaws.{leaves_the_rest}
-use Rattle.grs_bus.proofs.KeepWords.{may_call_behind}
+use Rattle.grs_medium.proofs.KeptSizes.{may_call_behind}
 use Rattle.grs_bus.specs.Journal.{is_acted_on, is_entered, after_all, IsRight, AreRight, entries_of, Begins}
 
 pub after_all-snoc : (m : MediumState) (xs : List JEntry) (e : JEntry) → after_all m (xs ++ e ∷ []) ≡ medium_after (after_all m xs) e.system e.call

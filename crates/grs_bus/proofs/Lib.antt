@@ -1,5 +1,4 @@
 pub mod Samples
-pub mod KeepWords
 pub mod JournalLaws
 pub mod RuleLaws
 pub mod CallLaws

@@ -174,17 +174,6 @@ lists_grow d (stmts.Line s) full h = h
 lists_grow d stmts.Schedule full h = h
 lists_grow d (stmts.Event s a) full h = subst AreLists (sym (event_lists (event_of d.deck.systems s a) d.deck)) h
 
-crowded_full : (d : Draft) (st : Stmt) → is_full d st ≡ false → is_crowded d.deck st ≡ false
-crowded_full d stmts.Unbuilt full = refl
-crowded_full d (stmts.Complex c) full = refl
-crowded_full d (stmts.Rnldef r) full = full
-crowded_full d (stmts.System n) full = refl
-crowded_full d (stmts.Job n) full = refl
-crowded_full d (stmts.Task n) full = refl
-crowded_full d (stmts.Line s) full = refl
-crowded_full d stmts.Schedule full = refl
-crowded_full d (stmts.Event s a) full = refl
-
 -- ---- lines
 
 unless_none : (at : ℕ) (o : Option Kind) (d e : Draft) → unless at o d ≡ Ok e → (o ≡ None) × (d ≡ e)

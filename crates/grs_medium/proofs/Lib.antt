@@ -3,7 +3,9 @@ pub mod SwitchLaws
 pub mod SetLaws
 pub mod InboxLaws
 pub mod KeepLaws
+pub mod KeptSizes
 pub mod ChangeLaws
 pub mod ReplyKinds
 pub mod CauseLaws
 pub mod StarCauses
+pub mod TurnLaws

@@ -1,6 +1,7 @@
 //! Laws of the medium: each function's contract is one, and there is nothing to run.
 ghost use Rattle.grs_medium.specs.Causes.{RemovedComes, StaleComes, NotYoursComes, AlreadyComes, BehindComes, SwitchedComes, InStarComes, NoSuchComes, OverComes, RestingComes, SoleComes, SentComes, TakenComes, EmptyComes, SettledComes, ToldComes, KeptComes, LeftComes};
 ghost use Rattle.grs_medium.specs.Changes.{LeavesTheRest, ChangesWhatItSays};
+ghost use Rattle.grs_medium.specs.TurnReplies.{TurnIsRefused, TurnIsServed};
 
 /// A call that isn't said to change the medium leaves it as it was.
 pub fn leaves_the_rest()
@@ -110,4 +111,11 @@ pub fn kept_comes()
 /// A call that is heard is answered Left exactly where it is any other Leave.
 pub fn left_comes()
     ensures { LeftComes }
+{}
+
+/// What a Turn is said to be answered that doesn't get to the message is what it is answered, whatever it would put in,
+/// and then nothing changes. Any other Turn is answered with its caller's unseen entries.
+pub fn turn_refusals_are_answers()
+    ensures refused { TurnIsRefused }
+    ensures served { TurnIsServed }
 {}

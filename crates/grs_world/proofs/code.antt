@@ -1,7 +1,6 @@
 -- How the words of the code are taken.
 pub mod Logged
 pub mod Calls
-pub mod Words
 pub mod Nodes
 pub mod Happens
 pub mod Listed

@@ -280,10 +280,6 @@ record NamesAre (q r : List ℕ) : Type 0 where
   r_few : length r ≤ 255
   good : are_bad_names q r ≡ false
 
-some_bytes : (bs : List ℕ) → 0 < length bs → is_nonempty bs ≡ true
-some_bytes [] h = absurd (omega (arith, h))
-some_bytes (b ∷ bs) h = refl
-
 names_are : (q r : List ℕ) → AreNames q r → NamesAre q r
 names_are q r h = record {
   q_bit = and_from (is_nonempty q) (are_bytes q) (qname_nonempty q h.qname.made) h.q_bytes;

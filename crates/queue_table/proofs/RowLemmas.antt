@@ -181,11 +181,6 @@ with_list-some r x xs [] old new same list some is = absurd (some refl)
 with_list-some r x xs (y ∷ ys) old new same list some is =
     ap plain is ∙ plain-insert old x (y ∷ ys) ∙ ap (λ (a : Res). put res_order a (y ∷ ys) (plain old)) same ∙ ap (λ (l : List Elem). with_list r l (plain old)) list
 
--- nothing is put in of an empty list
-pub with_list-none : (r : Res) (xs : List Elem) (m : Lists) → length xs ≡ 0 → m ≡ with_list r xs m
-with_list-none r [] m none = refl
-with_list-none r (x ∷ xs) m none = absurd (omega arith)
-
 -- when all numbers are passed
 pub with_lists-end : (t : Res → Bool) (es : Numbers) (i : ℕ) (hs : Held ℕ) (m all : Lists) → length es ≤ i → with_lists t (drop i es) hs m ≡ all → m ≡ all
 with_lists-end t es i hs m all past h = ap (λ (l : Numbers). with_lists t l hs m) (sym (drop_of_length-le es past)) ∙ h

@@ -98,27 +98,3 @@ process n q = record {
 -- A request that the message brought is processed. One that is for a resource of one system alone has no effect.
 unfoldable pub process_entry : Side → Req → Side
 process_entry n q = cond (is_for_all (res_wanted q.want)) (process n q) n
-
--- these requests, in order
-unfoldable pub process_all : Side → List Req → Side
-process_all n [] = n
-process_all n (q ∷ qs) = process_all (process_entry n q) qs
-
--- whether an entry is a request
-abbrev pub is_request : RingBody → Bool
-is_request (Request q) = true
-is_request (Remove t) = false
-
--- whether all of these entries are requests
-abbrev pub are_requests : List RingEntry → Bool
-are_requests es = list_all (λ e. is_request e.body) es
-
--- these requests behind that of an entry, if it is one
-abbrev pub request_then : RingBody → List Req → List Req
-request_then (Request q) qs = q ∷ qs
-request_then (Remove t) qs = qs
-
--- the requests of these entries, in order
-abbrev pub requests_in : List RingEntry → List Req
-requests_in [] = []
-requests_in (e ∷ es) = request_then e.body (requests_in es)

@@ -18,11 +18,6 @@ or_less false true r h = refl
 or_less false false true h = sym (h refl)
 or_less false false false h = refl
 
-or_itself : (a r : Bool) → (r ≡ true → a ≡ true) → (a || r) ≡ a
-or_itself true r h = refl
-or_itself false true h = sym (h refl)
-or_itself false false h = refl
-
 -- a rest is the text, or a rest of what is behind its first byte
 some_rest-more : (f : List ℕ → Bool) (x : List ℕ) → some_rest f x ≡ (f x || some_rest f (drop 1 x))
 some_rest-more f [] = grind arith
@@ -59,10 +54,6 @@ left_at x i h = drop_more x i 0 h
 
 drop-next : (x : List ℕ) (i : ℕ) → drop 1 (drop i x) ≡ drop (i + 1) x
 drop-next x i = drop-drop 1 i x
-
--- before anything is tried
-pub search-begin : (p x : List ℕ) → IsSearch p x 0 0 0 0
-search-begin p x = record { same = some_rest-more (matches_pattern p) x; less = λ h. h }
 
 -- the next star
 pub search-star : (p x : List ℕ) (s f r i : ℕ) → r < length p → get_or p r 0 ≡ 42 → IsSearch p x s f r i → IsSearch p x (r + 1) i (r + 1) i
@@ -111,17 +102,6 @@ fails-at p x r i within before plain differs =
     ap (λ (l : List ℕ). matches_pattern l (drop i x)) (left_at p r within)
     ∙ ap (λ (l : List ℕ). matches_pattern (get_or p r 0 ∷ drop (r + 1) p) l) (left_at x i before)
     ∙ matches-differs (get_or p r 0) (get_or x i 0) (drop (r + 1) p) (drop (i + 1) x) plain differs
-
--- the text is at its end
-pub search-end : (p x : List ℕ) (s f r i : ℕ) → length x ≤ i → IsSearch p x s f r i → some_rest (matches_pattern p) x ≡ matches_pattern (drop r p) []
-search-end p x s f r i past h =
-    let rest = some_rest (matches_pattern (drop s p)) (drop (f + 1) x) in
-    h.same ∙ ap (λ (l : List ℕ). matches_pattern (drop r p) l || rest) (drop_all i x past)
-    ∙ or_itself (matches_pattern (drop r p) []) rest (λ e. sym (ap (λ (l : List ℕ). some_rest (matches_pattern (drop r p)) l) (drop_all (i + 1) x (omega arith))) ∙ h.less e)
-
--- a text that is tried from further on counts for more than all that is left of the pattern
-pub tries_less : (n left less r s : ℕ) → less < left → s ≤ n → (n + 1) * less + (n - s) < (n + 1) * left + (n - r)
-tries_less n left less r s h within = omega (arith, mul-le-mul_left {m = suc less} {n = left} (n + 1) (omega arith), mul-suc (n + 1) less)
 
 -- a pattern without stars is at its end
 nothing-drop : (n : ℕ) (x : List ℕ) → n ≤ length x → (n == length x) ≡ matches_pattern [] (drop n x)

@@ -10,9 +10,6 @@ ends_closed-snoc [] b = refl
 ends_closed-snoc (x ∷ []) b = refl
 ends_closed-snoc (x ∷ y ∷ xs) b = ends_closed-snoc (y ∷ xs) b
 
-pub ends_closed-is : (text xs : List ℕ) (b : ℕ) → text ≡ xs ++ b ∷ [] → eqb b 41 ≡ ends_closed text
-ends_closed-is text xs b e = rw (e, ends_closed-snoc) refl
-
 abbrev pub is_close : Token → Bool
 is_close Close = true
 is_close _ = false

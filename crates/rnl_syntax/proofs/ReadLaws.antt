@@ -221,9 +221,6 @@ pub record MadeFront (text : List ℕ) (e : RnlEntry) (s : TokenLine) : Type 0 w
   pub same : makes.statement ≡ s
   pub tokens : flat_map (λ (l : TokenLine). l.tokens) makes.lines ≡ s.tokens
 
-some_line : (s t : TokenLine) (o : Option TokenLine) → o ≡ Some s → o ≡ Some t → s ≡ t
-some_line s t o e f = cc
-
 pub makes_front : (text : List ℕ) (e : RnlEntry) (lines : List TokenLine) (h : MakesEntry text e) → h.lines ≡ lines → MadeFront text e h.statement
 makes_front text e [] h none = absurd (let z : None ≡ Some h.statement = sym (ap first_statement none) ∙ h.first in cc)
 makes_front text e (l ∷ ls) h is =

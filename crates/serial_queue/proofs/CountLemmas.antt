@@ -76,9 +76,6 @@ pub counted-exclusive : (hs new : Held ℕ) (old : TaskId → ℕ) (q : ℕ) (u 
 counted-exclusive hs new old q u is held t =
     is t ∙ ap (λ (l : List ℕ). length l) (sym (queued_by-exclusive nat_eq hs q t u)) ∙ ap (λ (l : Held ℕ). length (queued_by l t)) (sym held)
 
-pub counted-same : (hs new : Held ℕ) (old : TaskId → ℕ) → ((t : TaskId) → old t ≡ length (queued_by hs t)) → new ≡ hs → (t : TaskId) → old t ≡ length (queued_by new t)
-counted-same hs new old is held t = is t ∙ ap (λ (l : Held ℕ). length (queued_by l t)) (sym held)
-
 -- the element at a place is made exclusive
 not_got : (es : List Elem) (p : ℕ) → slice_get es p ≡ None → length es ≤ p
 not_got [] p h = omega arith

@@ -114,3 +114,9 @@ fits_also m after c acts.Rest k h = tt
 
 pub may_call_behind : (m : MediumState) (c : SysId) (call : Call) (d : SysId) (other : Call) → ActFits m c call.act → MayCall m d other → MayCall (medium_after m c call) d other
 may_call_behind m c call d other h may = let k = keeps_both m c call h in (subst (λ n. d.0 < n) (sym k.1) may.0, fits_also m (medium_after m c call) d other.act k may.1)
+
+-- the lock words alone
+pub keeps_words : (m : MediumState) (c : SysId) (call : Call) → ActFits m c call.act → length (medium_after m c call).words ≡ length m.words
+keeps_words m c call h = (keeps_both m c call h).0
+
+pub ruleset sizes = (keeps_words)
