@@ -2,11 +2,12 @@
 use Rattle.std.proofs.Common.{◌≡◌, ℕ, zero, suc, Bool, true, false, cond, List, [], ◌∷◌, length, Option, Some, None, is_some, refl, ap, sym, ◌∙◌, subst, arith}
 use Rattle.std.specs.Prelude.{◌&&◌, not, ◌<◌, slice_set, IfSome}
 use Rattle.std.proofs.lemmas.Bool.{and_parts}
+use Rattle.std.proofs.lemmas.List.{length-set}
 use Rattle.contention_mgr.specs.Manager.{Managed, ManagerView, no_elements, entry_wanted, kept_at, kept_for, managed_at, managed_for, with_entry}
 use Rattle.grs_base.specs.declared.resource.TaskId.{TaskId}
 use Rattle.grs_node.specs.Finish.{may_come}
-use Rattle.grs_node.specs.Node.{Node, prepare, star_call, star_need, prepared_by, may_send, is_to_send, is_of_deck}
-use Rattle.grs_node.specs.Star.{StarPart, send_of, send_to, leave_by, may_leave, manages, entry_for, entry_asked, manages_any, may_decide, may_call, begun}
+use Rattle.grs_node.specs.Node.{NodeState, prepare, star_call, star_need, prepared_by, may_send, is_to_send, is_of_deck}
+use Rattle.grs_node.specs.Star.{StarPart, send_of, send_to, leave_by, may_leave, manages, entry_for, entry_asked, manages_asked, manages_if_asked, was_prepared, begun}
 use Rattle.grs_node.specs.declared.prepared.Prepared.{Prepared}
 use Rattle.grs_node.specs.declared.prepared.Prepared.TheVariants.{Quiet, Call, Nothing}
 use Rattle.grs_node.specs.declared.star.Need.{Need}
@@ -20,17 +21,17 @@ use Rattle.grs_wire.specs.declared.request.Want.{Want}
 use Rattle.task_state.specs.View.{is_task, state_of}
 use Rattle.task_state.specs.declared.state.Asked.{Asked}
 
-pub own-sender : (deck : Deck) (n : Node) (t : TaskId) → may_send deck n t ≡ true → is_task n.tasks t ≡ true
+pub own-sender : (deck : Deck) (n : NodeState) (t : TaskId) → may_send deck n t ≡ true → is_task n.tasks t ≡ true
 unfolding may_send
 own-sender deck n t h = (and_parts (is_task n.tasks t) _ h).0
 
 -- ---- a Send that is done without a call
-quiet-need : (deck : Deck) (n : Node) (t : TaskId) (o : Option StarPart) → star_call deck n o (choices.Send t) ≡ Quiet → (is_task n.tasks t ≡ true) × IfSome o (λ p. may_decide p (state_of n.tasks t).outstanding ≡ true)
+quiet-need : (deck : Deck) (n : NodeState) (t : TaskId) (o : Option StarPart) → star_call deck n o (choices.Send t) ≡ Quiet → (is_task n.tasks t ≡ true) × IfSome o (λ p. manages_if_asked p (state_of n.tasks t).outstanding ≡ true)
 unfolding star_call
 quiet-need deck n t None h = cc
 quiet-need deck n t (Some p) h = go (may_send deck n t) refl h
   where
-    decides : (x : Option Asked) → prepared_by n.known (send_of p t x) ≡ Quiet → may_decide p x ≡ true
+    decides : (x : Option Asked) → prepared_by n.known (send_of p t x) ≡ Quiet → manages_if_asked p x ≡ true
     decides None k = refl
     decides (Some a) k = at (entry_for p a.req.want) refl k
       where
@@ -42,29 +43,29 @@ quiet-need deck n t (Some p) h = go (may_send deck n t) refl h
             manages-one true k = refl
             manages-one false k = cc
 
-    go : (b : Bool) → may_send deck n t ≡ b → prepared_by n.known (cond b (send_of p t (state_of n.tasks t).outstanding) Idle) ≡ Quiet → (is_task n.tasks t ≡ true) × (may_decide p (state_of n.tasks t).outstanding ≡ true)
+    go : (b : Bool) → may_send deck n t ≡ b → prepared_by n.known (cond b (send_of p t (state_of n.tasks t).outstanding) Idle) ≡ Quiet → (is_task n.tasks t ≡ true) × (manages_if_asked p (state_of n.tasks t).outstanding ≡ true)
     go true is k = (own-sender deck n t is, decides (state_of n.tasks t).outstanding k)
     go false is k = cc
 
-pub quiet-send : (deck : Deck) (n : Node) (t : TaskId) → prepare deck n (choices.Send t) ≡ Quiet → is_task n.tasks t ≡ true
+pub quiet-send : (deck : Deck) (n : NodeState) (t : TaskId) → prepare deck n (choices.Send t) ≡ Quiet → is_task n.tasks t ≡ true
 unfolding prepare
 quiet-send deck n t h = (quiet-need deck n t n.star h).0
 
-pub quiet-decides : (deck : Deck) (n : Node) (t : TaskId) → prepare deck n (choices.Send t) ≡ Quiet → IfSome n.star (λ p. may_decide p (state_of n.tasks t).outstanding ≡ true)
+pub quiet-decides : (deck : Deck) (n : NodeState) (t : TaskId) → prepare deck n (choices.Send t) ≡ Quiet → IfSome n.star (λ p. manages_if_asked p (state_of n.tasks t).outstanding ≡ true)
 unfolding prepare
 quiet-decides deck n t h = (quiet-need deck n t n.star h).1
 
 -- ---- a choice whose call may come to a reply
-sent-need : (deck : Deck) (n : Node) (t : TaskId) (p : StarPart) (reply : Reply) → may_come (prepared_by n.known (star_need deck n p (choices.Send t))) reply ≡ true → may_call n.tasks p (choices.Send t) ≡ true
+sent-need : (deck : Deck) (n : NodeState) (t : TaskId) (p : StarPart) (reply : Reply) → may_come (prepared_by n.known (star_need deck n p (choices.Send t))) reply ≡ true → was_prepared n.tasks p (choices.Send t) ≡ true
 sent-need deck n t p reply h = go (may_send deck n t) refl h
   where
-    free : (x : Option Asked) → may_come (prepared_by n.known (send_of p t x)) reply ≡ true → manages_any p (entry_asked p x) ≡ false
+    free : (x : Option Asked) → may_come (prepared_by n.known (send_of p t x)) reply ≡ true → manages_asked p (entry_asked p x) ≡ false
     free None k = refl
     free (Some a) k = at (entry_for p a.req.want) refl k
       where
-        at : (e : Option ℕ) → entry_for p a.req.want ≡ e → may_come (prepared_by n.known (send_to p (record { task = t; want = a.req.want }) e)) reply ≡ true → manages_any p (entry_for p a.req.want) ≡ false
-        at None is k = ap (manages_any p) is
-        at (Some e) is k = ap (manages_any p) is ∙ manages-one (manages p e) k
+        at : (e : Option ℕ) → entry_for p a.req.want ≡ e → may_come (prepared_by n.known (send_to p (record { task = t; want = a.req.want }) e)) reply ≡ true → manages_asked p (entry_for p a.req.want) ≡ false
+        at None is k = ap (manages_asked p) is
+        at (Some e) is k = ap (manages_asked p) is ∙ manages-one (manages p e) k
           where
             manages-one : (b : Bool) → may_come (prepared_by n.known (cond b Alone (Asks (acts.Submit e (record { task = t; want = a.req.want }))))) reply ≡ true → b ≡ false
             manages-one true k = cc
@@ -73,18 +74,18 @@ sent-need deck n t p reply h = go (may_send deck n t) refl h
     both : (a b : Bool) → a ≡ true → b ≡ false → (a && not b) ≡ true
     both a b e f = rw (e, f) refl
 
-    go : (b : Bool) → may_send deck n t ≡ b → may_come (prepared_by n.known (cond b (send_of p t (state_of n.tasks t).outstanding) Idle)) reply ≡ true → (is_task n.tasks t && not (manages_any p (entry_asked p (state_of n.tasks t).outstanding))) ≡ true
+    go : (b : Bool) → may_send deck n t ≡ b → may_come (prepared_by n.known (cond b (send_of p t (state_of n.tasks t).outstanding) Idle)) reply ≡ true → (is_task n.tasks t && not (manages_asked p (entry_asked p (state_of n.tasks t).outstanding))) ≡ true
     go true is k = both _ _ (own-sender deck n t is) (free (state_of n.tasks t).outstanding k)
     go false is k = cc
 
-left-need : (deck : Deck) (n : Node) (e : ℕ) (p : StarPart) (reply : Reply) → may_come (prepared_by n.known (leave_by p n.tasks e)) reply ≡ true → may_leave p n.tasks e ≡ true
+left-need : (deck : Deck) (n : NodeState) (e : ℕ) (p : StarPart) (reply : Reply) → may_come (prepared_by n.known (leave_by p n.tasks e)) reply ≡ true → may_leave p n.tasks e ≡ true
 left-need deck n e p reply h = go (may_leave p n.tasks e) h
   where
     go : (b : Bool) → may_come (prepared_by n.known (cond b (Asks (acts.Leave e)) Idle)) reply ≡ true → b ≡ true
     go true k = refl
     go false k = cc
 
-need-called : (deck : Deck) (n : Node) (choice : Choice) (reply : Reply) (p : StarPart) → may_come (prepared_by n.known (star_need deck n p choice)) reply ≡ true → may_call n.tasks p choice ≡ true
+need-called : (deck : Deck) (n : NodeState) (choice : Choice) (reply : Reply) (p : StarPart) → may_come (prepared_by n.known (star_need deck n p choice)) reply ≡ true → was_prepared n.tasks p choice ≡ true
 need-called deck n (choices.Send t) reply p h = sent-need deck n t p reply h
 need-called deck n (choices.Leave e) reply p h = left-need deck n e p reply h
 need-called deck n (choices.Task t) reply p h = refl
@@ -96,16 +97,16 @@ need-called deck n choices.Switch reply p h = refl
 need-called deck n (choices.Purge s) reply p h = refl
 need-called deck n choices.Rest reply p h = refl
 
-star-called : (deck : Deck) (n : Node) (choice : Choice) (reply : Reply) (o : Option StarPart) → may_come (star_call deck n o choice) reply ≡ true → IfSome o (λ p. may_call n.tasks p choice ≡ true)
+star-called : (deck : Deck) (n : NodeState) (choice : Choice) (reply : Reply) (o : Option StarPart) → may_come (star_call deck n o choice) reply ≡ true → IfSome o (λ p. was_prepared n.tasks p choice ≡ true)
 unfolding star_call
 star-called deck n choice reply None h = tt
 star-called deck n choice reply (Some p) h = need-called deck n choice reply p h
 
-other-called : (n : Node) (choice : Choice) (o : Option StarPart) → ((p : StarPart) → may_call n.tasks p choice ≡ true) → IfSome o (λ p. may_call n.tasks p choice ≡ true)
+other-called : (n : NodeState) (choice : Choice) (o : Option StarPart) → ((p : StarPart) → was_prepared n.tasks p choice ≡ true) → IfSome o (λ p. was_prepared n.tasks p choice ≡ true)
 other-called n choice None h = tt
 other-called n choice (Some p) h = h p
 
-pub came-called : (deck : Deck) (n : Node) (choice : Choice) (reply : Reply) → may_come (prepare deck n choice) reply ≡ true → IfSome n.star (λ p. may_call n.tasks p choice ≡ true)
+pub came-called : (deck : Deck) (n : NodeState) (choice : Choice) (reply : Reply) → may_come (prepare deck n choice) reply ≡ true → IfSome n.star (λ p. was_prepared n.tasks p choice ≡ true)
 unfolding prepare
 came-called deck n (choices.Task t) reply h = other-called n (choices.Task t) n.star (λ p. refl)
 came-called deck n choices.Turn reply h = other-called n choices.Turn n.star (λ p. refl)
@@ -119,7 +120,7 @@ came-called deck n choices.Switch reply h = star-called deck n choices.Switch re
 came-called deck n (choices.Purge s) reply h = star-called deck n (choices.Purge s) reply n.star h
 
 -- a task that sends is one of the system's
-pub call-send : (deck : Deck) (n : Node) (t : TaskId) (reply : Reply) → may_come (prepare deck n (choices.Send t)) reply ≡ true → is_task n.tasks t ≡ true
+pub call-send : (deck : Deck) (n : NodeState) (t : TaskId) (reply : Reply) → may_come (prepare deck n (choices.Send t)) reply ≡ true → is_task n.tasks t ≡ true
 unfolding prepare star_call
 call-send deck n t reply h = go n.star h
   where
@@ -139,13 +140,8 @@ kept-set [] e m h = absurd (omega (arith, h))
 kept-set (o ∷ es) zero m h = refl
 kept-set (o ∷ es) (suc e) m h = kept-set es e m (omega (arith, h))
 
-length-set : (es : List (Option Managed)) (e : ℕ) (o : Option Managed) → length (slice_set es e o) ≡ length es
-length-set [] e o = refl
-length-set (x ∷ es) zero o = refl
-length-set (x ∷ es) (suc e) o = ap suc (length-set es e o)
-
 -- serves the request that is of it
-pub decides-begun : (p : StarPart) (x : Option Asked) (e : ℕ) → entry_asked p x ≡ Some e → e < length p.manager.entries → may_decide (begun p e) x ≡ true
+pub decides-begun : (p : StarPart) (x : Option Asked) (e : ℕ) → entry_asked p x ≡ Some e → e < length p.manager.entries → manages_if_asked (begun p e) x ≡ true
 decides-begun p None e is h = refl
 decides-begun p (Some a) e is h =
     let at : entry_wanted (length (slice_set p.manager.entries e (Some no_elements))) a.req.want ≡ Some e = ap (λ (n : ℕ). entry_wanted n a.req.want) (length-set p.manager.entries e (Some no_elements)) ∙ is in

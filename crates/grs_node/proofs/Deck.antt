@@ -11,12 +11,12 @@ use Rattle.grs_wire.specs.declared.deck.JobDef.{JobDef}
 use Rattle.grs_wire.specs.declared.deck.TaskDef.{TaskDef}
 use Rattle.grs_wire.specs.declared.deck.Choice.TheVariants as choices
 use Rattle.task_state.specs.View.{is_task, state_of}
-use Rattle.grs_node.specs.Node.{Node, prepare, may_go, goes_on, is_of_deck}
+use Rattle.grs_node.specs.Node.{NodeState, prepare, may_go, goes_on, is_of_deck}
 use Rattle.grs_node.specs.declared.prepared.Prepared.TheVariants.{Quiet, Nothing}
 
 -- ---- the own system
 -- a task of a system has that system's number
-own : (deck : Deck) (n : Node) (t : TaskId) → is_task n.tasks t ≡ true → scripts_of deck n.tasks.system ≡ scripts_of deck t.system.0
+own : (deck : Deck) (n : NodeState) (t : TaskId) → is_task n.tasks t ≡ true → scripts_of deck n.tasks.system ≡ scripts_of deck t.system.0
 own deck n t h = ap (λ s. scripts_of deck s) (eqb-true n.tasks.system t.system.0 (and_parts (n.tasks.system == t.system.0) (nat_lt t.task (length n.tasks.tasks)) h).0)
 
 is_some-meanings : (lists : Lists) (t : TaskId) (o : Option (List Line)) → is_some (meanings lists t o) ≡ is_some o
@@ -24,7 +24,7 @@ is_some-meanings lists t None = refl
 is_some-meanings lists t (Some ls) = refl
 
 -- whether a task may go
-pub may_go-own : (deck : Deck) (n : Node) (t : TaskId) → (is_task n.tasks t && (is_some (lines_in (scripts_of deck n.tasks.system) t) && goes_on (state_of n.tasks t).phase)) ≡ may_go deck n t
+pub may_go-own : (deck : Deck) (n : NodeState) (t : TaskId) → (is_task n.tasks t && (is_some (lines_in (scripts_of deck n.tasks.system) t) && goes_on (state_of n.tasks t).phase)) ≡ may_go deck n t
 unfolding may_go
 may_go-own deck n t = go (is_task n.tasks t) refl
   where
@@ -37,11 +37,11 @@ if_quiet : (b : Bool) → cond b Quiet Nothing ≡ Quiet → b ≡ true
 if_quiet true h = refl
 if_quiet false h = cc
 
-pub quiet-task : (deck : Deck) (n : Node) (t : TaskId) → prepare deck n (choices.Task t) ≡ Quiet → is_task n.tasks t ≡ true
+pub quiet-task : (deck : Deck) (n : NodeState) (t : TaskId) → prepare deck n (choices.Task t) ≡ Quiet → is_task n.tasks t ≡ true
 unfolding prepare may_go
 quiet-task deck n t h = (and_parts _ _ (if_quiet _ h)).0
 
-pub lines-own : (deck : Deck) (n : Node) (t : TaskId) → prepare deck n (choices.Task t) ≡ Quiet → meanings deck.lists t (lines_in (scripts_of deck n.tasks.system) t) ≡ lines_of deck t
+pub lines-own : (deck : Deck) (n : NodeState) (t : TaskId) → prepare deck n (choices.Task t) ≡ Quiet → meanings deck.lists t (lines_in (scripts_of deck n.tasks.system) t) ≡ lines_of deck t
 lines-own deck n t h = ap (λ s. meanings deck.lists t (lines_in s t)) (own deck n t (quiet-task deck n t h))
 
 pub ruleset of_system = (may_go-own, quiet-task, lines-own)

@@ -6,8 +6,8 @@ use Rattle.grs_wire.specs.declared.medium.Reply.TheVariants as replies
 use Rattle.grs_node.specs.Finish.{UnjournalledLeaves, RepliesLeave}
 use Rattle.grs_node.specs.Log.{finished}
 use Rattle.grs_base.specs.declared.resource.TaskId.{TaskId}
-use Rattle.grs_node.specs.Node.{Node, only, with_star, take_step, star_step, read_entries, all_sent, put_in, finish_star, finish_call, finish}
-use Rattle.grs_node.specs.Star.{StarPart, quiet_step, send_step, settle_step, tell_step, leave_step}
+use Rattle.grs_node.specs.Node.{NodeState, only, with_star, take_step, star_step, read_entries, all_sent, put_in, finish_star, finish_call, finish}
+use Rattle.grs_node.specs.Star.{StarPart, fixing_none, send_step, settle_step, tell_step, leave_step}
 use Rattle.grs_wire.specs.declared.deck.Choice.{Choice}
 use Rattle.grs_wire.specs.declared.deck.Choice.TheVariants as choices
 use Rattle.grs_wire.specs.declared.deck.Deck.{Deck}
@@ -15,7 +15,7 @@ use Rattle.grs_wire.specs.declared.medium.Reply.{Reply}
 use Rattle.task_state.specs.View.{TasksView}
 
 -- a reply that says nothing new to any choice of star mode
-by-choice : (deck : Deck) (v : TasksView) (p : StarPart) (reply : Reply) → ((t : TaskId) → send_step v p t reply ≡ quiet_step v p) → take_step deck v p reply ≡ quiet_step v p → settle_step v p reply ≡ quiet_step v p → ((e : ℕ) → tell_step v p e reply ≡ quiet_step v p) → ((e : ℕ) → leave_step v p e reply ≡ quiet_step v p) → (choice : Choice) → star_step deck v p choice reply ≡ quiet_step v p
+by-choice : (deck : Deck) (v : TasksView) (p : StarPart) (reply : Reply) → ((t : TaskId) → send_step v p t reply ≡ fixing_none v p) → take_step deck v p reply ≡ fixing_none v p → settle_step v p reply ≡ fixing_none v p → ((e : ℕ) → tell_step v p e reply ≡ fixing_none v p) → ((e : ℕ) → leave_step v p e reply ≡ fixing_none v p) → (choice : Choice) → star_step deck v p choice reply ≡ fixing_none v p
 by-choice deck v p reply send take settle tell leave (choices.Send t) = send t
 by-choice deck v p reply send take settle tell leave choices.Take = take
 by-choice deck v p reply send take settle tell leave choices.Settle = settle
@@ -27,11 +27,11 @@ by-choice deck v p reply send take settle tell leave choices.Switch = refl
 by-choice deck v p reply send take settle tell leave (choices.Purge s) = refl
 by-choice deck v p reply send take settle tell leave choices.Rest = refl
 
-restored : (n : Node) (p : StarPart) → n.star ≡ Some p → with_star n (quiet_step n.tasks p) ≡ only n
+restored : (n : NodeState) (p : StarPart) → n.star ≡ Some p → with_star n (fixing_none n.tasks p) ≡ only n
 restored n p is = ap (λ (o : Option StarPart). only (record n { star = o })) (sym is)
 
 -- leaves the system
-still : (deck : Deck) (n : Node) (choice : Choice) (reply : Reply) → ((p : StarPart) → star_step deck n.tasks p choice reply ≡ quiet_step n.tasks p) → finish_star deck n n.star choice reply ≡ only n
+still : (deck : Deck) (n : NodeState) (choice : Choice) (reply : Reply) → ((p : StarPart) → star_step deck n.tasks p choice reply ≡ fixing_none n.tasks p) → finish_star deck n n.star choice reply ≡ only n
 unfolding finish_star
 still deck n choice reply same = go n.star refl
   where

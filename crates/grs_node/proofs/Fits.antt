@@ -7,7 +7,7 @@ use Rattle.std.specs.Ordering.{is_lt}
 use Rattle.grs_base.specs.ResOrder.{res_order}
 use Rattle.std.proofs.lemmas.Bool.{and_parts, eqb-true}
 use Rattle.std.proofs.lemmas.Bool.Decides.{nat_tests}
-use Rattle.std.proofs.lemmas.List.{length-take}
+use Rattle.std.proofs.lemmas.List.{length-set, length-take}
 use Rattle.std.proofs.lemmas.Nat.{mod_below}
 use Rattle.grs_base.specs.Slices.{entry_of, slice_of}
 use Rattle.grs_base.specs.declared.resource.Res.TheVariants.{Step as StepRes, System as SystemRes, Systems}
@@ -19,8 +19,8 @@ use Rattle.grs_base.specs.declared.resource.SysId.{SysId}
 use Rattle.grs_base.specs.declared.resource.TaskId.{TaskId}
 use Rattle.grs_node.specs.Addressed.{is_act_addressed, is_addressed, is_within, PartFits, AnyPartFits, NodeFits}
 use Rattle.grs_node.specs.Log.{stepped}
-use Rattle.grs_node.specs.Node.{Node, Step, first_node, prepare, star_call, prepared_by, star_need, turn_call, may_go, may_send, is_pending, finish_quiet, finish_call, finish_star, star_step, take_step, take_mail, is_of_deck, send_own, read_entries, put_in}
-use Rattle.grs_node.specs.Star.{StarPart, first_part, entry_asked, to_tell, send_of, send_to, first_held, answer_for, rank_of, settle_by, tell_by, leave_by, may_leave, has_interest, manages, serves, entry_for, quiet_step, own_step, decide_own, begun, begin_at, sent_to, holds, took_mail, settled_by, settled_first, told_by, not_managing, left_at, send_step, settle_step, tell_step, leave_step}
+use Rattle.grs_node.specs.Node.{NodeState, Step, first_node, prepare, star_call, prepared_by, star_need, turn_call, may_go, may_send, is_pending, finish_quiet, finish_call, finish_star, star_step, take_step, take_mail, is_of_deck, send_own, read_entries, put_in}
+use Rattle.grs_node.specs.Star.{StarPart, first_part, entry_asked, to_tell, send_of, send_to, first_held, answer_for, rank_of, settle_by, tell_by, leave_by, may_leave, has_interest, manages, serves, entry_for, fixing_none, own_step, decide_own, begun, begin_at, sent_to, with_held, took_mail, settled_by, settled_first, told_by, not_managing, left_at, send_step, settle_step, tell_step, leave_step}
 use Rattle.grs_node.specs.declared.prepared.Prepared.TheVariants.{Quiet, Call, Nothing}
 use Rattle.grs_node.specs.declared.star.Need.{Need}
 use Rattle.grs_node.specs.declared.star.Need.TheVariants.{Alone, Asks, Idle}
@@ -166,7 +166,7 @@ module _ (deck : Deck) (home : ℕ) (p : StarPart) (fits : PartFits deck home p)
       go false is = refl
       go true is = ap (λ (n : ℕ). nat_lt e n) (sym fits.interest) ∙ interest-below p.interest e (and_parts (has_interest p e) _ is).0
 
-need-choice : (deck : Deck) (home : ℕ) (n : Node) (p : StarPart) → PartFits deck home p → (choice : Choice) → need-fits deck (star_need deck n p choice) ≡ true
+need-choice : (deck : Deck) (home : ℕ) (n : NodeState) (p : StarPart) → PartFits deck home p → (choice : Choice) → need-fits deck (star_need deck n p choice) ≡ true
 need-choice deck home n p fits (choices.Send t) = go (may_send deck n t)
   where
     go : (b : Bool) → need-fits deck (cond b (send_of p t (state_of n.tasks t).outstanding) Idle) ≡ true
@@ -182,12 +182,12 @@ need-choice deck home n p fits choices.Switch = refl
 need-choice deck home n p fits (choices.Purge s) = refl
 need-choice deck home n p fits choices.Rest = refl
 
-star-call-fits : (deck : Deck) (home : ℕ) (n : Node) (o : Option StarPart) (choice : Choice) → AnyPartFits deck home o → is_addressed deck (star_call deck n o choice) ≡ true
+star-call-fits : (deck : Deck) (home : ℕ) (n : NodeState) (o : Option StarPart) (choice : Choice) → AnyPartFits deck home o → is_addressed deck (star_call deck n o choice) ≡ true
 unfolding star_call
 star-call-fits deck home n None choice fits = refl
 star-call-fits deck home n (Some p) choice fits = prepared-fits deck n.known (star_need deck n p choice) (need-choice deck home n p fits choice)
 
-turn-fits : (deck : Deck) (n : Node) (o : Option StarPart) → is_addressed deck (turn_call n o) ≡ true
+turn-fits : (deck : Deck) (n : NodeState) (o : Option StarPart) → is_addressed deck (turn_call n o) ≡ true
 turn-fits deck n None = let few = length-take 32 n.outbox in grind (arith, nat_tests, few)
 turn-fits deck n (Some p) = refl
 
@@ -199,7 +199,7 @@ rest-fits : (deck : Deck) (known : ℕ) (b : Bool) → is_addressed deck (cond b
 rest-fits deck known true = refl
 rest-fits deck known false = refl
 
-pub prepare-addressed : (deck : Deck) (n : Node) (choice : Choice) → NodeFits deck n → is_addressed deck (prepare deck n choice) ≡ true
+pub prepare-addressed : (deck : Deck) (n : NodeState) (choice : Choice) → NodeFits deck n → is_addressed deck (prepare deck n choice) ≡ true
 unfolding prepare
 prepare-addressed deck n (choices.Task t) fits = quiet-fits deck (may_go deck n t)
 prepare-addressed deck n choices.Turn fits = turn-fits deck n n.star
@@ -213,11 +213,6 @@ prepare-addressed deck n choices.Switch fits = star-call-fits deck n.tasks.syste
 prepare-addressed deck n (choices.Purge s) fits = star-call-fits deck n.tasks.system n n.star (choices.Purge s) fits.part
 
 -- ---- what a step leaves
-length-set : {X : Type 0} (xs : List X) (i : ℕ) (x : X) → length (slice_set xs i x) ≡ length xs
-length-set [] i x = refl
-length-set (y ∷ xs) zero x = refl
-length-set (y ∷ xs) (suc i) x = ap suc (length-set xs i x)
-
 -- a manager of the same system, of as many lock entries
 abbrev SameManager : ManagerView → ManagerView → Type 0
 SameManager v w = (w.system.0 ≡ v.system.0) × (length w.entries ≡ length v.entries)
@@ -261,8 +256,8 @@ module _ (deck : Deck) (home : ℕ) where
   sent-fits v p t None h = h
   sent-fits v p t (Some e) h = with-interest-fits p e true h
 
-  holds-fits : (p : StarPart) (e : ℕ) (q : Req) → PartFits deck home p → is_within deck q.task ≡ true → PartFits deck home (holds p e q)
-  holds-fits p e q h own = go _
+  with_held-fits : (p : StarPart) (e : ℕ) (q : Req) → PartFits deck home p → is_within deck q.task ≡ true → PartFits deck home (with_held p e q)
+  with_held-fits p e q h own = go _
     where
       go : (b : Bool) → PartFits deck home (cond b (record p { held = p.held ++ q ∷ [] }) p)
       go true = record { system = h.system; some = h.some; entries = h.entries; interest = h.interest; elements = h.elements; held = all-push (λ x. is_within deck x.task) p.held q h.held own }
@@ -283,7 +278,7 @@ module _ (deck : Deck) (home : ℕ) where
       part : (q : Req) → slice_get p.held 0 ≡ Some q → PartFits deck home (record p { manager = after_request p.manager q.task q.want; held = drop 1 p.held })
       part q is = let k : PartFits deck home (record p { manager = after_request p.manager q.task q.want }) = request-fits p q.task q.want h (first p.held q h.held is) in record { system = k.system; some = k.some; entries = k.entries; interest = k.interest; elements = k.elements; held = rest p.held h.held }
 
-      either : (q : Req) → slice_get p.held 0 ≡ Some q → (b : Bool) → PartFits deck home (cond b (settled_first v p q) (quiet_step v p)).part
+      either : (q : Req) → slice_get p.held 0 ≡ Some q → (b : Bool) → PartFits deck home (cond b (settled_first v p q) (fixing_none v p)).part
       either q is true = part q is
       either q is false = h
 
@@ -311,7 +306,7 @@ deck-task deck t h = go (slice_get deck.systems t.system.0) refl h
     go (Some s) is some = lt-below t.system.0 (length deck.systems) (slice_get_within deck.systems t.system.0 s is)
 
 -- an own task is
-own-task : (deck : Deck) (n : Node) (t : TaskId) → NodeFits deck n → is_task n.tasks t ≡ true → is_within deck t ≡ true
+own-task : (deck : Deck) (n : NodeState) (t : TaskId) → NodeFits deck n → is_task n.tasks t ≡ true → is_within deck t ≡ true
 own-task deck n t fits h =
     let own : n.tasks.system ≡ t.system.0 = eqb-true n.tasks.system t.system.0 (and_parts (n.tasks.system == t.system.0) (nat_lt t.task (length n.tasks.tasks)) h).0 in
     let below : n.tasks.system < length deck.systems = fits.system in
@@ -349,18 +344,18 @@ module _ (deck : Deck) (home : ℕ) (v : TasksView) (p : StarPart) (fits : PartF
   unfolding took_mail
   mail-fits (mails.Request e from q) = go (nat_lt from.0 (length deck.systems)) (is_of_deck deck q.task) refl
     where
-      go : (b d : Bool) → is_of_deck deck q.task ≡ d → PartFits deck home (cond (b && d) (took_mail v p (mails.Request e from q)) (quiet_step v p)).part
+      go : (b d : Bool) → is_of_deck deck q.task ≡ d → PartFits deck home (cond (b && d) (took_mail v p (mails.Request e from q)) (fixing_none v p)).part
       go false d is = fits
       go true false is = fits
-      go true true is = holds-fits deck home p e q fits (deck-task deck q.task is)
+      go true true is = with_held-fits deck home p e q fits (deck-task deck q.task is)
   mail-fits (mails.Answered t answer rank) = go (is_of_deck deck t)
     where
-      go : (b : Bool) → PartFits deck home (cond b (took_mail v p (mails.Answered t answer rank)) (quiet_step v p)).part
+      go : (b : Bool) → PartFits deck home (cond b (took_mail v p (mails.Answered t answer rank)) (fixing_none v p)).part
       go true = fits
       go false = fits
   mail-fits (mails.Granted t r) = go (is_of_deck deck t)
     where
-      go : (b : Bool) → PartFits deck home (cond b (took_mail v p (mails.Granted t r)) (quiet_step v p)).part
+      go : (b : Bool) → PartFits deck home (cond b (took_mail v p (mails.Granted t r)) (fixing_none v p)).part
       go true = fits
       go false = fits
 
@@ -396,12 +391,12 @@ star-step-fits deck home v p choices.Switch reply h own = h
 star-step-fits deck home v p (choices.Purge s) reply h own = h
 star-step-fits deck home v p choices.Rest reply h own = h
 
-finish-star-fits : (deck : Deck) (home : ℕ) (n : Node) (o : Option StarPart) (choice : Choice) (reply : Reply) → n.star ≡ o → AnyPartFits deck home o → Sends deck choice → AnyPartFits deck home (finish_star deck n o choice reply).node.star
+finish-star-fits : (deck : Deck) (home : ℕ) (n : NodeState) (o : Option StarPart) (choice : Choice) (reply : Reply) → n.star ≡ o → AnyPartFits deck home o → Sends deck choice → AnyPartFits deck home (finish_star deck n o choice reply).node.star
 unfolding finish_star
 finish-star-fits deck home n None choice reply is h own = subst (AnyPartFits deck home) (sym is) h
 finish-star-fits deck home n (Some p) choice reply is h own = star-step-fits deck home n.tasks p choice reply h own
 
-call-part : (deck : Deck) (n : Node) (choice : Choice) (reply : Reply) → NodeFits deck n → Sends deck choice → AnyPartFits deck n.tasks.system (finish_call deck n choice reply).node.star
+call-part : (deck : Deck) (n : NodeState) (choice : Choice) (reply : Reply) → NodeFits deck n → Sends deck choice → AnyPartFits deck n.tasks.system (finish_call deck n choice reply).node.star
 unfolding finish_call
 call-part deck n choice (replies.Turned entries taken closed) fits own = subst (AnyPartFits deck n.tasks.system) (sym (star-turned deck n entries taken)) fits.part
 call-part deck n choice (replies.NotYours holder) fits own = finish-star-fits deck n.tasks.system n n.star choice (replies.NotYours holder) refl fits.part own
@@ -424,7 +419,7 @@ call-part deck n choice replies.Over fits own = finish-star-fits deck n.tasks.sy
 call-part deck n choice (replies.Stale set) fits own = fits.part
 call-part deck n choice replies.Removed fits own = finish-star-fits deck n.tasks.system n n.star choice replies.Removed refl fits.part own
 
-quiet-part : (deck : Deck) (n : Node) (choice : Choice) → NodeFits deck n → Sends deck choice → AnyPartFits deck n.tasks.system (finish_quiet deck n choice).node.star
+quiet-part : (deck : Deck) (n : NodeState) (choice : Choice) → NodeFits deck n → Sends deck choice → AnyPartFits deck n.tasks.system (finish_quiet deck n choice).node.star
 unfolding finish_quiet
 quiet-part deck n (choices.Task t) fits own = subst (AnyPartFits deck n.tasks.system) (sym (star-task deck.limit n t (lines_of deck t))) fits.part
 quiet-part deck n (choices.Send t) fits own = go n.star refl fits.part
@@ -442,7 +437,7 @@ quiet-part deck n (choices.Purge s) fits own = fits.part
 quiet-part deck n choices.Rest fits own = fits.part
 
 -- who sends is a task of the system
-sends-quiet : (deck : Deck) (n : Node) (choice : Choice) → NodeFits deck n → prepare deck n choice ≡ Quiet → Sends deck choice
+sends-quiet : (deck : Deck) (n : NodeState) (choice : Choice) → NodeFits deck n → prepare deck n choice ≡ Quiet → Sends deck choice
 sends-quiet deck n (choices.Send t) fits h = own-task deck n t fits (quiet-send deck n t h)
 sends-quiet deck n (choices.Task t) fits h = tt
 sends-quiet deck n choices.Turn fits h = tt
@@ -454,7 +449,7 @@ sends-quiet deck n choices.Switch fits h = tt
 sends-quiet deck n (choices.Purge s) fits h = tt
 sends-quiet deck n choices.Rest fits h = tt
 
-sends-call : (deck : Deck) (n : Node) (choice : Choice) (reply : Reply) → NodeFits deck n → may_come (prepare deck n choice) reply ≡ true → Sends deck choice
+sends-call : (deck : Deck) (n : NodeState) (choice : Choice) (reply : Reply) → NodeFits deck n → may_come (prepare deck n choice) reply ≡ true → Sends deck choice
 sends-call deck n (choices.Send t) reply fits h = own-task deck n t fits (call-send deck n t reply h)
 sends-call deck n (choices.Task t) reply fits h = tt
 sends-call deck n choices.Turn reply fits h = tt
@@ -467,20 +462,20 @@ sends-call deck n (choices.Purge s) reply fits h = tt
 sends-call deck n choices.Rest reply fits h = tt
 
 -- the system afterwards
-fits-of : (deck : Deck) (n : Node) (m : Node) (s : Step) (fixed : List Fixed) → NodeFits deck n → m.tasks.system ≡ n.tasks.system → stepped m fixed ≡ s → AnyPartFits deck n.tasks.system s.node.star → NodeFits deck m
+fits-of : (deck : Deck) (n : NodeState) (m : NodeState) (s : Step) (fixed : List Fixed) → NodeFits deck n → m.tasks.system ≡ n.tasks.system → stepped m fixed ≡ s → AnyPartFits deck n.tasks.system s.node.star → NodeFits deck m
 fits-of deck n m s fixed fits same is h = record { system = subst (λ (k : ℕ). k < length deck.systems) (sym same) fits.system; part = subst (λ (k : ℕ). AnyPartFits deck k m.star) (sym same) (subst (λ (x : Step). AnyPartFits deck n.tasks.system x.node.star) (sym is) h) }
 
-pub quiet-fits-after : (deck : Deck) (n m : Node) (choice : Choice) (fixed : List Fixed) → NodeFits deck n → prepare deck n choice ≡ Quiet → m.tasks.system ≡ n.tasks.system → stepped m fixed ≡ finish_quiet deck n choice → NodeFits deck m
+pub quiet-fits-after : (deck : Deck) (n m : NodeState) (choice : Choice) (fixed : List Fixed) → NodeFits deck n → prepare deck n choice ≡ Quiet → m.tasks.system ≡ n.tasks.system → stepped m fixed ≡ finish_quiet deck n choice → NodeFits deck m
 quiet-fits-after deck n m choice fixed fits h same is = fits-of deck n m (finish_quiet deck n choice) fixed fits same is (quiet-part deck n choice fits (sends-quiet deck n choice fits h))
 
-pub call-fits-after : (deck : Deck) (n m : Node) (choice : Choice) (reply : Reply) (fixed : List Fixed) → NodeFits deck n → may_come (prepare deck n choice) reply ≡ true → m.tasks.system ≡ n.tasks.system → stepped m fixed ≡ finish_call deck n choice reply → NodeFits deck m
+pub call-fits-after : (deck : Deck) (n m : NodeState) (choice : Choice) (reply : Reply) (fixed : List Fixed) → NodeFits deck n → may_come (prepare deck n choice) reply ≡ true → m.tasks.system ≡ n.tasks.system → stepped m fixed ≡ finish_call deck n choice reply → NodeFits deck m
 call-fits-after deck n m choice reply fixed fits h same is = fits-of deck n m (finish_call deck n choice reply) fixed fits same is (call-part deck n choice reply fits (sends-call deck n choice reply fits h))
 
-pub turned-fits-after : (deck : Deck) (n m : Node) (es : List RingEntry) (taken : ℕ) (fixed : List Fixed) → NodeFits deck n → m.tasks.system ≡ n.tasks.system → stepped m fixed ≡ put_in (read_entries deck n es) taken → NodeFits deck m
+pub turned-fits-after : (deck : Deck) (n m : NodeState) (es : List RingEntry) (taken : ℕ) (fixed : List Fixed) → NodeFits deck n → m.tasks.system ≡ n.tasks.system → stepped m fixed ≡ put_in (read_entries deck n es) taken → NodeFits deck m
 turned-fits-after deck n m es taken fixed fits same is = fits-of deck n m (put_in (read_entries deck n es) taken) fixed fits same is (subst (AnyPartFits deck n.tasks.system) (sym (star-turned deck n es taken)) fits.part)
 
 -- a system that is given up has no part
-pub gone-fits : (deck : Deck) (n m : Node) → NodeFits deck n → m.tasks.system ≡ n.tasks.system → m.star ≡ None → NodeFits deck m
+pub gone-fits : (deck : Deck) (n m : NodeState) → NodeFits deck n → m.tasks.system ≡ n.tasks.system → m.star ≡ None → NodeFits deck m
 gone-fits deck n m fits same is = record { system = subst (λ (k : ℕ). k < length deck.systems) (sym same) fits.system; part = subst (AnyPartFits deck m.tasks.system) (sym is) tt }
 
 pub ruleset first = (first-fits)

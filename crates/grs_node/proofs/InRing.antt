@@ -1,7 +1,7 @@
 -- A system in a ring: it has no part in star mode, and what its events come to is told without one.
 use Rattle.std.proofs.Common.{◌≡◌, ℕ, Bool, true, false, cond, List, [], ◌∷◌, ◌++◌, length, take, Option, Some, None, is_some, refl, ap, sym, ◌∙◌}
 use Rattle.grs_base.specs.declared.resource.TaskId.{TaskId}
-use Rattle.grs_node.specs.Node.{Node, Step, only, most_additions, post, outbox_with, prepare, star_call, turn_call, may_go, is_pending, read_entries, put_in, finish_quiet, send_own, finish_star, finish_call, finish}
+use Rattle.grs_node.specs.Node.{NodeState, Step, only, most_additions, post, outbox_with, prepare, star_call, turn_call, may_go, is_pending, read_entries, put_in, finish_quiet, send_own, finish_star, finish_call, finish}
 use Rattle.grs_node.specs.Star.{StarPart}
 use Rattle.grs_node.specs.declared.prepared.Prepared.{Prepared}
 use Rattle.grs_node.specs.declared.prepared.Prepared.TheVariants.{Quiet, Call, Nothing}
@@ -17,17 +17,17 @@ use Rattle.grs_wire.specs.declared.request.Want.{Want}
 use Rattle.grs_legal.specs.Asks.{lines_of}
 
 -- what a choice comes to
-abbrev pub ring_prepare : Deck → Node → Choice → Prepared
+abbrev pub ring_prepare : Deck → NodeState → Choice → Prepared
 ring_prepare deck n (choices.Task t) = cond (may_go deck n t) Quiet Nothing
 ring_prepare deck n choices.Turn = Call (record { known = n.known; act = acts.Turn (take most_additions n.outbox) })
 ring_prepare deck n choices.Rest = cond (is_pending deck n) Nothing (Call (record { known = n.known; act = acts.Rest }))
 ring_prepare deck n choice = Nothing
 
-no_call : (deck : Deck) (n : Node) (choice : Choice) → n.star ≡ None → star_call deck n n.star choice ≡ Nothing
+no_call : (deck : Deck) (n : NodeState) (choice : Choice) → n.star ≡ None → star_call deck n n.star choice ≡ Nothing
 unfolding star_call
 no_call deck n choice h = ap (λ (o : Option StarPart). star_call deck n o choice) h
 
-pub prepare-ring : (deck : Deck) (n : Node) (choice : Choice) → n.star ≡ None → prepare deck n choice ≡ ring_prepare deck n choice
+pub prepare-ring : (deck : Deck) (n : NodeState) (choice : Choice) → n.star ≡ None → prepare deck n choice ≡ ring_prepare deck n choice
 unfolding prepare
 prepare-ring deck n (choices.Task t) h = refl
 prepare-ring deck n choices.Turn h = ap (turn_call n) h
@@ -41,16 +41,16 @@ prepare-ring deck n choices.Switch h = no_call deck n choices.Switch h
 prepare-ring deck n (choices.Purge s) h = no_call deck n (choices.Purge s) h
 
 -- what a reply comes to
-abbrev pub ring_finish : Deck → Node → Reply → Step
+abbrev pub ring_finish : Deck → NodeState → Reply → Step
 ring_finish deck n (replies.Turned entries taken closed) = put_in (read_entries deck n entries) taken
 ring_finish deck n (replies.Stale set) = only (record n { known = set })
 ring_finish deck n reply = only n
 
-no_step : (deck : Deck) (n : Node) (choice : Choice) (reply : Reply) → n.star ≡ None → finish_star deck n n.star choice reply ≡ only n
+no_step : (deck : Deck) (n : NodeState) (choice : Choice) (reply : Reply) → n.star ≡ None → finish_star deck n n.star choice reply ≡ only n
 unfolding finish_star
 no_step deck n choice reply h = ap (λ (o : Option StarPart). finish_star deck n o choice reply) h
 
-pub finish-ring : (deck : Deck) (n : Node) (choice : Choice) (reply : Reply) → n.star ≡ None → finish_call deck n choice reply ≡ ring_finish deck n reply
+pub finish-ring : (deck : Deck) (n : NodeState) (choice : Choice) (reply : Reply) → n.star ≡ None → finish_call deck n choice reply ≡ ring_finish deck n reply
 unfolding finish_call
 finish-ring deck n choice (replies.Turned entries taken closed) h = refl
 finish-ring deck n choice (replies.Stale set) h = refl
@@ -74,11 +74,11 @@ finish-ring deck n choice replies.Over h = no_step deck n choice replies.Over h
 finish-ring deck n choice replies.Removed h = no_step deck n choice replies.Removed h
 
 -- a request waits in the outbox
-pub outbox-ring : (n : Node) (q : Req) → n.star ≡ None → outbox_with n q ≡ n.outbox ++ q ∷ []
+pub outbox-ring : (n : NodeState) (q : Req) → n.star ≡ None → outbox_with n q ≡ n.outbox ++ q ∷ []
 outbox-ring n q h = ap (λ (o : Option StarPart). cond (is_some o) n.outbox (n.outbox ++ q ∷ [])) h
 
 -- ---- it stays in the ring
-ring-finished : (deck : Deck) (n : Node) (reply : Reply) → (ring_finish deck n reply).node.star ≡ n.star
+ring-finished : (deck : Deck) (n : NodeState) (reply : Reply) → (ring_finish deck n reply).node.star ≡ n.star
 ring-finished deck n (replies.Turned entries taken closed) = star-turned deck n entries taken
 ring-finished deck n (replies.Stale set) = refl
 ring-finished deck n (replies.NotYours holder) = refl
@@ -100,7 +100,7 @@ ring-finished deck n replies.Resting = refl
 ring-finished deck n replies.Over = refl
 ring-finished deck n replies.Removed = refl
 
-ring-quiet : (deck : Deck) (n : Node) (choice : Choice) → n.star ≡ None → (finish_quiet deck n choice).node.star ≡ None
+ring-quiet : (deck : Deck) (n : NodeState) (choice : Choice) → n.star ≡ None → (finish_quiet deck n choice).node.star ≡ None
 unfolding finish_quiet
 ring-quiet deck n (choices.Task t) h = star-task deck.limit n t (lines_of deck t) ∙ h
 ring-quiet deck n (choices.Send t) h = ap (λ (o : Option StarPart). (send_own n t o).node.star) h ∙ h
@@ -113,7 +113,7 @@ ring-quiet deck n choices.Switch h = h
 ring-quiet deck n (choices.Purge s) h = h
 ring-quiet deck n choices.Rest h = h
 
-pub ring-stays : (deck : Deck) (n : Node) (choice : Choice) (reply : Option Reply) → n.star ≡ None → (finish deck n choice reply).node.star ≡ None
+pub ring-stays : (deck : Deck) (n : NodeState) (choice : Choice) (reply : Option Reply) → n.star ≡ None → (finish deck n choice reply).node.star ≡ None
 unfolding finish
 ring-stays deck n choice None h = ring-quiet deck n choice h
 ring-stays deck n choice (Some reply) h = ap (λ (s : Step). s.node.star) (finish-ring deck n choice reply h) ∙ (ring-finished deck n reply ∙ h)

@@ -9,7 +9,7 @@ use Rattle.grs_base.specs.declared.rnl.Which.TheVariants as which
 use Rattle.grs_wire.specs.declared.deck.Deck.{Deck}
 use Rattle.grs_wire.specs.declared.medium.RingBody.{RingBody}
 use Rattle.grs_wire.specs.declared.request.Want.TheVariants.{Enq}
-use Rattle.grs_node.specs.Node.{Node, read_entry}
+use Rattle.grs_node.specs.Node.{NodeState, read_entry}
 use Rattle.ring_mode.specs.Ring.{answer_own, process, process_entry}
 use Rattle.task_state.specs.Replies.{tell_all, tell_new}
 use Rattle.task_state.specs.View.{new_tasks}
@@ -82,8 +82,8 @@ deck = record {
   events = [];
 }
 
-abbrev node : Node
-node = record { tasks = record { system = 0; tasks = new_tasks 1; told = [] }; held = []; shared = []; outbox = []; star = None; known = 0; done = 0 }
+abbrev node : NodeState
+node = record { tasks = record { system = 0; tasks = new_tasks 1; told = [] }; own = []; shared = []; outbox = []; star = None; known = 0; done = 0 }
 
 -- an entry by which a task of the second system asks for (A,B), and its element in the table
 abbrev entry_of : ℕ → ℕ → ℕ → RingBody

@@ -12,8 +12,8 @@ use Rattle.grs_base.specs.declared.resource.Ret.TheVariants.{RetNone}
 use Rattle.grs_base.specs.declared.resource.SysId.{SysId}
 use Rattle.grs_base.specs.declared.resource.TaskId.{TaskId}
 use Rattle.grs_base.specs.declared.rnl.Which.TheVariants as which
-use Rattle.grs_node.specs.Node.{Node, take_mail, is_pending, prepare, star_call, may_send}
-use Rattle.grs_node.specs.Star.{StarPart, quiet_step, own_step, decide_own, took_mail, settle_step, begun, left_at, leave_by, first_held, settle_by, send_of}
+use Rattle.grs_node.specs.Node.{NodeState, take_mail, is_pending, prepare, star_call, may_send}
+use Rattle.grs_node.specs.Star.{StarPart, fixing_none, own_step, decide_own, took_mail, settle_step, begun, left_at, leave_by, first_held, settle_by, send_of}
 use Rattle.grs_node.specs.declared.prepared.Prepared.{Prepared}
 use Rattle.grs_node.specs.declared.prepared.Prepared.TheVariants.{Quiet, Call, Nothing}
 use Rattle.grs_node.specs.declared.star.Need.TheVariants.{Alone, Asks, Idle}
@@ -31,8 +31,8 @@ use Rattle.grs_wire.specs.declared.request.Want.TheVariants.{Enq, Deq, Look}
 use Rattle.grs_wire.specs.declared.told.ToldLine.{ToldLine}
 use Rattle.grs_wire.specs.declared.told.ToldLine.TheVariants as told
 use Rattle.grs_wire.specs.declared.told.Verb.TheVariants as verbs
-use Rattle.star_client.specs.Client.{settled_ranked, after_mail}
-use Rattle.task_state.specs.Replies.{tell_code, record_enq, answered, replied, tell_line, tell_untold, tell_control, tell_all, tell_new, recalled, settled}
+use Rattle.star_client.specs.Client.{tell_answer_ranked, after_mail}
+use Rattle.task_state.specs.Replies.{tell_code, record_enq, answered, replied, tell_line, tell_untold, tell_control, tell_all, tell_new, recalled, tell_answer}
 use Rattle.task_state.specs.View.{TasksView, new_tasks, state_of, with_state, with_phase, with_outstanding, with_record, without_record, with_told, with_rank, telling}
 use Rattle.task_state.specs.declared.state.Asked.{Asked}
 use Rattle.task_state.specs.declared.state.Phase.{Phase}
@@ -107,85 +107,85 @@ abbrev listing : List Ranked → List Req → StarPart
 listing xs held = at_fourth (Some (record { next = 3; items = xs })) true held
 
 -- ---- requests of others
-held : take_mail deck tasks (managing []) (Request 4 (system 1) (asks (task 1 0) enq)) ≡ quiet_step tasks (managing (asks (task 1 0) enq ∷ []))
+held : take_mail deck tasks (managing []) (Request 4 (system 1) (asks (task 1 0) enq)) ≡ fixing_none tasks (managing (asks (task 1 0) enq ∷ []))
 unfolding took_mail
 held = refl
 
 -- of another entry than that of the resource
-other_entry : take_mail deck tasks (managing []) (Request 5 (system 1) (asks (task 1 0) enq)) ≡ quiet_step tasks (managing [])
+other_entry : take_mail deck tasks (managing []) (Request 5 (system 1) (asks (task 1 0) enq)) ≡ fixing_none tasks (managing [])
 unfolding took_mail
 other_entry = refl
 
 -- of an entry that there isn't
-no_entry : take_mail deck tasks (managing []) (Request 16 (system 1) (asks (task 1 0) enq)) ≡ quiet_step tasks (managing [])
+no_entry : take_mail deck tasks (managing []) (Request 16 (system 1) (asks (task 1 0) enq)) ≡ fixing_none tasks (managing [])
 unfolding took_mail
 no_entry = refl
 
 -- of an entry that isn't managed
-unmanaged : take_mail deck tasks (at_fourth None false []) (Request 4 (system 1) (asks (task 1 0) enq)) ≡ quiet_step tasks (at_fourth None false [])
+unmanaged : take_mail deck tasks (at_fourth None false []) (Request 4 (system 1) (asks (task 1 0) enq)) ≡ fixing_none tasks (at_fourth None false [])
 unfolding took_mail
 unmanaged = refl
 
 -- for a resource of one system alone, and for slices that there aren't
-own_resource : take_mail deck tasks (managing []) (Request 4 (system 1) (asks (task 1 0) (Deq (System (system 1) (codes "A") (codes "B")) false))) ≡ quiet_step tasks (managing [])
+own_resource : take_mail deck tasks (managing []) (Request 4 (system 1) (asks (task 1 0) (Deq (System (system 1) (codes "A") (codes "B")) false))) ≡ fixing_none tasks (managing [])
 unfolding took_mail
 own_resource = refl
 
-own_step_resource : take_mail deck tasks (managing []) (Request 4 (system 1) (asks (task 1 0) (Deq (Step (system 1) 0 (codes "A") (codes "B")) false))) ≡ quiet_step tasks (managing [])
+own_step_resource : take_mail deck tasks (managing []) (Request 4 (system 1) (asks (task 1 0) (Deq (Step (system 1) 0 (codes "A") (codes "B")) false))) ≡ fixing_none tasks (managing [])
 unfolding took_mail
 own_step_resource = refl
 
-no_slices : take_mail deck tasks (managing []) (Request 4 (system 1) (asks (task 1 0) (Look 68 1 All))) ≡ quiet_step tasks (managing [])
+no_slices : take_mail deck tasks (managing []) (Request 4 (system 1) (asks (task 1 0) (Look 68 1 All))) ≡ fixing_none tasks (managing [])
 unfolding took_mail
 no_slices = refl
 
 -- one slice of the entry may be looked at, and not two together, of which each is of an entry of its own
-one_slice : take_mail deck tasks (managing []) (Request 4 (system 1) (asks (task 1 0) (Look 52 1 All))) ≡ quiet_step tasks (managing (asks (task 1 0) (Look 52 1 All) ∷ []))
+one_slice : take_mail deck tasks (managing []) (Request 4 (system 1) (asks (task 1 0) (Look 52 1 All))) ≡ fixing_none tasks (managing (asks (task 1 0) (Look 52 1 All) ∷ []))
 unfolding took_mail
 one_slice = refl
 
-two_slices : take_mail deck tasks (managing []) (Request 4 (system 1) (asks (task 1 0) (Look 52 2 All))) ≡ quiet_step tasks (managing [])
+two_slices : take_mail deck tasks (managing []) (Request 4 (system 1) (asks (task 1 0) (Look 52 2 All))) ≡ fixing_none tasks (managing [])
 unfolding took_mail
 two_slices = refl
 
 -- ---- names outside the deck
-no_task : take_mail deck tasks (managing []) (Request 4 (system 1) (asks (task 1 1) enq)) ≡ quiet_step tasks (managing [])
+no_task : take_mail deck tasks (managing []) (Request 4 (system 1) (asks (task 1 1) enq)) ≡ fixing_none tasks (managing [])
 no_task = refl
 
-no_system : take_mail deck tasks (managing []) (Request 4 (system 2) (asks (task 1 0) enq)) ≡ quiet_step tasks (managing [])
+no_system : take_mail deck tasks (managing []) (Request 4 (system 2) (asks (task 1 0) enq)) ≡ fixing_none tasks (managing [])
 no_system = refl
 
-other_job : take_mail deck tasks (managing []) (Request 4 (system 1) (asks (record { system = system 1; job = 1; task = 0 }) enq)) ≡ quiet_step tasks (managing [])
+other_job : take_mail deck tasks (managing []) (Request 4 (system 1) (asks (record { system = system 1; job = 1; task = 0 }) enq)) ≡ fixing_none tasks (managing [])
 other_job = refl
 
 -- a second task of system 0 that the deck lacks, be it that it has sent a request, or waits for control
 abbrev beyond : Phase → List Rec → Option Asked → TasksView
 beyond phase recs asked = of_system (in_phase phases.Ready [] None ∷ in_phase phase recs asked ∷ [])
 
-unknown_answer : take_mail deck (beyond phases.Sent [] (outstanding enq)) (managing []) (Answered (task 0 1) (Coded C00) 2) ≡ quiet_step (beyond phases.Sent [] (outstanding enq)) (managing [])
+unknown_answer : take_mail deck (beyond phases.Sent [] (outstanding enq)) (managing []) (Answered (task 0 1) (Coded C00) 2) ≡ fixing_none (beyond phases.Sent [] (outstanding enq)) (managing [])
 unknown_answer = refl
 
-unknown_grant : take_mail deck (beyond phases.HeldAnswer (rec_told false ∷ []) None) (managing []) (Granted (task 0 1) res) ≡ quiet_step (beyond phases.HeldAnswer (rec_told false ∷ []) None) (managing [])
+unknown_grant : take_mail deck (beyond phases.HeldAnswer (rec_told false ∷ []) None) (managing []) (Granted (task 0 1) res) ≡ fixing_none (beyond phases.HeldAnswer (rec_told false ∷ []) None) (managing [])
 unknown_grant = refl
 
 -- ---- mail to tasks
 -- an answer and control reach a task of the deck and of this system
 own_answer : take_mail deck (one phases.Sent [] (outstanding enq)) (managing []) (Answered (task 0 0) (Coded C00) 2)
-    ≡ quiet_step (record (one phases.Ready (rec_told true ∷ []) None) { told = told.Coded (task 0 0) 1 0 verbs.Enq C00 ∷ [] }) (managing [])
-unfolding state_of with_state with_phase with_outstanding with_record with_rank telling tell_code record_enq answered replied recalled settled settled_ranked after_mail took_mail
+    ≡ fixing_none (record (one phases.Ready (rec_told true ∷ []) None) { told = told.Coded (task 0 0) 1 0 verbs.Enq C00 ∷ [] }) (managing [])
+unfolding state_of with_state with_phase with_outstanding with_record with_rank telling tell_code record_enq answered replied recalled tell_answer tell_answer_ranked after_mail took_mail
 own_answer = refl
 
 own_grant : take_mail deck (one phases.HeldAnswer (rec_told false ∷ []) None) (managing []) (Granted (task 0 0) res)
-    ≡ quiet_step (record (one phases.Ready (rec_told true ∷ []) None) { told = told.Coded (task 0 0) 1 0 verbs.Enq C00 ∷ [] }) (managing [])
+    ≡ fixing_none (record (one phases.Ready (rec_told true ∷ []) None) { told = told.Coded (task 0 0) 1 0 verbs.Enq C00 ∷ [] }) (managing [])
 unfolding state_of with_state with_phase with_told telling tell_line tell_untold tell_control after_mail took_mail
 own_grant = refl
 
 -- not one of the deck and of another system
-other_answer : take_mail deck (one phases.Sent [] (outstanding enq)) (managing []) (Answered (task 1 0) (Coded C00) 2) ≡ quiet_step (one phases.Sent [] (outstanding enq)) (managing [])
+other_answer : take_mail deck (one phases.Sent [] (outstanding enq)) (managing []) (Answered (task 1 0) (Coded C00) 2) ≡ fixing_none (one phases.Sent [] (outstanding enq)) (managing [])
 unfolding after_mail took_mail
 other_answer = refl
 
-other_grant : take_mail deck (one phases.HeldAnswer (rec_told false ∷ []) None) (managing []) (Granted (task 1 0) res) ≡ quiet_step (one phases.HeldAnswer (rec_told false ∷ []) None) (managing [])
+other_grant : take_mail deck (one phases.HeldAnswer (rec_told false ∷ []) None) (managing []) (Granted (task 1 0) res) ≡ fixing_none (one phases.HeldAnswer (rec_told false ∷ []) None) (managing [])
 unfolding tell_control after_mail took_mail
 other_grant = refl
 
@@ -223,15 +223,15 @@ abbrev answered_with : TaskState → List ToldLine → TasksView
 answered_with second lines = record (of_system (in_phase phases.Ready [] None ∷ second ∷ [])) { told = told.Coded (task 0 0) 1 0 verbs.Deq C00 ∷ lines }
 
 own_goes_on : gives_up_own (in_phase phases.HeldAnswer (rec_told false ∷ []) None) (answered_with (in_phase phases.Ready (rec_told true ∷ []) None) (told.Coded (task 0 1) 1 0 verbs.Enq C00 ∷ []))
-unfolding state_of with_state with_phase with_outstanding without_record with_told with_rank telling tell_code answered replied recalled settled settled_ranked tell_line tell_untold tell_control tell_all tell_new decide_own
+unfolding state_of with_state with_phase with_outstanding without_record with_told with_rank telling tell_code answered replied recalled tell_answer tell_answer_ranked tell_line tell_untold tell_control tell_all tell_new decide_own
 own_goes_on = refl
 
 own_without_record : gives_up_own (in_phase phases.Ready [] None) (answered_with (in_phase phases.Ready [] None) [])
-unfolding state_of with_state with_phase with_outstanding without_record with_rank telling tell_code answered replied recalled settled settled_ranked tell_untold tell_control tell_all tell_new decide_own
+unfolding state_of with_state with_phase with_outstanding without_record with_rank telling tell_code answered replied recalled tell_answer tell_answer_ranked tell_untold tell_control tell_all tell_new decide_own
 own_without_record = refl
 
 own_told_before : gives_up_own (in_phase phases.Ready (rec_told true ∷ []) None) (answered_with (in_phase phases.Ready (rec_told true ∷ []) None) [])
-unfolding state_of with_state with_phase with_outstanding without_record with_rank telling tell_code answered replied recalled settled settled_ranked tell_untold tell_control tell_all tell_new decide_own
+unfolding state_of with_state with_phase with_outstanding without_record with_rank telling tell_code answered replied recalled tell_answer tell_answer_ranked tell_untold tell_control tell_all tell_new decide_own
 own_told_before = refl
 
 -- ---- what is asked of the medium
@@ -272,8 +272,8 @@ begins : begun (at_fourth None false []) 4 ≡ managing []
 begins = refl
 
 -- ---- what a choice comes to
-abbrev node : TasksView → Option StarPart → Node
-node v o = record { tasks = v; held = []; shared = []; outbox = []; star = o; known = 0; done = 0 }
+abbrev node : TasksView → Option StarPart → NodeState
+node v o = record { tasks = v; own = []; shared = []; outbox = []; star = o; known = 0; done = 0 }
 
 abbrev ready_to_send : TasksView
 ready_to_send = one phases.ToSend [] (outstanding enq)

@@ -3,7 +3,7 @@ use Rattle.std.specs.Prelude.{◌≡◌, ◌<◌, ℕ, Bool, true, false, nat_lt
 use Rattle.std.specs.List.{list_all}
 use Rattle.contention_mgr.specs.Elements.{all_of}
 use Rattle.grs_base.specs.declared.resource.TaskId.{TaskId}
-use Rattle.grs_node.specs.Node.{Node, most_additions}
+use Rattle.grs_node.specs.Node.{NodeState, most_additions}
 use Rattle.grs_node.specs.Star.{StarPart}
 use Rattle.grs_node.specs.declared.prepared.Prepared.{Prepared}
 use Rattle.grs_node.specs.declared.prepared.Prepared.TheVariants.{Quiet, Call, Nothing}
@@ -50,6 +50,6 @@ AnyPartFits deck home None = Unit {0}
 AnyPartFits deck home (Some p) = PartFits deck home p
 
 -- a system of the deck, whose part in star mode fits
-pub record NodeFits (deck : Deck) (n : Node) : Type 0 where
+pub record NodeFits (deck : Deck) (n : NodeState) : Type 0 where
   pub system : n.tasks.system < length deck.systems
   pub part : AnyPartFits deck n.tasks.system n.star

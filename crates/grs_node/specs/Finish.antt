@@ -7,13 +7,13 @@ use Rattle.grs_wire.specs.declared.medium.Act.TheVariants as acts
 use Rattle.grs_wire.specs.declared.medium.Reply.{Reply}
 use Rattle.grs_wire.specs.declared.medium.Reply.TheVariants as replies
 use Rattle.grs_node.specs.Log.{NodeView, finished}
-use Rattle.grs_node.specs.Node.{Node, only, prepare, finish}
+use Rattle.grs_node.specs.Node.{NodeState, only, prepare, finish}
 use Rattle.grs_node.specs.declared.prepared.Prepared.{Prepared}
 use Rattle.grs_node.specs.declared.prepared.Prepared.TheVariants.{Quiet, Call, Nothing}
 
 -- Whether a reply is of a kind that the medium gives to an act. A Turn has taken at most what it was to put in. One at a
--- closed message is such a reply too. By it a system is to change to star mode; until that is built it changes nothing, and no
--- message is closed.
+-- closed message, which no run has yet, is such a reply too: its entries are processed like any others, and the system
+-- doesn't change to star mode by it yet.
 abbrev pub is_listed : Act → Reply → Bool
 is_listed act replies.Removed = true
 is_listed act (replies.Stale set) = true
@@ -68,4 +68,4 @@ UnjournalledLeaves = (v : NodeView) (choice : Choice) (reply : Reply) → MayFin
 
 -- A reply that leaves the system as it is leaves it so whatever the choice, and fixes nothing.
 abbrev pub RepliesLeave : Type 0
-RepliesLeave = (deck : Deck) (n : Node) (choice : Choice) (reply : Reply) → leaves_all reply ≡ true → finish deck n choice (Some reply) ≡ only n
+RepliesLeave = (deck : Deck) (n : NodeState) (choice : Choice) (reply : Reply) → leaves_all reply ≡ true → finish deck n choice (Some reply) ≡ only n

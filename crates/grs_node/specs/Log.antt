@@ -7,14 +7,14 @@ use Rattle.grs_wire.specs.declared.medium.Reply.{Reply}
 use Rattle.grs_wire.specs.declared.request.Fixed.{Fixed}
 use Rattle.grs_wire.specs.declared.seen.TaskEnd.{TaskEnd}
 use Rattle.grs_wire.specs.declared.seen.TaskEnd.TheVariants as ends
-use Rattle.grs_node.specs.Node.{Node, Step, first_node, finish}
+use Rattle.grs_node.specs.Node.{NodeState, Step, first_node, finish}
 use Rattle.task_state.specs.declared.state.Phase.{Phase}
 use Rattle.task_state.specs.declared.state.Phase.TheVariants as phases
 
 -- a system, the deck whose system it is, and its events so far
 pub record NodeView : Type 0 where
   pub deck : Deck
-  pub node : Node
+  pub node : NodeState
   pub log : List StepDone
 
 -- the system of this number of a deck before its first event
@@ -22,11 +22,11 @@ abbrev pub starting : Deck → ℕ → NodeView
 starting deck s = record { deck = deck; node = first_node deck s; log = [] }
 
 -- a system after a step that fixed this
-abbrev pub stepped : Node → List Fixed → Step
+abbrev pub stepped : NodeState → List Fixed → Step
 stepped n fixed = record { node = n; fixed = fixed }
 
 -- an event as its system keeps it
-abbrev pub step_done : Node → Choice → Bool → Step → StepDone
+abbrev pub step_done : NodeState → Choice → Bool → Step → StepDone
 step_done n choice journalled s = record {
   choice = choice;
   journalled = journalled;

@@ -30,7 +30,7 @@ use Rattle.grs_wire.specs.declared.request.Want.{Want}
 use Rattle.grs_wire.specs.declared.request.Want.TheVariants.{Enq, Deq, Release}
 use Rattle.grs_wire.specs.declared.told.Verb.TheVariants as verbs
 use Rattle.grs_wire.specs.declared.told.ToldLine.TheVariants as told
-use Rattle.grs_node.specs.Star.{StarPart, StarStep, first_part, to_tell, first_held, is_part_pending, send_of, settle_by, tell_by, leave_by, quiet_step, own_step, took_mail, send_step, settle_step, tell_step, leave_step}
+use Rattle.grs_node.specs.Star.{StarPart, StarStep, first_part, to_tell, first_held, is_part_pending, send_of, settle_by, tell_by, leave_by, fixing_none, own_step, took_mail, send_step, settle_step, tell_step, leave_step}
 use Rattle.grs_node.specs.declared.star.Need.{Need}
 use Rattle.grs_node.specs.declared.star.Need.TheVariants.{Alone, Asks, Idle}
 use Rattle.grs_node.specs.declared.prepared.Prepared.{Prepared}
@@ -45,9 +45,9 @@ use Rattle.task_state.specs.View.{TasksView, new_tasks, is_task, state_of, recor
 -- A system: its tasks; the lists of its own Step and System resources; in ring mode its table of the Systems resources,
 -- and the requests that wait to be put into the message, in order; in star mode its part there; the set of the systems
 -- that it knows to be removed; and how many lines of its desk are done.
-pub record Node : Type 0 where
+pub record NodeState : Type 0 where
   pub tasks : TasksView
-  pub held : State
+  pub own : State
   pub shared : State
   pub outbox : List Req
   pub star : Option StarPart
@@ -59,10 +59,10 @@ abbrev pub part_at_first : Deck → ℕ → Option StarPart
 part_at_first deck s = cond deck.star (Some (first_part (record { 0 = s }) deck.entries)) None
 
 -- a system at the start: nothing is queued and no task has begun
-unfoldable pub first_node : Deck → ℕ → Node
+unfoldable pub first_node : Deck → ℕ → NodeState
 first_node deck s = record {
   tasks = record { system = s; tasks = new_tasks (length (scripts_of deck s)); told = [] };
-  held = [];
+  own = [];
   shared = [];
   outbox = [];
   star = part_at_first deck s;
@@ -71,13 +71,13 @@ first_node deck s = record {
 }
 
 -- whether these requests are of tasks of the system of this number, which has so many
-abbrev pub are_of : ℕ → ℕ → List Req → Bool
-are_of s tasks [] = true
-are_of s tasks (q ∷ qs) = (s == q.task.system.0) && (nat_lt q.task.task tasks && are_of s tasks qs)
+abbrev pub are_of_system : ℕ → ℕ → List Req → Bool
+are_of_system s tasks [] = true
+are_of_system s tasks (q ∷ qs) = (s == q.task.system.0) && (nat_lt q.task.task tasks && are_of_system s tasks qs)
 
 -- a system after an event, and what the event fixed
 pub record Step : Type 0 where
-  pub node : Node
+  pub node : NodeState
   pub fixed : List Fixed
 
 -- how many requests a Turn puts in at most
@@ -85,31 +85,31 @@ abbrev pub most_additions : ℕ
 most_additions = 32
 
 -- nothing fixed
-abbrev pub only : Node → Step
+abbrev pub only : NodeState → Step
 only n = record { node = n; fixed = [] }
 
 -- the same with other tasks
-abbrev pub with_tasks : Node → TasksView → Node
+abbrev pub with_tasks : NodeState → TasksView → NodeState
 with_tasks n v = record n { tasks = v }
 
 -- A request decided by the lists of the system's own resources: the asker's answer first, then control for the
 -- tasks that became owners.
-unfoldable pub decide : Node → TaskId → Want → Option ℕ → Step
+unfoldable pub decide : NodeState → TaskId → Want → Option ℕ → Step
 decide n t w unit =
     record {
       node = record n {
-        tasks = tell_new (replied n.tasks t w unit (answer_to n.held t w)) (res_wanted w) (new_owners n.held t w);
-        held = after_want n.held t w;
+        tasks = tell_new (replied n.tasks t w unit (answer_to n.own t w)) (res_wanted w) (new_owners n.own t w);
+        own = after_want n.own t w;
       };
       fixed = fixes.Asked (record { task = t; want = w }) ∷ [];
     }
 
 -- the requests that wait to be put into the message, with one more; in star mode none does
-abbrev pub outbox_with : Node → Req → List Req
+abbrev pub outbox_with : NodeState → Req → List Req
 outbox_with n q = cond (is_some n.star) n.outbox (n.outbox ++ q ∷ [])
 
 -- a request that waits to be put into the message, or, in star mode, to be sent
-unfoldable pub post : Node → TaskId → Want → Option ℕ → Step
+unfoldable pub post : NodeState → TaskId → Want → Option ℕ → Step
 post n t w unit =
     let q : Req = record { task = t; want = w } in
     only (record n {
@@ -118,7 +118,7 @@ post n t w unit =
     })
 
 -- a request: decided at once, or, for a resource of the whole complex, kept until it can be put in or sent
-unfoldable pub ask : Node → TaskId → Want → Option ℕ → Step
+unfoldable pub ask : NodeState → TaskId → Want → Option ℕ → Step
 ask n t w unit = cond (is_for_all (res_wanted w)) (post n t w unit) (decide n t w unit)
 
 -- a WAIT line: 00 where control was told, 08 where there is no request on record, else the task is held
@@ -131,30 +131,30 @@ abbrev pub has_most : ℕ → TasksView → TaskId → Bool
 has_most limit v t = nat_le limit (length (state_of v t).records)
 
 -- a line that was taken, by what it means
-unfoldable pub take_line : ℕ → Node → TaskId → Meaning → Step
+unfoldable pub take_line : ℕ → NodeState → TaskId → Meaning → Step
 take_line limit n t (lines.Enq r c ret unit) = ask n t (Enq r c ret (has_most limit n.tasks t)) unit
 take_line limit n t (lines.Deq r have) = ask n t (Deq r have) None
 take_line limit n t (lines.Wait r) = only (with_tasks n (wait n.tasks t r (record_of (state_of n.tasks t).records r)))
 take_line limit n t lines.Nothing = only n
 
 -- a task that is ending: it releases the first request on record, or has ended
-unfoldable pub end_step : Node → TaskId → ℕ → List Rec → Step
+unfoldable pub end_step : NodeState → TaskId → ℕ → List Rec → Step
 end_step n t code [] = only (with_tasks n (telling (with_phase n.tasks t phases.Ended) (told.Ended t code)))
 end_step n t code (x ∷ xs) = ask n t (Release x.res) None
 
 -- a task that is Ready: it takes its next line, or begins to end
-unfoldable pub ready_step : ℕ → Node → TaskId → Option Meaning → Step
+unfoldable pub ready_step : ℕ → NodeState → TaskId → Option Meaning → Step
 ready_step limit n t None = let v = with_phase n.tasks t (phases.Ending 0) in end_step (with_tasks n v) t 0 (state_of v t).records
 ready_step limit n t (Some l) = take_line limit (with_tasks n (with_line n.tasks t)) t l
 
 -- what a task does by its phase
-unfoldable pub phase_step : ℕ → Node → TaskId → List Meaning → Phase → Step
+unfoldable pub phase_step : ℕ → NodeState → TaskId → List Meaning → Phase → Step
 phase_step limit n t ls phases.Ready = ready_step limit n t (slice_get ls (state_of n.tasks t).line)
 phase_step limit n t ls (phases.Ending c) = end_step n t c (state_of n.tasks t).records
 phase_step limit n t ls _ = only n
 
 -- a task of these lines goes on
-abbrev pub task_step : ℕ → Node → TaskId → Option (List Meaning) → Step
+abbrev pub task_step : ℕ → NodeState → TaskId → Option (List Meaning) → Step
 task_step limit n t None = only n
 task_step limit n t (Some ls) = phase_step limit n t ls (state_of n.tasks t).phase
 
@@ -182,7 +182,7 @@ is_star_pending v (Some p) = list_any (λ x. is_to_send x.phase) v.tasks || is_p
 
 -- Whether something is pending: a task that has something to do by itself, a request in the outbox, something of star
 -- mode, or a line of the desk.
-unfoldable pub is_pending : Deck → Node → Bool
+unfoldable pub is_pending : Deck → NodeState → Bool
 is_pending deck n =
     list_any (λ x. goes_on x.phase) n.tasks.tasks
     || (not (length n.outbox == 0) || (is_star_pending n.tasks n.star || nat_lt n.done (desk_count (slice_get deck.systems n.tasks.system))))
@@ -192,15 +192,15 @@ abbrev pub is_of_deck : Deck → TaskId → Bool
 is_of_deck deck t = is_some (lines_of deck t)
 
 -- a task of this system and of the deck that has something to do
-unfoldable pub may_go : Deck → Node → TaskId → Bool
+unfoldable pub may_go : Deck → NodeState → TaskId → Bool
 may_go deck n t = is_task n.tasks t && (is_of_deck deck t && goes_on (state_of n.tasks t).phase)
 
 -- a task of this system and of the deck whose request waits to be sent
-unfoldable pub may_send : Deck → Node → TaskId → Bool
+unfoldable pub may_send : Deck → NodeState → TaskId → Bool
 may_send deck n t = is_task n.tasks t && (is_of_deck deck t && is_to_send (state_of n.tasks t).phase)
 
 -- what a Turn asks, which is none in star mode
-abbrev pub turn_call : Node → Option StarPart → Prepared
+abbrev pub turn_call : NodeState → Option StarPart → Prepared
 turn_call n None = Call (record { known = n.known; act = acts.Turn (take most_additions n.outbox) })
 turn_call n (Some p) = Nothing
 
@@ -211,7 +211,7 @@ prepared_by known (Asks act) = Call (record { known = known; act = act })
 prepared_by known Idle = Nothing
 
 -- what an event of star mode needs
-abbrev pub star_need : Deck → Node → StarPart → Choice → Need
+abbrev pub star_need : Deck → NodeState → StarPart → Choice → Need
 star_need deck n p (choices.Send t) = cond (may_send deck n t) (send_of p t (state_of n.tasks t).outstanding) Idle
 star_need deck n p choices.Take = Asks acts.Take
 star_need deck n p choices.Settle = settle_by p (first_held p)
@@ -220,47 +220,47 @@ star_need deck n p (choices.Leave e) = leave_by p n.tasks e
 star_need deck n p _ = Idle
 
 -- an event of star mode has nothing to do in a ring
-unfoldable pub star_call : Deck → Node → Option StarPart → Choice → Prepared
+unfoldable pub star_call : Deck → NodeState → Option StarPart → Choice → Prepared
 star_call deck n None choice = Nothing
 star_call deck n (Some p) choice = prepared_by n.known (star_need deck n p choice)
 
 -- What a choice comes to.
-unfoldable pub prepare : Deck → Node → Choice → Prepared
+unfoldable pub prepare : Deck → NodeState → Choice → Prepared
 prepare deck n (choices.Task t) = cond (may_go deck n t) Quiet Nothing
 prepare deck n choices.Turn = turn_call n n.star
 prepare deck n choices.Rest = cond (is_pending deck n) Nothing (Call (record { known = n.known; act = acts.Rest }))
 prepare deck n choice = star_call deck n n.star choice
 
 -- a system with this step of star mode
-abbrev pub with_star : Node → StarStep → Step
+abbrev pub with_star : NodeState → StarStep → Step
 with_star n s = record { node = record n { tasks = s.tasks; star = Some s.part }; fixed = s.fixed }
 
 -- a manager decides the request of its own task that waits to be sent
-abbrev pub send_own : Node → TaskId → Option StarPart → Step
+abbrev pub send_own : NodeState → TaskId → Option StarPart → Step
 send_own n t None = only n
 send_own n t (Some p) = with_star n (own_step n.tasks p t (state_of n.tasks t).outstanding)
 
 -- a choice that is done without a call
-unfoldable pub finish_quiet : Deck → Node → Choice → Step
+unfoldable pub finish_quiet : Deck → NodeState → Choice → Step
 finish_quiet deck n (choices.Task t) = task_step deck.limit n t (lines_of deck t)
 finish_quiet deck n (choices.Send t) = send_own n t n.star
 finish_quiet deck n _ = only n
 
 -- a system with this part for the ring
-abbrev pub with_side : Node → Side → Node
+abbrev pub with_side : NodeState → Side → NodeState
 with_side n side = record n { tasks = side.tasks; shared = side.shared }
 
 -- A system processes that another one is removed. Until removals are built it does nothing.
-abbrev pub process_removal : Node → SysId → Node
+abbrev pub process_removal : NodeState → SysId → NodeState
 process_removal n target = n
 
 -- A system processes an entry of the message. A request of a task that isn't of the deck has no effect.
-abbrev pub read_entry : Deck → Node → RingBody → Node
+abbrev pub read_entry : Deck → NodeState → RingBody → NodeState
 read_entry deck n (bodies.Request q) = cond (is_of_deck deck q.task) (with_side n (process_entry (side_of n.tasks n.shared) q)) n
 read_entry deck n (bodies.Remove target) = process_removal n target
 
 -- the entries of the message that the system was given, in order
-unfoldable pub read_entries : Deck → Node → List RingEntry → Node
+unfoldable pub read_entries : Deck → NodeState → List RingEntry → NodeState
 read_entries deck n [] = n
 read_entries deck n (e ∷ es) = read_entries deck (read_entry deck n e.body) es
 
@@ -270,7 +270,7 @@ all_sent v [] = v
 all_sent v (q ∷ qs) = all_sent (with_phase v q.task phases.Sent) qs
 
 -- the first requests of the outbox were put in
-unfoldable pub put_in : Node → ℕ → Step
+unfoldable pub put_in : NodeState → ℕ → Step
 put_in n taken = record {
   node = record n { tasks = all_sent n.tasks (take taken n.outbox); outbox = drop taken n.outbox };
   fixed = map fixes.Asked (take taken n.outbox);
@@ -284,11 +284,11 @@ is_for_deck deck (mails.Granted t r) = is_of_deck deck t
 
 -- A mail was taken. One that names what isn't of the deck has no effect.
 abbrev pub take_mail : Deck → TasksView → StarPart → Mail → StarStep
-take_mail deck v p mail = cond (is_for_deck deck mail) (took_mail v p mail) (quiet_step v p)
+take_mail deck v p mail = cond (is_for_deck deck mail) (took_mail v p mail) (fixing_none v p)
 
 abbrev pub take_step : Deck → TasksView → StarPart → Reply → StarStep
 take_step deck v p (replies.Taken mail) = take_mail deck v p mail
-take_step deck v p reply = quiet_step v p
+take_step deck v p reply = fixing_none v p
 
 -- what the reply to a call of star mode comes to
 abbrev pub star_step : Deck → TasksView → StarPart → Choice → Reply → StarStep
@@ -297,19 +297,19 @@ star_step deck v p choices.Take reply = take_step deck v p reply
 star_step deck v p choices.Settle reply = settle_step v p reply
 star_step deck v p (choices.Tell e) reply = tell_step v p e reply
 star_step deck v p (choices.Leave e) reply = leave_step v p e reply
-star_step deck v p choice reply = quiet_step v p
+star_step deck v p choice reply = fixing_none v p
 
-unfoldable pub finish_star : Deck → Node → Option StarPart → Choice → Reply → Step
+unfoldable pub finish_star : Deck → NodeState → Option StarPart → Choice → Reply → Step
 finish_star deck n None choice reply = only n
 finish_star deck n (Some p) choice reply = with_star n (star_step deck n.tasks p choice reply)
 
 -- The reply to a call. Those that say nothing new change nothing.
-unfoldable pub finish_call : Deck → Node → Choice → Reply → Step
+unfoldable pub finish_call : Deck → NodeState → Choice → Reply → Step
 finish_call deck n choice (replies.Turned entries taken closed) = put_in (read_entries deck n entries) taken
 finish_call deck n choice (replies.Stale set) = only (record n { known = set })
 finish_call deck n choice reply = finish_star deck n n.star choice reply
 
 -- What a system is after a choice, with the reply if a call was made.
-unfoldable pub finish : Deck → Node → Choice → Option Reply → Step
+unfoldable pub finish : Deck → NodeState → Choice → Option Reply → Step
 finish deck n choice None = finish_quiet deck n choice
 finish deck n choice (Some reply) = finish_call deck n choice reply

@@ -23,7 +23,7 @@ use Rattle.grs_wire.specs.declared.request.Fixed.{Fixed}
 use Rattle.grs_wire.specs.declared.request.Fixed.TheVariants as fixes
 use Rattle.grs_wire.specs.declared.request.Req.{Req}
 use Rattle.grs_wire.specs.declared.request.Want.{Want}
-use Rattle.star_client.specs.Client.{settled_ranked, after_mail}
+use Rattle.star_client.specs.Client.{tell_answer_ranked, after_mail}
 use Rattle.task_state.specs.declared.state.Asked.{Asked}
 use Rattle.task_state.specs.declared.state.Phase.TheVariants as phases
 use Rattle.task_state.specs.declared.state.TaskState.{TaskState}
@@ -149,20 +149,20 @@ entry_asked p None = None
 entry_asked p (Some a) = entry_for p a.req.want
 
 -- whether the system manages this entry, if it is one
-abbrev pub manages_any : StarPart → Option ℕ → Bool
-manages_any p None = false
-manages_any p (Some e) = manages p e
+abbrev pub manages_asked : StarPart → Option ℕ → Bool
+manages_asked p None = false
+manages_asked p (Some e) = manages p e
 
 -- whether the system manages the entry of what a task asks for, if it asks for anything
-abbrev pub may_decide : StarPart → Option Asked → Bool
-may_decide p None = true
-may_decide p (Some a) = is_some (managed_for p.manager a.req.want)
+abbrev pub manages_if_asked : StarPart → Option Asked → Bool
+manages_if_asked p None = true
+manages_if_asked p (Some a) = is_some (managed_for p.manager a.req.want)
 
 -- what is so once a choice of star mode was prepared to make a call
-abbrev pub may_call : TasksView → StarPart → Choice → Bool
-may_call v p (choices.Send t) = is_task v t && not (manages_any p (entry_asked p (state_of v t).outstanding))
-may_call v p (choices.Leave e) = may_leave p v e
-may_call v p choice = true
+abbrev pub was_prepared : TasksView → StarPart → Choice → Bool
+was_prepared v p (choices.Send t) = is_task v t && not (manages_asked p (entry_asked p (state_of v t).outstanding))
+was_prepared v p (choices.Leave e) = may_leave p v e
+was_prepared v p choice = true
 
 -- the tasks and the part of a system after a step, and what the step fixed
 pub record StarStep : Type 0 where
@@ -173,8 +173,8 @@ pub record StarStep : Type 0 where
 abbrev pub starred : TasksView → StarPart → List Fixed → StarStep
 starred v p fixed = record { tasks = v; part = p; fixed = fixed }
 
-abbrev pub quiet_step : TasksView → StarPart → StarStep
-quiet_step v p = starred v p []
+abbrev pub fixing_none : TasksView → StarPart → StarStep
+fixing_none v p = starred v p []
 
 -- A manager decides a request of its own task by the lists of its entry: the asker's answer first, then control for the
 -- own tasks that became owners.
@@ -182,14 +182,14 @@ unfoldable pub decide_own : TasksView → StarPart → TaskId → Asked → Star
 decide_own v p t a =
     let q : Req = request_of t a in
     record {
-      tasks = tell_new (settled_ranked v t a (answer_for p q) (rank_of p q)) (res_wanted q.want) (owners_by p q);
+      tasks = tell_new (tell_answer_ranked v t a (answer_for p q) (rank_of p q)) (res_wanted q.want) (owners_by p q);
       part = record p { manager = after_request p.manager t q.want };
       fixed = fixes.Asked q ∷ [];
     }
 
 -- the same of the request that a task has, if it has one
 abbrev pub own_step : TasksView → StarPart → TaskId → Option Asked → StarStep
-own_step v p t None = quiet_step v p
+own_step v p t None = fixing_none v p
 own_step v p t (Some a) = decide_own v p t a
 
 -- a system that manages an entry from now on, with empty lists
@@ -198,22 +198,22 @@ begun p e = with_interest (record p { manager = with_entry p.manager (Some e) (S
 
 -- nobody managed the entry of a request: its system does from now on, and decides it
 abbrev pub begin_at : TasksView → StarPart → TaskId → Option Asked → Option ℕ → StarStep
-begin_at v p t asked None = quiet_step v p
+begin_at v p t asked None = fixing_none v p
 begin_at v p t asked (Some e) = own_step v (begun p e) t asked
 
 -- a request went to the manager of its entry
 abbrev pub sent_to : TasksView → StarPart → TaskId → Option ℕ → StarStep
-sent_to v p t None = quiet_step v p
-sent_to v p t (Some e) = quiet_step (with_phase v t phases.Sent) (with_interest p e true)
+sent_to v p t None = fixing_none v p
+sent_to v p t (Some e) = fixing_none (with_phase v t phases.Sent) (with_interest p e true)
 
 -- a request of another system is held last, where it is of this entry and the system manages it
-abbrev pub holds : StarPart → ℕ → Req → StarPart
-holds p e q = cond (is_entry e (entry_for p q.want) && manages p e) (record p { held = p.held ++ q ∷ [] }) p
+abbrev pub with_held : StarPart → ℕ → Req → StarPart
+with_held p e q = cond (is_entry e (entry_for p q.want) && manages p e) (record p { held = p.held ++ q ∷ [] }) p
 
 -- a mail was taken
 unfoldable pub took_mail : TasksView → StarPart → Mail → StarStep
-took_mail v p (Request e from q) = quiet_step v (holds p e q)
-took_mail v p mail = quiet_step (after_mail v mail) p
+took_mail v p (Request e from q) = fixing_none v (with_held p e q)
+took_mail v p mail = fixing_none (after_mail v mail) p
 
 -- the first request that is held was settled: control for the own tasks that became owners
 abbrev pub settled_first : TasksView → StarPart → Req → StarStep
@@ -224,8 +224,8 @@ settled_first v p q = record {
 }
 
 abbrev pub settled_by : TasksView → StarPart → Option Req → StarStep
-settled_by v p None = quiet_step v p
-settled_by v p (Some q) = cond (serves p q) (settled_first v p q) (quiet_step v p)
+settled_by v p None = fixing_none v p
+settled_by v p (Some q) = cond (serves p q) (settled_first v p q) (fixing_none v p)
 
 -- whether the request that was held first is of an entry that the system manages
 abbrev pub serves_any : StarPart → Option Req → Bool
@@ -250,16 +250,16 @@ left_at p e = with_interest (record p { manager = not_managing p.manager e }) e 
 abbrev pub send_step : TasksView → StarPart → TaskId → Reply → StarStep
 send_step v p t replies.Sole = begin_at v p t (state_of v t).outstanding (entry_asked p (state_of v t).outstanding)
 send_step v p t replies.Sent = sent_to v p t (entry_asked p (state_of v t).outstanding)
-send_step v p t reply = quiet_step v p
+send_step v p t reply = fixing_none v p
 
 abbrev pub settle_step : TasksView → StarPart → Reply → StarStep
 settle_step v p replies.Settled = settled_by v p (first_held p)
-settle_step v p reply = quiet_step v p
+settle_step v p reply = fixing_none v p
 
 abbrev pub tell_step : TasksView → StarPart → ℕ → Reply → StarStep
-tell_step v p e replies.Told = quiet_step v (told_by p (to_tell p e))
-tell_step v p e reply = quiet_step v p
+tell_step v p e replies.Told = fixing_none v (told_by p (to_tell p e))
+tell_step v p e reply = fixing_none v p
 
 abbrev pub leave_step : TasksView → StarPart → ℕ → Reply → StarStep
-leave_step v p e replies.Left = quiet_step v (left_at p e)
-leave_step v p e reply = quiet_step v p
+leave_step v p e replies.Left = fixing_none v (left_at p e)
+leave_step v p e reply = fixing_none v p

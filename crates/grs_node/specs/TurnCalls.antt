@@ -2,8 +2,8 @@
 use Rattle.std.specs.Prelude.{ℕ, take}
 use Rattle.grs_wire.specs.declared.medium.Act.TheVariants as acts
 use Rattle.grs_wire.specs.declared.medium.Call.{Call}
-use Rattle.grs_node.specs.Node.{Node, most_additions}
+use Rattle.grs_node.specs.Node.{NodeState, most_additions}
 
 -- the Turn of a system that knows this set of systems to be removed
-abbrev pub turn_of : Node → ℕ → Call
+abbrev pub turn_of : NodeState → ℕ → Call
 turn_of n known = record { known = known; act = acts.Turn (take most_additions n.outbox) }

@@ -16,7 +16,7 @@ use contention_mgr::Manager;
 use grs_base::{List, NoMemory, TaskId};
 use grs_wire::{Choice, Deck, Fixed, Mail, Reply, Req};
 use ring_mode::res_of;
-use star_client::{on_mail, settled_ranked};
+use star_client::{on_mail, tell_answer_ranked};
 use std::alloc::Global;
 use task_state::{Asked, Phase, Tasks, tell_new};
 
@@ -85,7 +85,7 @@ impl StarPart {
         task: TaskId,
     ) -> Result<List<Fixed>, NoMemory>
         requires task { is_task tasks.old task ≡ true }
-        requires serves { star.may_decide self.old (state_of tasks.old task).outstanding ≡ true }
+        requires serves { star.manages_if_asked self.old (state_of tasks.old task).outstanding ≡ true }
         ensures step { IfOk result (λ fixed. starred tasks.new self.new fixed ≡ star.own_step tasks.old self.old task (state_of tasks.old task).outstanding) }
         ensures system { tasks.new.system ≡ tasks.old.system }
         ensures count { length tasks.new.tasks ≡ length tasks.old.tasks }
@@ -95,7 +95,7 @@ impl StarPart {
         };
         let req = request_of(alloc, task, asked)?;
         let outcome = self.manager.own_request(&req)?;
-        settled_ranked(alloc, tasks, task, &outcome.answer, outcome.rank)?;
+        tell_answer_ranked(alloc, tasks, task, &outcome.answer, outcome.rank)?;
         tell_new(tasks, res_of(&req.want), outcome.owners.as_slice())?;
         asked_alone(alloc, req)
     }
@@ -109,7 +109,7 @@ impl StarPart {
         task: TaskId,
     ) -> Result<List<Fixed>, NoMemory>
         requires task { is_task tasks.old task ≡ true }
-        requires free { star.manages_any self.old (star.entry_asked self.old (state_of tasks.old task).outstanding) ≡ false }
+        requires free { star.manages_asked self.old (star.entry_asked self.old (state_of tasks.old task).outstanding) ≡ false }
         ensures step { IfOk result (λ fixed. starred tasks.new self.new fixed ≡ star.begin_at tasks.old self.old task (state_of tasks.old task).outstanding (star.entry_asked self.old (state_of tasks.old task).outstanding)) }
         ensures system { tasks.new.system ≡ tasks.old.system }
         ensures count { length tasks.new.tasks ≡ length tasks.old.tasks }
@@ -145,7 +145,7 @@ impl StarPart {
         task: TaskId,
         reply: &Reply,
     ) -> Result<List<Fixed>, NoMemory>
-        requires { star.may_call tasks.old self.old (Send task) ≡ true }
+        requires { star.was_prepared tasks.old self.old (Send task) ≡ true }
         ensures step { IfOk result (λ fixed. starred tasks.new self.new fixed ≡ star.send_step tasks.old self.old task reply.now) }
         ensures system { tasks.new.system ≡ tasks.old.system }
         ensures count { length tasks.new.tasks ≡ length tasks.old.tasks }
@@ -162,7 +162,7 @@ impl StarPart {
 
     /// A request of another system is held last, where it is of this entry and the system manages it.
     fn hold(&mut self, entry: u32, req: Req) -> Result<(), NoMemory>
-        ensures { OnOk result (self.new ≡ star.holds self.old entry req) }
+        ensures { OnOk result (self.new ≡ star.with_held self.old entry req) }
     {
         if !(self.is_req_of(entry, &req) && self.manager.manages(entry)) {
             return Ok(());
@@ -323,7 +323,7 @@ impl StarPart {
         choice: Choice,
         reply: Reply,
     ) -> Result<List<Fixed>, NoMemory>
-        requires { star.may_call tasks.old self.old choice ≡ true }
+        requires { star.was_prepared tasks.old self.old choice ≡ true }
         ensures step { IfOk result (λ fixed. starred tasks.new self.new fixed ≡ steps.star_step deck.now tasks.old self.old choice reply) }
         ensures system { tasks.new.system ≡ tasks.old.system }
         ensures count { length tasks.new.tasks ≡ length tasks.old.tasks }

@@ -7,9 +7,9 @@ ghost use Rattle.grs_legal.specs.Asks.{meaning_of, meanings, scripts_of};
 ghost use Rattle.grs_node.specs.declared.prepared.Prepared.TheVariants.{Quiet};
 ghost use Rattle.grs_wire.specs.declared.request.Fixed.TheVariants as fixes;
 ghost use Rattle.grs_node.specs.Node as steps;
-ghost use Rattle.grs_node.specs.Node.{are_of};
+ghost use Rattle.grs_node.specs.Node.{are_of_system};
 ghost use Rattle.grs_node.specs.Log.{stepped};
-ghost use Rattle.grs_node.specs.Star.{may_decide};
+ghost use Rattle.grs_node.specs.Star.{manages_if_asked};
 
 use super::lines::meaning_at;
 use super::scripts::{Script, lines_among};
@@ -29,7 +29,7 @@ use task_state::{Asked, Phase, Tasks, replied, tell_code, tell_new};
 #[derive(Drop)]
 pub(crate) struct NodeState {
     pub(crate) tasks: Tasks,
-    pub(crate) held: Local,
+    pub(crate) local: Local,
     pub(crate) shared: Table<PlainQueues>,
     pub(crate) outbox: List<Req>,
     pub(crate) star: Option<StarPart>,
@@ -39,14 +39,14 @@ pub(crate) struct NodeState {
 
 impl Model for NodeState {
     ghost use Rattle.std.specs.Prelude.{◌≡◌, true, length};
-    ghost use Rattle.grs_node.specs.Node.{are_of};
+    ghost use Rattle.grs_node.specs.Node.{are_of_system};
     ghost use Rattle.grs_node.specs.Node as steps;
 
-    ghost Value = { steps.Node };
+    ghost Value = { steps.NodeState };
 
-    ghost view = { λ a. record { tasks = a.tasks; held = a.held.held; shared = a.shared.held; outbox = a.outbox; star = a.star; known = a.known; done = a.done } };
+    ghost view = { λ a. record { tasks = a.tasks; own = a.local.held; shared = a.shared.held; outbox = a.outbox; star = a.star; known = a.known; done = a.done } };
 
-    ghost invariant = { λ a. are_of a.tasks.system (length a.tasks.tasks) a.outbox ≡ true };
+    ghost invariant = { λ a. are_of_system a.tasks.system (length a.tasks.tasks) a.outbox ≡ true };
 }
 
 /// A request that was fixed.
@@ -85,7 +85,7 @@ impl NodeState {
         jobs: &[u32],
     ) -> Result<NodeState, NoMemory>
         requires { deck.now.entries ≢ 0 }
-        ensures { IfOk result (λ n. n ≡ record { tasks = record { system = system.0; tasks = new_tasks (sum jobs.now); told = [] }; held = []; shared = []; outbox = []; star = steps.part_at_first deck.now system.0; known = 0; done = 0 }) }
+        ensures { IfOk result (λ n. n ≡ record { tasks = record { system = system.0; tasks = new_tasks (sum jobs.now); told = [] }; own = []; shared = []; outbox = []; star = steps.part_at_first deck.now system.0; known = 0; done = 0 }) }
     {
         let star = if deck.star {
             Some(StarPart::new(alloc, system, deck.entries)?)
@@ -94,7 +94,7 @@ impl NodeState {
         };
         Ok(NodeState {
             tasks: Tasks::new(alloc, system, jobs)?,
-            held: Local::new(alloc, system),
+            local: Local::new(alloc, system),
             shared: Table::new(alloc, PlainQueues::new(alloc)),
             outbox: List::new(alloc),
             star,
@@ -125,7 +125,7 @@ impl NodeState {
         ensures system { self.new.tasks.system ≡ self.old.tasks.system }
     {
         let req = Req { task, want };
-        let outcome = self.held.request(&req)?;
+        let outcome = self.local.request(&req)?;
         replied(
             alloc,
             &mut self.tasks,
@@ -326,7 +326,7 @@ impl NodeState {
     /// A manager decides the request of its own task that waits to be sent.
     fn send_own(&mut self, alloc: Global, task: TaskId) -> Result<List<Fixed>, NoMemory>
         requires task { is_task self.old.tasks task ≡ true }
-        requires decides { IfSome self.old.star (λ p. may_decide p (state_of self.old.tasks task).outstanding ≡ true) }
+        requires decides { IfSome self.old.star (λ p. manages_if_asked p (state_of self.old.tasks task).outstanding ≡ true) }
         ensures step { IfOk result (λ fixed. stepped self.new fixed ≡ steps.send_own self.old task self.old.star) }
         ensures system { self.new.tasks.system ≡ self.old.tasks.system }
     {

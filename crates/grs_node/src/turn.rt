@@ -5,10 +5,10 @@ ghost use Rattle.grs_wire.specs.declared.medium.RingBody.TheVariants.{Request};
 ghost use Rattle.grs_wire.specs.declared.request.Fixed.TheVariants as fixes;
 ghost use Rattle.grs_node.specs.Entries.{unseen_by};
 ghost use Rattle.grs_node.specs.Node as steps;
-ghost use Rattle.grs_node.specs.Node.{are_of};
+ghost use Rattle.grs_node.specs.Node.{are_of_system};
 ghost use Rattle.grs_node.specs.Finish.{may_come};
 ghost use Rattle.grs_node.specs.Log.{stepped};
-ghost use Rattle.grs_node.specs.Star.{may_call};
+ghost use Rattle.grs_node.specs.Star.{was_prepared};
 
 use super::scripts::is_of_deck;
 use super::state::NodeState;
@@ -22,7 +22,7 @@ use task_state::{Phase, Tasks};
 /// The tasks of these requests have sent them.
 #[tactic(auto, using(crate::proofs::Kept::kept), unfolding(crate::specs::Node::all_sent))]
 fn all_sent(tasks: &mut Tasks, reqs: &[Req])
-    requires { are_of tasks.old.system (length tasks.old.tasks) reqs.now ≡ true }
+    requires { are_of_system tasks.old.system (length tasks.old.tasks) reqs.now ≡ true }
     ensures step { tasks.new ≡ steps.all_sent tasks.old reqs.now }
     ensures system { tasks.new.system ≡ tasks.old.system }
     ensures count { length tasks.new.tasks ≡ length tasks.old.tasks }
@@ -189,7 +189,7 @@ impl NodeState {
         choice: Choice,
         reply: Reply,
     ) -> Result<List<Fixed>, NoMemory>
-        requires { IfSome self.old.star (λ p. may_call self.old.tasks p choice ≡ true) }
+        requires { IfSome self.old.star (λ p. was_prepared self.old.tasks p choice ≡ true) }
         ensures step { IfOk result (λ fixed. stepped self.new fixed ≡ steps.finish_star deck.now self.old self.old.star choice reply) }
         ensures system { self.new.tasks.system ≡ self.old.tasks.system }
     {

@@ -7,7 +7,7 @@ use Rattle.grs_wire.specs.declared.deck.JobDef.{JobDef}
 use Rattle.grs_wire.specs.declared.deck.SystemDef.{SystemDef}
 use Rattle.grs_wire.specs.declared.deck.Deck.{Deck}
 use Rattle.grs_wire.specs.declared.seen.TaskEnd.{TaskEnd}
-use Rattle.grs_node.specs.Node.{Node}
+use Rattle.grs_node.specs.Node.{NodeState}
 use Rattle.grs_world.specs.Running.{task_end}
 
 -- so many tasks of one job, of which the first has this place in its system
@@ -30,5 +30,5 @@ abbrev pub tasks_of : Deck → List TaskId
 tasks_of deck = tasks_of_systems 0 deck.systems
 
 -- each of these tasks with its end at its system
-abbrev pub ends_at : List Node → List TaskId → List (TaskId × TaskEnd)
+abbrev pub ends_at : List NodeState → List TaskId → List (TaskId × TaskEnd)
 ends_at ns ts = map (λ t. (t, task_end ns t)) ts

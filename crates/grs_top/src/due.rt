@@ -10,7 +10,7 @@ ghost use Rattle.grs_top.specs.Due.{fault_line, whole_text, status_of, IsSoundBy
 use super::Status;
 use super::fault_line::fault_line;
 use super::lists::lists_text;
-use super::seen::seen_of;
+use super::seen::seen_by_replay;
 use super::words::Command;
 use grs_base::{DeckFault, List, NoMemory, ReadError};
 use grs_deck::read_deck;
@@ -40,7 +40,7 @@ fn reported(alloc: Global, deck: &Deck) -> Result<Due, NoMemory>
     ensures sound { Sound deck.now deck.now.events }
 {
     runs_are_sound();
-    let seen = seen_of(alloc, deck)?;
+    let seen = seen_by_replay(alloc, deck)?;
     let out = report(alloc, deck, &seen)?;
     Ok(Due {
         out,

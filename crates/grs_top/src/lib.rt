@@ -13,6 +13,6 @@ mod status;
 mod words;
 
 pub use command::{grs, lists_command, replay_command};
-pub use seen::seen_of;
+pub use seen::seen_by_replay;
 pub use status::Status;
 pub use words::Command;

@@ -59,7 +59,7 @@ fn run_of(alloc: Global, deck: &Deck) -> Result<Run, NoMemory>
 ///
 /// `NoMemory` where there was no memory for the run or for what it shows.
 #[tactic(auto, unfolding(crate::specs::Seen::seen_of_run))]
-pub fn seen_of(alloc: Global, deck: &Deck) -> Result<Seen, NoMemory>
+pub fn seen_by_replay(alloc: Global, deck: &Deck) -> Result<Seen, NoMemory>
     requires { IsDeck deck.now }
     ensures { IfOk result (λ seen. seen ≡ seen_of_run deck.now deck.now.events) }
 {

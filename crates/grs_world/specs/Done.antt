@@ -2,7 +2,7 @@
 use Rattle.std.specs.Prelude.{Bool, true, List, [], ◌∷◌, Option, Some, None}
 use Rattle.grs_wire.specs.declared.log.StepDone.{StepDone}
 use Rattle.grs_wire.specs.declared.medium.Reply.{Reply}
-use Rattle.grs_node.specs.Node.{Node, Step}
+use Rattle.grs_node.specs.Node.{NodeState, Step}
 use Rattle.grs_world.specs.declared.chosen.Done.{Done}
 use Rattle.grs_world.specs.World.{told_in}
 
@@ -17,7 +17,7 @@ last_done (s ∷ []) = done_of s
 last_done (s ∷ t ∷ ts) = last_done (t ∷ ts)
 
 -- what a system's step fixed and told
-abbrev pub done_by : Node → Step → Done
+abbrev pub done_by : NodeState → Step → Done
 done_by n s = record { fixed = s.fixed; told = told_in n s }
 
 -- a reply to a call, which has an entry in the journal

@@ -1,6 +1,6 @@
 -- In star mode each lock word tells who has interest in its entry, and who manages it.
 use Rattle.std.specs.Prelude.{◌≡◌, ℕ, Bool, false, List, Option, Some, None, slice_get}
-use Rattle.grs_node.specs.Node.{Node}
+use Rattle.grs_node.specs.Node.{NodeState}
 use Rattle.grs_node.specs.Star.{StarPart, has_interest, manages}
 use Rattle.grs_wire.specs.LockWords.{is_manager}
 use Rattle.grs_wire.specs.declared.deck.Deck.{Deck}
@@ -15,7 +15,7 @@ abbrev pub interest_by : Option StarPart → ℕ → Bool
 interest_by None e = false
 interest_by (Some p) e = has_interest p e
 
-abbrev pub interest_at : Option Node → ℕ → Bool
+abbrev pub interest_at : Option NodeState → ℕ → Bool
 interest_at None e = false
 interest_at (Some n) e = interest_by n.star e
 
@@ -24,7 +24,7 @@ abbrev pub manages_by : Option StarPart → ℕ → Bool
 manages_by None e = false
 manages_by (Some p) e = manages p e
 
-abbrev pub manages_at : Option Node → ℕ → Bool
+abbrev pub manages_at : Option NodeState → ℕ → Bool
 manages_at None e = false
 manages_at (Some n) e = manages_by n.star e
 

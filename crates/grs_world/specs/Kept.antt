@@ -6,7 +6,7 @@ use Rattle.grs_base.specs.State.{is_systems, list_of}
 use Rattle.grs_base.specs.declared.resource.Elem.{Elem}
 use Rattle.grs_base.specs.declared.resource.Res.{Res}
 use Rattle.grs_base.specs.declared.resource.SysId.{SysId}
-use Rattle.grs_node.specs.Node.{Node, read_entries}
+use Rattle.grs_node.specs.Node.{NodeState, read_entries}
 use Rattle.grs_node.specs.Star.{StarPart}
 use Rattle.grs_wire.specs.History.{replay}
 use Rattle.grs_wire.specs.declared.deck.Deck.{Deck}
@@ -22,18 +22,18 @@ places deck es r = list_of (replay deck.limit (hist deck es)) r
 
 -- A system's table has this list once the system has processed, in order, the entries of the message that it hasn't
 -- seen.
-abbrev pub in_table : Deck → World → SysId → Option Node → Res → List Elem
+abbrev pub in_table : Deck → World → SysId → Option NodeState → Res → List Elem
 in_table deck w s None r = []
 in_table deck w s (Some n) r = list_of (read_entries deck n (unseen s w.medium.message.entries)).shared r
 
 -- A manager m keeps this list of a resource. Once it has changed to star mode that is the list of its elements, in the
 -- order in which they stand, which in every run is that of their ranks (`ManagersKeepWell`). Before that it is the list of
 -- its table, once it has processed what it hasn't seen.
-abbrev pub managed_list : Deck → World → SysId → Node → Option StarPart → Res → List Elem
+abbrev pub managed_list : Deck → World → SysId → NodeState → Option StarPart → Res → List Elem
 managed_list deck w m n None r = in_table deck w m (Some n) r
 managed_list deck w m n (Some p) r = list_of (plain (items_of (managed_of p.manager r))) r
 
-abbrev pub at_node : Deck → World → SysId → Option Node → Res → List Elem
+abbrev pub at_node : Deck → World → SysId → Option NodeState → Res → List Elem
 at_node deck w m None r = []
 at_node deck w m (Some n) r = managed_list deck w m n n.star r
 
@@ -73,4 +73,4 @@ pub record IsKeptBy (s : ℕ) (p : StarPart) : Type 0 where
 -- After these events each system in star mode keeps well what it manages. So the list of a resource that a manager keeps
 -- is that of its elements by rank.
 abbrev pub ManagersKeepWell : Deck → List Event → Type 0
-ManagersKeepWell deck es = (s : ℕ) (n : Node) (p : StarPart) → slice_get (run deck es).nodes s ≡ Some n → n.star ≡ Some p → IsKeptBy s p
+ManagersKeepWell deck es = (s : ℕ) (n : NodeState) (p : StarPart) → slice_get (run deck es).nodes s ≡ Some n → n.star ≡ Some p → IsKeptBy s p

@@ -7,7 +7,7 @@ use Rattle.grs_base.specs.declared.resource.SysId.{SysId}
 use Rattle.grs_base.specs.declared.resource.TaskId.{TaskId}
 use Rattle.grs_medium.specs.Apply.{reply_to}
 use Rattle.grs_medium.specs.Medium.{MediumState}
-use Rattle.grs_node.specs.Node.{Node, prepare}
+use Rattle.grs_node.specs.Node.{NodeState, prepare}
 use Rattle.grs_node.specs.declared.prepared.Prepared.{Prepared}
 use Rattle.grs_node.specs.declared.prepared.Prepared.TheVariants.{Quiet, Call, Nothing}
 use Rattle.grs_wire.specs.Masks.{has}
@@ -50,7 +50,7 @@ given_when m s (Call call) = given_by (reply_to m s call)
 given_when m s Quiet = []
 given_when m s Nothing = []
 
-abbrev pub given_at : Deck → World → Event → Option Node → List RingEntry
+abbrev pub given_at : Deck → World → Event → Option NodeState → List RingEntry
 given_at deck w e None = []
 given_at deck w e (Some n) = given_when w.medium e.system (prepare deck n e.choice)
 

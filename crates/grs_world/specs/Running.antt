@@ -4,7 +4,7 @@ use Rattle.grs_base.specs.declared.resource.SysId.{SysId}
 use Rattle.grs_base.specs.declared.resource.TaskId.{TaskId}
 use Rattle.grs_medium.specs.Medium.{medium_at_end}
 use Rattle.grs_node.specs.Log.{NodeView, end_in}
-use Rattle.grs_node.specs.Node.{Node, first_node, is_pending}
+use Rattle.grs_node.specs.Node.{NodeState, first_node, is_pending}
 use Rattle.task_state.specs.Units.{units_at}
 use Rattle.grs_wire.specs.Masks.{has}
 use Rattle.grs_wire.specs.declared.deck.Deck.{Deck}
@@ -32,7 +32,7 @@ abbrev pub ran : Deck → List Event → Running
 ran deck es = record { deck = deck; world = run deck es }
 
 -- the systems without their decks and logs
-abbrev pub nodes_of : List NodeView → List Node
+abbrev pub nodes_of : List NodeView → List NodeState
 nodes_of vs = map (λ v. v.node) vs
 
 -- all of them are systems of this deck
@@ -45,7 +45,7 @@ abbrev pub is_live : World → SysId → Bool
 is_live w s = nat_lt s.0 (length w.nodes) && not (has w.medium.removed s.0)
 
 -- a system that is there
-abbrev pub node_at : Deck → List Node → SysId → Node
+abbrev pub node_at : Deck → List NodeState → SysId → NodeState
 node_at deck ns s = get_or ns s.0 (first_node deck s.0)
 
 -- whether nothing is pending at any of these systems, of which the first has this number, but at removed ones: each is
@@ -64,7 +64,7 @@ unfoldable pub at_rest : Deck → World → Bool
 at_rest deck w = none_pending w.medium.removed 0 (map (is_pending deck) w.nodes) && medium_at_end w.medium
 
 -- the units that the tasks of these systems reserve, each with its count, by system and unit
-abbrev pub units_of : List Node → List (SysId × ℕ × ℕ)
+abbrev pub units_of : List NodeState → List (SysId × ℕ × ℕ)
 units_of [] = []
 units_of (n ∷ ns) = units_at (record { 0 = n.tasks.system }) n.tasks.tasks ++ units_of ns
 
@@ -73,10 +73,10 @@ abbrev pub end_of : TasksView → TaskId → TaskEnd
 end_of v t = cond (is_task v t) (end_in (state_of v t).phase) ends.Open
 
 -- the end of a task at its system, if that one is there
-abbrev pub end_at : TaskId → Option Node → TaskEnd
+abbrev pub end_at : TaskId → Option NodeState → TaskEnd
 end_at t None = ends.Open
 end_at t (Some n) = end_of n.tasks t
 
 -- the end of a task at these systems
-abbrev pub task_end : List Node → TaskId → TaskEnd
+abbrev pub task_end : List NodeState → TaskId → TaskEnd
 task_end ns t = end_at t (slice_get ns t.system.0)

@@ -4,7 +4,7 @@ use Rattle.std.specs.Prelude.{◌≡◌, ℕ, Bool, true, ◌-◌, ◌==◌, con
 use Rattle.grs_base.specs.declared.resource.SysId.{SysId}
 use Rattle.grs_known.specs.Change.{systems_part}
 use Rattle.grs_known.specs.Items.{goes_round}
-use Rattle.grs_node.specs.Node.{Node}
+use Rattle.grs_node.specs.Node.{NodeState}
 use Rattle.grs_wire.specs.History.{replay, answered}
 use Rattle.grs_wire.specs.declared.deck.Deck.{Deck}
 use Rattle.grs_wire.specs.declared.deck.Event.{Event}
@@ -37,5 +37,5 @@ keeps_table w s = is_live w s
 -- behind the front that the system has processed.
 abbrev pub TablesAreFronts : Deck → List Event → Type 0
 TablesAreFronts deck es =
-    (s : SysId) (n : Node) → slice_get (run deck es).nodes s.0 ≡ Some n → keeps_table (run deck es) s ≡ true
+    (s : SysId) (n : NodeState) → slice_get (run deck es).nodes s.0 ≡ Some n → keeps_table (run deck es) s ≡ true
     → n.shared ≡ systems_part (replay deck.limit (answered (processed (run deck es) s)))

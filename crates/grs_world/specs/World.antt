@@ -3,7 +3,7 @@ use Rattle.std.specs.Prelude.{ℕ, ◌+◌, List, [], ◌∷◌, ◌++◌, lengt
 use Rattle.grs_base.specs.declared.resource.SysId.{SysId}
 use Rattle.grs_medium.specs.Apply.{reply_to, medium_after}
 use Rattle.grs_medium.specs.Medium.{MediumState, first_medium}
-use Rattle.grs_node.specs.Node.{Node, Step, first_node, prepare, finish}
+use Rattle.grs_node.specs.Node.{NodeState, Step, first_node, prepare, finish}
 use Rattle.grs_node.specs.declared.prepared.Prepared.{Prepared}
 use Rattle.grs_node.specs.declared.prepared.Prepared.TheVariants.{Quiet, Call, Nothing}
 use Rattle.grs_wire.specs.Masks.{has}
@@ -20,13 +20,13 @@ use Rattle.grs_wire.specs.History.{answered}
 -- the medium, the systems by number, how many events there were, what they fixed and what was told
 pub record World : Type 0 where
   pub medium : MediumState
-  pub nodes : List Node
+  pub nodes : List NodeState
   pub events : ℕ
   pub fixed : List (SysId × Fixed)
   pub told : List Told
 
 -- these systems of a deck, of which the first has this number
-abbrev pub first_nodes : Deck → ℕ → List SystemDef → List Node
+abbrev pub first_nodes : Deck → ℕ → List SystemDef → List NodeState
 first_nodes deck s [] = []
 first_nodes deck s (d ∷ ds) = first_node deck s ∷ first_nodes deck (s + 1) ds
 
@@ -44,18 +44,18 @@ pub record Turnout : Type 0 where
   pub medium : MediumState
   pub step : Step
 
-abbrev pub idle : MediumState → Node → Turnout
+abbrev pub idle : MediumState → NodeState → Turnout
 idle m n = record { medium = m; step = record { node = n; fixed = [] } }
 
 -- what a prepared choice leads to
-unfoldable pub carry_out : Deck → MediumState → SysId → Node → Choice → Prepared → Turnout
+unfoldable pub carry_out : Deck → MediumState → SysId → NodeState → Choice → Prepared → Turnout
 carry_out deck m s n choice Nothing = idle m n
 carry_out deck m s n choice Quiet = record { medium = m; step = finish deck n choice None }
 carry_out deck m s n choice (Call call) =
     record { medium = medium_after m s call; step = finish deck n choice (Some (reply_to m s call)) }
 
 -- a choice of one system: it is prepared, makes at most one call of the medium, and is finished
-unfoldable pub chosen : Deck → MediumState → SysId → Node → Choice → Turnout
+unfoldable pub chosen : Deck → MediumState → SysId → NodeState → Choice → Turnout
 chosen deck m s n choice = carry_out deck m s n choice (prepare deck n choice)
 
 abbrev pub fixed_by : SysId → List Fixed → List (SysId × Fixed)
@@ -65,11 +65,11 @@ abbrev pub told_by : ℕ → SysId → List ToldLine → List Told
 told_by e s ls = map (λ l. record { event = e; system = s; line = l }) ls
 
 -- what a system told in a step
-abbrev pub told_in : Node → Step → List ToldLine
+abbrev pub told_in : NodeState → Step → List ToldLine
 told_in n step = drop (length n.tasks.told) step.node.tasks.told
 
 -- the world after this came of an event of a system
-unfoldable pub placed : World → SysId → Node → Turnout → World
+unfoldable pub placed : World → SysId → NodeState → Turnout → World
 placed w s n out = record {
   medium = out.medium;
   nodes = set w.nodes s.0 out.step.node;
@@ -83,7 +83,7 @@ abbrev pub counted : World → World
 counted w = record w { events = w.events + 1 }
 
 -- an event of this system, if it is one
-unfoldable pub happens_at : Deck → World → Event → Option Node → World
+unfoldable pub happens_at : Deck → World → Event → Option NodeState → World
 happens_at deck w e None = counted w
 happens_at deck w e (Some n) =
     cond (has w.medium.removed e.system.0) (counted w) (placed w e.system n (chosen deck w.medium e.system n e.choice))

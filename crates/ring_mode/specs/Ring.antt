@@ -22,7 +22,7 @@ use Rattle.grs_wire.specs.declared.request.Want.{Want}
 use Rattle.grs_wire.specs.declared.request.Want.TheVariants.{Enq, Deq, Release, Look}
 use Rattle.task_state.specs.declared.state.Asked.{Asked}
 use Rattle.task_state.specs.View.{TasksView, is_task, state_of, is_sent}
-use Rattle.task_state.specs.Replies.{settled_any, tell_new}
+use Rattle.task_state.specs.Replies.{tell_answer_any, tell_new}
 
 -- the ring's part of a system: its tasks, and its table of the Systems resources
 pub record Side : Type 0 where
@@ -84,7 +84,7 @@ is_asked w (Some a) = same_want w a.req.want
 unfoldable pub answer_own : TasksView → Req → Answer → TasksView
 answer_own v q answer =
     cond (is_task v q.task && (is_sent (state_of v q.task).phase && is_asked q.want (state_of v q.task).outstanding))
-    (settled_any v q.task answer (state_of v q.task).outstanding)
+    (tell_answer_any v q.task answer (state_of v q.task).outstanding)
     v
 
 -- A request is processed: it is answered by the table. If a task of this system asked, it is told the answer

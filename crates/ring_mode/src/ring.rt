@@ -11,7 +11,7 @@ use grs_base::{NoMemory, Queues, Res};
 use grs_wire::{Answer, Req, Want};
 use queue_table::Table;
 use std::alloc::Global;
-use task_state::{Tasks, settled, tell_new};
+use task_state::{Tasks, tell_answer, tell_new};
 
 /// The resource that is spoken of, if one is.
 pub fn res_of(want: &Want) -> Option<&Res>
@@ -47,7 +47,7 @@ fn answer_own(alloc: Global, tasks: &mut Tasks, req: &Req, answer: &Answer) -> R
     ensures count { length tasks.new.tasks ≡ length tasks.old.tasks }
 {
     if is_awaited(tasks, req) {
-        settled(alloc, tasks, req.task, answer)
+        tell_answer(alloc, tasks, req.task, answer)
     } else {
         Ok(())
     }

@@ -26,7 +26,7 @@ use Rattle.grs_wire.specs.declared.request.Answer.TheVariants.{Coded, Rows}
 use Rattle.grs_wire.specs.declared.request.Want.{Want}
 use Rattle.grs_wire.specs.declared.request.Want.TheVariants.{Enq, Deq, Release, Look}
 use Rattle.task_state.specs.declared.state.Asked.{Asked}
-use Rattle.task_state.specs.Replies.{settled, tell_control}
+use Rattle.task_state.specs.Replies.{tell_answer, tell_control}
 use Rattle.task_state.specs.View.{TasksView, is_task, state_of, is_sent, record_of, with_rank}
 
 -- ---- which answers a request can get
@@ -115,13 +115,13 @@ with_rank_of v t None rank = v
 with_rank_of v t (Some r) rank = with_rank v t r rank
 
 -- a task whose outstanding request was answered; a record that this makes has this rank
-unfoldable pub settled_ranked : TasksView → TaskId → Asked → Answer → ℕ → TasksView
-settled_ranked v t a answer rank = with_rank_of (settled v t a answer) t (unrecorded v t (res_wanted a.req.want)) rank
+unfoldable pub tell_answer_ranked : TasksView → TaskId → Asked → Answer → ℕ → TasksView
+tell_answer_ranked v t a answer rank = with_rank_of (tell_answer v t a answer) t (unrecorded v t (res_wanted a.req.want)) rank
 
 -- the same where a task has one
-abbrev pub settled_any_ranked : TasksView → TaskId → Answer → ℕ → Option Asked → TasksView
-settled_any_ranked v t answer rank None = v
-settled_any_ranked v t answer rank (Some a) = settled_ranked v t a answer rank
+abbrev pub tell_answer_any_ranked : TasksView → TaskId → Answer → ℕ → Option Asked → TasksView
+tell_answer_any_ranked v t answer rank None = v
+tell_answer_any_ranked v t answer rank (Some a) = tell_answer_ranked v t a answer rank
 
 -- ---- mail
 
@@ -136,11 +136,11 @@ has_sent v t = is_task v t && is_sent (state_of v t).phase
 
 -- Whether the answer to a task's request has an effect: the task has sent one that can get this answer, and the rank is
 -- one that there can be.
-abbrev pub is_heard : TasksView → TaskId → Answer → ℕ → Bool
-is_heard v t answer rank = has_sent v t && (nat_le rank last_number && is_awaited answer (state_of v t).outstanding)
+abbrev pub has_effect : TasksView → TaskId → Answer → ℕ → Bool
+has_effect v t answer rank = has_sent v t && (nat_le rank last_number && is_awaited answer (state_of v t).outstanding)
 
 -- The tasks after a mail. A request is for their system as a manager, and nothing to them.
 unfoldable pub after_mail : TasksView → Mail → TasksView
 after_mail v (Request entry from q) = v
-after_mail v (Answered t answer rank) = cond (is_heard v t answer rank) (settled_any_ranked v t answer rank (state_of v t).outstanding) v
+after_mail v (Answered t answer rank) = cond (has_effect v t answer rank) (tell_answer_any_ranked v t answer rank (state_of v t).outstanding) v
 after_mail v (Granted t r) = tell_control v r t

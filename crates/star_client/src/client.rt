@@ -9,7 +9,7 @@ use super::answers::can_get;
 use grs_base::{LAST_NUMBER, NoMemory, Res, TaskId};
 use grs_wire::{Answer, Mail, Want};
 use std::alloc::Global;
-use task_state::{Asked, Tasks, settled, tell_new};
+use task_state::{Asked, Tasks, tell_answer, tell_new};
 
 /// The resource of a request, if it is for one and the task has no record of it.
 fn unrecorded(
@@ -34,8 +34,8 @@ fn unrecorded(
 }
 
 /// Answers the request of a task that isn't answered yet, if it has one; a record that this makes has this rank.
-#[tactic(auto, using(task_state::proofs::Keeps::keeps), unfolding(crate::specs::Client::settled_ranked, task_state::specs::Replies::settled_any))]
-pub fn settled_ranked(
+#[tactic(auto, using(task_state::proofs::Keeps::keeps), unfolding(crate::specs::Client::tell_answer_ranked, task_state::specs::Replies::tell_answer_any))]
+pub fn tell_answer_ranked(
     alloc: Global,
     tasks: &mut Tasks,
     task: TaskId,
@@ -43,7 +43,7 @@ pub fn settled_ranked(
     rank: u64,
 ) -> Result<(), NoMemory>
     requires { is_task tasks.old task ≡ true }
-    ensures step { OnOk result (tasks.new ≡ client.settled_any_ranked tasks.old task answer.now rank (state_of tasks.old task).outstanding) }
+    ensures step { OnOk result (tasks.new ≡ client.tell_answer_any_ranked tasks.old task answer.now rank (state_of tasks.old task).outstanding) }
     ensures system { tasks.new.system ≡ tasks.old.system }
     ensures count { length tasks.new.tasks ≡ length tasks.old.tasks }
 {
@@ -51,7 +51,7 @@ pub fn settled_ranked(
         return Ok(());
     };
     let res = unrecorded(alloc, tasks, task, &asked.req.want)?;
-    settled(alloc, tasks, task, answer)?;
+    tell_answer(alloc, tasks, task, answer)?;
     if let Some(res) = res {
         tasks.set_rank(task, &res, rank);
     }
@@ -70,8 +70,8 @@ fn is_awaited(answer: &Answer, asked: Option<&Asked>) -> bool
 
 /// Whether the answer to a task's request has an effect: the task has sent one that can get this answer, and the rank is
 /// one that there can be.
-fn is_heard(tasks: &Tasks, task: TaskId, answer: &Answer, rank: u64) -> bool
-    ensures { result ≡ client.is_heard tasks.now task answer.now rank }
+fn has_effect(tasks: &Tasks, task: TaskId, answer: &Answer, rank: u64) -> bool
+    ensures { result ≡ client.has_effect tasks.now task answer.now rank }
 {
     tasks.has(task)
         && tasks.phase(task).is_sent()
@@ -91,8 +91,8 @@ pub fn on_mail(alloc: Global, tasks: &mut Tasks, mail: Mail) -> Result<(), NoMem
     match mail {
         Mail::Request { .. } => Ok(()),
         Mail::Answered { task, answer, rank } => {
-            if is_heard(tasks, task, &answer, rank) {
-                settled_ranked(alloc, tasks, task, &answer, rank)
+            if has_effect(tasks, task, &answer, rank) {
+                tell_answer_ranked(alloc, tasks, task, &answer, rank)
             } else {
                 Ok(())
             }

@@ -5,4 +5,4 @@
 mod answers;
 mod client;
 
-pub use client::{on_mail, settled_ranked};
+pub use client::{on_mail, tell_answer_ranked};

@@ -147,10 +147,10 @@ unfoldable pub recalled : TasksView → TaskId → Want → TasksView
 recalled v t w = with_outstanding (with_phase v t (phase_asking w (state_of v t).code)) t None
 
 -- a task whose outstanding request was answered
-unfoldable pub settled : TasksView → TaskId → Asked → Answer → TasksView
-settled v t a answer = replied (recalled v t a.req.want) t a.req.want a.unit answer
+unfoldable pub tell_answer : TasksView → TaskId → Asked → Answer → TasksView
+tell_answer v t a answer = replied (recalled v t a.req.want) t a.req.want a.unit answer
 
 -- the same where a task has one
-unfoldable pub settled_any : TasksView → TaskId → Answer → Option Asked → TasksView
-settled_any v t answer None = v
-settled_any v t answer (Some a) = settled v t a answer
+unfoldable pub tell_answer_any : TasksView → TaskId → Answer → Option Asked → TasksView
+tell_answer_any v t answer None = v
+tell_answer_any v t answer (Some a) = tell_answer v t a answer

@@ -259,15 +259,15 @@ pub fn tell_new(tasks: &mut Tasks, res: Option<&Res>, owners: &[TaskId]) -> Resu
 }
 
 /// Answers the request of a task that isn't answered yet, if it has one.
-#[tactic(auto, using(crate::proofs::Keeps::keeps, crate::proofs::ViewLaws::still_asked), unfolding(crate::specs::Replies::settled_any, crate::specs::Replies::settled, crate::specs::Replies::recalled))]
-pub fn settled(
+#[tactic(auto, using(crate::proofs::Keeps::keeps, crate::proofs::ViewLaws::still_asked), unfolding(crate::specs::Replies::tell_answer_any, crate::specs::Replies::tell_answer, crate::specs::Replies::recalled))]
+pub fn tell_answer(
     alloc: Global,
     tasks: &mut Tasks,
     task: TaskId,
     answer: &Answer,
 ) -> Result<(), NoMemory>
     requires { is_task tasks.old task ≡ true }
-    ensures step { OnOk result (tasks.new ≡ steps.settled_any tasks.old task answer.now (state_of tasks.old task).outstanding) }
+    ensures step { OnOk result (tasks.new ≡ steps.tell_answer_any tasks.old task answer.now (state_of tasks.old task).outstanding) }
     ensures system { tasks.new.system ≡ tasks.old.system }
     ensures count { length tasks.new.tasks ≡ length tasks.old.tasks }
 {

@@ -6,7 +6,7 @@ use Rattle.grs_base.specs.declared.resource.SysId.{SysId}
 use Rattle.grs_medium.specs.Apply.{ActFits, reply_to, medium_after}
 use Rattle.grs_medium.specs.Medium.{MediumState, systems_of}
 use Rattle.grs_node.specs.Addressed.{is_act_addressed}
-use Rattle.grs_node.specs.Node.{Node, prepare, finish, most_additions}
+use Rattle.grs_node.specs.Node.{NodeState, prepare, finish, most_additions}
 use Rattle.grs_node.specs.declared.prepared.Prepared.{Prepared}
 use Rattle.grs_node.specs.declared.prepared.Prepared.TheVariants.{Call}
 use Rattle.grs_wire.specs.declared.deck.Choice.{Choice}
@@ -34,7 +34,7 @@ act-fits m c deck (acts.Purge t) a s w = absurd (cc)
 act-fits m c deck acts.Rest a s w = tt
 
 -- what a call that was prepared leads to
-pub chosen-call : (deck : Deck) (m : MediumState) (c : SysId) (n : Node) (choice : Choice) (call : CallOfMedium) → prepare deck n choice ≡ Call call → chosen deck m c n choice ≡ record { medium = medium_after m c call; step = finish deck n choice (Some (reply_to m c call)) }
+pub chosen-call : (deck : Deck) (m : MediumState) (c : SysId) (n : NodeState) (choice : Choice) (call : CallOfMedium) → prepare deck n choice ≡ Call call → chosen deck m c n choice ≡ record { medium = medium_after m c call; step = finish deck n choice (Some (reply_to m c call)) }
 unfolding chosen carry_out
 chosen-call deck m c n choice call h = ap (λ (p : Prepared). carry_out deck m c n choice p) h
 

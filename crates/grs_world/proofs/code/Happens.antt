@@ -8,7 +8,7 @@ use Rattle.std.proofs.lemmas.Option.{slice_get_past, slice_get-get_or}
 use Rattle.grs_wire.specs.Masks.{has}
 use Rattle.grs_wire.specs.declared.deck.Deck.{Deck}
 use Rattle.grs_wire.specs.declared.deck.Event.{Event}
-use Rattle.grs_node.specs.Node.{Node, first_node}
+use Rattle.grs_node.specs.Node.{NodeState, first_node}
 use Rattle.grs_world.specs.World.{World, chosen, placed, counted, happens_at, happens, run_from}
 use Rattle.grs_world.specs.Running.{is_live, node_at}
 
@@ -28,7 +28,7 @@ pub happens-idle : (deck : Deck) (w : World) (e : Event) → is_live w e.system 
 unfolding happens happens_at placed
 happens-idle deck w e h = by_place (nat_lt e.system.0 (length w.nodes)) refl
   where
-    by_removed : (n : Node) (b : Bool) → true && not b ≡ false → cond b (counted w) (placed w e.system n (chosen deck w.medium e.system n e.choice)) ≡ counted w
+    by_removed : (n : NodeState) (b : Bool) → true && not b ≡ false → cond b (counted w) (placed w e.system n (chosen deck w.medium e.system n e.choice)) ≡ counted w
     by_removed n true k = refl
     by_removed n false k = cc
 

@@ -6,7 +6,7 @@ use Rattle.grs_base.specs.declared.resource.SysId.{SysId}
 use Rattle.grs_medium.specs.Apply.{turn_row, switch_ring, switch_row, submit_on, submit_row, take_from, take_row, mail_row, leave_row, is_live, without_system, purge_row, resting, rest_row, row, apply, reply_to}
 use Rattle.grs_medium.specs.Medium.{MediumState, inbox, word, all_rest, medium_at_end}
 use Rattle.grs_node.specs.Finish.{is_listed, may_come}
-use Rattle.grs_node.specs.Node.{Node, prepare}
+use Rattle.grs_node.specs.Node.{NodeState, prepare}
 use Rattle.grs_node.specs.declared.prepared.Prepared.{Prepared}
 use Rattle.grs_node.specs.declared.prepared.Prepared.TheVariants.{Call}
 use Rattle.lock_structure.specs.Words.{route}
@@ -115,7 +115,7 @@ is_listed-reply m c call = by_removed (has m.removed c.0) (call.known == m.remov
     by_removed false false = stale_listed call.act m.removed
 
 -- what was prepared may come to the medium's reply
-pub may_come-reply : (m : MediumState) (c : SysId) (deck : Deck) (n : Node) (choice : Choice) (call : CallOfMedium) → prepare deck n choice ≡ Call call → may_come (prepare deck n choice) (reply_to m c call) ≡ true
+pub may_come-reply : (m : MediumState) (c : SysId) (deck : Deck) (n : NodeState) (choice : Choice) (call : CallOfMedium) → prepare deck n choice ≡ Call call → may_come (prepare deck n choice) (reply_to m c call) ≡ true
 may_come-reply m c deck n choice call h = subst (λ (p : Prepared). may_come p (reply_to m c call) ≡ true) (sym h) (is_listed-reply m c call)
 
 pub ruleset listed = (may_come-reply)

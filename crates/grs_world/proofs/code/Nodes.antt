@@ -4,7 +4,7 @@ use Rattle.std.specs.Prelude.{map, slice_get}
 use Rattle.std.specs.Option.{option_map}
 use Rattle.grs_wire.specs.declared.deck.Deck.{Deck}
 use Rattle.grs_node.specs.Log.{NodeView}
-use Rattle.grs_node.specs.Node.{Node, is_pending}
+use Rattle.grs_node.specs.Node.{NodeState, is_pending}
 use Rattle.grs_world.specs.Running.{AreOf, nodes_of, pending_at}
 
 pub AreOf-get : (deck : Deck) (vs : List NodeView) (i : ℕ) (d : NodeView) → i < length vs → AreOf deck vs → (get_or vs i d).deck ≡ deck
@@ -21,7 +21,7 @@ pub AreOf-push : (deck : Deck) (vs : List NodeView) (v : NodeView) → AreOf dec
 AreOf-push deck [] v a h = (h, tt)
 AreOf-push deck (w ∷ vs) v a h = (a.0, AreOf-push deck vs v a.1 h)
 
-pub nodes_of-get : (vs : List NodeView) (i : ℕ) (d : NodeView) (e : Node) → i < length vs → get_or (nodes_of vs) i e ≡ (get_or vs i d).node
+pub nodes_of-get : (vs : List NodeView) (i : ℕ) (d : NodeView) (e : NodeState) → i < length vs → get_or (nodes_of vs) i e ≡ (get_or vs i d).node
 nodes_of-get [] i d e h = absurd (omega arith)
 nodes_of-get (v ∷ vs) zero d e h = refl
 nodes_of-get (v ∷ vs) (suc i) d e h = nodes_of-get vs i d e (omega arith)

@@ -7,7 +7,7 @@ use Rattle.grs_medium.specs.TurnReplies.{refusal}
 use Rattle.grs_medium.proofs.TurnLaws.{turn_is_refused, turn_is_served, turn_is_here}
 use Rattle.grs_node.specs.Entries.{unseen_by}
 use Rattle.grs_node.specs.Finish.{may_come}
-use Rattle.grs_node.specs.Node.{Node, prepare, finish, most_additions}
+use Rattle.grs_node.specs.Node.{NodeState, prepare, finish, most_additions}
 use Rattle.grs_node.specs.TurnCalls.{turn_of}
 use Rattle.grs_node.specs.declared.prepared.Prepared.TheVariants.{Call}
 use Rattle.grs_wire.specs.declared.deck.Choice.TheVariants.{Turn}
@@ -27,7 +27,7 @@ unfolding unseen
 turn-given m c known out h = turn_is_served m c known out h
 
 -- what a Turn that was prepared leads to, by what the medium makes of it
-module _ (deck : Deck) (m : MediumState) (c : SysId) (n : Node) (known : ℕ) (asks : prepare deck n Turn ≡ Call (turn_of n known)) where
+module _ (deck : Deck) (m : MediumState) (c : SysId) (n : NodeState) (known : ℕ) (asks : prepare deck n Turn ≡ Call (turn_of n known)) where
   by_call : {x : Reply × MediumState} → apply m c (turn_of n known) ≡ x → chosen deck m c n Turn ≡ record { medium = x.1; step = finish deck n Turn (Some x.0) }
   by_call is = chosen-call deck m c n Turn (turn_of n known) asks ∙ ap (λ (x : Reply × MediumState). record { medium = x.1; step = finish deck n Turn (Some x.0) }) is
 

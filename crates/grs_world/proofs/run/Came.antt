@@ -7,7 +7,7 @@ use Rattle.grs_base.specs.declared.resource.SysId.{SysId}
 use Rattle.grs_base.specs.declared.resource.TaskId.{TaskId}
 use Rattle.grs_medium.specs.Apply.{reply_to, medium_after, apply, row, turn_row, rest_row, resting}
 use Rattle.grs_medium.specs.Medium.{MediumState, live, all_rest, medium_at_end}
-use Rattle.grs_node.specs.Node.{Node, Step, finish, finish_quiet, read_entries, put_in, may_go, most_additions}
+use Rattle.grs_node.specs.Node.{NodeState, Step, finish, finish_quiet, read_entries, put_in, may_go, most_additions}
 use Rattle.grs_node.proofs.InRing.{ring_finish}
 use Rattle.grs_node.specs.declared.prepared.Prepared.TheVariants.{Call}
 use Rattle.grs_wire.specs.Masks.{only}
@@ -36,13 +36,13 @@ use Rattle.grs_known.proofs.system.Says.{is_home_at, own_requests}
 
 -- What came of an event of a system: nothing that its tasks or the message would show, a task that went on, or its
 -- Turn.
-pub data Came (deck : Deck) (w : World) (s : SysId) (n : Node) : Turnout → Type 0 where
-  nothing : (m : MediumState) (k : Node) → m.message ≡ w.medium.message → k.tasks.told ≡ n.tasks.told → Came deck w s n (record { medium = m; step = record { node = k; fixed = [] } })
+pub data Came (deck : Deck) (w : World) (s : SysId) (n : NodeState) : Turnout → Type 0 where
+  nothing : (m : MediumState) (k : NodeState) → m.message ≡ w.medium.message → k.tasks.told ≡ n.tasks.told → Came deck w s n (record { medium = m; step = record { node = k; fixed = [] } })
   went_on : (t : TaskId) → may_go deck n t ≡ true → Came deck w s n (record { medium = w.medium; step = finish_quiet deck n (choices.Task t) })
   turn : (m : MediumState) → is_at w.medium.message.holder s ≡ true → m.message ≡ turned_open w.medium.message s (take most_additions n.outbox) (live w.medium) w.medium.rest →
       Came deck w s n (record { medium = m; step = put_in (read_entries deck n (unseen s w.medium.message.entries)) (length (take most_additions n.outbox)) })
 
-module _ (deck : Deck) (w : World) (s : SysId) (n : Node) (shut : w.medium.message.closed ≡ true → w.medium.message.holder ≡ None) (alone : n.star ≡ None) where
+module _ (deck : Deck) (w : World) (s : SysId) (n : NodeState) (shut : w.medium.message.closed ≡ true → w.medium.message.holder ≡ None) (alone : n.star ≡ None) where
   abbrev Comes : Turnout → Type 0
   Comes o = Came deck w s n o
 
@@ -88,7 +88,7 @@ module _ (deck : Deck) (w : World) (s : SysId) (n : Node) (shut : w.medium.messa
 
 -- What holds where an event is only counted, and whatever comes of it at a system, holds behind the event.
 pub each_came : (deck : Deck) (w : World) (e : Event) (P : World → Type 0) → (w.medium.message.closed ≡ true → w.medium.message.holder ≡ None) → AreRing w.nodes → P (counted w)
-    → ((n : Node) (o : Turnout) → slice_get w.nodes e.system.0 ≡ Some n → Came deck w e.system n o → P (placed w e.system n o)) → P (happens deck w e)
+    → ((n : NodeState) (o : Turnout) → slice_get w.nodes e.system.0 ≡ Some n → Came deck w e.system n o → P (placed w e.system n o)) → P (happens deck w e)
 each_came deck w e P shut ring idle comes = each_event deck w e P idle (λ n at. comes n _ at (came deck w e.system n shut (ring e.system.0 n at) e.choice))
 
 -- ---- what stands in the message
@@ -132,7 +132,7 @@ module _ (deck : Deck) (ring : deck.star ≡ false) where
       g : GoodWorld deck es (run deck es)
       g = good_run deck ring es
 
-      by_case : (n : Node) (o : Turnout) → slice_get (run deck es).nodes e.system.0 ≡ Some n → Came deck (run deck es) e.system n o → AllHome o.medium.message.entries
+      by_case : (n : NodeState) (o : Turnout) → slice_get (run deck es).nodes e.system.0 ≡ Some n → Came deck (run deck es) e.system n o → AllHome o.medium.message.entries
       by_case n o at (nothing m k same told) = subst (λ (x : Message). AllHome x.entries) (sym same) h
       by_case n o at (went_on t m) = h
       by_case n o at (turn m here is) =

@@ -6,7 +6,7 @@ use Rattle.grs_base.specs.declared.resource.TaskId.{TaskId}
 use Rattle.grs_medium.specs.Apply.{row, apply}
 use Rattle.grs_medium.specs.Medium.{MediumState}
 use Rattle.grs_node.proofs.InRing.{ring_prepare, prepare-ring}
-use Rattle.grs_node.specs.Node.{Node, most_additions, may_go, is_pending, prepare}
+use Rattle.grs_node.specs.Node.{NodeState, most_additions, may_go, is_pending, prepare}
 use Rattle.grs_node.specs.declared.prepared.Prepared.{Prepared}
 use Rattle.grs_node.specs.declared.prepared.Prepared.TheVariants.{Quiet, Call, Nothing}
 use Rattle.grs_wire.specs.Masks.{has}
@@ -29,7 +29,7 @@ each_answer m c call P removed stale here =
     (λ r. by_test P (call.known == m.removed) (row m c call.act) (replies.Stale m.removed, m) (λ k. here) (λ k. stale))
 
 -- What holds of each thing that a system of the ring can prepare holds of what it prepares.
-pub each_prepared : (deck : Deck) (n : Node) (P : Choice → Prepared → Type 0) → n.star ≡ None →
+pub each_prepared : (deck : Deck) (n : NodeState) (P : Choice → Prepared → Type 0) → n.star ≡ None →
     ((t : TaskId) → may_go deck n t ≡ true → P (choices.Task t) Quiet) →
     P choices.Turn (Call (record { known = n.known; act = acts.Turn (take most_additions n.outbox) })) →
     P choices.Rest (Call (record { known = n.known; act = acts.Rest })) →
@@ -51,11 +51,11 @@ each_prepared deck n P alone task turn rest nothing choice = subst (P choice) (s
 
 -- What holds where an event is only counted, and where a system made its choice, holds behind the event.
 pub each_event : (deck : Deck) (w : World) (e : Event) (P : World → Type 0) → P (counted w) →
-    ((n : Node) → slice_get w.nodes e.system.0 ≡ Some n → P (placed w e.system n (chosen deck w.medium e.system n e.choice))) → P (happens deck w e)
+    ((n : NodeState) → slice_get w.nodes e.system.0 ≡ Some n → P (placed w e.system n (chosen deck w.medium e.system n e.choice))) → P (happens deck w e)
 unfolding happens happens_at
 each_event deck w e P idle chose = go (slice_get w.nodes e.system.0) refl
   where
-    go : (o : Option Node) → slice_get w.nodes e.system.0 ≡ o → P (happens_at deck w e o)
+    go : (o : Option NodeState) → slice_get w.nodes e.system.0 ≡ o → P (happens_at deck w e o)
     go None at = idle
     go (Some n) at = by_test P (has w.medium.removed e.system.0) (counted w) (placed w e.system n (chosen deck w.medium e.system n e.choice)) (λ r. idle) (λ r. chose n at)
 

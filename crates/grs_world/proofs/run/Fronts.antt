@@ -4,7 +4,7 @@ use Rattle.std.specs.Prelude.{slice_get, unwrap_or, ◌==◌}
 use Rattle.std.proofs.Math.Seq.{take-append_seam, take-length}
 use Rattle.grs_base.specs.State.{State}
 use Rattle.grs_base.specs.declared.resource.SysId.{SysId}
-use Rattle.grs_node.specs.Node.{Node}
+use Rattle.grs_node.specs.Node.{NodeState}
 use Rattle.grs_wire.specs.History.{replay, fixed_entries, after_fixed, answered}
 use Rattle.grs_wire.specs.declared.deck.Deck.{Deck}
 use Rattle.grs_wire.specs.declared.deck.Event.{Event}
@@ -76,7 +76,7 @@ module _ (deck : Deck) (es : List Event) where
     is : number ≡ suc count
     front : g.before s.0 ≡ take count (rounds (items w.fixed))
 
-  stops : (s : SysId) (n : Node) (g : GoodWorld deck es w) → slice_get w.nodes s.0 ≡ Some n → (o : Option ℕ) → first_number (unseen s w.medium.message.entries) ≡ o → Stops g s (unwrap_or o w.medium.message.next)
+  stops : (s : SysId) (n : NodeState) (g : GoodWorld deck es w) → slice_get w.nodes s.0 ≡ Some n → (o : Option ℕ) → first_number (unseen s w.medium.message.entries) ≡ o → Stops g s (unwrap_or o w.medium.message.next)
   stops s n g at None f =
       let given = given-later w.medium s g.before (g.later s.0) (items w.fixed) (g.whole s.0) (g.systems s.0 n at).0 g.message in
       let none : g.later s.0 ≡ [] = none_due (g.later s.0) (unseen s w.medium.message.entries) f given in
@@ -88,7 +88,7 @@ module _ (deck : Deck) (es : List Event) where
     front = sym (take-append_seam (g.before s.0) (g.later s.0)) ∙ ap (take (seen_at g.before s.0)) (sym (g.whole s.0));
   }
 
-  table_is : (s : SysId) (n : Node) (g : GoodWorld deck es w) → slice_get w.nodes s.0 ≡ Some n → n.shared ≡ systems_part (replay deck.limit (answered (processed w s)))
+  table_is : (s : SysId) (n : NodeState) (g : GoodWorld deck es w) → slice_get w.nodes s.0 ≡ Some n → n.shared ≡ systems_part (replay deck.limit (answered (processed w s)))
   table_is s n g at =
       let stop = stops s n g at (first_number (unseen s w.medium.message.entries)) refl in
       let front : List (SysId × Fixed) = before_number (suc stop.count) w.fixed in

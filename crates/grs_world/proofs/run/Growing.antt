@@ -8,7 +8,7 @@ use Rattle.grs_base.specs.Same.{same_task}
 use Rattle.grs_base.specs.declared.resource.SysId.{SysId}
 use Rattle.grs_base.specs.declared.resource.TaskId.{TaskId}
 use Rattle.grs_base.proofs.SameLaws.{same_task-exact}
-use Rattle.grs_node.specs.Node.{Node}
+use Rattle.grs_node.specs.Node.{NodeState}
 use Rattle.grs_wire.specs.declared.deck.Deck.{Deck}
 use Rattle.grs_wire.specs.declared.request.Fixed.{Fixed}
 use Rattle.grs_wire.specs.declared.request.Fixed.TheVariants.{Asked}
@@ -50,7 +50,7 @@ grows-rounds {c = c} {P = P} (more fs U new q g own may) =
     filter-append (λ x. goes_round x.fixed) U (made_item c U (Asked q) ∷ []) ∙ ap (λ z. z ++ rounds (made_item c U (Asked q) ∷ [])) (grows-rounds g) ∙ append_assoc (rounds P) new (rounds (made_item c U (Asked q) ∷ []))
 
 -- ---- another system
-pub grows-seen : {deck : Deck} {c : SysId} {P : List RunItem} {fs : List Fixed} {U new : List RunItem} (u : ℕ) (before later : List RunItem) (out : List Req) (n : Node) → u ≢ c.0 → Seen deck u P before later out n → Grows deck c P fs U new → Seen deck u U before (later ++ new) out n
+pub grows-seen : {deck : Deck} {c : SysId} {P : List RunItem} {fs : List Fixed} {U new : List RunItem} (u : ℕ) (before later : List RunItem) (out : List Req) (n : NodeState) → u ≢ c.0 → Seen deck u P before later out n → Grows deck c P fs U new → Seen deck u U before (later ++ new) out n
 grows-seen {deck = deck} {P = P} u before later out n ne seen same = subst (λ zs. Seen deck u P before zs out n) (sym (append-nil later)) seen
 grows-seen {deck = deck} {c = c} u before later out n ne seen (more fs U new q g own may) =
     subst (λ zs. Seen deck u (U ++ made_item c U (Asked q) ∷ []) before zs out n) (append_assoc later new (rounds (made_item c U (Asked q) ∷ [])))

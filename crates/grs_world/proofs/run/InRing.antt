@@ -5,7 +5,7 @@ use Rattle.grs_base.specs.declared.resource.SysId.{SysId}
 use Rattle.grs_medium.specs.Apply.{turn_row, rest_row, row, reply_to, medium_after}
 use Rattle.grs_medium.specs.Medium.{MediumState}
 use Rattle.grs_node.proofs.InRing.{ring_finish, finish-ring, ring-stays}
-use Rattle.grs_node.specs.Node.{Node, Step, most_additions, prepare, finish, finish_quiet, first_node}
+use Rattle.grs_node.specs.Node.{NodeState, Step, most_additions, prepare, finish, finish_quiet, first_node}
 use Rattle.grs_node.specs.Star.{StarPart, first_part}
 use Rattle.grs_node.specs.declared.prepared.Prepared.{Prepared}
 use Rattle.grs_node.specs.declared.prepared.Prepared.TheVariants.{Quiet, Call, Nothing}
@@ -22,10 +22,10 @@ use Rattle.grs_world.proofs.run.Runs.{by_node}
 use Rattle.grs_world.proofs.run.Each.{each_answer, each_prepared, each_event, each_run}
 
 -- none of these systems has a part in star mode
-abbrev pub AreRing : List Node → Type 0
-AreRing ns = (s : ℕ) (n : Node) → slice_get ns s ≡ Some n → n.star ≡ None
+abbrev pub AreRing : List NodeState → Type 0
+AreRing ns = (s : ℕ) (n : NodeState) → slice_get ns s ≡ Some n → n.star ≡ None
 
-chosen_ring : (deck : Deck) (m : MediumState) (s : SysId) (n : Node) (choice : Choice) → n.star ≡ None → (chosen deck m s n choice).step.node.star ≡ None
+chosen_ring : (deck : Deck) (m : MediumState) (s : SysId) (n : NodeState) (choice : Choice) → n.star ≡ None → (chosen deck m s n choice).step.node.star ≡ None
 unfolding chosen carry_out
 chosen_ring deck m s n choice h = go (prepare deck n choice)
   where
@@ -42,9 +42,9 @@ happens_ring deck w e all = each_event deck w e (λ (x : World). AreRing x.nodes
 first_ring : (deck : Deck) → deck.star ≡ false → (k : ℕ) (ds : List SystemDef) → AreRing (first_nodes deck k ds)
 unfolding first_node
 first_ring deck h k [] s n at = cc
-first_ring deck h k (d ∷ ds) zero n at = subst (λ (o : Option Node). star_of o ≡ None) at (first_none deck k h)
+first_ring deck h k (d ∷ ds) zero n at = subst (λ (o : Option NodeState). star_of o ≡ None) at (first_none deck k h)
   where
-    star_of : Option Node → Option StarPart
+    star_of : Option NodeState → Option StarPart
     star_of None = None
     star_of (Some m) = m.star
 
@@ -61,7 +61,7 @@ unfolding row rest_row
 rest_mode m s = refl
 
 -- the mode of the medium
-chosen_mode : (deck : Deck) (m : MediumState) (s : SysId) (n : Node) (choice : Choice) → n.star ≡ None → (chosen deck m s n choice).medium.star ≡ m.star
+chosen_mode : (deck : Deck) (m : MediumState) (s : SysId) (n : NodeState) (choice : Choice) → n.star ≡ None → (chosen deck m s n choice).medium.star ≡ m.star
 unfolding chosen carry_out
 chosen_mode deck m s n choice alone = each_prepared deck n (λ c p. (carry_out deck m s n c p).medium.star ≡ m.star) alone (λ t may. refl)
     (called (acts.Turn (take most_additions n.outbox)) (turn_mode m s (take most_additions n.outbox))) (called acts.Rest (rest_mode m s)) (λ c. refl) choice
@@ -83,11 +83,11 @@ unfolding first_world
 stays_ring deck h = each_run deck (λ es (w : World). w.medium.star ≡ false) h (λ es e ring. happens_mode deck (run deck es) e (all_ring deck h es) ∙ ring)
 
 -- ---- what a choice of such a system leads to
-abbrev pub ring_reply : Deck → Node → Choice → Option Reply → Step
+abbrev pub ring_reply : Deck → NodeState → Choice → Option Reply → Step
 ring_reply deck n choice None = finish_quiet deck n choice
 ring_reply deck n choice (Some reply) = ring_finish deck n reply
 
-pub finished-ring : (deck : Deck) (n : Node) (choice : Choice) (reply : Option Reply) → n.star ≡ None → finish deck n choice reply ≡ ring_reply deck n choice reply
+pub finished-ring : (deck : Deck) (n : NodeState) (choice : Choice) (reply : Option Reply) → n.star ≡ None → finish deck n choice reply ≡ ring_reply deck n choice reply
 unfolding finish
 finished-ring deck n choice None h = refl
 finished-ring deck n choice (Some reply) h = finish-ring deck n choice reply h

@@ -4,7 +4,7 @@ use Rattle.std.specs.Prelude.{slice_get}
 use Rattle.grs_base.specs.State.{list_of, is_systems}
 use Rattle.grs_base.specs.declared.resource.Res.{Res}
 use Rattle.grs_base.specs.declared.resource.SysId.{SysId}
-use Rattle.grs_node.specs.Node.{Node, read_entries}
+use Rattle.grs_node.specs.Node.{NodeState, read_entries}
 use Rattle.grs_wire.specs.History.{replay}
 use Rattle.grs_wire.specs.declared.deck.Deck.{Deck}
 use Rattle.grs_wire.specs.declared.deck.Event.{Event}
@@ -35,7 +35,7 @@ module _ (deck : Deck) (es : List Event) (r : Res) (all : is_systems r ≡ true)
       ∙ ap (λ s. list_of s r) (replayed deck (items w.fixed) g.history ∙ ap (replay deck.limit) (items_are_history w.fixed).0)
 
   -- A system that processes what it hasn't seen has processed all of them.
-  in_ring : (s : SysId) (n : Node) → slice_get (run deck es).nodes s.0 ≡ Some n → list_of (read_entries deck n (unseen s (run deck es).medium.message.entries)).shared r ≡ places deck es r
+  in_ring : (s : SysId) (n : NodeState) → slice_get (run deck es).nodes s.0 ≡ Some n → list_of (read_entries deck n (unseen s (run deck es).medium.message.entries)).shared r ≡ places deck es r
   in_ring s n at =
       let given = given-later w.medium s g.before (g.later s.0) (items w.fixed) (g.whole s.0) (g.systems s.0 n at).0 g.message in
       ap (λ t. list_of t r) (turn_table deck s (items w.fixed) (g.before s.0) (g.later s.0) g.history (g.whole s.0) n (g.systems s.0 n at).1 (unseen s w.medium.message.entries) given) ∙ by_rounds
@@ -44,7 +44,7 @@ module _ (deck : Deck) (es : List Event) (r : Res) (all : is_systems r ≡ true)
   kept_is s live true is = let no : true ≡ false = sym is ∙ mode in absurd (cc)
   kept_is s live false is = go (slice_get w.nodes s.0) refl
     where
-      go : (o : Option Node) → slice_get (run deck es).nodes s.0 ≡ o → in_table deck (run deck es) s o r ≡ places deck es r
+      go : (o : Option NodeState) → slice_get (run deck es).nodes s.0 ≡ o → in_table deck (run deck es) s o r ≡ places deck es r
       go None at = let past = slice_get-past w.nodes s.0 at in absurd (grind (arith, live, past))
       go (Some n) at = in_ring s n at
 

@@ -18,7 +18,7 @@ use Rattle.rsa_message.specs.Message.{Message, is_at, opened, never_opened, unse
 use Rattle.rsa_message.proofs.OrderLaws.{is_at-exact}
 use Rattle.grs_medium.specs.Medium.{MediumState, first_medium, systems_of, live, all_rest, medium_at_end}
 use Rattle.grs_medium.specs.Apply.{turn_row, resting, rest_row, row, reply_to, medium_after}
-use Rattle.grs_node.specs.Node.{Node, most_additions, prepare}
+use Rattle.grs_node.specs.Node.{NodeState, most_additions, prepare}
 use Rattle.grs_world.proofs.run.InRing.{AreRing, all_ring}
 use Rattle.grs_world.proofs.run.Each.{each_answer, each_prepared, each_event, each_run}
 use Rattle.grs_world.specs.Laps.{OnlyLeft, ComesBackLast, given_by, given_when, given_at, ProcessedLast}
@@ -75,7 +75,7 @@ unfolding row rest_row
 rest_goes m c g = record { whole = g.whole; round = g.round; unused = g.unused }
 
 -- ---- an event
-chosen_goes : (deck : Deck) (m : MediumState) (s : SysId) (n : Node) (choice : Choice) → n.star ≡ None → Goes m → Goes (chosen deck m s n choice).medium
+chosen_goes : (deck : Deck) (m : MediumState) (s : SysId) (n : NodeState) (choice : Choice) → n.star ≡ None → Goes m → Goes (chosen deck m s n choice).medium
 unfolding chosen carry_out
 chosen_goes deck m s n choice alone g = each_prepared deck n (λ c p. Goes (carry_out deck m s n c p).medium) alone (λ t may. g)
     (called (Turn (take most_additions n.outbox)) (turn_goes m s (take most_additions n.outbox) g)) (called Rest (rest_goes m s g)) (λ c. g) choice
@@ -117,7 +117,7 @@ rest_gift : (m : MediumState) (s : SysId) → Gives s (given_by (row m s Rest).0
 unfolding row rest_row
 rest_gift m s = by_test (λ r. Gives s (given_by r)) (all_rest (resting m s) && medium_at_end (resting m s)) Over Resting (λ t. no_gift s) (λ t. no_gift s)
 
-prepared_gift : (deck : Deck) (m : MediumState) (s : SysId) (n : Node) (choice : Choice) → n.star ≡ None → Goes m → Gives s (given_when m s (prepare deck n choice))
+prepared_gift : (deck : Deck) (m : MediumState) (s : SysId) (n : NodeState) (choice : Choice) → n.star ≡ None → Goes m → Gives s (given_when m s (prepare deck n choice))
 prepared_gift deck m s n choice alone g = each_prepared deck n (λ c p. Gives s (given_when m s p)) alone (λ t may. no_gift s)
     (called (Turn (take most_additions n.outbox)) (turn_gift m s (take most_additions n.outbox) g)) (called Rest (rest_gift m s)) (λ c. no_gift s) choice
   where
@@ -127,6 +127,6 @@ prepared_gift deck m s n choice alone g = each_prepared deck n (λ c p. Gives s 
 pub processed_last : (deck : Deck) → deck.star ≡ false → (es : List Event) (e : Event) → ProcessedLast deck es e
 processed_last deck h es e = go (slice_get (run deck es).nodes e.system.0) refl
   where
-    go : (n : Option Node) → slice_get (run deck es).nodes e.system.0 ≡ n → Gives e.system (given_at deck (run deck es) e n)
+    go : (n : Option NodeState) → slice_get (run deck es).nodes e.system.0 ≡ n → Gives e.system (given_at deck (run deck es) e n)
     go None at = no_gift e.system
     go (Some n) at = prepared_gift deck (run deck es).medium e.system n e.choice (all_ring deck h es e.system.0 n at) (goes deck h es)

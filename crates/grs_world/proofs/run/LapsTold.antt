@@ -10,7 +10,7 @@ use Rattle.grs_base.specs.Same.{same_task}
 use Rattle.grs_base.specs.declared.resource.SysId.{SysId}
 use Rattle.grs_base.specs.declared.resource.TaskId.{TaskId}
 use Rattle.grs_base.proofs.SameLaws.{same_task-exact, same_task-itself}
-use Rattle.grs_node.specs.Node.{Node, Step, put_in, read_entries, most_additions}
+use Rattle.grs_node.specs.Node.{NodeState, Step, put_in, read_entries, most_additions}
 use Rattle.grs_wire.specs.Masks.{has}
 use Rattle.grs_wire.specs.declared.deck.Deck.{Deck}
 use Rattle.grs_wire.specs.declared.deck.Event.{Event}
@@ -126,7 +126,7 @@ module _ (deck : Deck) (ring : deck.star ≡ false) (es : List Event) (e : Event
   from_home : (t : TaskId) (entry : RingEntry) (q : Req) → entry.body ≡ Request q → q.task ≡ t → IsHome entry.from entry.body → entry.from.0 ≡ t.system.0
   from_home t entry q body same home = sym (subst (λ (b : RingBody). IsHome entry.from b) body home) ∙ ap (λ (u : TaskId). u.system.0) same
 
-  module _ (g : GoodWorld deck es w) (n : Node) (at : slice_get w.nodes e.system.0 ≡ Some n) where
+  module _ (g : GoodWorld deck es w) (n : NodeState) (at : slice_get w.nodes e.system.0 ≡ Some n) where
     -- So it is where the message stands at the task's system,
     at_home : is_at w.medium.message.holder e.system ≡ true → (t : TaskId) → t.system.0 ≡ s → Last t
     at_home here t home before behind entry q is body same =
@@ -160,7 +160,7 @@ module _ (deck : Deck) (ring : deck.star ≡ false) (es : List Event) (e : Event
             no_truth (is_among t (askers (own_requests s (g.later s)))) (subst (λ (x : TaskId). is_among x (askers (own_requests s (g.later s))) ≡ true) same among) none
 
     -- What was told in the event are these lines.
-    told_now : (k : Node) (ls : List ToldLine) → k.tasks.told ≡ n.tasks.told ++ ls → (t : TaskId) → list_any (λ x. answers t x.line) (drop (length w.told) (w.told ++ told_by (w.events + 1) e.system (drop (length n.tasks.told) k.tasks.told))) ≡ true → list_any (answers t) ls ≡ true
+    told_now : (k : NodeState) (ls : List ToldLine) → k.tasks.told ≡ n.tasks.told ++ ls → (t : TaskId) → list_any (λ x. answers t x.line) (drop (length w.told) (w.told ++ told_by (w.events + 1) e.system (drop (length n.tasks.told) k.tasks.told))) ≡ true → list_any (answers t) ls ≡ true
     told_now k ls is t a =
         let new : drop (length n.tasks.told) k.tasks.told ≡ ls = ap (drop (length n.tasks.told)) is ∙ drop-append_seam n.tasks.told ls in
         let all : drop (length w.told) (w.told ++ told_by (w.events + 1) e.system (drop (length n.tasks.told) k.tasks.told)) ≡ told_by (w.events + 1) e.system ls = drop-append_seam w.told _ ∙ ap (told_by (w.events + 1) e.system) new in
@@ -185,7 +185,7 @@ module _ (deck : Deck) (ring : deck.star ≡ false) (es : List Event) (e : Event
     right o (turn medium here is) t a =
         let given = given-later w.medium e.system g.before (g.later s) (items w.fixed) (g.whole s) (g.systems s n at).0 g.message in
         let out = take most_additions n.outbox in
-        let after : Node = (put_in (read_entries deck n (unseen e.system w.medium.message.entries)) (length out)).node in
+        let after : NodeState = (put_in (read_entries deck n (unseen e.system w.medium.message.entries)) (length out)).node in
         let m : Answered s n.outbox n.tasks.told after.tasks.told = answered-by (turn_told deck e.system (items w.fixed) (g.before s) (g.later s) g.history (g.whole s) n (length out) (g.systems s n at).1 (unseen e.system w.medium.message.entries) given) in
         let answered = told_now after m.lines m.is t a in
         let last : Last t = at_home here t (lines_home s t m.lines m.ours answered) in

@@ -4,7 +4,7 @@ use Rattle.std.specs.Prelude.{slice_get, nat_lt}
 use Rattle.std.specs.List.{list_all}
 use Rattle.std.proofs.lemmas.Bool.{and_parts, eq-eqb, lt-ltb, and_from}
 use Rattle.std.proofs.lemmas.List.Folds.{list_all-append}
-use Rattle.grs_node.specs.Node.{Node}
+use Rattle.grs_node.specs.Node.{NodeState}
 use Rattle.grs_wire.specs.declared.deck.Deck.{Deck}
 use Rattle.grs_wire.specs.declared.deck.Event.{Event}
 use Rattle.grs_wire.specs.declared.told.Told.{Told}
@@ -51,7 +51,7 @@ module _ (deck : Deck) where
       idle : OfEvents (es ++ e ∷ []) (counted w)
       idle = record { count = one_more; told = older }
 
-      went_on : (n : Node) (o : Turnout) → OfEvents (es ++ e ∷ []) (placed w e.system n o)
+      went_on : (n : NodeState) (o : Turnout) → OfEvents (es ++ e ∷ []) (placed w e.system n o)
       went_on n o = record {
         count = one_more;
         told = list_all-append (is_of_event (es ++ e ∷ [])) w.told (told_by (w.events + 1) e.system (told_in n o.step))

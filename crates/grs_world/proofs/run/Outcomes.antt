@@ -3,7 +3,7 @@ use Rattle.std.proofs.Common.{◌≡◌, ℕ, List, [], ◌∷◌, ◌++◌, map
 use Rattle.std.specs.List.{list_all}
 use Rattle.std.proofs.lemmas.Bool.{eqb-true}
 use Rattle.grs_base.specs.declared.resource.SysId.{SysId}
-use Rattle.grs_node.specs.Node.{Node, Step, read_entries, put_in}
+use Rattle.grs_node.specs.Node.{NodeState, Step, read_entries, put_in}
 use Rattle.grs_wire.specs.declared.deck.Deck.{Deck}
 use Rattle.grs_wire.specs.declared.medium.RingEntry.{RingEntry}
 use Rattle.grs_wire.specs.declared.request.Fixed.{Fixed}
@@ -22,7 +22,7 @@ use Rattle.grs_known.proofs.system.Says.{own_requests, ToldBy}
 
 -- What an event of a system comes to: what it fixed, of which this went with the message; where the system stands; and
 -- what was told.
-pub record Outcome (deck : Deck) (c : SysId) (P : List RunItem) (n : Node) (before' later' : List RunItem) (out : List Fixed) (step : Step) : Type 0 where
+pub record Outcome (deck : Deck) (c : SysId) (P : List RunItem) (n : NodeState) (before' later' : List RunItem) (out : List Fixed) (step : Step) : Type 0 where
   pub items : List RunItem
   pub new : List RunItem
   pub grows : Grows deck c P step.fixed items new
@@ -31,7 +31,7 @@ pub record Outcome (deck : Deck) (c : SysId) (P : List RunItem) (n : Node) (befo
   pub seen : Seen deck c.0 items before' later' (own_requests c.0 later') step.node
   pub news : ToldNews deck c.0 (history items) n.tasks.told step.node.tasks.told
 
-module _ (deck : Deck) (c : SysId) (P before later : List RunItem) (right : IsHistory deck P) (whole : rounds P ≡ before ++ later) (n : Node) where
+module _ (deck : Deck) (c : SysId) (P before later : List RunItem) (right : IsHistory deck P) (whole : rounds P ≡ before ++ later) (n : NodeState) where
   -- a task goes on by itself
   pub quiet_outcome : (step : Step) → QuietStep deck c.0 c P before later (own_requests c.0 later) n step → Outcome deck c P n before later [] step
   quiet_outcome step (keeps none seen told) = record {
@@ -58,7 +58,7 @@ module _ (deck : Deck) (c : SysId) (P before later : List RunItem) (right : IsHi
       }
 
   -- nothing happens to the system
-  pub still_outcome : (m : Node) → m.tasks.told ≡ n.tasks.told → Seen deck c.0 P before later (own_requests c.0 later) m → Outcome deck c P n before later [] (record { node = m; fixed = [] })
+  pub still_outcome : (m : NodeState) → m.tasks.told ≡ n.tasks.told → Seen deck c.0 P before later (own_requests c.0 later) m → Outcome deck c P n before later [] (record { node = m; fixed = [] })
   still_outcome m told seen = record {
     items = P;
     new = [];
@@ -84,7 +84,7 @@ module _ (deck : Deck) (c : SysId) (P before later : List RunItem) (right : IsHi
     node_is = read-entries deck n later es (asks-behind deck before later (subst (AllAsk deck) whole (asks-rounds deck P right.asks))) (all-behind (λ x. goes_round x.fixed) before later (ap (list_all (λ x. goes_round x.fixed)) (sym whole) ∙ all-rounds P)) given
 
     pub turn_told : ToldBy deck c.0 n.outbox (history puts.items) n.tasks.told (put_in (read_entries deck n es) k).node.tasks.told
-    turn_told = subst (λ (l : Node). ToldBy deck c.0 n.outbox (history puts.items) n.tasks.told (put_in l k).node.tasks.told) (sym node_is)
+    turn_told = subst (λ (l : NodeState). ToldBy deck c.0 n.outbox (history puts.items) n.tasks.told (put_in l k).node.tasks.told) (sym node_is)
         (subst (λ T. ToldBy deck c.0 n.outbox (history puts.items) n.tasks.told T) (sym (put_told (read_all n later) k)) reads.told)
 
     pub turn_outcome : Outcome deck c P n (rounds P) puts.new (map Asked (take k n.outbox)) (put_in (read_entries deck n es) k)
@@ -105,6 +105,6 @@ module _ (deck : Deck) (c : SysId) (P before later : List RunItem) (right : IsHi
         })
 
 -- A system that processes all that is due has the table of all that went with the message.
-pub turn_table : (deck : Deck) (c : SysId) (P before later : List RunItem) → IsHistory deck P → rounds P ≡ before ++ later → (n : Node) → Seen deck c.0 P before later (own_requests c.0 later) n → (es : List RingEntry) → Bodies (fixeds later) es → (read_entries deck n es).shared ≡ lists (rounds P)
+pub turn_table : (deck : Deck) (c : SysId) (P before later : List RunItem) → IsHistory deck P → rounds P ≡ before ++ later → (n : NodeState) → Seen deck c.0 P before later (own_requests c.0 later) n → (es : List RingEntry) → Bodies (fixeds later) es → (read_entries deck n es).shared ≡ lists (rounds P)
 unfolding put_in
 turn_table deck c P before later right whole n seen es given = (turn_outcome deck c P before later right whole n 0 seen es given).seen.shared

@@ -3,7 +3,7 @@ use Rattle.std.proofs.Common.{◌≡◌, cond, false, List, [], ◌∷◌, ◌++
 use Rattle.std.proofs.lemmas.Bool.{eq-eqb}
 use Rattle.std.proofs.lemmas.List.{map-append}
 use Rattle.grs_base.specs.declared.resource.SysId.{SysId}
-use Rattle.grs_node.specs.Node.{Node}
+use Rattle.grs_node.specs.Node.{NodeState}
 use Rattle.grs_wire.specs.declared.deck.Deck.{Deck}
 use Rattle.grs_wire.specs.declared.request.Fixed.TheVariants.{Asked}
 use Rattle.grs_wire.specs.declared.request.Req.{Req}
@@ -17,7 +17,7 @@ use Rattle.grs_world.proofs.system.AtNode.{Seen}
 use Rattle.grs_world.proofs.system.Puts.{MayPut, may_home, may_put, seen-put}
 use Rattle.grs_known.proofs.system.Says.{askers, stand_apart, own_requests}
 
-module _ (deck : Deck) (c : SysId) (P before later : List RunItem) (right : IsHistory deck P) (whole : rounds P ≡ before ++ later) (n : Node) where
+module _ (deck : Deck) (c : SysId) (P before later : List RunItem) (right : IsHistory deck P) (whole : rounds P ≡ before ++ later) (n : NodeState) where
   -- What is put in: each request is an item at the end.
   pub record PutIn (qs : List Req) : Type 0 where
     pub items : List RunItem

@@ -3,7 +3,7 @@ use Rattle.std.proofs.Common.{◌≡◌, cond, Bool, true, false, ◌&&◌, ℕ,
 use Rattle.std.specs.List.{list_all}
 use Rattle.std.proofs.lemmas.Bool.{and_parts}
 use Rattle.grs_base.specs.State.{is_systems}
-use Rattle.grs_node.specs.Node.{Node, with_side, read_entry, read_entries}
+use Rattle.grs_node.specs.Node.{NodeState, with_side, read_entry, read_entries}
 use Rattle.grs_wire.specs.declared.deck.Deck.{Deck}
 use Rattle.grs_wire.specs.declared.medium.RingBody.{RingBody}
 use Rattle.grs_wire.specs.declared.medium.RingBody.TheVariants.{Request}
@@ -25,16 +25,16 @@ use Rattle.grs_known.proofs.system.Says.{own_asked, own_requests, ToldBy}
 use Rattle.grs_known.proofs.system.Says as told
 
 -- ---- what the node does
-abbrev pub read_item : Node → Fixed → Node
+abbrev pub read_item : NodeState → Fixed → NodeState
 read_item n (Asked q) = after_read n q
 read_item n (LocalLook t f) = n
 read_item n (Purged target) = n
 
-abbrev pub read_all : Node → List RunItem → Node
+abbrev pub read_all : NodeState → List RunItem → NodeState
 read_all n [] = n
 read_all n (x ∷ xs) = read_all (read_item n x.fixed) xs
 
-read-one : (deck : Deck) (n : Node) (x : RunItem) (a : IsAsk deck x) → is_systems a.res ≡ true → (e : RingEntry) (es : List RingEntry) → body_of x.fixed ≡ Some e.body → read_entries deck n (e ∷ es) ≡ read_entries deck (read_item n x.fixed) es
+read-one : (deck : Deck) (n : NodeState) (x : RunItem) (a : IsAsk deck x) → is_systems a.res ≡ true → (e : RingEntry) (es : List RingEntry) → body_of x.fixed ≡ Some e.body → read_entries deck n (e ∷ es) ≡ read_entries deck (read_item n x.fixed) es
 unfolding read_entries process_entry
 read-one deck n x a wide e es body =
     let q : Req = a.req in
@@ -49,7 +49,7 @@ read-one deck n x a wide e es body =
     some_body : {b d : RingBody} → Some b ≡ Some d → b ≡ d
     some_body f = cc
 
-pub read-entries : (deck : Deck) (n : Node) (xs : List RunItem) (es : List RingEntry) → AllAsk deck xs → list_all (λ x. goes_round x.fixed) xs ≡ true → Bodies (fixeds xs) es → read_entries deck n es ≡ read_all n xs
+pub read-entries : (deck : Deck) (n : NodeState) (xs : List RunItem) (es : List RingEntry) → AllAsk deck xs → list_all (λ x. goes_round x.fixed) xs ≡ true → Bodies (fixeds xs) es → read_entries deck n es ≡ read_all n xs
 unfolding read_entries
 read-entries deck n [] [] a round none = refl
 read-entries deck n [] (_ ∷ _) a round b = elim b [ ]
@@ -70,13 +70,13 @@ all-rounds (x ∷ xs) = go (goes_round x.fixed) refl (all-rounds xs)
 
 module _ (deck : Deck) (s : ℕ) (P : List RunItem) (right : IsHistory deck P) (extra : List RunItem) where
   -- A system that has processed all but the last of what is due, on the way from n to m.
-  pub record ReadTo (before : List RunItem) (n m : Node) : Type 0 where
+  pub record ReadTo (before : List RunItem) (n m : NodeState) : Type 0 where
     pub seen : Seen deck s P before extra [] m
     -- who was told an answer has no request that waits to be put in
     pub told : ToldBy deck s n.outbox (history P) n.tasks.told m.tasks.told
     pub outbox : m.outbox ≡ n.outbox
 
-  pub reading : (later before : List RunItem) (n : Node) → rounds P ≡ before ++ (later ++ extra) → Seen deck s P before (later ++ extra) (own_requests s later) n → ReadTo (before ++ later) n (read_all n later)
+  pub reading : (later before : List RunItem) (n : NodeState) → rounds P ≡ before ++ (later ++ extra) → Seen deck s P before (later ++ extra) (own_requests s later) n → ReadTo (before ++ later) n (read_all n later)
   reading [] before n whole seen = record { seen = subst (λ zs. Seen deck s P zs extra [] n) (sym (append-nil before)) seen; told = told.none; outbox = refl }
   reading (x ∷ later) before n whole seen =
       let out = own_requests s later in

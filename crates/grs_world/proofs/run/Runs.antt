@@ -10,7 +10,7 @@ use Rattle.std.proofs.lemmas.List.{take-append-le, map-append}
 use Rattle.grs_base.specs.declared.resource.SysId.{SysId}
 use Rattle.grs_base.specs.declared.resource.TaskId.{TaskId}
 use Rattle.grs_medium.specs.Medium.{MediumState, live}
-use Rattle.grs_node.specs.Node.{Node, Step}
+use Rattle.grs_node.specs.Node.{NodeState, Step}
 use Rattle.grs_wire.specs.History.{answered}
 use Rattle.grs_wire.specs.Masks.{has}
 use Rattle.grs_wire.specs.declared.deck.Deck.{Deck}
@@ -114,7 +114,7 @@ lines-apart s u [] ne h = refl
 lines-apart s u (l ∷ ls) ne h = rw (line-apart s u l ne (and_parts _ _ h).0) (lines-apart s u ls ne (and_parts _ _ h).1)
 
 -- what holds of a node holds of each, where it holds of the one that changed and of the others
-pub by_node : (ns : List Node) (s : ℕ) (n m : Node) → slice_get ns s ≡ Some n → (P : ℕ → Node → Type 0) → P s m → ((u : ℕ) (k : Node) → u ≢ s → slice_get ns u ≡ Some k → P u k) → (u : ℕ) (k : Node) → slice_get (set ns s m) u ≡ Some k → P u k
+pub by_node : (ns : List NodeState) (s : ℕ) (n m : NodeState) → slice_get ns s ≡ Some n → (P : ℕ → NodeState → Type 0) → P s m → ((u : ℕ) (k : NodeState) → u ≢ s → slice_get ns u ≡ Some k → P u k) → (u : ℕ) (k : NodeState) → slice_get (set ns s m) u ≡ Some k → P u k
 by_node ns s n m at P here there u k e = go (eqb u s) refl
   where
     go : (b : Bool) → eqb u s ≡ b → P u k
@@ -127,7 +127,7 @@ pub record GoodTold (deck : Deck) (es : List Event) (w : World) : Type 0 where
   pub counted : w.events ≡ length es
   pub by_now : AllBy (length es) w.told
   pub agree : AllAgree deck es [] w.told
-  pub lines : (s : ℕ) (n : Node) → slice_get w.nodes s ≡ Some n → n.tasks.told ≡ filter (is_line_of s) (lines_of_told w.told)
+  pub lines : (s : ℕ) (n : NodeState) → slice_get w.nodes s ≡ Some n → n.tasks.told ≡ filter (is_line_of s) (lines_of_told w.told)
 
 -- The message holds, of all that was put in, what a system has yet to process, under its number; and where it is closed
 -- nobody has a Turn.
@@ -145,7 +145,7 @@ seen_at before s = length (before s)
 
 -- each system is as it should be by the items, and none is removed
 abbrev pub GoodSystems : Deck → World → (ℕ → List RunItem) → (ℕ → List RunItem) → Type 0
-GoodSystems deck w before later = (s : ℕ) (n : Node) → slice_get w.nodes s ≡ Some n → (has (live w.medium) s ≡ true) × Seen deck s (items w.fixed) (before s) (later s) (own_requests s (later s)) n
+GoodSystems deck w before later = (s : ℕ) (n : NodeState) → slice_get w.nodes s ≡ Some n → (has (live w.medium) s ≡ true) × Seen deck s (items w.fixed) (before s) (later s) (own_requests s (later s)) n
 
 -- What holds of the world w after these events. Of each system it says which of the items that went with the message it
 -- has processed.
@@ -169,7 +169,7 @@ told-counted deck es e w g = record {
 }
 
 -- What the system of an event tells agrees with the history after the event: so does all that was told.
-pub told-after : (deck : Deck) (es : List Event) (e : Event) (n : Node) → slice_get (run deck es).nodes e.system.0 ≡ Some n → GoodTold deck es (run deck es) → (o : Turnout) (T : List RunItem) →
+pub told-after : (deck : Deck) (es : List Event) (e : Event) (n : NodeState) → slice_get (run deck es).nodes e.system.0 ≡ Some n → GoodTold deck es (run deck es) → (o : Turnout) (T : List RunItem) →
     items (placed (run deck es) e.system n o).fixed ≡ T → ToldNews deck e.system.0 (history T) n.tasks.told o.step.node.tasks.told → happens deck (run deck es) e ≡ placed (run deck es) e.system n o → GoodTold deck (es ++ e ∷ []) (placed (run deck es) e.system n o)
 unfolding placed
 told-after deck es e n at g o T items_now news is =
@@ -197,7 +197,7 @@ told-after deck es e n at g o T items_now news is =
     }
 
 -- the world after an event of a system, whose outcome is known
-module _ (deck : Deck) (es : List Event) (e : Event) (g : GoodWorld deck es (run deck es)) (n : Node) (at : slice_get (run deck es).nodes e.system.0 ≡ Some n) where
+module _ (deck : Deck) (es : List Event) (e : Event) (g : GoodWorld deck es (run deck es)) (n : NodeState) (at : slice_get (run deck es).nodes e.system.0 ≡ Some n) where
   abbrev s : ℕ
   s = e.system.0
 
@@ -229,9 +229,9 @@ module _ (deck : Deck) (es : List Event) (e : Event) (g : GoodWorld deck es (run
     whole-now = put_each g.before (λ u. g.later u ++ o.new) s before' later' (λ u b l. rounds o.items ≡ b ++ l) o.whole
         (λ u ne. grows-rounds o.grows ∙ ap (λ zs. zs ++ o.new) (g.whole u) ∙ append_assoc (g.before u) (g.later u) o.new)
 
-    systems-now : live m ≡ live (run deck es).medium → (u : ℕ) (k : Node) → slice_get (set (run deck es).nodes e.system.0 st.node) u ≡ Some k → (has (live m) u ≡ true) × Seen deck u o.items (before_now u) (later_now u) (own_requests u (later_now u)) k
-    systems-now alive = put_each g.before (λ u. g.later u ++ o.new) s before' later' (λ u b l. (k : Node) → slice_get (set w.nodes s st.node) u ≡ Some k → (has (live m) u ≡ true) × Seen deck u o.items b l (own_requests u l) k)
-        (λ k f. (subst (λ l. has l s ≡ true) (sym alive) (g.systems s n at).0, subst (λ (z : Node). Seen deck s o.items before' later' (own_requests s later') z) (same_Some st.node k (sym (slice_get-set w.nodes s n st.node at) ∙ f)) o.seen))
+    systems-now : live m ≡ live (run deck es).medium → (u : ℕ) (k : NodeState) → slice_get (set (run deck es).nodes e.system.0 st.node) u ≡ Some k → (has (live m) u ≡ true) × Seen deck u o.items (before_now u) (later_now u) (own_requests u (later_now u)) k
+    systems-now alive = put_each g.before (λ u. g.later u ++ o.new) s before' later' (λ u b l. (k : NodeState) → slice_get (set w.nodes s st.node) u ≡ Some k → (has (live m) u ≡ true) × Seen deck u o.items b l (own_requests u l) k)
+        (λ k f. (subst (λ l. has l s ≡ true) (sym alive) (g.systems s n at).0, subst (λ (z : NodeState). Seen deck s o.items before' later' (own_requests s later') z) (same_Some st.node k (sym (slice_get-set w.nodes s n st.node at) ∙ f)) o.seen))
         (λ u ne k f.
         let was = g.systems u k (sym (slice_get-set_other w.nodes s u st.node ne) ∙ f) in
         let requests : own_requests u (g.later u) ≡ own_requests u (g.later u ++ o.new) = sym (own_requests-append u (g.later u) o.new ∙ ap (λ zs. own_requests u (g.later u) ++ zs) (grows-requests u ne o.grows) ∙ append-nil (own_requests u (g.later u))) in

@@ -8,7 +8,7 @@ use Rattle.grs_legal.specs.Legal.{Legal}
 use Rattle.grs_medium.specs.Apply.{reply_to, medium_after, apply, row, turn_row, rest_row, resting}
 use Rattle.grs_medium.specs.Medium.{MediumState, live, first_medium, all_rest, medium_at_end}
 use Rattle.grs_node.proofs.InRing.{ring_finish}
-use Rattle.grs_node.specs.Node.{Node, Step, finish, finish_quiet, read_entries, put_in, may_go, most_additions, first_node}
+use Rattle.grs_node.specs.Node.{NodeState, Step, finish, finish_quiet, read_entries, put_in, may_go, most_additions, first_node}
 use Rattle.grs_node.specs.declared.prepared.Prepared.TheVariants.{Call}
 use Rattle.grs_wire.specs.Masks.{has, others}
 use Rattle.grs_wire.specs.declared.deck.Deck.{Deck}
@@ -69,7 +69,7 @@ module _ (deck : Deck) (es : List Event) (e : Event) (g : GoodWorld deck es (run
     systems = g.systems;
   }
 
-  module _ (n : Node) (at : slice_get (run deck es).nodes e.system.0 ≡ Some n) where
+  module _ (n : NodeState) (at : slice_get (run deck es).nodes e.system.0 ≡ Some n) where
     abbrev s : ℕ
     s = e.system.0
 
@@ -88,7 +88,7 @@ module _ (deck : Deck) (es : List Event) (e : Event) (g : GoodWorld deck es (run
     quiet_push m st same alive o is = push deck es e g n at m (g.before s) (g.later s) [] st o is alive (message-same w.medium m (message_log P) g.before s same alive g.message)
 
     -- the system is left as good as it was
-    same_push : (m : MediumState) (k : Node) → m.message ≡ (run deck es).medium.message → live m ≡ live (run deck es).medium → k.tasks.told ≡ n.tasks.told → Seen deck e.system.0 P (g.before e.system.0) (g.later e.system.0) (own_requests e.system.0 (g.later e.system.0)) k → Leads (record { medium = m; step = record { node = k; fixed = [] } })
+    same_push : (m : MediumState) (k : NodeState) → m.message ≡ (run deck es).medium.message → live m ≡ live (run deck es).medium → k.tasks.told ≡ n.tasks.told → Seen deck e.system.0 P (g.before e.system.0) (g.later e.system.0) (own_requests e.system.0 (g.later e.system.0)) k → Leads (record { medium = m; step = record { node = k; fixed = [] } })
     same_push m k same alive told seen = quiet_push m (record { node = k; fixed = [] }) same alive (still_outcome deck e.system P (g.before s) (g.later s) g.history (g.whole s) n k told seen)
 
     idle_push : (m : MediumState) → m.message ≡ (run deck es).medium.message → live m ≡ live (run deck es).medium → Leads (record { medium = m; step = record { node = n; fixed = [] } })
@@ -103,7 +103,7 @@ module _ (deck : Deck) (es : List Event) (e : Event) (g : GoodWorld deck es (run
 
     good_call : (choice : Choice) (call : CallOfMedium) → LeadsBy choice (row (run deck es).medium e.system call.act) → LeadsBy choice (apply (run deck es).medium e.system call)
     good_call choice call here = each_answer w.medium c call (LeadsBy choice) good_idle
-        (same_push w.medium (record n { known = w.medium.removed }) refl refl refl (record { good = seen.good; held = seen.held; shared = seen.shared; homes = seen.homes; apart = seen.apart })) here
+        (same_push w.medium (record n { known = w.medium.removed }) refl refl refl (record { good = seen.good; own = seen.own; shared = seen.shared; homes = seen.homes; apart = seen.apart })) here
 
     good_rest : LeadsBy choices.Rest (row (run deck es).medium e.system acts.Rest)
     unfolding row rest_row
@@ -165,7 +165,7 @@ module _ (deck : Deck) (es : List Event) (e : Event) (g : GoodWorld deck es (run
   good_happens = each_event deck w e (λ x. happens deck w e ≡ x → Good x) (λ is. good_counted) (λ n at is. good_choice n at e.choice is) refl
 
 -- ---- the first world
-first_at : (deck : Deck) (k : ℕ) (ds : List SystemDef) (i : ℕ) (n : Node) → slice_get (first_nodes deck k ds) i ≡ Some n → (n ≡ first_node deck (k + i)) × (i < length ds)
+first_at : (deck : Deck) (k : ℕ) (ds : List SystemDef) (i : ℕ) (n : NodeState) → slice_get (first_nodes deck k ds) i ≡ Some n → (n ≡ first_node deck (k + i)) × (i < length ds)
 first_at deck k [] i n h = absurd (cc)
 first_at deck k (d ∷ ds) zero n h = (sym (same_Some (first_node deck k) n h) ∙ ap (first_node deck) (plus_zero k), omega arith)
   where
@@ -178,7 +178,7 @@ first_at deck k (d ∷ ds) (suc i) n h =
     next : (a b : ℕ) → a + 1 + b ≡ a + suc b
     next a b = omega arith
 
-pub first_is : (deck : Deck) (s : ℕ) (n : Node) → slice_get (first_nodes deck 0 deck.systems) s ≡ Some n → n ≡ first_node deck s
+pub first_is : (deck : Deck) (s : ℕ) (n : NodeState) → slice_get (first_nodes deck 0 deck.systems) s ≡ Some n → n ≡ first_node deck s
 first_is deck s n h = (first_at deck 0 deck.systems s n h).0 ∙ ap (first_node deck) (zero_plus s)
   where
     zero_plus : (a : ℕ) → 0 + a ≡ a
@@ -196,7 +196,7 @@ first_message deck = go deck.star
 
 pub first_good_told : (deck : Deck) → GoodTold deck [] (first_world deck)
 unfolding first_world
-first_good_told deck = record { counted = refl; by_now = tt; agree = tt; lines = λ s n h. ap (λ (m : Node). m.tasks.told) (first_is deck s n h) ∙ first_told deck s }
+first_good_told deck = record { counted = refl; by_now = tt; agree = tt; lines = λ s n h. ap (λ (m : NodeState). m.tasks.told) (first_is deck s n h) ∙ first_told deck s }
 
 pub first_history : (deck : Deck) → IsHistory deck []
 first_history deck = record { made = tt; count = tt; asks = tt; legal = tt }
@@ -212,7 +212,7 @@ first_good deck = record {
   message = first_message deck;
   systems = λ s n h. (
     subst (λ l. has l s ≡ true) (sym (first_live deck)) (has-others (length deck.systems) s (first_at deck 0 deck.systems s n h).1),
-    subst (λ (m : Node). Seen deck s [] [] [] [] m) (sym (first_is deck s n h)) (first_seen deck s),
+    subst (λ (m : NodeState). Seen deck s [] [] [] [] m) (sym (first_is deck s n h)) (first_seen deck s),
   );
 }
 

@@ -14,7 +14,7 @@ use Rattle.grs_base.specs.declared.resource.TaskId.{TaskId}
 use Rattle.grs_base.proofs.SameLaws.{same_task-exact, same_task-itself}
 use Rattle.grs_legal.specs.Asks.{lines_of}
 use Rattle.grs_legal.specs.declared.meaning.Meaning.{Meaning}
-use Rattle.grs_node.specs.Node.{Node, all_sent, put_in}
+use Rattle.grs_node.specs.Node.{NodeState, all_sent, put_in}
 use Rattle.grs_node.specs.Star.{request_of}
 use Rattle.grs_wire.specs.History.{entries_for}
 use Rattle.grs_wire.specs.Wants.{answer_to, res_wanted}
@@ -24,8 +24,8 @@ use Rattle.grs_wire.specs.declared.request.Fixed.{Fixed}
 use Rattle.grs_wire.specs.declared.request.Fixed.TheVariants as fixing
 use Rattle.grs_wire.specs.declared.request.Req.{Req}
 use Rattle.grs_wire.specs.declared.told.ToldLine.{ToldLine}
-use Rattle.star_client.specs.Client.{settled_ranked}
-use Rattle.task_state.specs.Replies.{replied, recalled, settled, tell_new, tell_all, is_leaving}
+use Rattle.star_client.specs.Client.{tell_answer_ranked}
+use Rattle.task_state.specs.Replies.{replied, recalled, tell_answer, tell_new, tell_all, is_leaving}
 use Rattle.task_state.specs.View.{TasksView, state_of, with_phase, is_sent}
 use Rattle.task_state.specs.declared.state.Asked.{Asked}
 use Rattle.task_state.specs.declared.state.Phase.TheVariants as phases
@@ -66,8 +66,8 @@ module _ (deck : Deck) (s : ℕ) (os os' : Opens) (P P' : List RunItem) (v : Tas
   p = past_of t (good.tasks.each t ls ours).known P
 
   pub answers-asked : (a : Asked) → (state_of v t).outstanding ≡ Some a → (S : State) → ((h : HistEntry) (r : Res) → entries_for S t a.req.want ≡ h ∷ [] → Decides deck os os' P P' t p h r []) → (rank : ℕ) →
-      Settles deck s os' P' v.told (settled_ranked v t a (answer_to S t a.req.want) rank)
-  unfolding settled settled_ranked
+      Settles deck s os' P' v.told (tell_answer_ranked v t a (answer_to S t a.req.want) rank)
+  unfolding tell_answer tell_answer_ranked
   answers-asked a is S d rank =
       let x : TaskState = state_of v t in
       let opened : IsOpenBy deck.limit ls t x (Some a) = subst (λ o. IsOpenBy deck.limit ls t x o) is here.opened in
@@ -148,12 +148,12 @@ pub record Taken (deck : Deck) (s : ℕ) (T later : List RunItem) (out : List Re
   pub good : IsGood deck s (record { later = later; out = out; all = out ++ [] }) T v
   pub told : ToldBy deck s (out ++ []) (history T) T0 v.told
 
-module _ (deck : Deck) (s : ℕ) (T later : List RunItem) (right : IsHistory deck T) (out : List Req) (n : Node) (k : IsAt deck s T later out n) (t : TaskId) (ls : List Meaning) (ours : IsOurs deck s n.tasks t ls) (a : Asked) (is : (state_of n.tasks t).outstanding ≡ Some a) where
+module _ (deck : Deck) (s : ℕ) (T later : List RunItem) (right : IsHistory deck T) (out : List Req) (n : NodeState) (k : IsAt deck s T later out n) (t : TaskId) (ls : List Meaning) (ours : IsOurs deck s n.tasks t ls) (a : Asked) (is : (state_of n.tasks t).outstanding ≡ Some a) where
   abbrev os : Opens
   os = opens_of later out (ghosted n)
 
   pub takes-answer : (x : RunItem) (S : State) → x.entries ≡ entries_for S t a.req.want → mine t later ≡ x ∷ [] → (rank : ℕ) →
-      Taken deck s T (others_of t later) (without_asker t out) n.tasks.told (settled_ranked n.tasks t a (answer_to S t a.req.want) rank)
+      Taken deck s T (others_of t later) (without_asker t out) n.tasks.told (tell_answer_ranked n.tasks t a (answer_to S t a.req.want) rank)
   takes-answer x S made due rank =
       let z = answers-asked deck s os os' T T n.tasks k.good t ls ours a is S decides rank in
       record { good = z.good; told = z.told }
@@ -186,7 +186,7 @@ module _ (deck : Deck) (s : ℕ) (T later : List RunItem) (right : IsHistory dec
   x_own c = made_item c T (fixing.Asked (request_of t a))
 
   pub decides-own : (c : SysId) → MayFollow deck T (x_own c) → mine t later ≡ [] → is_among t (askers out) ≡ false → (rank : ℕ) →
-      Taken deck s (T ++ x_own c ∷ []) later out n.tasks.told (settled_ranked n.tasks t a (answer_to (lists T) t a.req.want) rank)
+      Taken deck s (T ++ x_own c ∷ []) later out n.tasks.told (tell_answer_ranked n.tasks t a (answer_to (lists T) t a.req.want) rank)
   decides-own c m idle free rank =
       let z = answers-asked deck s os os T (T ++ x_own c ∷ []) n.tasks k.good t ls ours a is (lists T) decides rank in
       record { good = z.good; told = z.told }
@@ -228,7 +228,7 @@ tells-owners deck s T later out right T0 v k r ts owned calm =
     record { good = z.good; told = z.told }
 
 -- ---- Control is taken.
-pub takes-control : (deck : Deck) (s : ℕ) (T later : List RunItem) (out : List Req) → IsHistory deck T → (n : Node) → IsAt deck s T later out n → (t : TaskId) (r : Res) → is_some (lines_of deck t) ≡ true →
+pub takes-control : (deck : Deck) (s : ℕ) (T later : List RunItem) (out : List Req) → IsHistory deck T → (n : NodeState) → IsAt deck s T later out n → (t : TaskId) (r : Res) → is_some (lines_of deck t) ≡ true →
     ((o : Option RunItem) → mine t later ≡ one o → Still r t T o) → Taken deck s T later out n.tasks.told (tell_all n.tasks r (t ∷ []))
 takes-control deck s T later out right n k t r some still =
     let z = settles deck s (record { later = later; out = out; all = out ++ [] }) T right n.tasks.told n.tasks k.good none r (t ∷ []) (λ u e. owner u (only u e)) in
@@ -245,14 +245,14 @@ takes-control deck s T later out right n k t r some still =
     owner u e = (subst (λ z. is_some (lines_of deck z) ≡ true) (sym e) some, λ U ls y j. subst (λ z. Still r z T (outstanding u j.known T)) (sym e) (still (outstanding u j.known T) (ap (λ z. mine z later) (sym e) ∙ j.due)))
 
 -- ---- A request that was sent is settled by another system: its task is behind.
-pub record Settled (deck : Deck) (s : ℕ) (T later : List RunItem) (out : List Req) (n : Node) (q : Req) (c : SysId) : Type 0 where
+pub record Settled (deck : Deck) (s : ℕ) (T later : List RunItem) (out : List Req) (n : NodeState) (q : Req) (c : SysId) : Type 0 where
   pub round : goes_round (fixing.Asked q) ≡ true
   pub follow : MayFollow deck T (made_item c T (fixing.Asked q))
   pub at : IsAt deck s (T ++ made_item c T (fixing.Asked q) ∷ []) (later ++ made_item c T (fixing.Asked q) ∷ []) out n
 
 -- the same system with all that was sent in its outbox
-module _ (deck : Deck) (s : ℕ) (T later : List RunItem) (right : IsHistory deck T) (out : List Req) (n : Node) (k : IsAt deck s T later out n) (front : List Req) (q : Req) (rest : List Req) (among : out ≡ front ++ q ∷ rest) (idle : mine q.task later ≡ []) (c : SysId) where
-  abbrev unsent : Node
+module _ (deck : Deck) (s : ℕ) (T later : List RunItem) (right : IsHistory deck T) (out : List Req) (n : NodeState) (k : IsAt deck s T later out n) (front : List Req) (q : Req) (rest : List Req) (among : out ≡ front ++ q ∷ rest) (idle : mine q.task later ≡ []) (c : SysId) where
+  abbrev unsent : NodeState
   unsent = record n { star = None; outbox = out; shared = [] }
 
   abbrev item : RunItem
@@ -265,7 +265,7 @@ module _ (deck : Deck) (s : ℕ) (T later : List RunItem) (right : IsHistory dec
       here = k.good.here;
       system = k.good.system;
     };
-    held = k.held;
+    own = k.own;
     shared = refl;
     homes = sym (ap (list_all (λ z. is_home_at deck s z.task)) (append-nil out)) ∙ k.homes;
     apart = sym (ap (λ qs. stand_apart (askers qs)) (append-nil out)) ∙ k.apart;
@@ -290,7 +290,7 @@ module _ (deck : Deck) (s : ℕ) (T later : List RunItem) (right : IsHistory dec
         here = behind.good.here;
         system = behind.good.system;
       };
-      held = behind.held;
+      own = behind.own;
       shared = refl;
       homes = k.homes;
       apart = k.apart;
@@ -310,9 +310,9 @@ module _ (deck : Deck) (s : ℕ) (T later : List RunItem) (right : IsHistory dec
       }
 
 -- ---- A request that waits is sent, or is the next that the system decides.
-module _ (deck : Deck) (s : ℕ) (T later : List RunItem) (out : List Req) (n : Node) (k : IsAt deck s T later out n) (t : TaskId) (ls : List Meaning) (ours : IsOurs deck s n.tasks t ls) (a : Asked) (is : (state_of n.tasks t).outstanding ≡ Some a) (free : is_among t (askers out) ≡ false) where
+module _ (deck : Deck) (s : ℕ) (T later : List RunItem) (out : List Req) (n : NodeState) (k : IsAt deck s T later out n) (t : TaskId) (ls : List Meaning) (ours : IsOurs deck s n.tasks t ls) (a : Asked) (is : (state_of n.tasks t).outstanding ≡ Some a) (free : is_among t (askers out) ≡ false) where
   -- the system with that request in its outbox
-  abbrev boxed : Node
+  abbrev boxed : NodeState
   boxed = record n { star = None; outbox = request_of t a ∷ []; shared = [] }
 
   asks : IsHere deck (opens_of later out (ghosted n)) T n.tasks.told t ls (state_of n.tasks t)
@@ -335,7 +335,7 @@ module _ (deck : Deck) (s : ℕ) (T later : List RunItem) (out : List Req) (n : 
       here = k.good.here;
       system = k.good.system;
     };
-    held = k.held;
+    own = k.own;
     shared = refl;
     homes = list_all-push (λ z. is_home_at deck s z.task) out (request_of t a) ∙ and_from (list_all (λ z. is_home_at deck s z.task) out) (is_home_at deck s t) (sym (ap (list_all (λ z. is_home_at deck s z.task)) (append-nil out)) ∙ k.homes) (ours-home deck s n.tasks t ls ours);
     apart = apart-push out (request_of t a) (sym (ap (λ qs. stand_apart (askers qs)) (append-nil out)) ∙ k.apart) free;

@@ -16,8 +16,8 @@ use Rattle.grs_legal.specs.Asks.{lines_of}
 use Rattle.grs_medium.specs.Apply.{apply, row, submit_row, submit_on, joined, take_row, take_from, mail_row, leave_row, rest_row, resting, manages as manages_word}
 use Rattle.grs_medium.specs.Inboxes.{with_mail, without_first}
 use Rattle.grs_medium.specs.Medium.{MediumState, inbox, awake, all_rest, medium_at_end}
-use Rattle.grs_node.specs.Node.{Node, prepare, prepared_by, star_call, star_need, may_go, may_send, is_pending, finish, finish_quiet, finish_call, finish_star, with_star, send_own, turn_call, is_for_deck}
-use Rattle.grs_node.specs.Star.{StarPart, StarStep, request_of, entry_for, entry_asked, manages, has_interest, with_interest, serves, answer_for, rank_of, to_tell, first_held, may_leave, is_busy_in, is_done_with, is_entry, send_to, send_of, settle_by, tell_by, quiet_step, decide_own, own_step, begun, begin_at, sent_to, holds, took_mail, settled_first, settled_by, told_by, left_at}
+use Rattle.grs_node.specs.Node.{NodeState, prepare, prepared_by, star_call, star_need, may_go, may_send, is_pending, finish, finish_quiet, finish_call, finish_star, with_star, send_own, turn_call, is_for_deck}
+use Rattle.grs_node.specs.Star.{StarPart, StarStep, request_of, entry_for, entry_asked, manages, has_interest, with_interest, serves, answer_for, rank_of, to_tell, first_held, may_leave, is_busy_in, is_done_with, is_entry, send_to, send_of, settle_by, tell_by, fixing_none, decide_own, own_step, begun, begin_at, sent_to, with_held, took_mail, settled_first, settled_by, told_by, left_at}
 use Rattle.grs_node.specs.declared.star.Need.{Need}
 use Rattle.grs_node.specs.declared.star.Need.TheVariants.{Alone, Asks, Idle}
 use Rattle.grs_node.specs.declared.prepared.Prepared.TheVariants.{Quiet, Call, Nothing}
@@ -60,7 +60,7 @@ heard m c call none known =
     ap (λ b. cond b (replies.Removed, m) (cond (call.known == m.removed) (row m c call.act) (replies.Stale m.removed, m))) (ap (λ z. has z c.0) none ∙ has-zero c.0)
     ∙ ap (λ b. cond b (row m c call.act) (replies.Stale m.removed, m)) (eq-eqb call.known m.removed (known ∙ sym none))
 
-module _ (deck : Deck) (some : 0 < deck.entries) (w : World) (c : SysId) (few : c.0 < most_systems) (n : Node) (at : slice_get w.nodes c.0 ≡ Some n) (g : IsStar deck w) (me : IsMember deck w.medium.words (all_lists w) c.0 n) where
+module _ (deck : Deck) (some : 0 < deck.entries) (w : World) (c : SysId) (few : c.0 < most_systems) (n : NodeState) (at : slice_get w.nodes c.0 ≡ Some n) (g : IsStar deck w) (me : IsMember deck w.medium.words (all_lists w) c.0 n) where
   abbrev words : List ℕ
   words = w.medium.words
 
@@ -90,7 +90,7 @@ module _ (deck : Deck) (some : 0 < deck.entries) (w : World) (c : SysId) (few : 
 
   -- one that leaves words and lists
   still : (boxes : List (List Mail)) (flags : ℕ) (v : TasksView) (q : StarPart) → length boxes ≡ length w.medium.inboxes → IsPart deck w.medium.words (all_lists w) c.0 q →
-      Leads (record { medium = med w.medium.words boxes flags; step = with_star n (quiet_step v q) })
+      Leads (record { medium = med w.medium.words boxes flags; step = with_star n (fixing_none v q) })
   still boxes flags v q same k = step words boxes flags v q [] same (stays deck w c.0 g) k
 
   good_idle : Leads (idle w.medium n)
@@ -205,7 +205,7 @@ module _ (deck : Deck) (some : 0 < deck.entries) (w : World) (c : SysId) (few : 
           let m = med words boxes (awake w.medium c) in
           finished m choices.Settle replies.Settled
           (subst (λ zs. Leads (record { medium = m; step = with_star n (settled_by n.tasks p zs) })) (sym e)
-          (subst (λ b. Leads (record { medium = m; step = with_star n (cond b (settled_first n.tasks p q) (quiet_step n.tasks p)) })) (sym h)
+          (subst (λ b. Leads (record { medium = m; step = with_star n (cond b (settled_first n.tasks p q) (fixing_none n.tasks p)) })) (sym h)
           (step words boxes (awake w.medium c) (settled_first n.tasks p q).tasks (record p { manager = after_request p.manager q.task q.want; held = drop 1 p.held }) (fixes.Asked q ∷ [])
           (length-set w.medium.inboxes q.task.system.0 _) (decides s.0 q s.1 mine) (part-settled deck words L c.0 p q.task q.want s.0 (drop 1 p.held) me.fits s.1 s.2))))
 
@@ -229,16 +229,16 @@ module _ (deck : Deck) (some : 0 < deck.entries) (w : World) (c : SysId) (few : 
       boxes : List (List Mail)
       boxes = without_first w.medium.inboxes c.0
 
-      takes_held : (e : ℕ) (q : Req) → IsPart deck w.medium.words (all_lists w) c.0 (holds me.part e q)
+      takes_held : (e : ℕ) (q : Req) → IsPart deck w.medium.words (all_lists w) c.0 (with_held me.part e q)
       takes_held e q = by_test (IsPart deck words L c.0) (is_entry e (entry_for p q.want) && manages p e) (record p { held = p.held ++ q ∷ [] }) p (λ h. part-held deck words L c.0 p (p.held ++ q ∷ []) me.fits) (λ h. me.fits)
 
       took : (mail : Mail) → Leads (record { medium = med w.medium.words (without_first w.medium.inboxes c.0) (awake w.medium c); step = with_star n (took_mail n.tasks me.part mail) })
-      took (mails.Request e from q) = still boxes (awake w.medium c) n.tasks (holds p e q) (length-set w.medium.inboxes c.0 _) (takes_held e q)
+      took (mails.Request e from q) = still boxes (awake w.medium c) n.tasks (with_held p e q) (length-set w.medium.inboxes c.0 _) (takes_held e q)
       took (mails.Answered t answer rank) = still boxes (awake w.medium c) _ p (length-set w.medium.inboxes c.0 _) me.fits
       took (mails.Granted t r) = still boxes (awake w.medium c) _ p (length-set w.medium.inboxes c.0 _) me.fits
 
       taken : (mail : Mail) → Leads (record { medium = med w.medium.words (without_first w.medium.inboxes c.0) (awake w.medium c); step = finish_star deck n (Some me.part) choices.Take (replies.Taken mail) })
-      taken mail = by_test (λ (st : StarStep). Leads (record { medium = med words boxes (awake w.medium c); step = with_star n st })) (is_for_deck deck mail) (took_mail n.tasks p mail) (quiet_step n.tasks p)
+      taken mail = by_test (λ (st : StarStep). Leads (record { medium = med words boxes (awake w.medium c); step = with_star n st })) (is_for_deck deck mail) (took_mail n.tasks p mail) (fixing_none n.tasks p)
           (λ h. took mail)
           (λ h. still boxes (awake w.medium c) n.tasks p (length-set w.medium.inboxes c.0 _) me.fits)
 
@@ -469,14 +469,14 @@ module _ (deck : Deck) (some : 0 < deck.entries) (w : World) (c : SysId) (few : 
 
       good_left : Leads (record { medium = cond (leave_changes (word_at w.medium.words x) c) (med words_left w.medium.inboxes (awake w.medium c)) w.medium; step = finish_star deck n (Some me.part) (choices.Leave x) replies.Left })
       unfolding finish_star
-      good_left = subst (λ (m : MediumState). Leads (record { medium = m; step = with_star n (quiet_step n.tasks (left_at p x)) })) (sym left-is)
+      good_left = subst (λ (m : MediumState). Leads (record { medium = m; step = with_star n (fixing_none n.tasks (left_at p x)) })) (sym left-is)
           (step words_left w.medium.inboxes _ n.tasks (left_at p x) [] refl leaves left_part)
 
     -- it is answered Kept
     good_kept : (mask : ℕ) → leave_reply (word_at w.medium.words x) c ≡ replies.Kept mask → Leads (record { medium = cond (leave_changes (word_at w.medium.words x) c) (med words_left w.medium.inboxes (awake w.medium c)) w.medium; step = finish_star deck n (Some me.part) (choices.Leave x) (replies.Kept mask) })
     unfolding finish_star
-    good_kept mask is = subst (λ (m : MediumState). Leads (record { medium = m; step = with_star n (quiet_step n.tasks p) })) (sym left-is)
-        (subst (λ ws. Leads (record { medium = med ws w.medium.inboxes (cond (leave_changes (word_at words x) c) (awake w.medium c) w.medium.rest); step = with_star n (quiet_step n.tasks p) })) (sym (kept_changes_nothing words x c mask is))
+    good_kept mask is = subst (λ (m : MediumState). Leads (record { medium = m; step = with_star n (fixing_none n.tasks p) })) (sym left-is)
+        (subst (λ ws. Leads (record { medium = med ws w.medium.inboxes (cond (leave_changes (word_at words x) c) (awake w.medium c) w.medium.rest); step = with_star n (fixing_none n.tasks p) })) (sym (kept_changes_nothing words x c mask is))
         (still w.medium.inboxes _ n.tasks p refl me.fits))
 
     good_leave : LeadsBy (choices.Leave x) (row w.medium c (acts.Leave x))

@@ -13,7 +13,7 @@ use Rattle.grs_base.specs.State.{list_of}
 use Rattle.grs_base.specs.declared.resource.Res.{Res}
 use Rattle.grs_base.specs.declared.resource.TaskId.{TaskId}
 use Rattle.grs_base.proofs.SameLaws.{same_res-exact, same_task-itself}
-use Rattle.grs_node.specs.Node.{Node}
+use Rattle.grs_node.specs.Node.{NodeState}
 use Rattle.grs_node.specs.Star.{StarPart, is_entry, is_busy_in, asks_in, entry_for}
 use Rattle.grs_wire.specs.History.{entries_for}
 use Rattle.grs_wire.specs.Wants.{res_wanted}
@@ -85,7 +85,7 @@ asked-middle : (t : TaskId) (o : Option Asked) (xs : List Req) (q : Req) (ys : L
 asked-middle t o [] q ys h e = h.0 e
 asked-middle t o (x ∷ xs) q ys h e = asked-middle t o xs q ys h.1 e
 
-module _ (deck : Deck) (words words' : List ℕ) (T : List RunItem) (right : IsHistory deck T) (s : ℕ) (n : Node) (ms : List Mail) (later : List RunItem) (out : List Req) (h : IsSystem deck words T s n ms later out) (p : StarPart) (entries : length p.manager.entries ≡ deck.entries) (x : ℕ)
+module _ (deck : Deck) (words words' : List ℕ) (T : List RunItem) (right : IsHistory deck T) (s : ℕ) (n : NodeState) (ms : List Mail) (later : List RunItem) (out : List Req) (h : IsSystem deck words T s n ms later out) (p : StarPart) (entries : length p.manager.entries ≡ deck.entries) (x : ℕ)
     (idle : list_any (is_busy_in p x) n.tasks.tasks ≡ false) (others : (e : ℕ) → e ≢ x → (has_manager words' e s ≡ has_manager words e s) × (is_interested words' e s ≡ is_interested words e s)) where
   -- a task of the system has no record in it, and asks nothing there
   module _ (t : TaskId) (home : is_home_at deck s t ≡ true) where

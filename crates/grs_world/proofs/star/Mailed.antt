@@ -12,7 +12,7 @@ use Rattle.grs_base.specs.declared.resource.SysId.{SysId}
 use Rattle.grs_base.specs.declared.resource.TaskId.{TaskId}
 use Rattle.grs_base.proofs.SameLaws.{same_task-exact, same_task-itself}
 use Rattle.grs_legal.specs.Asks.{lines_of}
-use Rattle.grs_node.specs.Node.{Node, is_of_deck}
+use Rattle.grs_node.specs.Node.{NodeState, is_of_deck}
 use Rattle.grs_node.specs.Star.{StarPart}
 use Rattle.grs_wire.specs.History.{entries_for}
 use Rattle.grs_wire.specs.Wants.{answer_to}
@@ -25,7 +25,7 @@ use Rattle.grs_wire.specs.declared.request.Req.{Req}
 use Rattle.grs_wire.specs.declared.request.Want.{Want}
 use Rattle.grs_wire.specs.declared.request.Want.TheVariants.{Enq, Deq, Release, Look}
 use Rattle.grs_base.specs.Limits.{last_number}
-use Rattle.star_client.specs.Client.{can_get, is_code_of, deq_codes, is_heard, has_sent, is_awaited, settled_ranked, settled_any_ranked, after_mail}
+use Rattle.star_client.specs.Client.{can_get, is_code_of, deq_codes, has_effect, has_sent, is_awaited, tell_answer_ranked, tell_answer_any_ranked, after_mail}
 use Rattle.task_state.specs.Replies.{tell_control, tell_untold, tell_all}
 use Rattle.task_state.specs.View.{TasksView, is_task, state_of, record_of, is_sent}
 use Rattle.task_state.specs.declared.state.Asked.{Asked}
@@ -51,7 +51,7 @@ use Rattle.grs_known.proofs.system.Asking.{IsOpenBy, are_sent}
 use Rattle.grs_world.proofs.star.Systems.{gives, gives_want, gives-none, is_plain_answer, any-answer, IsSystem, IsLate, AllLate, is_late, news_of, late-none, late-one, here, behind-late, is_near}
 
 -- only the first of its requests is no longer in the inbox
-pub took-request : (deck : Deck) (words : List ℕ) (T : List RunItem) (s : ℕ) (n : Node) (e : ℕ) (from : SysId) (q : Req) (ms : List Mail) (later : List RunItem) (out : List Req) (o : Option StarPart) → IsSystem deck words T s n (Request e from q ∷ ms) later out → IsSystem deck words T s (record n { star = o }) ms later out
+pub took-request : (deck : Deck) (words : List ℕ) (T : List RunItem) (s : ℕ) (n : NodeState) (e : ℕ) (from : SysId) (q : Req) (ms : List Mail) (later : List RunItem) (out : List Req) (o : Option StarPart) → IsSystem deck words T s n (Request e from q ∷ ms) later out → IsSystem deck words T s (record n { star = o }) ms later out
 took-request deck words T s n e from q ms later out o h = record { at = h.at; late = h.late; sent = h.sent; near = h.near; coming = h.coming; answered = h.answered; fits = h.fits.1 }
 
 one-same : (o p : Option RunItem) → one o ≡ one p → o ≡ p
@@ -60,7 +60,7 @@ one-same None (Some y) e = absurd (cc)
 one-same (Some x) None e = absurd (cc)
 one-same (Some x) (Some y) e = ap Some cc
 
-module _ (deck : Deck) (words : List ℕ) (T : List RunItem) (right : IsHistory deck T) (s : ℕ) (n : Node) (ms : List Mail) (later : List RunItem) (out : List Req) where
+module _ (deck : Deck) (words : List ℕ) (T : List RunItem) (right : IsHistory deck T) (s : ℕ) (n : NodeState) (ms : List Mail) (later : List RunItem) (out : List Req) where
   -- ---- control
   module _ (t : TaskId) (r : Res) (h : IsSystem deck words T s n (Granted t r ∷ ms) later out) where
     passed : (u : TaskId) → is_home_at deck s u ≡ true → Coming u (blank (is_late u later)) T (news_of ms)
@@ -92,7 +92,7 @@ module _ (deck : Deck) (words : List ℕ) (T : List RunItem) (right : IsHistory 
             let home : is_home_at deck s t ≡ true = and_from (t.system.0 == s) (is_some (lines_of deck t)) (eq-eqb t.system.0 s (sym (is_task-system n.tasks t e) ∙ h.at.good.system)) of_deck in
             let k : Taken deck s T later out n.tasks.told (tell_control n.tasks r t) = takes-control deck s T later out right n h.at t r of_deck (still home) in
             record {
-              system = went (tell_control n.tasks r t) o (record { good = k.good; held = h.at.held; shared = refl; homes = h.at.homes; apart = h.at.apart });
+              system = went (tell_control n.tasks r t) o (record { good = k.good; own = h.at.own; shared = refl; homes = h.at.homes; apart = h.at.apart });
               told = told-free deck s (out ++ []) (history T) n.tasks.told (tell_control n.tasks r t).told k.told;
             }
         go false e =
@@ -199,12 +199,12 @@ module _ (deck : Deck) (words : List ℕ) (T : List RunItem) (right : IsHistory 
         replies = sym (((h.coming t home).0 (same_task-itself t)).2) ∙ (ap reply_in made ∙ replies_are_answers item.lists t a.req.want)
 
         -- it is heard: its item is learned
-        heard : (o : Option StarPart) → Goes deck words T s (record n { tasks = settled_ranked n.tasks t a answer rank; star = o }) ms (others_of t later) (without_asker t out) n.tasks.told
-        heard o = subst (λ z. Goes deck words T s (record n { tasks = settled_ranked n.tasks t a z rank; star = o }) ms (others_of t later) (without_asker t out) n.tasks.told) (sym replies) (record {
+        heard : (o : Option StarPart) → Goes deck words T s (record n { tasks = tell_answer_ranked n.tasks t a answer rank; star = o }) ms (others_of t later) (without_asker t out) n.tasks.told
+        heard o = subst (λ z. Goes deck words T s (record n { tasks = tell_answer_ranked n.tasks t a z rank; star = o }) ms (others_of t later) (without_asker t out) n.tasks.told) (sym replies) (record {
           system = record {
             at = record {
               good = k.good;
-              held = h.at.held;
+              own = h.at.own;
               shared = refl;
               homes = ap (list_all (λ q. is_home_at deck s q.task)) (append-nil (without_asker t out)) ∙ all-filter (λ q. is_home_at deck s q.task) (λ q. not (same_task t q.task)) out (sym (ap (list_all (λ q. is_home_at deck s q.task)) (append-nil out)) ∙ h.at.homes);
               apart = ap (λ qs. stand_apart (askers qs)) (append-nil (without_asker t out)) ∙ apart-filter (λ q. not (same_task t q.task)) out (sym (ap (λ qs. stand_apart (askers qs)) (append-nil out)) ∙ h.at.apart);
@@ -219,7 +219,7 @@ module _ (deck : Deck) (words : List ℕ) (T : List RunItem) (right : IsHistory 
           told = told-free deck s (without_asker t out ++ []) (history T) n.tasks.told _ k.told;
         })
           where
-            k : Taken deck s T (others_of t later) (without_asker t out) n.tasks.told (settled_ranked n.tasks t a (answer_to item.lists t a.req.want) rank)
+            k : Taken deck s T (others_of t later) (without_asker t out) n.tasks.told (tell_answer_ranked n.tasks t a (answer_to item.lists t a.req.want) rank)
             k = takes-answer deck s T later right out n h.at t (home-task deck s (opens_of later out (ghosted n)) T n.tasks t h.at.good home).0 (home-task deck s (opens_of later out (ghosted n)) T n.tasks t h.at.good home).1 a is x item.lists made due rank
 
             by_sent : (u : TaskId) → is_among u (askers (without_asker t out)) ≡ false → (b : Bool) → same_task u t ≡ b → mine u (others_of t later) ≡ []
@@ -236,7 +236,7 @@ module _ (deck : Deck) (words : List ℕ) (T : List RunItem) (right : IsHistory 
             by_answered u y home_u due_u gave false apart = answered_other u y home_u apart (sym (mine-others t u later apart) ∙ due_u) gave
 
         -- one that isn't heard answers what gives nothing up
-        must_hear : gives x.fixed ≡ true → is_heard n.tasks t answer rank ≡ true
+        must_hear : gives x.fixed ≡ true → has_effect n.tasks t answer rank ≡ true
         must_hear gave =
             and_from (has_sent n.tasks t) (nat_le rank last_number && is_awaited answer (state_of n.tasks t).outstanding)
             (and_from (is_task n.tasks t) (is_sent (state_of n.tasks t).phase) (h.at.good.here t home) (sent-among t (state_of n.tasks t).phase out (here deck s T later out n h.at t home).sent among))
@@ -257,7 +257,7 @@ module _ (deck : Deck) (words : List ℕ) (T : List RunItem) (right : IsHistory 
                 go true e f = eqb-true rank 0 e
                 go false e f = no_truth (list_any (is_answer_to t) (news_of ms)) (any-answer t ms (ap (λ b. b || list_any (is_plain_answer t) ms) (sym e) ∙ f)) (no-answer t (learns_item (blank (is_late t later)) x) T (news_of ms) refl ((h.coming t home).0 (same_task-itself t)).3)
 
-        unheard : is_heard n.tasks t answer rank ≡ false → (o : Option StarPart) → IsSystem deck words T s (record n { star = o }) ms later out
+        unheard : has_effect n.tasks t answer rank ≡ false → (o : Option StarPart) → IsSystem deck words T s (record n { star = o }) ms later out
         unheard no_effect o = record {
           at = h.at;
           late = h.late;
@@ -269,7 +269,7 @@ module _ (deck : Deck) (words : List ℕ) (T : List RunItem) (right : IsHistory 
         }
           where
             keeps_all : gives x.fixed ≡ false
-            keeps_all = false_by (gives x.fixed) (λ gave. no_truth (is_heard n.tasks t answer rank) (must_hear gave) no_effect)
+            keeps_all = false_by (gives x.fixed) (λ gave. no_truth (has_effect n.tasks t answer rank) (must_hear gave) no_effect)
 
             late_now : is_late t later ≡ true
             late_now = late-one t x [] later due
@@ -293,28 +293,28 @@ module _ (deck : Deck) (words : List ℕ) (T : List RunItem) (right : IsHistory 
     strange-answer strange o = unheard_away (and_right (t.system.0 == s) (is_of_deck deck t) strange) o
 
     -- What taking the answer comes to: its item is learned, and its request is no longer open; or it has no effect.
-    pub data TookAnswer (n' : Node) : Type 0 where
+    pub data TookAnswer (n' : NodeState) : Type 0 where
       learns : is_late t later ≡ true → Goes deck words T s n' ms (others_of t later) (without_asker t out) n.tasks.told → TookAnswer n'
       leaves : Goes deck words T s n' ms later out n.tasks.told → TookAnswer n'
 
     pub took-answer : is_of_deck deck t ≡ true → (o : Option StarPart) → TookAnswer (record n { tasks = after_mail n.tasks (Answered t answer rank); star = o })
     unfolding after_mail
-    took-answer of_deck o = go (is_heard n.tasks t answer rank) refl (is_home_at deck s t) refl
+    took-answer of_deck o = go (has_effect n.tasks t answer rank) refl (is_home_at deck s t) refl
       where
-        stays : IsSystem deck words T s (record n { star = o }) ms later out → is_heard n.tasks t answer rank ≡ false → TookAnswer (record n { tasks = cond (is_heard n.tasks t answer rank) (settled_any_ranked n.tasks t answer rank (state_of n.tasks t).outstanding) n.tasks; star = o })
-        stays k e = subst (λ b. TookAnswer (record n { tasks = cond b (settled_any_ranked n.tasks t answer rank (state_of n.tasks t).outstanding) n.tasks; star = o })) (sym e) (leaves (record { system = k; told = none }))
+        stays : IsSystem deck words T s (record n { star = o }) ms later out → has_effect n.tasks t answer rank ≡ false → TookAnswer (record n { tasks = cond (has_effect n.tasks t answer rank) (tell_answer_any_ranked n.tasks t answer rank (state_of n.tasks t).outstanding) n.tasks; star = o })
+        stays k e = subst (λ b. TookAnswer (record n { tasks = cond b (tell_answer_any_ranked n.tasks t answer rank (state_of n.tasks t).outstanding) n.tasks; star = o })) (sym e) (leaves (record { system = k; told = none }))
 
-        at_home : is_heard n.tasks t answer rank ≡ true → is_home_at deck s t ≡ true
+        at_home : has_effect n.tasks t answer rank ≡ true → is_home_at deck s t ≡ true
         at_home e =
             let both = and_parts (has_sent n.tasks t) (nat_le rank last_number && is_awaited answer (state_of n.tasks t).outstanding) e in
             let there = (and_parts (is_task n.tasks t) (is_sent (state_of n.tasks t).phase) both.0).0 in
             and_from (t.system.0 == s) (is_some (lines_of deck t)) (eq-eqb t.system.0 s (sym (is_task-system n.tasks t there) ∙ h.at.good.system)) of_deck
 
-        go : (b : Bool) → is_heard n.tasks t answer rank ≡ b → (d : Bool) → is_home_at deck s t ≡ d → TookAnswer (record n { tasks = cond (is_heard n.tasks t answer rank) (settled_any_ranked n.tasks t answer rank (state_of n.tasks t).outstanding) n.tasks; star = o })
+        go : (b : Bool) → has_effect n.tasks t answer rank ≡ b → (d : Bool) → is_home_at deck s t ≡ d → TookAnswer (record n { tasks = cond (has_effect n.tasks t answer rank) (tell_answer_any_ranked n.tasks t answer rank (state_of n.tasks t).outstanding) n.tasks; star = o })
         go true e d f =
             let home = at_home e in
             let r = request home in
-            subst (λ b. TookAnswer (record n { tasks = cond b (settled_any_ranked n.tasks t answer rank (state_of n.tasks t).outstanding) n.tasks; star = o })) (sym e)
-            (subst (λ z. TookAnswer (record n { tasks = settled_any_ranked n.tasks t answer rank z; star = o })) (sym r.1) (learns (late-one t (x home) [] later (due home)) (heard home r.0 r.1 r.2 o)))
+            subst (λ b. TookAnswer (record n { tasks = cond b (tell_answer_any_ranked n.tasks t answer rank (state_of n.tasks t).outstanding) n.tasks; star = o })) (sym e)
+            (subst (λ z. TookAnswer (record n { tasks = tell_answer_any_ranked n.tasks t answer rank z; star = o })) (sym r.1) (learns (late-one t (x home) [] later (due home)) (heard home r.0 r.1 r.2 o)))
         go false e true f = let r = request f in stays (unheard f r.0 r.1 r.2 e o) e
         go false e false f = stays (unheard_away f o) e

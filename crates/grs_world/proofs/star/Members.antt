@@ -11,7 +11,7 @@ use Rattle.contention_mgr.specs.Laws.{AreWellKept}
 use Rattle.contention_mgr.specs.Manager.{plain, items_of, managed_at}
 use Rattle.grs_base.specs.State.{State}
 use Rattle.grs_base.specs.declared.resource.SysId.{SysId}
-use Rattle.grs_node.specs.Node.{Node}
+use Rattle.grs_node.specs.Node.{NodeState}
 use Rattle.grs_node.specs.Star.{StarPart, manages, has_interest}
 use Rattle.grs_wire.specs.History.{after_fixed}
 use Rattle.grs_wire.specs.LockWords.{is_manager}
@@ -54,7 +54,7 @@ pub record IsPart (deck : Deck) (words : List ℕ) (L : State) (s : ℕ) (p : St
   pub well : AreWellKept p.manager
 
 -- What holds of the system.
-pub record IsMember (deck : Deck) (words : List ℕ) (L : State) (s : ℕ) (n : Node) : Type 0 where
+pub record IsMember (deck : Deck) (words : List ℕ) (L : State) (s : ℕ) (n : NodeState) : Type 0 where
   pub part : StarPart
   pub star : n.star ≡ Some part
   pub outbox : n.outbox ≡ []
@@ -89,7 +89,7 @@ pub record IsStar (deck : Deck) (w : World) : Type 0 where
   pub nobody : (e s : ℕ) → length w.nodes ≤ s → (is_interested w.medium.words e s ≡ false) × (has_manager w.medium.words e s ≡ false)
   -- where there is no manager nothing is queued
   pub free : (e : ℕ) → manager_at w.medium.words e ≡ None → under deck.entries e (all_lists w) ≡ []
-  pub node : (s : ℕ) (n : Node) → slice_get w.nodes s ≡ Some n → IsMember deck w.medium.words (all_lists w) s n
+  pub node : (s : ℕ) (n : NodeState) → slice_get w.nodes s ≡ Some n → IsMember deck w.medium.words (all_lists w) s n
 
 -- What an event of system c does to words and lists: nothing to the others' interest and roles, and nothing to the lists
 -- of an entry that c doesn't manage.
@@ -102,7 +102,7 @@ pub record Moves (deck : Deck) (c : ℕ) (words words' : List ℕ) (L L' : State
   pub free : (e : ℕ) → manager_at words' e ≡ None → under deck.entries e L' ≡ []
 
 -- What an event of a system comes to.
-pub record IsStep (deck : Deck) (w : World) (c : SysId) (n : Node) (o : Turnout) : Type 0 where
+pub record IsStep (deck : Deck) (w : World) (c : SysId) (n : NodeState) (o : Turnout) : Type 0 where
   pub mode : o.medium.star ≡ true
   pub removed : o.medium.removed ≡ 0
   pub inboxes : length o.medium.inboxes ≡ length w.medium.inboxes
@@ -121,7 +121,7 @@ stays deck w c g = record {
 }
 
 -- another system, which is as it was
-member-other : (deck : Deck) (c : ℕ) (words words' : List ℕ) (L L' : State) (u : ℕ) (n : Node) → u ≢ c → Moves deck c words words' L L' → IsMember deck words L u n → IsMember deck words' L' u n
+member-other : (deck : Deck) (c : ℕ) (words words' : List ℕ) (L L' : State) (u : ℕ) (n : NodeState) → u ≢ c → Moves deck c words words' L L' → IsMember deck words L u n → IsMember deck words' L' u n
 member-other deck c words words' L L' u n ne m k = record {
   part = k.part;
   star = k.star;
@@ -144,7 +144,7 @@ member-other deck c words words' L L' u n ne m k = record {
     alone ws e h = false_by (has_manager ws e c) (λ mine. absurd (ne (one-manages ws e u c h mine)))
 
 -- the world after the event
-module _ (deck : Deck) (w : World) (c : SysId) (n : Node) (at : slice_get w.nodes c.0 ≡ Some n) (g : IsStar deck w) (o : Turnout) (h : IsStep deck w c n o) where
+module _ (deck : Deck) (w : World) (c : SysId) (n : NodeState) (at : slice_get w.nodes c.0 ≡ Some n) (g : IsStar deck w) (o : Turnout) (h : IsStep deck w c n o) where
   grown : all_lists (placed w c n o) ≡ lists_after (all_lists w) o.step.fixed
   unfolding placed
   grown = lists-grown w.fixed c o.step.fixed
@@ -155,14 +155,14 @@ module _ (deck : Deck) (w : World) (c : SysId) (n : Node) (at : slice_get w.node
   here : c.0 < length w.nodes
   here = slice_get_within w.nodes c.0 n at
 
-  node_at : (s : ℕ) (k : Node) → slice_get (set w.nodes c.0 o.step.node) s ≡ Some k → IsMember deck o.medium.words (lists_after (all_lists w) o.step.fixed) s k
+  node_at : (s : ℕ) (k : NodeState) → slice_get (set w.nodes c.0 o.step.node) s ≡ Some k → IsMember deck o.medium.words (lists_after (all_lists w) o.step.fixed) s k
   node_at s k f = go (s == c.0) refl
     where
       go : (b : Bool) → (s == c.0) ≡ b → IsMember deck o.medium.words (lists_after (all_lists w) o.step.fixed) s k
       go true e =
           let same : s ≡ c.0 = eqb-true s c.0 e in
           let is : o.step.node ≡ k = same_Some o.step.node k (sym (slice_get-set w.nodes c.0 n o.step.node at) ∙ (ap (slice_get (set w.nodes c.0 o.step.node)) (sym same) ∙ f)) in
-          subst (λ (z : Node). IsMember deck o.medium.words (lists_after (all_lists w) o.step.fixed) s z) is
+          subst (λ (z : NodeState). IsMember deck o.medium.words (lists_after (all_lists w) o.step.fixed) s z) is
           (subst (λ (z : ℕ). IsMember deck o.medium.words (lists_after (all_lists w) o.step.fixed) z o.step.node) (sym same) h.member)
       go false e =
           let ne : s ≢ c.0 = eqb-false s c.0 e in

@@ -15,7 +15,7 @@ use Rattle.grs_base.specs.declared.resource.TaskId.{TaskId}
 use Rattle.grs_base.proofs.SameLaws.{same_res-exact, same_task-exact, same_task-itself}
 use Rattle.grs_legal.specs.Asks.{lines_of}
 use Rattle.grs_legal.specs.declared.meaning.Meaning.{Meaning}
-use Rattle.grs_node.specs.Node.{Node, Step, finish_quiet, may_go}
+use Rattle.grs_node.specs.Node.{NodeState, Step, finish_quiet, may_go}
 use Rattle.grs_node.specs.Star.{StarPart, request_of}
 use Rattle.grs_wire.specs.Wants.{answer_to, res_wanted}
 use Rattle.grs_wire.specs.declared.deck.Choice.TheVariants as choices
@@ -27,7 +27,7 @@ use Rattle.grs_wire.specs.declared.request.Req.{Req}
 use Rattle.grs_wire.specs.declared.request.Want.{Want}
 use Rattle.grs_wire.specs.declared.request.Want.TheVariants.{Enq, Deq, Release, Look}
 use Rattle.grs_wire.specs.declared.told.ToldLine.{ToldLine}
-use Rattle.star_client.specs.Client.{settled_ranked}
+use Rattle.star_client.specs.Client.{tell_answer_ranked}
 use Rattle.task_state.specs.Replies.{gives_up, tell_new, tell_all}
 use Rattle.task_state.specs.View.{TasksView, state_of, with_phase}
 use Rattle.task_state.specs.declared.state.Asked.{Asked}
@@ -53,7 +53,7 @@ use Rattle.grs_world.proofs.star.Systems.{IsSystem, IsLate, AllLate, AllFit, Kee
 use Rattle.grs_world.proofs.star.Under.{res-entry}
 
 -- what a system is afterwards, and what it told
-pub record Goes (deck : Deck) (words : List ℕ) (T : List RunItem) (s : ℕ) (n : Node) (ms : List Mail) (later : List RunItem) (out : List Req) (T0 : List ToldLine) : Type 0 where
+pub record Goes (deck : Deck) (words : List ℕ) (T : List RunItem) (s : ℕ) (n : NodeState) (ms : List Mail) (later : List RunItem) (out : List Req) (T0 : List ToldLine) : Type 0 where
   pub system : IsSystem deck words T s n ms later out
   pub told : ToldBy deck s [] (history T) T0 n.tasks.told
 
@@ -107,7 +107,7 @@ want-round deck (Deq r have) e h f = res-round deck r e h f
 want-round deck (Release r) e h f = res-round deck r e h f
 want-round deck (Look first count g) e h f = absurd (cc)
 
-module _ (deck : Deck) (words : List ℕ) (T : List RunItem) (right : IsHistory deck T) (s : ℕ) (n : Node) (ms : List Mail) (later : List RunItem) (out : List Req) (h : IsSystem deck words T s n ms later out) where
+module _ (deck : Deck) (words : List ℕ) (T : List RunItem) (right : IsHistory deck T) (s : ℕ) (n : NodeState) (ms : List Mail) (later : List RunItem) (out : List Req) (h : IsSystem deck words T s n ms later out) where
   -- what comes, behind an item of a task that its system decides
   coming-own : (c : SysId) (q : Req) → (q.task.system.0 == s) ≡ true → IsHomely deck words s q.want → is_late q.task later ≡ false → (t : TaskId) → is_home_at deck s t ≡ true → Coming t (blank (is_late t later)) (T ++ made_item c T (fixing.Asked q) ∷ []) (news_of ms)
   coming-own c q mine_q homely idle t home = go (same_task t q.task) refl
@@ -123,7 +123,7 @@ module _ (deck : Deck) (words : List ℕ) (T : List RunItem) (right : IsHistory 
           (coming-decided t T item (news_of ms) same refl (fits-calm deck words s t q ms homely h.fits) (subst (λ b. IsRight t (blank b) T) none_late (right-late deck s T later out n h.at t home)) (subst (λ b. Coming t (blank b) T (news_of ms)) none_late (h.coming t home)))
 
   -- ---- a task goes on by itself
-  after-task : (T' : List RunItem) (n' : Node) → IsAt deck s T' later out n' → ((t : TaskId) → is_home_at deck s t ≡ true → Coming t (blank (is_late t later)) T' (news_of ms)) → IsSystem deck words T' s n' ms later out
+  after-task : (T' : List RunItem) (n' : NodeState) → IsAt deck s T' later out n' → ((t : TaskId) → is_home_at deck s t ≡ true → Coming t (blank (is_late t later)) T' (news_of ms)) → IsSystem deck words T' s n' ms later out
   after-task T' n' at coming = record { at = at; late = h.late; sent = h.sent; near = h.near; coming = coming; answered = h.answered; fits = h.fits }
 
   -- what it fixes, if it fixes anything, is for a resource of the system alone
@@ -158,8 +158,8 @@ module _ (deck : Deck) (words : List ℕ) (T : List RunItem) (right : IsHistory 
               absurd (want-round deck q.want i.entry away (ap (λ (z : Req). entry_wanted deck.entries z.want) same ∙ i.at))
 
   -- ---- the system with other tasks, where what is open stays
-  at-tasks : (T' : List RunItem) (v : TasksView) (o : Option StarPart) (T0 : List ToldLine) → n.held ≡ part (is_res_of s) (lists T') → Taken deck s T' later out T0 v → IsAt deck s T' later out (record n { tasks = v; star = o })
-  at-tasks T' v o T0 held k = record { good = k.good; held = held; shared = refl; homes = h.at.homes; apart = h.at.apart }
+  at-tasks : (T' : List RunItem) (v : TasksView) (o : Option StarPart) (T0 : List ToldLine) → n.own ≡ part (is_res_of s) (lists T') → Taken deck s T' later out T0 v → IsAt deck s T' later out (record n { tasks = v; star = o })
+  at-tasks T' v o T0 held k = record { good = k.good; own = held; shared = refl; homes = h.at.homes; apart = h.at.apart }
 
   -- ---- it decides a request of its own task
   module _ (t : TaskId) (ls : List Meaning) (ours : IsOurs deck s n.tasks t ls) (home : is_home_at deck s t ≡ true) (a : Asked) (is : (state_of n.tasks t).outstanding ≡ Some a) (free : is_among t (askers out) ≡ false) where
@@ -197,18 +197,18 @@ module _ (deck : Deck) (words : List ℕ) (T : List RunItem) (right : IsHistory 
       item = made_item c T (fixing.Asked (request_of t a))
 
       pub system-decided : (rank : ℕ) (o : Option StarPart) → ((u : TaskId) → is_among u ts ≡ true → owns (list_of (lists (T ++ item ∷ [])) r) u ≡ true) →
-          Goes deck words (T ++ item ∷ []) s (record n { tasks = tell_new (settled_ranked n.tasks t a (answer_to (lists T) t a.req.want) rank) (res_wanted a.req.want) ts; star = o }) ms later out n.tasks.told
+          Goes deck words (T ++ item ∷ []) s (record n { tasks = tell_new (tell_answer_ranked n.tasks t a (answer_to (lists T) t a.req.want) rank) (res_wanted a.req.want) ts; star = o }) ms later out n.tasks.told
       unfolding tell_new
       system-decided rank o owned =
           let m = may-follow c in
           let T' : List RunItem = T ++ item ∷ [] in
           let k = decides-own deck s T later right out n h.at t ls ours a is c m (h.sent t free) free rank in
-          let told = tells-owners deck s T' later out (follows deck T item right m) n.tasks.told (settled_ranked n.tasks t a (answer_to (lists T) t a.req.want) rank) k r ts owned (late-calm deck words s r entry later (res-entry deck.entries a.req.want r entry wanted of_entry) mine_entry h.late) in
-          subst (λ w. Goes deck words T' s (record n { tasks = tell_new (settled_ranked n.tasks t a (answer_to (lists T) t a.req.want) rank) w ts; star = o }) ms later out n.tasks.told) (sym wanted)
+          let told = tells-owners deck s T' later out (follows deck T item right m) n.tasks.told (tell_answer_ranked n.tasks t a (answer_to (lists T) t a.req.want) rank) k r ts owned (late-calm deck words s r entry later (res-entry deck.entries a.req.want r entry wanted of_entry) mine_entry h.late) in
+          subst (λ w. Goes deck words T' s (record n { tasks = tell_new (tell_answer_ranked n.tasks t a (answer_to (lists T) t a.req.want) rank) w ts; star = o }) ms later out n.tasks.told) (sym wanted)
           (record {
             system = record {
-              at = at-tasks T' (tell_all (settled_ranked n.tasks t a (answer_to (lists T) t a.req.want) rank) r ts) o n.tasks.told
-                  (part-other (is_res_of s) T item (request_of t a) r refl wanted n.held h.at.held (systems-other s r wide)) told;
+              at = at-tasks T' (tell_all (tell_answer_ranked n.tasks t a (answer_to (lists T) t a.req.want) rank) r ts) o n.tasks.told
+                  (part-other (is_res_of s) T item (request_of t a) r refl wanted n.own h.at.own (systems-other s r wide)) told;
               late = h.late;
               sent = h.sent;
               near = h.near;

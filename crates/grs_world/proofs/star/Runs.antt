@@ -10,7 +10,7 @@ use Rattle.grs_base.specs.State.{list_of, is_systems}
 use Rattle.grs_base.specs.declared.resource.Res.{Res}
 use Rattle.grs_base.specs.declared.resource.Res.TheVariants.{Step, System, Systems}
 use Rattle.grs_base.specs.declared.resource.SysId.{SysId}
-use Rattle.grs_node.specs.Node.{Node, first_node}
+use Rattle.grs_node.specs.Node.{NodeState, first_node}
 use Rattle.grs_node.specs.Star.{first_part, manages}
 use Rattle.grs_wire.specs.LockWords.{manager, is_manager}
 use Rattle.grs_wire.specs.Masks.{has}
@@ -103,7 +103,7 @@ first_good deck star = record {
   managed = words_begin deck.entries;
   nobody = λ e s past. (no_interest deck.entries e s, ap (λ o. is_manager o (record { 0 = s })) (no_manager deck.entries e));
   free = λ e none. refl;
-  node = λ s n f. subst (λ (k : Node). IsMember deck (replicate deck.entries 0) [] s k) (sym (first_is deck s n f)) (first_member deck s star);
+  node = λ s n f. subst (λ (k : NodeState). IsMember deck (replicate deck.entries 0) [] s k) (sym (first_is deck s n f)) (first_member deck s star);
 }
 
 -- ---- every list of events
@@ -122,11 +122,11 @@ words_go deck star es =
     let g : IsStar deck w = star_run deck star es in
     record { interest = λ e s. by_node g e s (slice_get w.nodes s) refl; manages = λ e s. by_role g e s (slice_get w.nodes s) refl; managed = λ e. by_place g e (slice_get w.medium.words e) refl }
   where
-    by_node : IsStar deck (run deck es) → (e s : ℕ) → (o : Option Node) → slice_get (run deck es).nodes s ≡ o → is_interested (run deck es).medium.words e s ≡ interest_at o e
+    by_node : IsStar deck (run deck es) → (e s : ℕ) → (o : Option NodeState) → slice_get (run deck es).nodes s ≡ o → is_interested (run deck es).medium.words e s ≡ interest_at o e
     by_node g e s None at = (g.nobody e s (slice_get-past (run deck es).nodes s at)).0
     by_node g e s (Some n) at = let k = g.node s n at in sym (k.fits.interest e) ∙ sym (ap (λ o. interest_by o e) k.star)
 
-    by_role : IsStar deck (run deck es) → (e s : ℕ) → (o : Option Node) → slice_get (run deck es).nodes s ≡ o → manages_at o e ≡ has_manager (run deck es).medium.words e s
+    by_role : IsStar deck (run deck es) → (e s : ℕ) → (o : Option NodeState) → slice_get (run deck es).nodes s ≡ o → manages_at o e ≡ has_manager (run deck es).medium.words e s
     by_role g e s None at = sym (g.nobody e s (slice_get-past (run deck es).nodes s at)).1
     by_role g e s (Some n) at = let k = g.node s n at in ap (λ o. manages_by o e) k.star ∙ k.fits.roles e
 
@@ -158,7 +158,7 @@ kept_lists deck w g s (Systems q r) all = ap (λ b. kept_in b deck w s res) g.mo
     listed : list_of (under deck.entries x (all_lists w)) (Systems q r) ≡ list_of (all_lists w) (Systems q r)
     listed = list-under deck.entries x (all_lists w) res here
 
-    at_member : (m : SysId) (n : Node) → slice_get w.nodes m.0 ≡ Some n → manager_at w.medium.words x ≡ Some m → at_node deck w m (Some n) (Systems q r) ≡ list_of (all_lists w) (Systems q r)
+    at_member : (m : SysId) (n : NodeState) → slice_get w.nodes m.0 ≡ Some n → manager_at w.medium.words x ≡ Some m → at_node deck w m (Some n) (Systems q r) ≡ list_of (all_lists w) (Systems q r)
     at_member m n at is =
         let k = g.node m.0 n at in
         let mine : manages k.part x ≡ true = k.fits.roles x ∙ manager-here w.medium.words x m is in
@@ -168,7 +168,7 @@ kept_lists deck w g s (Systems q r) all = ap (λ b. kept_in b deck w s res) g.mo
         ∙ ap (λ z. list_of z res) (k.fits.lists x mine)
         ∙ listed
 
-    by_system : (m : SysId) (o : Option Node) → slice_get w.nodes m.0 ≡ o → manager_at w.medium.words x ≡ Some m → at_node deck w m o (Systems q r) ≡ list_of (all_lists w) (Systems q r)
+    by_system : (m : SysId) (o : Option NodeState) → slice_get w.nodes m.0 ≡ o → manager_at w.medium.words x ≡ Some m → at_node deck w m o (Systems q r) ≡ list_of (all_lists w) (Systems q r)
     by_system m None at is = absurd (let f : false ≡ true = sym (g.nobody x m.0 (slice_get-past w.nodes m.0 at)).1 ∙ manager-here w.medium.words x m is in cc)
     by_system m (Some n) at is = at_member m n at is
 

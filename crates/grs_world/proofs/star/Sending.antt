@@ -17,7 +17,7 @@ use Rattle.grs_base.proofs.SameLaws.{same_task-exact, same_task-itself}
 use Rattle.grs_legal.specs.declared.meaning.Meaning.{Meaning}
 use Rattle.grs_medium.specs.Inboxes.{with_mail}
 use Rattle.grs_medium.specs.Medium.{MediumState, inbox}
-use Rattle.grs_node.specs.Node.{Node}
+use Rattle.grs_node.specs.Node.{NodeState}
 use Rattle.grs_node.specs.Star.{StarPart, request_of}
 use Rattle.grs_wire.specs.LockWords.{interest, is_manager}
 use Rattle.grs_wire.specs.Masks.{has}
@@ -31,7 +31,7 @@ use Rattle.grs_wire.proofs.MaskLaws.{has-zero}
 use Rattle.lock_structure.specs.Laws.{IsManaged, ManagedBy, is_interested, manager_at}
 use Rattle.lock_structure.specs.Words.{word_at, submitted_words}
 use Rattle.lock_structure.proofs.LawProofs.{empty_is_managed, submit_joins, submit_manages}
-use Rattle.star_client.specs.Client.{settled_ranked}
+use Rattle.star_client.specs.Client.{tell_answer_ranked}
 use Rattle.task_state.specs.Replies.{tell_new}
 use Rattle.task_state.specs.View.{state_of, with_phase}
 use Rattle.task_state.specs.declared.state.Asked.{Asked}
@@ -174,7 +174,7 @@ requests-push (Answered t a rank ∷ ms) e from q = requests-push ms e from q
 requests-push (Granted t r ∷ ms) e from q = requests-push ms e from q
 
 -- ---- A system c and a request of its task t, where the words become these.
-module _ (deck : Deck) (w : World) (g : IsWhole deck w) (c : SysId) (n : Node) (at : slice_get w.nodes c.0 ≡ Some n) (words : List ℕ) (grow : WordsGrow w.medium.words words) (flags : ℕ)
+module _ (deck : Deck) (w : World) (g : IsWhole deck w) (c : SysId) (n : NodeState) (at : slice_get w.nodes c.0 ≡ Some n) (words : List ℕ) (grow : WordsGrow w.medium.words words) (flags : ℕ)
     (t : TaskId) (ls : List Meaning) (ours : IsOurs deck c.0 n.tasks t ls) (home : is_home_at deck c.0 t ≡ true) (a : Asked) (is : (state_of n.tasks t).outstanding ≡ Some a) (free : is_among t (askers (g.out c.0)) ≡ false) (entry : ℕ) (of_entry : entry_wanted deck.entries a.req.want ≡ Some entry) where
   abbrev T : List RunItem
   T = items w.fixed
@@ -189,7 +189,7 @@ module _ (deck : Deck) (w : World) (g : IsWhole deck w) (c : SysId) (n : Node) (
       by_entry u None h = refl
       by_entry u (Some e) h = (grow.keeps u.system.0).near e h
 
-  system-grown : (s : ℕ) (k : Node) → slice_get w.nodes s ≡ Some k → IsSystem deck words T s k (inbox w.medium s) (g.later s) (g.out s)
+  system-grown : (s : ℕ) (k : NodeState) → slice_get w.nodes s ≡ Some k → IsSystem deck words T s k (inbox w.medium s) (g.later s) (g.out s)
   system-grown s k found = system-words deck w.medium.words words T s k (inbox w.medium s) (g.later s) (g.out s) (grow.keeps s) (g.system s k found)
 
   -- ---- it goes to the manager of its entry
@@ -206,7 +206,7 @@ module _ (deck : Deck) (w : World) (g : IsWhole deck w) (c : SysId) (n : Node) (
     below : s.0 < length w.nodes
     below = go (slice_get w.nodes s.0) refl
       where
-        go : (o : Option Node) → slice_get w.nodes s.0 ≡ o → s.0 < length w.nodes
+        go : (o : Option NodeState) → slice_get w.nodes s.0 ≡ o → s.0 < length w.nodes
         go (Some k) e = slice_get_within w.nodes s.0 k e
         go None e = no_truth (has_manager w.medium.words entry s.0) managing (g.roles.nobody entry s.0 (slice_get-past w.nodes s.0 e)).1
 
@@ -239,7 +239,7 @@ module _ (deck : Deck) (w : World) (g : IsWhole deck w) (c : SysId) (n : Node) (
     sender o = system-sent deck w.medium.words T g.right c.0 n (inbox w.medium c.0) (g.later c.0) (g.out c.0) (g.system c.0 n at) t ls ours home a is free words o (grow.keeps c.0) (ap (near_at words c.0) of_entry ∙ interested)
 
     -- and it comes to the manager
-    others : (u : ℕ) (k : Node) → u ≢ c.0 → slice_get w.nodes u ≡ Some k → IsSystem deck words T u k (inbox sent_on u) (g.later u) (out' u)
+    others : (u : ℕ) (k : NodeState) → u ≢ c.0 → slice_get w.nodes u ≡ Some k → IsSystem deck words T u k (inbox sent_on u) (g.later u) (out' u)
     others u k ne found = subst (λ qs. IsSystem deck words T u k (inbox sent_on u) (g.later u) qs) (sym (other_out u ne)) (go (u == s.0) refl)
       where
         go : (b : Bool) → (u == s.0) ≡ b → IsSystem deck words T u k (inbox sent_on u) (g.later u) (g.out u)
@@ -258,10 +258,10 @@ module _ (deck : Deck) (w : World) (g : IsWhole deck w) (c : SysId) (n : Node) (
       managed = grow.managed entry s.0 managing;
     }
 
-    hands_grown : (m : ℕ) (k : Node) (v : StarPart) → slice_get w.nodes m ≡ Some k → k.star ≡ Some v → Hands deck words (length w.nodes) g.later out' m (in_hands v (inbox w.medium m))
+    hands_grown : (m : ℕ) (k : NodeState) (v : StarPart) → slice_get w.nodes m ≡ Some k → k.star ≡ Some v → Hands deck words (length w.nodes) g.later out' m (in_hands v (inbox w.medium m))
     hands_grown m k v found star = hands-grow deck w.medium.words words grow (length w.nodes) g.later g.out out' more_out m (in_hands v (inbox w.medium m)) (g.hands m k v found star)
 
-    hands_others : (m : ℕ) (k : Node) (v : StarPart) → slice_get w.nodes m ≡ Some k → k.star ≡ Some v → Hands deck words (length w.nodes) g.later out' m (in_hands v (inbox sent_on m))
+    hands_others : (m : ℕ) (k : NodeState) (v : StarPart) → slice_get w.nodes m ≡ Some k → k.star ≡ Some v → Hands deck words (length w.nodes) g.later out' m (in_hands v (inbox sent_on m))
     hands_others m k v found star = go (m == s.0) refl
       where
         go : (b : Bool) → (m == s.0) ≡ b → Hands deck words (length w.nodes) g.later out' m (in_hands v (inbox sent_on m))
@@ -299,17 +299,17 @@ module _ (deck : Deck) (w : World) (g : IsWhole deck w) (c : SysId) (n : Node) (
     abbrev item : RunItem
     item = made_item c T (fixing.Asked (request_of t a))
 
-    abbrev decided : Node
-    decided = record n { tasks = tell_new (settled_ranked n.tasks t a (answer_to (lists T) t a.req.want) rank) (res_wanted a.req.want) ts; star = Some p' }
+    abbrev decided : NodeState
+    decided = record n { tasks = tell_new (tell_answer_ranked n.tasks t a (answer_to (lists T) t a.req.want) rank) (res_wanted a.req.want) ts; star = Some p' }
 
     -- its item is another system's to the others
-    others-item : (m : MayFollow deck T item) (s : ℕ) (k : Node) → s ≢ c.0 → slice_get w.nodes s ≡ Some k → IsSystem deck words (T ++ item ∷ []) s k (inbox w.medium s) (g.later s) (g.out s)
+    others-item : (m : MayFollow deck T item) (s : ℕ) (k : NodeState) → s ≢ c.0 → slice_get w.nodes s ≡ Some k → IsSystem deck words (T ++ item ∷ []) s k (inbox w.medium s) (g.later s) (g.out s)
     others-item m s k ne found = system-other deck words T s k (inbox w.medium s) (g.later s) (g.out s) item m.ask (λ e. ne (sym e ∙ (ap (λ (z : Req). z.task.system.0) (sym asker) ∙ ours.home))) (system-grown s k found)
       where
         asker : q ≡ m.ask.req
         asker = let e : fixing.Asked q ≡ fixing.Asked m.ask.req = m.ask.asked in cc
 
-    hands_same : (m : ℕ) (k : Node) (v : StarPart) → slice_get w.nodes m ≡ Some k → k.star ≡ Some v → Hands deck words (length w.nodes) g.later g.out m (in_hands v (inbox w.medium m))
+    hands_same : (m : ℕ) (k : NodeState) (v : StarPart) → slice_get w.nodes m ≡ Some k → k.star ≡ Some v → Hands deck words (length w.nodes) g.later g.out m (in_hands v (inbox w.medium m))
     hands_same m k v found known = hands-grow deck w.medium.words words grow (length w.nodes) g.later g.out g.out (λ u z h. h) m (in_hands v (inbox w.medium m)) (g.hands m k v found known)
 
     pub outcome-decided : ((u : TaskId) → is_among u ts ≡ true → owns (list_of (lists (T ++ item ∷ [])) r) u ≡ true) →

@@ -25,7 +25,7 @@ use Rattle.grs_base.specs.declared.resource.Res.{Res}
 use Rattle.grs_base.specs.declared.resource.SysId.{SysId}
 use Rattle.grs_base.specs.declared.resource.TaskId.{TaskId}
 use Rattle.grs_base.proofs.SameLaws.{same_task-itself, same_task-exact}
-use Rattle.grs_node.specs.Node.{Node}
+use Rattle.grs_node.specs.Node.{NodeState}
 use Rattle.grs_node.specs.Star.{StarPart}
 use Rattle.grs_wire.specs.declared.deck.Deck.{Deck}
 use Rattle.grs_wire.specs.declared.medium.Mail.{Mail}
@@ -48,7 +48,7 @@ use Rattle.grs_world.proofs.star.Systems.{IsSystem, system-other, Away, near_at,
 use Rattle.grs_world.proofs.star.Worlds.{IsIn, IsHand, AllHands, IsWhole, Hands, in_hands, items-one, whole-placed}
 
 -- the manager: another system's item is fixed, and its own tasks that became owners are told
-pub system-manages : (deck : Deck) (words : List ℕ) (T : List RunItem) (s : ℕ) (n : Node) (ms : List Mail) (later : List RunItem) (out : List Req) (x : RunItem) (a : IsAsk deck x) → a.req.task.system.0 ≢ s → IsHistory deck (T ++ x ∷ []) →
+pub system-manages : (deck : Deck) (words : List ℕ) (T : List RunItem) (s : ℕ) (n : NodeState) (ms : List Mail) (later : List RunItem) (out : List Req) (x : RunItem) (a : IsAsk deck x) → a.req.task.system.0 ≢ s → IsHistory deck (T ++ x ∷ []) →
     IsSystem deck words T s n ms later out → (r : Res) (entry : ℕ) → entry_of_res deck.entries r ≡ Some entry → has_manager words entry s ≡ true → (ts : List TaskId) → ((u : TaskId) → is_among u ts ≡ true → owns (list_of (lists (T ++ x ∷ [])) r) u ≡ true) → (o : Option StarPart) →
     Goes deck words (T ++ x ∷ []) s (record n { tasks = tell_all n.tasks r ts; star = o }) ms later out n.tasks.told
 system-manages deck words T s n ms later out x a ne right h r entry at mine ts owned o =
@@ -56,7 +56,7 @@ system-manages deck words T s n ms later out x a ne right h r entry at mine ts o
     let k : Taken deck s (T ++ x ∷ []) later out n.tasks.told n.tasks = record { good = z.at.good; told = none } in
     let told = tells-owners deck s (T ++ x ∷ []) later out right n.tasks.told n.tasks k r ts owned (late-calm deck words s r entry later at mine h.late) in
     record {
-      system = record { at = record { good = told.good; held = z.at.held; shared = refl; homes = z.at.homes; apart = z.at.apart }; late = z.late; sent = z.sent; near = z.near; coming = z.coming; answered = z.answered; fits = z.fits };
+      system = record { at = record { good = told.good; own = z.at.own; shared = refl; homes = z.at.homes; apart = z.at.apart }; late = z.late; sent = z.sent; near = z.near; coming = z.coming; answered = z.answered; fits = z.fits };
       told = told-free deck s (out ++ []) (history (T ++ x ∷ [])) n.tasks.told (tell_all n.tasks r ts).told told.told;
     }
 
@@ -86,7 +86,7 @@ one-manager deck words q e f m k at also mine other =
     one-manages words e m k mine (ap (λ i. has_manager words i k) same ∙ other)
 
 -- ---- The asker's system, whose task is behind now.
-module _ (deck : Deck) (words : List ℕ) (T : List RunItem) (right : IsHistory deck T) (s : ℕ) (k : Node) (ms : List Mail) (later : List RunItem) (out : List Req) (h : IsSystem deck words T s k ms later out) (q : Req) (among : IsIn q out) (idle : mine q.task later ≡ []) (m : SysId) (entry : ℕ) (at : entry_wanted deck.entries q.want ≡ Some entry) (mine_entry : has_manager words entry m.0 ≡ true) (ne : s ≢ m.0) where
+module _ (deck : Deck) (words : List ℕ) (T : List RunItem) (right : IsHistory deck T) (s : ℕ) (k : NodeState) (ms : List Mail) (later : List RunItem) (out : List Req) (h : IsSystem deck words T s k ms later out) (q : Req) (among : IsIn q out) (idle : mine q.task later ≡ []) (m : SysId) (entry : ℕ) (at : entry_wanted deck.entries q.want ≡ Some entry) (mine_entry : has_manager words entry m.0 ≡ true) (ne : s ≢ m.0) where
   all-in : (f : Req → Bool) (qs : List Req) → IsIn q qs → list_all f qs ≡ true → f q ≡ true
   all-in f [] i z = absurd i
   all-in f (x ∷ qs) (inl e) z = ap f e ∙ (and_parts (f x) (list_all f qs) z).0
@@ -152,7 +152,7 @@ requests-answered (Answered u b n ∷ ms) t a rank = requests-answered ms t a ra
 requests-answered (Granted u r ∷ ms) t a rank = requests-answered ms t a rank
 
 -- ---- The world after a Settle.
-module _ (deck : Deck) (w : World) (g : IsWhole deck w) (c : SysId) (n : Node) (at : slice_get w.nodes c.0 ≡ Some n) (p : StarPart) (star : n.star ≡ Some p) (q : Req) (qs : List Req) (held : p.held ≡ q ∷ qs) where
+module _ (deck : Deck) (w : World) (g : IsWhole deck w) (c : SysId) (n : NodeState) (at : slice_get w.nodes c.0 ≡ Some n) (p : StarPart) (star : n.star ≡ Some p) (q : Req) (qs : List Req) (held : p.held ≡ q ∷ qs) where
   abbrev T : List RunItem
   T = items w.fixed
 
@@ -169,7 +169,7 @@ module _ (deck : Deck) (w : World) (g : IsWhole deck w) (c : SysId) (n : Node) (
   abbrev s : ℕ
   s = q.task.system.0
 
-  abbrev other : Node
+  abbrev other : NodeState
   other = get_or w.nodes s n
 
   its : IsSystem deck w.medium.words T s other (inbox w.medium s) (g.later s) (g.out s)
@@ -211,7 +211,7 @@ module _ (deck : Deck) (w : World) (g : IsWhole deck w) (c : SysId) (n : Node) (
     other_later u ne = put_other g.later s (g.later s ++ item ∷ []) u ne
 
     -- a system that isn't the asker's, nor the manager
-    others : (u : ℕ) (k : Node) → u ≢ c.0 → slice_get w.nodes u ≡ Some k → IsSystem deck w.medium.words (T ++ item ∷ []) u k (inbox sent_on u) (later-with g.later s item u) (g.out u)
+    others : (u : ℕ) (k : NodeState) → u ≢ c.0 → slice_get w.nodes u ≡ Some k → IsSystem deck w.medium.words (T ++ item ∷ []) u k (inbox sent_on u) (later-with g.later s item u) (g.out u)
     others u k ne found = go (u == s) refl
       where
         go : (b : Bool) → (u == s) ≡ b → IsSystem deck w.medium.words (T ++ item ∷ []) u k (inbox sent_on u) (later-with g.later s item u) (g.out u)
@@ -219,7 +219,7 @@ module _ (deck : Deck) (w : World) (g : IsWhole deck w) (c : SysId) (n : Node) (
             let same : u ≡ s = eqb-true u s e in
             let node : other ≡ k = same_Some other k (sym (slice_get-get_or w.nodes s n hand.below) ∙ (ap (slice_get w.nodes) (sym same) ∙ found)) in
             subst (λ z. IsSystem deck w.medium.words (T ++ item ∷ []) z k (inbox sent_on z) (later-with g.later s item z) (g.out z)) (sym same)
-            (subst (λ (z : Node). IsSystem deck w.medium.words (T ++ item ∷ []) s z (inbox sent_on s) (later-with g.later s item s) (g.out s)) node
+            (subst (λ (z : NodeState). IsSystem deck w.medium.words (T ++ item ∷ []) s z (inbox sent_on s) (later-with g.later s item s) (g.out s)) node
             (subst (λ ms. IsSystem deck w.medium.words (T ++ item ∷ []) s other ms (later-with g.later s item s) (g.out s)) (sym its_box)
             (subst (λ xs. IsSystem deck w.medium.words (T ++ item ∷ []) s other (inbox w.medium s ++ answer ∷ []) xs (g.out s)) (sym its_later)
             (asker-after deck w.medium.words T g.right s other (inbox w.medium s) (g.later s) (g.out s) its q hand.among hand.idle c hand.entry hand.at hand.managed hand.apart rank plain))))
@@ -230,7 +230,7 @@ module _ (deck : Deck) (w : World) (g : IsWhole deck w) (c : SysId) (n : Node) (
             (system-other deck w.medium.words T u k (inbox w.medium u) (g.later u) (g.out u) item follows-now.ask (λ z. apart (sym z ∙ ap (λ (r : Req). r.task.system.0) (sym same_req))) (g.system u k found)))
 
     pub whole-settled : (r : Res) → res_wanted q.want ≡ Some r → (ts : List TaskId) → ((u : TaskId) → is_among u ts ≡ true → owns (list_of (lists (T ++ item ∷ [])) r) u ≡ true) → entry_of_res deck.entries r ≡ Some hand.entry →
-        (p' : StarPart) → p'.held ≡ qs → (n' : Node) → n' ≡ record n { tasks = tell_all n.tasks r ts; star = Some p' } →
+        (p' : StarPart) → p'.held ≡ qs → (n' : NodeState) → n' ≡ record n { tasks = tell_all n.tasks r ts; star = Some p' } →
         IsStep deck w c n (record { medium = sent_on; step = record { node = n'; fixed = fixing.Asked q ∷ [] } }) → IsWhole deck (placed w c n (record { medium = sent_on; step = record { node = n'; fixed = fixing.Asked q ∷ [] } }))
     whole-settled r wanted ts owned of_entry p' kept n' node step =
         let away : c.0 ≢ s = λ e. hand.apart (sym e) in
@@ -239,12 +239,12 @@ module _ (deck : Deck) (w : World) (g : IsWhole deck w) (c : SysId) (n : Node) (
         whole-placed deck w c n at g.roles (record { medium = sent_on; step = record { node = n'; fixed = fixing.Asked q ∷ [] } }) step (T ++ item ∷ []) (items-one w.fixed c (fixing.Asked q)) (later-with g.later s item) g.out
         (follows deck T item g.right follows-now)
         (subst (AreNear deck w.medium.words) (sym (lists-push T item)) (near-want deck w.medium.words (lists T) q.task q.want (λ v e. near v (same_Some r v (sym wanted ∙ e)) of_entry) g.near))
-        (subst (λ (y : Node). IsSystem deck w.medium.words (T ++ item ∷ []) c.0 y (inbox sent_on c.0) (later-with g.later s item c.0) (g.out c.0)) (sym node)
+        (subst (λ (y : NodeState). IsSystem deck w.medium.words (T ++ item ∷ []) c.0 y (inbox sent_on c.0) (later-with g.later s item c.0) (g.out c.0)) (sym node)
         (subst (λ ms. IsSystem deck w.medium.words (T ++ item ∷ []) c.0 (record n { tasks = tell_all n.tasks r ts; star = Some p' }) ms (later-with g.later s item c.0) (g.out c.0)) (sym (other_box c.0 away))
         (subst (λ xs. IsSystem deck w.medium.words (T ++ item ∷ []) c.0 (record n { tasks = tell_all n.tasks r ts; star = Some p' }) (inbox w.medium c.0) xs (g.out c.0)) (sym (other_later c.0 away)) z.system)))
         others
         (λ k found.
-        let same : p' ≡ k = same_Some p' k (sym (ap (λ (y : Node). y.star) node) ∙ found) in
+        let same : p' ≡ k = same_Some p' k (sym (ap (λ (y : NodeState). y.star) node) ∙ found) in
         subst (λ (y : StarPart). Hands deck w.medium.words (length w.nodes) (later-with g.later s item) g.out c.0 (y.held ++ requests_in (inbox sent_on c.0))) same
         (subst (λ zs. Hands deck w.medium.words (length w.nodes) (later-with g.later s item) g.out c.0 (zs ++ requests_in (inbox sent_on c.0))) (sym kept)
         (subst (λ ms. Hands deck w.medium.words (length w.nodes) (later-with g.later s item) g.out c.0 (qs ++ requests_in ms)) (sym (other_box c.0 away))
@@ -255,7 +255,7 @@ module _ (deck : Deck) (w : World) (g : IsWhole deck w) (c : SysId) (n : Node) (
         near : (v : Res) → r ≡ v → entry_of_res deck.entries r ≡ Some hand.entry → is_near_res deck w.medium.words v q.task ≡ true
         near v e f = ap (λ y. near_at w.medium.words s (entry_of_res deck.entries y)) (sym e) ∙ (ap (near_at w.medium.words s) f ∙ (asker-away deck w.medium.words T g.right s other (inbox w.medium s) (g.later s) (g.out s) its q hand.among hand.idle c hand.entry hand.at hand.managed hand.apart).1)
 
-        hands_others : (m : ℕ) (k : Node) (v : StarPart) → m ≢ c.0 → slice_get w.nodes m ≡ Some k → k.star ≡ Some v → IsAskedBy q.task (state_of other.tasks q.task).outstanding (g.out s ++ []) → Hands deck w.medium.words (length w.nodes) (later-with g.later s item) g.out m (in_hands v (inbox sent_on m))
+        hands_others : (m : ℕ) (k : NodeState) (v : StarPart) → m ≢ c.0 → slice_get w.nodes m ≡ Some k → k.star ≡ Some v → IsAskedBy q.task (state_of other.tasks q.task).outstanding (g.out s ++ []) → Hands deck w.medium.words (length w.nodes) (later-with g.later s item) g.out m (in_hands v (inbox sent_on m))
         hands_others m k v ne found is asked =
             let h : Hands deck w.medium.words (length w.nodes) g.later g.out m (in_hands v (inbox w.medium m)) = g.hands m k v found is in
             let none_there = not-theirs deck w.medium.words (length w.nodes) g.later g.out q (state_of other.tasks q.task).outstanding c.0 hand (subst (IsAskedBy q.task (state_of other.tasks q.task).outstanding) (append-nil (g.out s)) asked) m ne (in_hands v (inbox w.medium m)) h.each in

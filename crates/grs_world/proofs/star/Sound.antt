@@ -8,7 +8,7 @@ use Rattle.grs_base.specs.declared.resource.SysId.{SysId}
 use Rattle.grs_known.specs.Items.{items}
 use Rattle.grs_known.proofs.known.ItemLaws.{items_are_history}
 use Rattle.grs_medium.specs.Medium.{first_medium, inbox}
-use Rattle.grs_node.specs.Node.{Node, first_node}
+use Rattle.grs_node.specs.Node.{NodeState, first_node}
 use Rattle.grs_node.specs.Star.{StarPart, first_part}
 use Rattle.grs_wire.specs.History.{replay}
 use Rattle.grs_wire.specs.declared.deck.Choice.{Choice}
@@ -49,7 +49,7 @@ pub record GoodRun (deck : Deck) (es : List Event) (w : World) : Type 0 where
 
 -- ---- one event
 -- what an event of a system comes to, whichever it chooses
-module _ (deck : Deck) (some : 0 < deck.entries) (w : World) (g : IsWhole deck w) (c : SysId) (inside : c.0 < most_systems) (n : Node) (at : slice_get w.nodes c.0 ≡ Some n) where
+module _ (deck : Deck) (some : 0 < deck.entries) (w : World) (g : IsWhole deck w) (c : SysId) (inside : c.0 < most_systems) (n : NodeState) (at : slice_get w.nodes c.0 ≡ Some n) where
   outcome : (choice : Choice) → Comes deck w c n (chosen deck w.medium c n choice)
   outcome (choices.Task t) = outcome-task deck w g c n at t
   outcome choices.Turn = outcome-turn deck w g c n at
@@ -87,7 +87,7 @@ module _ (deck : Deck) (star : IsStarDeck deck) (es : List Event) (e : Event) (g
     told = told-counted deck es e w g.told;
   }
 
-  module _ (n : Node) (at : slice_get (run deck es).nodes e.system.0 ≡ Some n) where
+  module _ (n : NodeState) (at : slice_get (run deck es).nodes e.system.0 ≡ Some n) where
     inside : e.system.0 < most_systems
     inside = let here = slice_get_within w.nodes c.0 n at in omega (arith, here, g.whole.roles.systems, star.few)
 
@@ -129,11 +129,11 @@ first_system deck s = record {
   fits = tt;
 }
 
-none_held : (deck : Deck) → IsStarDeck deck → (m : ℕ) (n : Node) (p : StarPart) → n ≡ first_node deck m → n.star ≡ Some p → p.held ≡ []
+none_held : (deck : Deck) → IsStarDeck deck → (m : ℕ) (n : NodeState) (p : StarPart) → n ≡ first_node deck m → n.star ≡ Some p → p.held ≡ []
 unfolding first_node
 none_held deck star m n p same is =
     let part : StarPart = first_part (record { 0 = m }) deck.entries in
-    let named : Some part ≡ Some p = sym (ap (λ b. cond b (Some part) None) star.star) ∙ (ap (λ (k : Node). k.star) (sym same) ∙ is) in
+    let named : Some part ≡ Some p = sym (ap (λ b. cond b (Some part) None) star.star) ∙ (ap (λ (k : NodeState). k.star) (sym same) ∙ is) in
     ap (λ (z : StarPart). z.held) (sym (same_Some part p named))
 
 first_whole : (deck : Deck) → IsStarDeck deck → IsWhole deck (first_world deck)
@@ -145,11 +145,11 @@ first_whole deck star = record {
   out = λ s. [];
   near = refl;
   system = λ s n h. subst (λ ms. IsSystem deck (replicate deck.entries 0) [] s n ms [] []) (sym (first_inbox deck s))
-      (subst (λ (k : Node). IsSystem deck (replicate deck.entries 0) [] s k [] [] []) (sym (first_is deck s n h)) (first_system deck s));
+      (subst (λ (k : NodeState). IsSystem deck (replicate deck.entries 0) [] s k [] [] []) (sym (first_is deck s n h)) (first_system deck s));
   hands = first_hands;
 }
   where
-    first_hands : (m : ℕ) (n : Node) (p : StarPart) → slice_get (first_nodes deck 0 deck.systems) m ≡ Some n → n.star ≡ Some p →
+    first_hands : (m : ℕ) (n : NodeState) (p : StarPart) → slice_get (first_nodes deck 0 deck.systems) m ≡ Some n → n.star ≡ Some p →
         Hands deck (replicate deck.entries 0) (length (first_nodes deck 0 deck.systems)) (λ s. []) (λ s. []) m (in_hands p (inbox (first_medium (length deck.systems) deck.entries deck.star) m))
     first_hands m n p h is = subst (λ ms. Hands deck (replicate deck.entries 0) (length (first_nodes deck 0 deck.systems)) (λ s. []) (λ s. []) m (in_hands p ms)) (sym (first_inbox deck m))
         (subst (λ hs. Hands deck (replicate deck.entries 0) (length (first_nodes deck 0 deck.systems)) (λ s. []) (λ s. []) m (hs ++ [])) (sym (none_held deck star m n p (first_is deck m n h) is)) (record { each = tt; apart = refl }))

@@ -14,7 +14,7 @@ use Rattle.grs_base.specs.declared.resource.SysId.{SysId}
 use Rattle.grs_base.specs.declared.resource.TaskId.{TaskId}
 use Rattle.grs_base.proofs.SameLaws.{same_task-exact}
 use Rattle.grs_legal.specs.declared.meaning.Meaning.{Meaning}
-use Rattle.grs_node.specs.Node.{Node}
+use Rattle.grs_node.specs.Node.{NodeState}
 use Rattle.grs_wire.specs.History.{entries_for}
 use Rattle.grs_wire.specs.Wants.{answer_to}
 use Rattle.grs_wire.specs.declared.deck.Deck.{Deck}
@@ -129,7 +129,7 @@ is_plain_answer t (Answered u answer rank) = same_task t u && (rank == 0)
 is_plain_answer t (Granted u r) = false
 
 -- ---- A system s, with these mails in its inbox.
-pub record IsSystem (deck : Deck) (words : List ℕ) (T : List RunItem) (s : ℕ) (n : Node) (ms : List Mail) (later : List RunItem) (out : List Req) : Type 0 where
+pub record IsSystem (deck : Deck) (words : List ℕ) (T : List RunItem) (s : ℕ) (n : NodeState) (ms : List Mail) (later : List RunItem) (out : List Req) : Type 0 where
   pub at : IsAt deck s T later out n
   pub late : AllLate deck words s later
   -- who has nothing sent has nothing to come
@@ -166,7 +166,7 @@ near-keeps deck words words' s (q ∷ qs) k h =
     go None e = refl
     go (Some x) e = k.near x e
 
-pub system-words : (deck : Deck) (words words' : List ℕ) (T : List RunItem) (s : ℕ) (n : Node) (ms : List Mail) (later : List RunItem) (out : List Req) → Keeps words words' s → IsSystem deck words T s n ms later out → IsSystem deck words' T s n ms later out
+pub system-words : (deck : Deck) (words words' : List ℕ) (T : List RunItem) (s : ℕ) (n : NodeState) (ms : List Mail) (later : List RunItem) (out : List Req) → Keeps words words' s → IsSystem deck words T s n ms later out → IsSystem deck words' T s n ms later out
 system-words deck words words' T s n ms later out k h = record {
   at = h.at;
   late = late-keeps deck words words' s later k h.late;
@@ -194,7 +194,7 @@ late-one t y ys (x ∷ xs) h = go (is_of t x.fixed) h (late-one t y ys xs)
     go true e more = refl
     go false e more = more e
 
-module _ (deck : Deck) (s : ℕ) (T later : List RunItem) (out : List Req) (n : Node) (k : IsAt deck s T later out n) (t : TaskId) (home : is_home_at deck s t ≡ true) where
+module _ (deck : Deck) (s : ℕ) (T later : List RunItem) (out : List Req) (n : NodeState) (k : IsAt deck s T later out n) (t : TaskId) (home : is_home_at deck s t ≡ true) where
   pub ours : (ls : List Meaning) × IsOurs deck s n.tasks t ls
   ours = home-task deck s (opens_of later out (ghosted n)) T n.tasks t k.good home
 
@@ -216,7 +216,7 @@ module _ (deck : Deck) (s : ℕ) (T later : List RunItem) (out : List Req) (n : 
   right-late = subst (λ b. IsRight t (blank b) T) behind-late (right-blank t here.known T here.knows.right)
 
 -- another system's item is fixed
-pub system-other : (deck : Deck) (words : List ℕ) (T : List RunItem) (s : ℕ) (n : Node) (ms : List Mail) (later : List RunItem) (out : List Req) (x : RunItem) (a : IsAsk deck x) → a.req.task.system.0 ≢ s → IsSystem deck words T s n ms later out → IsSystem deck words (T ++ x ∷ []) s n ms later out
+pub system-other : (deck : Deck) (words : List ℕ) (T : List RunItem) (s : ℕ) (n : NodeState) (ms : List Mail) (later : List RunItem) (out : List Req) (x : RunItem) (a : IsAsk deck x) → a.req.task.system.0 ≢ s → IsSystem deck words T s n ms later out → IsSystem deck words (T ++ x ∷ []) s n ms later out
 system-other deck words T s n ms later out x a ne h = record {
   at = at-other deck s T later out n x a ne h.at;
   late = h.late;
@@ -268,7 +268,7 @@ late-append : (deck : Deck) (words : List ℕ) (s : ℕ) (xs : List RunItem) (x 
 late-append deck words s [] x h k = (h, tt)
 late-append deck words s (y ∷ xs) x h k = (k.0, late-append deck words s xs x h k.1)
 
-module _ (deck : Deck) (words : List ℕ) (T : List RunItem) (s : ℕ) (n : Node) (ms : List Mail) (later : List RunItem) (out : List Req) (h : IsSystem deck words T s n ms later out) where
+module _ (deck : Deck) (words : List ℕ) (T : List RunItem) (s : ℕ) (n : NodeState) (ms : List Mail) (later : List RunItem) (out : List Req) (h : IsSystem deck words T s n ms later out) where
   news-push : (m : Mail) → news_of (ms ++ m ∷ []) ≡ news_of ms ++ news1 m ∷ []
   news-push m = map-append news1 ms (m ∷ [])
 

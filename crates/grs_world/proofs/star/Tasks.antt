@@ -8,7 +8,7 @@ use Rattle.grs_base.specs.declared.resource.Res.TheVariants.{Step as StepRes, Sy
 use Rattle.grs_base.specs.declared.resource.TaskId.{TaskId}
 use Rattle.grs_legal.specs.declared.meaning.Meaning.{Meaning}
 use Rattle.grs_legal.specs.declared.meaning.Meaning.TheVariants as lines
-use Rattle.grs_node.specs.Node.{Node, Step, with_tasks, only, post, decide, ask, take_line, end_step, ready_step, phase_step, task_step, has_most, wait}
+use Rattle.grs_node.specs.Node.{NodeState, Step, with_tasks, only, post, decide, ask, take_line, end_step, ready_step, phase_step, task_step, has_most, wait}
 use Rattle.grs_node.specs.Star.{StarPart, is_entry}
 use Rattle.grs_wire.specs.Wants.{res_wanted}
 use Rattle.grs_wire.specs.declared.request.Req.{Req}
@@ -42,14 +42,14 @@ want-local entries e (Deq r have) h = res-local entries e r h
 want-local entries e (Release r) h = res-local entries e r h
 want-local entries e (Look first count f) h = absurd (cc)
 
-module _ (p : StarPart) (n : Node) (is : n.star ≡ Some p) where
+module _ (p : StarPart) (n : NodeState) (is : n.star ≡ Some p) where
   abbrev Keeps : Step → Type 0
   Keeps st = IsQuiet n.star n.outbox n.known st
 
-  by_only : (k : Node) → k.star ≡ n.star → k.outbox ≡ n.outbox → k.known ≡ n.known → Keeps (only k)
+  by_only : (k : NodeState) → k.star ≡ n.star → k.outbox ≡ n.outbox → k.known ≡ n.known → Keeps (only k)
   by_only k s o z = record { star = s; outbox = o; known = z; lists = λ entries e L. refl }
 
-  by_post : (k : Node) (t : TaskId) (w : Want) (unit : Option ℕ) → k.star ≡ n.star → k.outbox ≡ n.outbox → k.known ≡ n.known → Keeps (post k t w unit)
+  by_post : (k : NodeState) (t : TaskId) (w : Want) (unit : Option ℕ) → k.star ≡ n.star → k.outbox ≡ n.outbox → k.known ≡ n.known → Keeps (post k t w unit)
   unfolding post
   by_post k t w unit s o z = record {
     star = s;
@@ -58,22 +58,22 @@ module _ (p : StarPart) (n : Node) (is : n.star ≡ Some p) where
     lists = λ entries e L. refl;
   }
 
-  by_decide : (k : Node) (t : TaskId) (w : Want) (unit : Option ℕ) → k.star ≡ n.star → k.outbox ≡ n.outbox → k.known ≡ n.known → is_for_all (res_wanted w) ≡ false → Keeps (decide k t w unit)
+  by_decide : (k : NodeState) (t : TaskId) (w : Want) (unit : Option ℕ) → k.star ≡ n.star → k.outbox ≡ n.outbox → k.known ≡ n.known → is_for_all (res_wanted w) ≡ false → Keeps (decide k t w unit)
   unfolding decide
   by_decide k t w unit s o z alone = record { star = s; outbox = o; known = z; lists = λ entries e L. under-other entries e L t w (want-local entries e w alone) }
 
-  by_ask : (k : Node) (t : TaskId) (w : Want) (unit : Option ℕ) → k.star ≡ n.star → k.outbox ≡ n.outbox → k.known ≡ n.known → Keeps (ask k t w unit)
+  by_ask : (k : NodeState) (t : TaskId) (w : Want) (unit : Option ℕ) → k.star ≡ n.star → k.outbox ≡ n.outbox → k.known ≡ n.known → Keeps (ask k t w unit)
   unfolding ask
   by_ask k t w unit s o z = by_test Keeps (is_for_all (res_wanted w)) (post k t w unit) (decide k t w unit) (λ h. by_post k t w unit s o z) (λ h. by_decide k t w unit s o z h)
 
-  by_line : (limit : ℕ) (k : Node) (t : TaskId) (l : Meaning) → k.star ≡ n.star → k.outbox ≡ n.outbox → k.known ≡ n.known → Keeps (take_line limit k t l)
+  by_line : (limit : ℕ) (k : NodeState) (t : TaskId) (l : Meaning) → k.star ≡ n.star → k.outbox ≡ n.outbox → k.known ≡ n.known → Keeps (take_line limit k t l)
   unfolding take_line
   by_line limit k t (lines.Enq r c ret unit) s o z = by_ask k t (Enq r c ret (has_most limit k.tasks t)) unit s o z
   by_line limit k t (lines.Deq r have) s o z = by_ask k t (Deq r have) None s o z
   by_line limit k t (lines.Wait r) s o z = by_only (with_tasks k (wait k.tasks t r (record_of (state_of k.tasks t).records r))) s o z
   by_line limit k t lines.Nothing s o z = by_only k s o z
 
-  by_end : (k : Node) (t : TaskId) (code : ℕ) (xs : List Rec) → k.star ≡ n.star → k.outbox ≡ n.outbox → k.known ≡ n.known → Keeps (end_step k t code xs)
+  by_end : (k : NodeState) (t : TaskId) (code : ℕ) (xs : List Rec) → k.star ≡ n.star → k.outbox ≡ n.outbox → k.known ≡ n.known → Keeps (end_step k t code xs)
   unfolding end_step
   by_end k t code [] s o z = record { star = s; outbox = o; known = z; lists = λ entries e L. refl }
   by_end k t code (x ∷ xs) s o z = by_ask k t (Release x.res) None s o z

@@ -12,7 +12,7 @@ use Rattle.grs_base.specs.declared.resource.TaskId.{TaskId}
 use Rattle.grs_base.specs.declared.resource.SysId.{SysId}
 use Rattle.grs_medium.specs.Medium.{inbox}
 use Rattle.grs_legal.specs.Asks.{lines_of}
-use Rattle.grs_node.specs.Node.{Node, finish_quiet, may_go}
+use Rattle.grs_node.specs.Node.{NodeState, finish_quiet, may_go}
 use Rattle.grs_node.specs.Star.{StarPart}
 use Rattle.grs_wire.specs.declared.deck.Deck.{Deck}
 use Rattle.grs_wire.specs.declared.medium.Mail.{Mail}
@@ -72,8 +72,8 @@ pub record IsWhole (deck : Deck) (w : World) : Type 0 where
   pub out : ℕ → List Req
   -- each element is of a system with interest in its entry
   pub near : AreNear deck w.medium.words (all_lists w)
-  pub system : (s : ℕ) (n : Node) → slice_get w.nodes s ≡ Some n → IsSystem deck w.medium.words (items w.fixed) s n (inbox w.medium s) (later s) (out s)
-  pub hands : (m : ℕ) (n : Node) (p : StarPart) → slice_get w.nodes m ≡ Some n → n.star ≡ Some p → Hands deck w.medium.words (length w.nodes) later out m (in_hands p (inbox w.medium m))
+  pub system : (s : ℕ) (n : NodeState) → slice_get w.nodes s ≡ Some n → IsSystem deck w.medium.words (items w.fixed) s n (inbox w.medium s) (later s) (out s)
+  pub hands : (m : ℕ) (n : NodeState) (p : StarPart) → slice_get w.nodes m ≡ Some n → n.star ≡ Some p → Hands deck w.medium.words (length w.nodes) later out m (in_hands p (inbox w.medium m))
 
 -- one item more
 pub items-one : (xs : List (SysId × Fixed)) (c : SysId) (f : Fixed) → items (xs ++ fixed_by c (f ∷ [])) ≡ items xs ++ made_item c (items xs) f ∷ []
@@ -83,12 +83,12 @@ pub items-none : (xs : List (SysId × Fixed)) (c : SysId) → items (xs ++ fixed
 items-none xs c = ap items (append-nil xs)
 
 -- ---- the world after an event of system c, where the items become these
-module _ (deck : Deck) (w : World) (c : SysId) (n : Node) (at : slice_get w.nodes c.0 ≡ Some n) (g : IsStar deck w) (o : Turnout) (step : IsStep deck w c n o) (T : List RunItem) (grown : items (w.fixed ++ fixed_by c o.step.fixed) ≡ T) (later : ℕ → List RunItem) (out : ℕ → List Req) where
+module _ (deck : Deck) (w : World) (c : SysId) (n : NodeState) (at : slice_get w.nodes c.0 ≡ Some n) (g : IsStar deck w) (o : Turnout) (step : IsStep deck w c n o) (T : List RunItem) (grown : items (w.fixed ++ fixed_by c o.step.fixed) ≡ T) (later : ℕ → List RunItem) (out : ℕ → List Req) where
   abbrev words : List ℕ
   words = o.medium.words
 
   -- by systems: that of the event, and the others
-  by_system : (P : ℕ → Node → Type 0) → P c.0 o.step.node → ((s : ℕ) (k : Node) → s ≢ c.0 → slice_get w.nodes s ≡ Some k → P s k) → (s : ℕ) (k : Node) → slice_get (set w.nodes c.0 o.step.node) s ≡ Some k → P s k
+  by_system : (P : ℕ → NodeState → Type 0) → P c.0 o.step.node → ((s : ℕ) (k : NodeState) → s ≢ c.0 → slice_get w.nodes s ≡ Some k → P s k) → (s : ℕ) (k : NodeState) → slice_get (set w.nodes c.0 o.step.node) s ≡ Some k → P s k
   by_system P own others s k f = go (s == c.0) refl
     where
       go : (b : Bool) → (s == c.0) ≡ b → P s k
@@ -100,9 +100,9 @@ module _ (deck : Deck) (w : World) (c : SysId) (n : Node) (at : slice_get w.node
 
   pub whole-placed : IsHistory deck T → AreNear deck o.medium.words (lists T) →
       IsSystem deck o.medium.words T c.0 o.step.node (inbox o.medium c.0) (later c.0) (out c.0) →
-      ((s : ℕ) (k : Node) → s ≢ c.0 → slice_get w.nodes s ≡ Some k → IsSystem deck o.medium.words T s k (inbox o.medium s) (later s) (out s)) →
+      ((s : ℕ) (k : NodeState) → s ≢ c.0 → slice_get w.nodes s ≡ Some k → IsSystem deck o.medium.words T s k (inbox o.medium s) (later s) (out s)) →
       ((p : StarPart) → o.step.node.star ≡ Some p → Hands deck o.medium.words (length w.nodes) later out c.0 (in_hands p (inbox o.medium c.0))) →
-      ((m : ℕ) (k : Node) (p : StarPart) → m ≢ c.0 → slice_get w.nodes m ≡ Some k → k.star ≡ Some p → Hands deck o.medium.words (length w.nodes) later out m (in_hands p (inbox o.medium m))) →
+      ((m : ℕ) (k : NodeState) (p : StarPart) → m ≢ c.0 → slice_get w.nodes m ≡ Some k → k.star ≡ Some p → Hands deck o.medium.words (length w.nodes) later out m (in_hands p (inbox o.medium m))) →
       IsWhole deck (placed w c n o)
   unfolding placed
   whole-placed right near own others hands_own hands_others = record {
@@ -121,12 +121,12 @@ pub kept-whole : (deck : Deck) (w : World) → IsWhole deck w → (s : SysId) (r
 kept-whole deck w g s r all = kept_lists deck w g.roles s r all ∙ ap (λ st. list_of st r) (replayed deck (items w.fixed) g.right)
 
 -- ---- events of a system c
-module _ (deck : Deck) (w : World) (g : IsWhole deck w) (c : SysId) (n : Node) (at : slice_get w.nodes c.0 ≡ Some n) where
+module _ (deck : Deck) (w : World) (g : IsWhole deck w) (c : SysId) (n : NodeState) (at : slice_get w.nodes c.0 ≡ Some n) where
   abbrev T : List RunItem
   T = items w.fixed
 
   -- its own item is another system's to the others
-  others-item : (f : Req) (m : MayFollow deck T (made_item c T (fixing.Asked f))) → f.task.system.0 ≡ c.0 → (s : ℕ) (k : Node) → s ≢ c.0 → slice_get w.nodes s ≡ Some k →
+  others-item : (f : Req) (m : MayFollow deck T (made_item c T (fixing.Asked f))) → f.task.system.0 ≡ c.0 → (s : ℕ) (k : NodeState) → s ≢ c.0 → slice_get w.nodes s ≡ Some k →
       IsSystem deck w.medium.words (T ++ made_item c T (fixing.Asked f) ∷ []) s k (inbox w.medium s) (g.later s) (g.out s)
   others-item f m home s k ne found = system-other deck w.medium.words T s k (inbox w.medium s) (g.later s) (g.out s) (made_item c T (fixing.Asked f)) m.ask (λ e. ne (sym e ∙ (ap (λ (q : Req). q.task.system.0) (sym asker) ∙ home))) (g.system s k found)
     where

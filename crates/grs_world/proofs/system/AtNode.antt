@@ -12,7 +12,7 @@ use Rattle.grs_base.specs.declared.resource.SysId.{SysId}
 use Rattle.grs_base.specs.declared.resource.TaskId.{TaskId}
 use Rattle.grs_base.proofs.SameLaws.{same_task-exact}
 use Rattle.grs_legal.specs.declared.meaning.Meaning.{Meaning}
-use Rattle.grs_node.specs.Node.{Node, Step}
+use Rattle.grs_node.specs.Node.{NodeState, Step}
 use Rattle.grs_wire.specs.History.{after_fixed}
 use Rattle.grs_wire.specs.Wants.{after_want, res_wanted}
 use Rattle.grs_wire.specs.declared.deck.Deck.{Deck}
@@ -31,22 +31,22 @@ use Rattle.grs_known.proofs.system.Ours.{IsOurs, Holds}
 use Rattle.grs_known.proofs.system.Says.{is_home_at, askers, stand_apart, ToldBy}
 
 -- what is open at a system: its unseen items, its requests that were sent, and those that wait
-abbrev pub opens_of : List RunItem → List Req → Node → Opens
+abbrev pub opens_of : List RunItem → List Req → NodeState → Opens
 opens_of later out n = record { later = later; out = out; all = out ++ n.outbox }
 
 -- System s has processed these of the items that went with the message, and has still to process those behind them; `out`
 -- are its requests among the latter.
-pub record Seen (deck : Deck) (s : ℕ) (P before later : List RunItem) (out : List Req) (n : Node) : Type 0 where
+pub record Seen (deck : Deck) (s : ℕ) (P before later : List RunItem) (out : List Req) (n : NodeState) : Type 0 where
   pub good : IsGood deck s (opens_of later out n) P n.tasks
   -- its own lists are the history's, and its table is what it has processed
-  pub held : n.held ≡ part (is_res_of s) (lists P)
+  pub own : n.own ≡ part (is_res_of s) (lists P)
   pub shared : n.shared ≡ lists before
   -- the open requests are of tasks of the system, each of another one
   pub homes : list_all (λ q. is_home_at deck s q.task) (out ++ n.outbox) ≡ true
   pub apart : stand_apart (askers (out ++ n.outbox)) ≡ true
 
 -- What a Task event of a system comes to: nothing is fixed, or an item that doesn't go with the message.
-pub data QuietStep (deck : Deck) (s : ℕ) (c : SysId) (P before later : List RunItem) (out : List Req) (n : Node) (step : Step) : Type 0 where
+pub data QuietStep (deck : Deck) (s : ℕ) (c : SysId) (P before later : List RunItem) (out : List Req) (n : NodeState) (step : Step) : Type 0 where
   keeps : step.fixed ≡ [] → Seen deck s P before later out step.node → ToldBy deck s (out ++ step.node.outbox) (history P) n.tasks.told step.node.tasks.told → QuietStep deck s c P before later out n step
   fixes : (q : Req) → step.fixed ≡ fixing.Asked q ∷ [] → (q.task.system.0 == s) ≡ true → goes_round (fixing.Asked q) ≡ false → MayFollow deck P (made_item c P (fixing.Asked q)) →
       Seen deck s (P ++ made_item c P (fixing.Asked q) ∷ []) before later out step.node →
@@ -84,11 +84,11 @@ mine-left u later x apart = filter-append (λ y. is_of u y.fixed) later (rounds 
     none false = refl
 
 -- leaves the system, which has still to process it if it went with the message
-module _ (deck : Deck) (s : ℕ) (P before later : List RunItem) (out : List Req) (n : Node) (x : RunItem) (a : IsAsk deck x) (seen : Seen deck s P before later out n) where
+module _ (deck : Deck) (s : ℕ) (P before later : List RunItem) (out : List Req) (n : NodeState) (x : RunItem) (a : IsAsk deck x) (seen : Seen deck s P before later out n) where
   pub seen-more : is_res_of s a.res ≡ false → Holds deck s (opens_of (later ++ rounds (x ∷ [])) out n) (P ++ x ∷ []) n.tasks → Seen deck s (P ++ x ∷ []) before (later ++ rounds (x ∷ [])) out n
   seen-more other tasks = record {
     good = record { tasks = tasks; here = seen.good.here; system = seen.good.system };
-    held = part-other (is_res_of s) P x a.req a.res a.asked a.wanted n.held seen.held other;
+    own = part-other (is_res_of s) P x a.req a.res a.asked a.wanted n.own seen.own other;
     shared = seen.shared;
     homes = seen.homes;
     apart = seen.apart;

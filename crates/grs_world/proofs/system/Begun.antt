@@ -35,9 +35,9 @@ first_system : (deck : Deck) (s : ℕ) → (first_node deck s).tasks.system ≡ 
 unfolding first_node
 first_system deck s = refl
 
-first_held : (deck : Deck) (s : ℕ) → (first_node deck s).held ≡ []
+first_own : (deck : Deck) (s : ℕ) → (first_node deck s).own ≡ []
 unfolding first_node
-first_held deck s = refl
+first_own deck s = refl
 
 first_shared : (deck : Deck) (s : ℕ) → (first_node deck s).shared ≡ []
 unfolding first_node
@@ -94,7 +94,7 @@ first_good deck s = record {
 pub first_seen : (deck : Deck) (s : ℕ) → Seen deck s [] [] [] [] (first_node deck s)
 first_seen deck s = record {
   good = subst (λ qs. IsGood deck s (record { later = []; out = []; all = qs }) [] (first_node deck s).tasks) (sym (first_outbox deck s)) (first_good deck s);
-  held = first_held deck s;
+  own = first_own deck s;
   shared = first_shared deck s;
   homes = ap (list_all (λ (q : Req). is_home_at deck s q.task)) (first_outbox deck s);
   apart = ap (λ qs. stand_apart (askers qs)) (first_outbox deck s);

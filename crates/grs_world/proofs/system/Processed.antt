@@ -15,7 +15,7 @@ use Rattle.grs_base.specs.declared.resource.TaskId.{TaskId}
 use Rattle.grs_base.proofs.SameLaws.{same_res-itself, same_task-itself}
 use Rattle.grs_legal.specs.Asks.{lines_of}
 use Rattle.grs_legal.specs.declared.meaning.Meaning.{Meaning}
-use Rattle.grs_node.specs.Node.{Node}
+use Rattle.grs_node.specs.Node.{NodeState}
 use Rattle.grs_wire.specs.Wants.{answer_to, after_want, res_wanted, new_owners}
 use Rattle.grs_wire.specs.declared.deck.Deck.{Deck}
 use Rattle.grs_wire.specs.declared.history.HistEntry.{HistEntry}
@@ -25,7 +25,7 @@ use Rattle.grs_wire.specs.declared.request.Req.{Req}
 use Rattle.grs_wire.specs.declared.request.Want.{Want}
 use Rattle.grs_wire.specs.declared.request.Want.TheVariants.{Enq, Deq, Release, Look}
 use Rattle.ring_mode.specs.Ring.{Side, process, answer_own, is_asked, same_want, same_ctl, same_ret, same_bool}
-use Rattle.task_state.specs.Replies.{replied, recalled, settled, settled_any, tell_new, phase_asking, gives_up, is_leaving}
+use Rattle.task_state.specs.Replies.{replied, recalled, tell_answer, tell_answer_any, tell_new, phase_asking, gives_up, is_leaving}
 use Rattle.task_state.specs.View.{TasksView, is_task, state_of, is_sent}
 use Rattle.task_state.proofs.ViewLaws.{is_task-system}
 use Rattle.task_state.specs.declared.state.Asked.{Asked}
@@ -75,39 +75,39 @@ same_want-itself (Look first count f) r e = absurd (cc)
 
 -- ---- what the node does
 -- a system's node after it has processed an entry of the message
-abbrev pub after_read : Node → Req → Node
+abbrev pub after_read : NodeState → Req → NodeState
 after_read n q = let side : Side = process (record { tasks = n.tasks; shared = n.shared }) q in record n { tasks = side.tasks; shared = side.shared }
 
-read-tasks : (n : Node) (q : Req) → (after_read n q).tasks ≡ tell_new (answer_own n.tasks q (answer_to n.shared q.task q.want)) (res_wanted q.want) (new_owners n.shared q.task q.want)
+read-tasks : (n : NodeState) (q : Req) → (after_read n q).tasks ≡ tell_new (answer_own n.tasks q (answer_to n.shared q.task q.want)) (res_wanted q.want) (new_owners n.shared q.task q.want)
 unfolding process
 read-tasks n q = refl
 
-read-shared : (n : Node) (q : Req) → (after_read n q).shared ≡ after_want n.shared q.task q.want
+read-shared : (n : NodeState) (q : Req) → (after_read n q).shared ≡ after_want n.shared q.task q.want
 unfolding process
 read-shared n q = refl
 
 -- the tasks among which a request of the system's own was answered
 answers-own : (v : TasksView) (q : Req) (answer : Answer) (a : Asked) → is_task v q.task ≡ true → is_sent (state_of v q.task).phase ≡ true → (state_of v q.task).outstanding ≡ Some a → a.req ≡ q → same_want q.want q.want ≡ true →
     answer_own v q answer ≡ replied (recalled v q.task q.want) q.task q.want a.unit answer
-unfolding answer_own settled_any settled
+unfolding answer_own tell_answer_any tell_answer
 answers-own v q answer a here sent opened is same =
     let asked : is_asked q.want (state_of v q.task).outstanding ≡ true = ap (is_asked q.want) opened ∙ ap (λ (z : Req). same_want q.want z.want) is ∙ same in
     let all : (is_task v q.task && (is_sent (state_of v q.task).phase && is_asked q.want (state_of v q.task).outstanding)) ≡ true = rw (here, sent, asked) refl in
-    ap (λ b. cond b (settled_any v q.task answer (state_of v q.task).outstanding) v) all
-    ∙ ap (λ o. settled_any v q.task answer o) opened
+    ap (λ b. cond b (tell_answer_any v q.task answer (state_of v q.task).outstanding) v) all
+    ∙ ap (λ o. tell_answer_any v q.task answer o) opened
     ∙ ap (λ (z : Req). replied (recalled v q.task z.want) q.task z.want a.unit answer) is
 
 answers-none : (v : TasksView) (q : Req) (answer : Answer) → is_task v q.task ≡ false → answer_own v q answer ≡ v
 unfolding answer_own
-answers-none v q answer away = ap (λ b. cond (b && (is_sent (state_of v q.task).phase && is_asked q.want (state_of v q.task).outstanding)) (settled_any v q.task answer (state_of v q.task).outstanding) v) away
+answers-none v q answer away = ap (λ b. cond (b && (is_sent (state_of v q.task).phase && is_asked q.want (state_of v q.task).outstanding)) (tell_answer_any v q.task answer (state_of v q.task).outstanding) v) away
 
 -- ---- the first of the items that are due
 -- A request of the message was processed.
-pub record Reads (deck : Deck) (s : ℕ) (P before : List RunItem) (x : RunItem) (later : List RunItem) (out : List Req) (n : Node) (q : Req) : Type 0 where
+pub record Reads (deck : Deck) (s : ℕ) (P before : List RunItem) (x : RunItem) (later : List RunItem) (out : List Req) (n : NodeState) (q : Req) : Type 0 where
   pub seen : Seen deck s P (before ++ x ∷ []) later out (after_read n q)
   pub told : ToldBy deck s (out ++ n.outbox) (history P) n.tasks.told (after_read n q).tasks.told
 
-module _ (deck : Deck) (s : ℕ) (P before : List RunItem) (right : IsHistory deck P) (x : RunItem) (later : List RunItem) (whole : rounds P ≡ before ++ x ∷ later) (n : Node) where
+module _ (deck : Deck) (s : ℕ) (P before : List RunItem) (right : IsHistory deck P) (x : RunItem) (later : List RunItem) (whole : rounds P ≡ before ++ x ∷ later) (n : NodeState) where
   -- it is of a task of the system
   module _ (out : List Req) (q : Req) (ls : List Meaning) (ours : IsOurs deck s n.tasks q.task ls) (own : is_of q.task x.fixed ≡ true) (seen : Seen deck s P before (x ∷ later) (q ∷ out) n) (others : (u : TaskId) → is_of u x.fixed ≡ same_task u q.task) where
     abbrev v : TasksView
@@ -162,7 +162,7 @@ module _ (deck : Deck) (s : ℕ) (P before : List RunItem) (right : IsHistory de
         record {
           seen = record {
             good = subst (λ v. IsGood deck s (opens_of later out n) P v) (sym is) settled.good;
-            held = seen.held;
+            own = seen.own;
             shared = read-shared n q ∙ ap (λ z. after_want z q.task q.want) seen.shared ∙ sym (after-asked before x q a.asked);
             homes = homes;
             apart = apart;

@@ -13,7 +13,7 @@ use Rattle.grs_base.proofs.SameLaws.{same_task-exact, same_task-itself}
 use Rattle.grs_legal.specs.Asks.{AsksEnq, AsksDeq, AsksRelease, lines_of}
 use Rattle.grs_legal.specs.declared.meaning.Meaning.{Meaning}
 use Rattle.grs_legal.specs.declared.meaning.Meaning.TheVariants as lines
-use Rattle.grs_node.specs.Node.{Node, all_sent, put_in}
+use Rattle.grs_node.specs.Node.{NodeState, all_sent, put_in}
 use Rattle.grs_wire.specs.declared.deck.Deck.{Deck}
 use Rattle.grs_wire.specs.declared.request.Fixed.TheVariants as fixing
 use Rattle.grs_wire.specs.declared.request.Req.{Req}
@@ -114,18 +114,18 @@ unfolding all_sent
 all_sent-told v [] = refl
 all_sent-told v (q ∷ qs) = all_sent-told (with_phase v q.task phases.Sent) qs ∙ told-phase v q.task phases.Sent
 
-pub put_told : (n : Node) (k : ℕ) → (put_in n k).node.tasks.told ≡ n.tasks.told
+pub put_told : (n : NodeState) (k : ℕ) → (put_in n k).node.tasks.told ≡ n.tasks.told
 unfolding put_in
 put_told n k = all_sent-told n.tasks (take k n.outbox)
 
-pub put : (deck : Deck) (s : ℕ) (P before later : List RunItem) (out : List Req) (n : Node) (k : ℕ) → Seen deck s P before later out n → Seen deck s P before later (out ++ take k n.outbox) (put_in n k).node
+pub put : (deck : Deck) (s : ℕ) (P before later : List RunItem) (out : List Req) (n : NodeState) (k : ℕ) → Seen deck s P before later out n → Seen deck s P before later (out ++ take k n.outbox) (put_in n k).node
 unfolding put_in
 put deck s P before later out n k seen =
     let same : (out ++ take k n.outbox) ++ drop k n.outbox ≡ out ++ n.outbox = append_assoc out (take k n.outbox) (drop k n.outbox) ∙ ap (λ qs. out ++ qs) (take-append-drop k n.outbox) in
     record {
       good = subst (λ qs. IsGood deck s (record { later = later; out = out ++ take k n.outbox; all = qs }) P (all_sent n.tasks (take k n.outbox))) (sym same)
           (put_all deck s P later k out n.outbox n.tasks seen.good (all-behind (λ q. is_home_at deck s q.task) out n.outbox seen.homes));
-      held = seen.held;
+      own = seen.own;
       shared = seen.shared;
       homes = ap (list_all (λ q. is_home_at deck s q.task)) same ∙ seen.homes;
       apart = ap (λ qs. stand_apart (askers qs)) same ∙ seen.apart;
@@ -137,7 +137,7 @@ pub record MayPut (deck : Deck) (P : List RunItem) (q : Req) : Type 0 where
   pub round : goes_round (fixing.Asked q) ≡ true
   pub follow : (c : SysId) → MayFollow deck P (made_item c P (fixing.Asked q))
 
-module _ (deck : Deck) (s : ℕ) (P before later : List RunItem) (out : List Req) (n : Node) (seen : Seen deck s P before later out n) (box0 : List Req) (q : Req) (box1 : List Req) (among : n.outbox ≡ box0 ++ q ∷ box1) where
+module _ (deck : Deck) (s : ℕ) (P before later : List RunItem) (out : List Req) (n : NodeState) (seen : Seen deck s P before later out n) (box0 : List Req) (q : Req) (box1 : List Req) (among : n.outbox ≡ box0 ++ q ∷ box1) where
   abbrev t : TaskId
   t = q.task
 

@@ -18,7 +18,7 @@ use Rattle.grs_legal.specs.Legal.{line_entries}
 use Rattle.grs_legal.specs.declared.meaning.Meaning.{Meaning}
 use Rattle.grs_legal.specs.declared.meaning.Meaning.TheVariants as lines
 use Rattle.grs_node.proofs.InRing.{outbox-ring}
-use Rattle.grs_node.specs.Node.{Node, only, with_tasks, decide, post, ask, wait, has_most, take_line, end_step, ready_step, phase_step, task_step, goes_on, may_go, finish_quiet}
+use Rattle.grs_node.specs.Node.{NodeState, only, with_tasks, decide, post, ask, wait, has_most, take_line, end_step, ready_step, phase_step, task_step, goes_on, may_go, finish_quiet}
 use Rattle.grs_wire.specs.History.{replay, entries_for}
 use Rattle.grs_wire.specs.Wants.{answer_to, res_wanted, new_owners}
 use Rattle.grs_wire.specs.declared.deck.Deck.{Deck}
@@ -82,13 +82,13 @@ asked-push_other : (u : TaskId) (o : Option Asked) (qs : List Req) (q : Req) →
 asked-push_other u o [] q apart h = (λ e. absurd (let f : false ≡ true = sym apart ∙ e in cc), tt)
 asked-push_other u o (x ∷ qs) q apart h = (h.0, asked-push_other u o qs q apart h.1)
 
-module _ (deck : Deck) (s : ℕ) (c : SysId) (P before later : List RunItem) (right : IsHistory deck P) (out : List Req) (n : Node) (seen : Seen deck s P before later out n) (alone : n.star ≡ None) where
+module _ (deck : Deck) (s : ℕ) (c : SysId) (P before later : List RunItem) (right : IsHistory deck P) (out : List Req) (n : NodeState) (seen : Seen deck s P before later out n) (alone : n.star ≡ None) where
   abbrev os : Opens
   os = opens_of later out n
 
   -- a step that changes the tasks alone, and fixes nothing
   by_tasks : (v : TasksView) → Settles deck s os P n.tasks.told v → QuietStep deck s c P before later out n (only (with_tasks n v))
-  by_tasks v z = keeps refl (record { good = z.good; held = seen.held; shared = seen.shared; homes = seen.homes; apart = seen.apart }) z.told
+  by_tasks v z = keeps refl (record { good = z.good; own = seen.own; shared = seen.shared; homes = seen.homes; apart = seen.apart }) z.told
 
   module _ (t : TaskId) (ls : List Meaning) (ours : IsOurs deck s n.tasks t ls) (closed : (state_of n.tasks t).outstanding ≡ None) where
     here : IsHere deck os P n.tasks.told t ls (state_of n.tasks t)
@@ -121,7 +121,7 @@ module _ (deck : Deck) (s : ℕ) (c : SysId) (P before later : List RunItem) (ri
       abbrev x : RunItem
       x = made_item c P (fixing.Asked q)
 
-      decides : MayFollow deck P x → Decides deck os os P (P ++ x ∷ []) t p h r (new_owners n.held t w)
+      decides : MayFollow deck P x → Decides deck os os P (P ++ x ∷ []) t p h r (new_owners n.own t w)
       decides m = record {
         right = follows deck P x right m;
         learns = entry-decided deck P x t here.known h (follows deck P x right m) (same_task-itself t) refl here.knows.right (known-all P t here.known here.knows.right none_open) entry;
@@ -130,25 +130,25 @@ module _ (deck : Deck) (s : ℕ) (c : SysId) (P before later : List RunItem) (ri
         away = free;
         away_out = free_out;
         owners = λ u e.
-            let owned : owns (list_of (lists (P ++ x ∷ [])) r) u ≡ true = owner-behind (is_res_of s) P x q r u refl wanted own (ap (λ z. is_among u (new_owners z t w)) (sym seen.held) ∙ e) in
+            let owned : owns (list_of (lists (P ++ x ∷ [])) r) u ≡ true = owner-behind (is_res_of s) P x q r u refl wanted own (ap (λ z. is_among u (new_owners z t w)) (sym seen.own) ∙ e) in
             let all : IsHistory deck (P ++ x ∷ []) = follows deck P x right m in
             ((and_parts _ _ (owns-may deck (P ++ x ∷ []) r u all.asks owned)).0, λ T ls y k. owns-still r u (P ++ x ∷ []) _ (stays-open deck.limit ls u y r _ k.opened k.knows.request (own-one_system s r own)) owned);
       }
 
       -- the code that the entry tells
       decided : (v0 : TasksView) (unit : Option ℕ) (answer : Answer) → answer_to (lists P) t w ≡ answer → (m : MayFollow deck P x) →
-          (Decides deck os os P (P ++ x ∷ []) t p h r (new_owners n.held t w) → Settles deck s os (P ++ x ∷ []) n.tasks.told (tell_new (replied v0 t w unit answer) (Some r) (new_owners n.held t w))) →
+          (Decides deck os os P (P ++ x ∷ []) t p h r (new_owners n.own t w) → Settles deck s os (P ++ x ∷ []) n.tasks.told (tell_new (replied v0 t w unit answer) (Some r) (new_owners n.own t w))) →
           QuietStep deck s c P before later out n (decide (with_tasks n v0) t w unit)
       unfolding decide
       decided v0 unit answer told_is m settled =
           let z = settled (decides m) in
-          let tasks : tell_new (replied v0 t w unit (answer_to n.held t w)) (res_wanted w) (new_owners n.held t w) ≡ tell_new (replied v0 t w unit answer) (Some r) (new_owners n.held t w) =
-          ap (λ y. tell_new (replied v0 t w unit y) (res_wanted w) (new_owners n.held t w)) (ap (λ y. answer_to y t w) seen.held ∙ answer_to-part (is_res_of s) (lists P) t w r wanted own ∙ told_is)
-          ∙ ap (λ y. tell_new (replied v0 t w unit answer) y (new_owners n.held t w)) wanted in
+          let tasks : tell_new (replied v0 t w unit (answer_to n.own t w)) (res_wanted w) (new_owners n.own t w) ≡ tell_new (replied v0 t w unit answer) (Some r) (new_owners n.own t w) =
+          ap (λ y. tell_new (replied v0 t w unit y) (res_wanted w) (new_owners n.own t w)) (ap (λ y. answer_to y t w) seen.own ∙ answer_to-part (is_res_of s) (lists P) t w r wanted own ∙ told_is)
+          ∙ ap (λ y. tell_new (replied v0 t w unit answer) y (new_owners n.own t w)) wanted in
           fixes q refl (eq-eqb _ _ ours.home) (wants-round w r wanted ∙ own-one_system s r own) m
           (record {
             good = subst (λ v. IsGood deck s os (P ++ x ∷ []) v) (sym tasks) z.good;
-            held = part-same (is_res_of s) P x q r refl wanted n.held seen.held own;
+            own = part-same (is_res_of s) P x q r refl wanted n.own seen.own own;
             shared = seen.shared;
             homes = seen.homes;
             apart = seen.apart;
@@ -185,7 +185,7 @@ module _ (deck : Deck) (s : ℕ) (c : SysId) (P before later : List RunItem) (ri
         (keeps refl
         (record {
           good = settled.good;
-          held = seen.held;
+          own = seen.own;
           shared = seen.shared;
           homes = ap (list_all (λ y. is_home_at deck s y.task)) (sym pushed) ∙ all-more (λ (y : Req). is_home_at deck s y.task) (out ++ n.outbox) q seen.homes (ours-home deck s n.tasks t ls ours);
           apart = ap (λ qs. stand_apart (askers qs)) (sym pushed) ∙ apart-push (out ++ n.outbox) q seen.apart free;
@@ -414,7 +414,7 @@ module _ (deck : Deck) (s : ℕ) (c : SysId) (P before later : List RunItem) (ri
       by_phase phases.Ended e g = cc
 
 -- a task goes on
-pub quiet : (deck : Deck) (s : ℕ) (c : SysId) (P before later : List RunItem) (out : List Req) (n : Node) (t : TaskId) → n.star ≡ None → IsHistory deck P → Seen deck s P before later out n → may_go deck n t ≡ true → QuietStep deck s c P before later out n (finish_quiet deck n (choices.Task t))
+pub quiet : (deck : Deck) (s : ℕ) (c : SysId) (P before later : List RunItem) (out : List Req) (n : NodeState) (t : TaskId) → n.star ≡ None → IsHistory deck P → Seen deck s P before later out n → may_go deck n t ≡ true → QuietStep deck s c P before later out n (finish_quiet deck n (choices.Task t))
 unfolding may_go finish_quiet
 quiet deck s c P before later out n t alone right seen goes =
     let here = and_parts (is_task n.tasks t) (is_some (lines_of deck t) && goes_on (state_of n.tasks t).phase) goes in

@@ -1,11 +1,11 @@
 use Rattle.std.proofs.Common.{◌≡◌, true, length}
-use Rattle.grs_node.specs.Node.{all_sent, are_of}
+use Rattle.grs_node.specs.Node.{all_sent, are_of_system}
 use Rattle.grs_node.proofs.turn.all_sent.Given as goal
 
 abbrev pub invariant-loop-req : goal.invariant-loop-req
 invariant-loop-req l = record {
   step : all_sent l.tasks l.rest ≡ all_sent l.fn.tasks l.reqs;
-  own : are_of l.tasks.system (length l.tasks.tasks) l.rest ≡ true;
+  own : are_of_system l.tasks.system (length l.tasks.tasks) l.rest ≡ true;
   system : l.tasks.system ≡ l.fn.tasks.system;
   count : length l.tasks.tasks ≡ length l.fn.tasks.tasks;
 }

@@ -18,8 +18,8 @@ use Rattle.grs_known.proofs.lists.Parts.{is_res_of}
 use Rattle.grs_legal.specs.Asks.{lines_of}
 use Rattle.grs_medium.specs.Apply.{row, leave_row}
 use Rattle.grs_medium.specs.Medium.{MediumState, awake, inbox}
-use Rattle.grs_node.specs.Node.{Node, prepare, finish, finish_call, finish_star, with_star}
-use Rattle.grs_node.specs.Star.{StarPart, has_interest, is_busy_in, is_done_with, left_at, may_leave, quiet_step}
+use Rattle.grs_node.specs.Node.{NodeState, prepare, finish, finish_call, finish_star, with_star}
+use Rattle.grs_node.specs.Star.{StarPart, has_interest, is_busy_in, is_done_with, left_at, may_leave, fixing_none}
 use Rattle.grs_node.specs.declared.star.Need.TheVariants.{Asks, Idle}
 use Rattle.grs_wire.specs.LockWords.{interest, is_kept, is_manager, leave_changes, leave_reply}
 use Rattle.grs_wire.specs.Masks.{has}
@@ -44,7 +44,7 @@ use Rattle.grs_world.proofs.star.Worlds.{Hands, IsHand, IsWhole, in_hands, items
 use Rattle.grs_world.proofs.star.steps.Outcome.{Comes, ComesBy, ComesOf, IsOutcome, comes-called, comes-finished, comes-needs, comes-none, comes-quiet}
 use Rattle.grs_world.proofs.star.steps.Words.{hands-words, others-keep}
 
-module _ (deck : Deck) (some : 0 < deck.entries) (w : World) (g : IsWhole deck w) (c : SysId) (inside : c.0 < 8) (n : Node) (at : slice_get w.nodes c.0 ≡ Some n) where
+module _ (deck : Deck) (some : 0 < deck.entries) (w : World) (g : IsWhole deck w) (c : SysId) (inside : c.0 < 8) (n : NodeState) (at : slice_get w.nodes c.0 ≡ Some n) where
   abbrev me : IsMember deck w.medium.words (all_lists w) c.0 n
   me = g.roles.node c.0 n at
 
@@ -90,7 +90,7 @@ module _ (deck : Deck) (some : 0 < deck.entries) (w : World) (g : IsWhole deck w
       -- where it managed the entry, no other system had interest there
       alone : (q : Req) (h : IsHand deck words (length w.nodes) g.later g.out c.0 q) → h.entry ≢ x
       alone q h same =
-          let k : Node = get_or w.nodes q.task.system.0 n in
+          let k : NodeState = get_or w.nodes q.task.system.0 n in
           let found : slice_get w.nodes q.task.system.0 ≡ Some k = slice_get-get_or w.nodes q.task.system.0 n h.below in
           let near : is_interested words h.entry q.task.system.0 ≡ true = (asker-away deck words T g.right q.task.system.0 k (inbox w.medium q.task.system.0) (g.later q.task.system.0) (g.out q.task.system.0) (g.system q.task.system.0 k found) q h.among h.idle c h.entry h.at h.managed h.apart).1 in
           let named : manager_at words h.entry ≡ Some c = managed-is words h.entry c.0 (manager_at words h.entry) refl h.managed in
@@ -98,11 +98,11 @@ module _ (deck : Deck) (some : 0 < deck.entries) (w : World) (g : IsWhole deck w
           absurd (let both : replies.Kept (interest (word_at words x)) ≡ replies.Left = sym kept ∙ is in cc)
 
       -- what becomes of the system, and of the others
-      module _ (flags : ℕ) (step : IsStep deck w c n (record { medium = left flags; step = with_star n (quiet_step n.tasks (left_at p x)) })) where
+      module _ (flags : ℕ) (step : IsStep deck w c n (record { medium = left flags; step = with_star n (fixing_none n.tasks (left_at p x)) })) where
         own : IsSystem deck words' T c.0 (record n { star = Some (left_at p x) }) (inbox w.medium c.0) (g.later c.0) (g.out c.0)
         own = system-left deck words words' T g.right c.0 n (inbox w.medium c.0) (g.later c.0) (g.out c.0) (g.system c.0 n at) p me.fits.entries x idle (λ e ne. (same-role e ne, same-interest e ne)) (Some (left_at p x))
 
-        others : (s : ℕ) (k : Node) → s ≢ c.0 → slice_get w.nodes s ≡ Some k → IsSystem deck words' T s k (inbox w.medium s) (g.later s) (g.out s)
+        others : (s : ℕ) (k : NodeState) → s ≢ c.0 → slice_get w.nodes s ≡ Some k → IsSystem deck words' T s k (inbox w.medium s) (g.later s) (g.out s)
         others s k ne found = system-words deck words words' T s k (inbox w.medium s) (g.later s) (g.out s) (others-keep deck c.0 words words' (all_lists w) (all_lists w) step.moves s ne) (g.system s k found)
 
         near-then : (r : Res) (t : TaskId) → has_task (list_of (all_lists w) r) t ≡ true → is_near_res deck words' r t ≡ true
@@ -122,9 +122,9 @@ module _ (deck : Deck) (some : 0 < deck.entries) (w : World) (g : IsWhole deck w
                     ap (is_interested words' a) same ∙ (same-interest a apart ∙ (ap (is_interested words a) (sym same) ∙ near))
                 by_system false f = step.moves.interest a t.system.0 (eqb-false t.system.0 c.0 f) ∙ near
 
-        whole-left : IsOutcome deck w c n (record { medium = left flags; step = with_star n (quiet_step n.tasks (left_at p x)) })
+        whole-left : IsOutcome deck w c n (record { medium = left flags; step = with_star n (fixing_none n.tasks (left_at p x)) })
         whole-left = record {
-          whole = whole-placed deck w c n at g.roles (record { medium = left flags; step = with_star n (quiet_step n.tasks (left_at p x)) }) step T (items-none w.fixed c) g.later g.out
+          whole = whole-placed deck w c n at g.roles (record { medium = left flags; step = with_star n (fixing_none n.tasks (left_at p x)) }) step T (items-none w.fixed c) g.later g.out
               g.right
               (near-words deck words' (all_lists w) near-then)
               own

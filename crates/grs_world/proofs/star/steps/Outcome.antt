@@ -6,8 +6,8 @@ use Rattle.grs_known.specs.Items.{history, items}
 use Rattle.grs_medium.specs.Apply.{row}
 use Rattle.grs_medium.specs.Inboxes.{inbox_of}
 use Rattle.grs_medium.specs.Medium.{MediumState, inbox}
-use Rattle.grs_node.specs.Node.{Node, finish, finish_star, prepared_by, star_call, star_need, with_star}
-use Rattle.grs_node.specs.Star.{StarPart, quiet_step}
+use Rattle.grs_node.specs.Node.{NodeState, finish, finish_star, prepared_by, star_call, star_need, with_star}
+use Rattle.grs_node.specs.Star.{StarPart, fixing_none}
 use Rattle.grs_node.specs.declared.star.Need.{Need}
 use Rattle.grs_node.specs.declared.star.Need.TheVariants.{Asks, Idle}
 use Rattle.grs_wire.specs.declared.deck.Choice.{Choice}
@@ -23,33 +23,33 @@ use Rattle.grs_world.proofs.star.Systems.{IsSystem}
 use Rattle.grs_world.proofs.star.Worlds.{IsWhole, Hands, in_hands, items-none, whole-placed}
 
 -- The world stays whole, and what the system tells agrees with the history.
-pub record IsOutcome (deck : Deck) (w : World) (c : SysId) (n : Node) (o : Turnout) : Type 0 where
+pub record IsOutcome (deck : Deck) (w : World) (c : SysId) (n : NodeState) (o : Turnout) : Type 0 where
   pub whole : IsWhole deck (placed w c n o)
   pub news : ToldNews deck c.0 (history (items (w.fixed ++ fixed_by c o.step.fixed))) n.tasks.told o.step.node.tasks.told
 
 -- as far as it is a step of words, roles and lists
-abbrev pub Comes : Deck → World → SysId → Node → Turnout → Type 0
+abbrev pub Comes : Deck → World → SysId → NodeState → Turnout → Type 0
 Comes deck w c n o = IsStep deck w c n o → IsOutcome deck w c n o
 
-module _ (deck : Deck) (w : World) (g : IsWhole deck w) (c : SysId) (n : Node) (at : slice_get w.nodes c.0 ≡ Some n) where
+module _ (deck : Deck) (w : World) (g : IsWhole deck w) (c : SysId) (n : NodeState) (at : slice_get w.nodes c.0 ≡ Some n) where
   -- Nothing happens to words, mail and the system, whatever happens to the message and to flags of rest.
-  pub outcome-still : (m : MediumState) → m.words ≡ w.medium.words → m.inboxes ≡ w.medium.inboxes → (k : Node) → k ≡ n → Comes deck w c n (record { medium = m; step = record { node = k; fixed = [] } })
+  pub outcome-still : (m : MediumState) → m.words ≡ w.medium.words → m.inboxes ≡ w.medium.inboxes → (k : NodeState) → k ≡ n → Comes deck w c n (record { medium = m; step = record { node = k; fixed = [] } })
   outcome-still m words boxes k same step = record {
     whole = whole-placed deck w c n at g.roles (record { medium = m; step = record { node = k; fixed = [] } }) step (items w.fixed) (items-none w.fixed c) g.later g.out
         g.right
         (subst (λ ws. AreNear deck ws (all_lists w)) (sym words) g.near)
-        (subst (λ (z : Node). IsSystem deck m.words (items w.fixed) c.0 z (inbox m c.0) (g.later c.0) (g.out c.0)) (sym same) (system_at c.0 n at))
+        (subst (λ (z : NodeState). IsSystem deck m.words (items w.fixed) c.0 z (inbox m c.0) (g.later c.0) (g.out c.0)) (sym same) (system_at c.0 n at))
         (λ s j ne found. system_at s j found)
-        (λ p star. hands_at c.0 n p at (ap (λ (z : Node). z.star) (sym same) ∙ star))
+        (λ p star. hands_at c.0 n p at (ap (λ (z : NodeState). z.star) (sym same) ∙ star))
         (λ s j p ne found star. hands_at s j p found star);
-    news = still-told (ap (λ (z : Node). z.tasks.told) same);
+    news = still-told (ap (λ (z : NodeState). z.tasks.told) same);
   }
     where
-      system_at : (s : ℕ) (j : Node) → slice_get w.nodes s ≡ Some j → IsSystem deck m.words (items w.fixed) s j (inbox m s) (g.later s) (g.out s)
+      system_at : (s : ℕ) (j : NodeState) → slice_get w.nodes s ≡ Some j → IsSystem deck m.words (items w.fixed) s j (inbox m s) (g.later s) (g.out s)
       system_at s j found = subst (λ ws. IsSystem deck ws (items w.fixed) s j (inbox m s) (g.later s) (g.out s)) (sym words)
           (subst (λ bs. IsSystem deck w.medium.words (items w.fixed) s j (inbox_of bs s) (g.later s) (g.out s)) (sym boxes) (g.system s j found))
 
-      hands_at : (s : ℕ) (j : Node) (p : StarPart) → slice_get w.nodes s ≡ Some j → j.star ≡ Some p → Hands deck m.words (length w.nodes) g.later g.out s (in_hands p (inbox m s))
+      hands_at : (s : ℕ) (j : NodeState) (p : StarPart) → slice_get w.nodes s ≡ Some j → j.star ≡ Some p → Hands deck m.words (length w.nodes) g.later g.out s (in_hands p (inbox m s))
       hands_at s j p found star = subst (λ ws. Hands deck ws (length w.nodes) g.later g.out s (in_hands p (inbox m s))) (sym words)
           (subst (λ bs. Hands deck w.medium.words (length w.nodes) g.later g.out s (in_hands p (inbox_of bs s))) (sym boxes) (g.hands s j p found star))
 
@@ -61,7 +61,7 @@ module _ (deck : Deck) (w : World) (g : IsWhole deck w) (c : SysId) (n : Node) (
   part = (g.roles.node c.0 n at).part
 
   -- a reply that says nothing new
-  pub comes-quiet : (m : MediumState) → m.words ≡ w.medium.words → m.inboxes ≡ w.medium.inboxes → Comes deck w c n (record { medium = m; step = with_star n (quiet_step n.tasks part) })
+  pub comes-quiet : (m : MediumState) → m.words ≡ w.medium.words → m.inboxes ≡ w.medium.inboxes → Comes deck w c n (record { medium = m; step = with_star n (fixing_none n.tasks part) })
   comes-quiet m words boxes = outcome-still m words boxes _ (ap (λ o. record n { star = o }) (sym (g.roles.node c.0 n at).star))
 
   -- ---- by what a choice needs

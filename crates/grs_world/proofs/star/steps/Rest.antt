@@ -5,7 +5,7 @@ use Rattle.std.specs.Prelude.{slice_get, ◌&&◌}
 use Rattle.grs_base.specs.declared.resource.SysId.{SysId}
 use Rattle.grs_medium.specs.Apply.{row, rest_row, resting}
 use Rattle.grs_medium.specs.Medium.{all_rest, medium_at_end}
-use Rattle.grs_node.specs.Node.{Node, finish, finish_call, finish_star, is_pending, prepare, turn_call}
+use Rattle.grs_node.specs.Node.{NodeState, finish, finish_call, finish_star, is_pending, prepare, turn_call}
 use Rattle.grs_node.specs.declared.prepared.Prepared.TheVariants.{Call, Nothing}
 use Rattle.grs_wire.specs.declared.deck.Choice.{Choice}
 use Rattle.grs_wire.specs.declared.deck.Choice.TheVariants as choices
@@ -17,7 +17,7 @@ use Rattle.grs_world.specs.World.{World, carry_out, chosen}
 use Rattle.grs_world.proofs.star.Worlds.{IsWhole}
 use Rattle.grs_world.proofs.star.steps.Outcome.{Comes, ComesOf, comes-called, comes-finished, comes-idle, comes-needs, comes-none, comes-quiet}
 
-module _ (deck : Deck) (w : World) (g : IsWhole deck w) (c : SysId) (n : Node) (at : slice_get w.nodes c.0 ≡ Some n) where
+module _ (deck : Deck) (w : World) (g : IsWhole deck w) (c : SysId) (n : NodeState) (at : slice_get w.nodes c.0 ≡ Some n) where
   idle_choice : (choice : Choice) → Comes deck w c n (carry_out deck w.medium c n choice Nothing)
   unfolding carry_out
   idle_choice choice = comes-idle deck w g c n at

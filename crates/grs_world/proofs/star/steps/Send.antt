@@ -15,7 +15,7 @@ use Rattle.grs_legal.specs.declared.meaning.Meaning.{Meaning}
 use Rattle.grs_medium.specs.Apply.{row, submit_row, submit_on, joined, manages as manages_word}
 use Rattle.grs_medium.specs.Inboxes.{with_mail}
 use Rattle.grs_medium.specs.Medium.{MediumState, awake, inbox}
-use Rattle.grs_node.specs.Node.{Node, prepare, may_send, is_of_deck, is_to_send, finish, finish_quiet, finish_call, finish_star, with_star, send_own}
+use Rattle.grs_node.specs.Node.{NodeState, prepare, may_send, is_of_deck, is_to_send, finish, finish_quiet, finish_call, finish_star, with_star, send_own}
 use Rattle.grs_node.specs.Star.{StarPart, request_of, entry_for, entry_asked, is_entry, manages, with_interest, send_to, send_of, decide_own, own_step, begun, begin_at, sent_to, lists_for, answer_for, owners_by, rank_of}
 use Rattle.grs_node.specs.declared.star.Need.TheVariants.{Alone, Asks, Idle}
 use Rattle.grs_wire.specs.LockWords.{is_manager}
@@ -33,7 +33,7 @@ use Rattle.grs_wire.proofs.WantLaws.{by_test}
 use Rattle.lock_structure.specs.Laws.{manager_at}
 use Rattle.lock_structure.specs.Words.{route, route_by, submitted_words}
 use Rattle.lock_structure.specs.declared.word.Route.TheVariants as routes
-use Rattle.star_client.specs.Client.{settled_ranked}
+use Rattle.star_client.specs.Client.{tell_answer_ranked}
 use Rattle.task_state.specs.Replies.{tell_new}
 use Rattle.task_state.specs.View.{TasksView, is_task, is_sent, state_of}
 use Rattle.task_state.specs.declared.state.Asked.{Asked}
@@ -94,15 +94,15 @@ module _ (deck : Deck) (words : List ℕ) (L : State) (s : ℕ) (p : StarPart) (
   here_at : is_entry x (entry_wanted deck.entries a.req.want) ≡ true
   here_at = entry-same x (entry_wanted deck.entries a.req.want) at
 
-  decides-as : tell_new (settled_ranked v t a (answer_to L t a.req.want) (rank_of p (request_of t a))) (res_wanted a.req.want) (new_owners L t a.req.want) ≡
-      tell_new (settled_ranked v t a (answer_for p (request_of t a)) (rank_of p (request_of t a))) (res_wanted a.req.want) (owners_by p (request_of t a))
+  decides-as : tell_new (tell_answer_ranked v t a (answer_to L t a.req.want) (rank_of p (request_of t a))) (res_wanted a.req.want) (new_owners L t a.req.want) ≡
+      tell_new (tell_answer_ranked v t a (answer_for p (request_of t a)) (rank_of p (request_of t a))) (res_wanted a.req.want) (owners_by p (request_of t a))
   decides-as = sym (
-      ap (λ z. tell_new (settled_ranked v t a (answer_to z t a.req.want) (rank_of p (request_of t a))) (res_wanted a.req.want) (new_owners z t a.req.want)) lists-are
-      ∙ ap (λ z. tell_new (settled_ranked v t a z (rank_of p (request_of t a))) (res_wanted a.req.want) (new_owners (under deck.entries x L) t a.req.want)) (answer-under deck.entries x L t a.req.want r wanted here_at)
-      ∙ ap (λ z. tell_new (settled_ranked v t a (answer_to L t a.req.want) (rank_of p (request_of t a))) (res_wanted a.req.want) z) (owners-under deck.entries x L t a.req.want r wanted here_at)
+      ap (λ z. tell_new (tell_answer_ranked v t a (answer_to z t a.req.want) (rank_of p (request_of t a))) (res_wanted a.req.want) (new_owners z t a.req.want)) lists-are
+      ∙ ap (λ z. tell_new (tell_answer_ranked v t a z (rank_of p (request_of t a))) (res_wanted a.req.want) (new_owners (under deck.entries x L) t a.req.want)) (answer-under deck.entries x L t a.req.want r wanted here_at)
+      ∙ ap (λ z. tell_new (tell_answer_ranked v t a (answer_to L t a.req.want) (rank_of p (request_of t a))) (res_wanted a.req.want) z) (owners-under deck.entries x L t a.req.want r wanted here_at)
       )
 
-module _ (deck : Deck) (some : 0 < deck.entries) (w : World) (g : IsWhole deck w) (c : SysId) (inside : c.0 < 8) (n : Node) (at : slice_get w.nodes c.0 ≡ Some n) where
+module _ (deck : Deck) (some : 0 < deck.entries) (w : World) (g : IsWhole deck w) (c : SysId) (inside : c.0 < 8) (n : NodeState) (at : slice_get w.nodes c.0 ≡ Some n) where
   abbrev words : List ℕ
   words = w.medium.words
 

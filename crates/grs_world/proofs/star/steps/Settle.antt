@@ -14,8 +14,8 @@ use Rattle.grs_known.proofs.lists.Owners.{is_among, new-owns}
 use Rattle.grs_medium.specs.Apply.{row, mail_row}
 use Rattle.grs_medium.specs.Inboxes.{with_mail}
 use Rattle.grs_medium.specs.Medium.{MediumState, awake}
-use Rattle.grs_node.specs.Node.{Node, prepare, finish, finish_call, finish_star, with_star}
-use Rattle.grs_node.specs.Star.{StarPart, answer_for, first_held, lists_for, owners_by, quiet_step, rank_of, serves, settle_by, settled_by, settled_first}
+use Rattle.grs_node.specs.Node.{NodeState, prepare, finish, finish_call, finish_star, with_star}
+use Rattle.grs_node.specs.Star.{StarPart, answer_for, first_held, lists_for, owners_by, fixing_none, rank_of, serves, settle_by, settled_by, settled_first}
 use Rattle.grs_node.specs.declared.star.Need.TheVariants.{Asks, Idle}
 use Rattle.grs_wire.specs.Wants.{answer_to, new_owners, res_wanted}
 use Rattle.grs_wire.specs.declared.deck.Choice.TheVariants as choices
@@ -51,7 +51,7 @@ first-of : (qs : List Req) (q : Req) → slice_get qs 0 ≡ Some q → qs ≡ q 
 first-of [] q is = absurd (cc)
 first-of (z ∷ qs) q is = ap (λ y. y ∷ qs) (same_Some z q is)
 
-module _ (deck : Deck) (w : World) (g : IsWhole deck w) (c : SysId) (n : Node) (at : slice_get w.nodes c.0 ≡ Some n) where
+module _ (deck : Deck) (w : World) (g : IsWhole deck w) (c : SysId) (n : NodeState) (at : slice_get w.nodes c.0 ≡ Some n) where
   abbrev me : IsMember deck w.medium.words (all_lists w) c.0 n
   me = g.roles.node c.0 n at
 
@@ -108,7 +108,7 @@ module _ (deck : Deck) (w : World) (g : IsWhole deck w) (c : SysId) (n : Node) (
     news : ToldNews deck c.0 (history (items (w.fixed ++ fixed_by c (fixes.Asked q ∷ [])))) n.tasks.told (tell_new n.tasks (res_wanted q.want) (owners_by p q)).told
     news =
         subst (λ xs. ToldNews deck c.0 (history xs) n.tasks.told (tell_new n.tasks (res_wanted q.want) (owners_by p q)).told) (sym (items-one w.fixed c (fixes.Asked q)))
-        (subst (λ (k : Node). ToldNews deck c.0 (history (T ++ item ∷ [])) n.tasks.told k.tasks.told) (sym node-is)
+        (subst (λ (k : NodeState). ToldNews deck c.0 (history (T ++ item ∷ [])) n.tasks.told k.tasks.told) (sym node-is)
         (told-news (manager-after deck w g c n at p me.star q (drop 1 p.held) held follow.ask.res (owners_by p q) own of_entry (Some after)).told))
 
     -- the medium, where this answer is sent
@@ -126,7 +126,7 @@ module _ (deck : Deck) (w : World) (g : IsWhole deck w) (c : SysId) (n : Node) (
     comes-settled serving =
         comes-finished deck w g c n at (answered (answer_for p q)) choices.Settle replies.Settled
         (subst (λ o. Comes deck w c n (record { medium = answered (answer_for p q); step = with_star n (settled_by n.tasks p o) })) (sym first)
-        (subst (λ b. Comes deck w c n (record { medium = answered (answer_for p q); step = with_star n (cond b (settled_first n.tasks p q) (quiet_step n.tasks p)) })) (sym serving)
+        (subst (λ b. Comes deck w c n (record { medium = answered (answer_for p q); step = with_star n (cond b (settled_first n.tasks p q) (fixing_none n.tasks p)) })) (sym serving)
         (subst (λ a. Comes deck w c n (record { medium = answered a; step = with_star n (settled_first n.tasks p q) })) (sym same-answer) by-history)))
 
   by_first : (o : Option Req) → first_held p ≡ o → ComesBy deck w g c n at choices.Settle (settle_by p o)

@@ -12,8 +12,8 @@ use Rattle.grs_base.proofs.SameLaws.{same_task-exact}
 use Rattle.grs_medium.specs.Apply.{row, take_row, take_from}
 use Rattle.grs_medium.specs.Inboxes.{without_first}
 use Rattle.grs_medium.specs.Medium.{MediumState, inbox, awake}
-use Rattle.grs_node.specs.Node.{Node, prepare, finish, finish_call, finish_star, with_star, is_of_deck, is_for_deck, take_mail}
-use Rattle.grs_node.specs.Star.{StarPart, StarStep, entry_for, is_entry, manages, quiet_step, took_mail}
+use Rattle.grs_node.specs.Node.{NodeState, prepare, finish, finish_call, finish_star, with_star, is_of_deck, is_for_deck, take_mail}
+use Rattle.grs_node.specs.Star.{StarPart, StarStep, entry_for, is_entry, manages, fixing_none, took_mail}
 use Rattle.grs_wire.specs.declared.deck.Choice.TheVariants as choices
 use Rattle.grs_wire.specs.declared.deck.Deck.{Deck}
 use Rattle.grs_wire.specs.declared.medium.Act.TheVariants as acts
@@ -100,7 +100,7 @@ apart-fewer (x ∷ xs) q ys h =
     and_from (not (is_among x.task (askers (xs ++ ys)))) (stand_apart (askers (xs ++ ys))) (ap not (among-fewer x.task xs q ys (not-true (is_among x.task (askers (xs ++ q ∷ ys))) both.0))) (apart-fewer xs q ys both.1)
 
 -- ---- the first mail of the inbox is taken
-module _ (deck : Deck) (w : World) (g : IsWhole deck w) (c : SysId) (n : Node) (at : slice_get w.nodes c.0 ≡ Some n) (mail : Mail) (rest : List Mail) (is : inbox w.medium c.0 ≡ mail ∷ rest) where
+module _ (deck : Deck) (w : World) (g : IsWhole deck w) (c : SysId) (n : NodeState) (at : slice_get w.nodes c.0 ≡ Some n) (mail : Mail) (rest : List Mail) (is : inbox w.medium c.0 ≡ mail ∷ rest) where
   abbrev T : List RunItem
   T = items w.fixed
 
@@ -157,7 +157,7 @@ module _ (deck : Deck) (w : World) (g : IsWhole deck w) (c : SysId) (n : Node) (
       (subst (λ rs. Goes deck w.medium.words T c.0 (record n { tasks = v; star = Some q }) rest xs rs n.tasks.told) (sym (put_here g.out c.0 qs)) goes)) own step
 
 -- ---- by the mail
-module _ (deck : Deck) (w : World) (g : IsWhole deck w) (c : SysId) (n : Node) (at : slice_get w.nodes c.0 ≡ Some n) (p : StarPart) (star : n.star ≡ Some p) (rest : List Mail) where
+module _ (deck : Deck) (w : World) (g : IsWhole deck w) (c : SysId) (n : NodeState) (at : slice_get w.nodes c.0 ≡ Some n) (p : StarPart) (star : n.star ≡ Some p) (rest : List Mail) where
   abbrev words : List ℕ
   words = w.medium.words
 
@@ -218,14 +218,14 @@ module _ (deck : Deck) (w : World) (g : IsWhole deck w) (c : SysId) (n : Node) (
 
   takes : (mail : Mail) → inbox w.medium c.0 ≡ mail ∷ rest → Takes (take_mail deck n.tasks p mail)
   unfolding took_mail after_mail
-  takes (Request e from q) is = by_test Takes (is_for_deck deck (Request e from q)) (took_mail n.tasks p (Request e from q)) (quiet_step n.tasks p)
-      (λ h. by_test (λ k. Takes (quiet_step n.tasks k)) (is_entry e (entry_for p q.want) && manages p e) (record p { held = p.held ++ q ∷ [] }) p (λ f. holds_request e from q is) (λ f. drops_request e from q is))
+  takes (Request e from q) is = by_test Takes (is_for_deck deck (Request e from q)) (took_mail n.tasks p (Request e from q)) (fixing_none n.tasks p)
+      (λ h. by_test (λ k. Takes (fixing_none n.tasks k)) (is_entry e (entry_for p q.want) && manages p e) (record p { held = p.held ++ q ∷ [] }) p (λ f. holds_request e from q is) (λ f. drops_request e from q is))
       (λ h. drops_request e from q is)
-  takes (Answered t answer rank) is = by_test Takes (is_of_deck deck t) (took_mail n.tasks p (Answered t answer rank)) (quiet_step n.tasks p) (λ h. takes_answer t answer rank is h) (λ h. drops_answer t answer rank is h)
-  takes (Granted t r) is = by_test Takes (is_of_deck deck t) (took_mail n.tasks p (Granted t r)) (quiet_step n.tasks p) (λ h. takes_control t r is h) (λ h. drops_control t r is)
+  takes (Answered t answer rank) is = by_test Takes (is_of_deck deck t) (took_mail n.tasks p (Answered t answer rank)) (fixing_none n.tasks p) (λ h. takes_answer t answer rank is h) (λ h. drops_answer t answer rank is h)
+  takes (Granted t r) is = by_test Takes (is_of_deck deck t) (took_mail n.tasks p (Granted t r)) (fixing_none n.tasks p) (λ h. takes_control t r is h) (λ h. drops_control t r is)
 
 -- ---- the event
-module _ (deck : Deck) (w : World) (g : IsWhole deck w) (c : SysId) (n : Node) (at : slice_get w.nodes c.0 ≡ Some n) where
+module _ (deck : Deck) (w : World) (g : IsWhole deck w) (c : SysId) (n : NodeState) (at : slice_get w.nodes c.0 ≡ Some n) where
   abbrev me : IsMember deck w.medium.words (all_lists w) c.0 n
   me = g.roles.node c.0 n at
 

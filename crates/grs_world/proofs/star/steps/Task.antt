@@ -4,7 +4,7 @@ use Rattle.std.specs.Prelude.{slice_get}
 use Rattle.grs_base.specs.declared.resource.SysId.{SysId}
 use Rattle.grs_base.specs.declared.resource.TaskId.{TaskId}
 use Rattle.grs_medium.specs.Medium.{inbox}
-use Rattle.grs_node.specs.Node.{Node, Step, prepare, finish, finish_quiet, may_go}
+use Rattle.grs_node.specs.Node.{NodeState, Step, prepare, finish, finish_quiet, may_go}
 use Rattle.grs_node.specs.declared.prepared.Prepared.TheVariants.{Quiet, Nothing}
 use Rattle.grs_wire.specs.declared.deck.Choice.TheVariants as choices
 use Rattle.grs_wire.specs.declared.deck.Deck.{Deck}
@@ -17,7 +17,7 @@ use Rattle.grs_world.proofs.star.OwnEvents.{Task, idle_task, local_task, system-
 use Rattle.grs_world.proofs.star.Worlds.{IsWhole, items-none, items-one, whole-task}
 use Rattle.grs_world.proofs.star.steps.Outcome.{Comes, comes-none}
 
-module _ (deck : Deck) (w : World) (g : IsWhole deck w) (c : SysId) (n : Node) (at : slice_get w.nodes c.0 ≡ Some n) where
+module _ (deck : Deck) (w : World) (g : IsWhole deck w) (c : SysId) (n : NodeState) (at : slice_get w.nodes c.0 ≡ Some n) where
   -- what it tells agrees
   task-news : (st : Step) → Task deck w.medium.words (items w.fixed) g.right c.0 n (inbox w.medium c.0) (g.later c.0) (g.out c.0) (g.system c.0 n at) c st → ToldNews deck c.0 (history (items (w.fixed ++ fixed_by c st.fixed))) n.tasks.told st.node.tasks.told
   task-news st (idle_task none_fixed z) = subst (λ U. ToldNews deck c.0 (history U) n.tasks.told st.node.tasks.told) (sym (ap (λ fs. items (w.fixed ++ fixed_by c fs)) none_fixed ∙ items-none w.fixed c)) (told-news z.told)

@@ -17,8 +17,8 @@ use Rattle.grs_legal.specs.Asks.{lines_of}
 use Rattle.grs_medium.specs.Apply.{row, mail_row}
 use Rattle.grs_medium.specs.Inboxes.{with_mail}
 use Rattle.grs_medium.specs.Medium.{MediumState, inbox, awake}
-use Rattle.grs_node.specs.Node.{Node, prepare, finish, finish_call, finish_star, with_star}
-use Rattle.grs_node.specs.Star.{StarPart, to_tell, told_by, tell_by, quiet_step}
+use Rattle.grs_node.specs.Node.{NodeState, prepare, finish, finish_call, finish_star, with_star}
+use Rattle.grs_node.specs.Star.{StarPart, to_tell, told_by, tell_by, fixing_none}
 use Rattle.grs_wire.specs.declared.deck.Choice.TheVariants as choices
 use Rattle.grs_wire.specs.declared.deck.Deck.{Deck}
 use Rattle.grs_wire.specs.declared.medium.Act.TheVariants as acts
@@ -89,7 +89,7 @@ requests-granted (Request e from q ∷ ms) t r = ap (λ zs. q ∷ zs) (requests-
 requests-granted (Answered u a rank ∷ ms) t r = requests-granted ms t r
 requests-granted (Granted u q ∷ ms) t r = requests-granted ms t r
 
-module _ (deck : Deck) (w : World) (g : IsWhole deck w) (c : SysId) (n : Node) (at : slice_get w.nodes c.0 ≡ Some n) where
+module _ (deck : Deck) (w : World) (g : IsWhole deck w) (c : SysId) (n : NodeState) (at : slice_get w.nodes c.0 ≡ Some n) where
   abbrev T : List RunItem
   T = items w.fixed
 
@@ -104,7 +104,7 @@ module _ (deck : Deck) (w : World) (g : IsWhole deck w) (c : SysId) (n : Node) (
     abbrev sent_on : MediumState
     sent_on = record w.medium { inboxes = with_mail w.medium.inboxes t.system.0 (Granted t r); rest = flags }
 
-    its_box : (k : Node) → slice_get w.nodes t.system.0 ≡ Some k → inbox sent_on t.system.0 ≡ inbox w.medium t.system.0 ++ Granted t r ∷ []
+    its_box : (k : NodeState) → slice_get w.nodes t.system.0 ≡ Some k → inbox sent_on t.system.0 ≡ inbox w.medium t.system.0 ++ Granted t r ∷ []
     its_box k found = get_or-set_same w.medium.inboxes t.system.0 (inbox w.medium t.system.0 ++ Granted t r ∷ []) [] (let there = slice_get_within w.nodes t.system.0 k found in omega (arith, there, g.roles.systems, g.roles.inboxes))
 
     other_box : (u : ℕ) → u ≢ t.system.0 → inbox sent_on u ≡ inbox w.medium u
@@ -125,11 +125,11 @@ module _ (deck : Deck) (w : World) (g : IsWhole deck w) (c : SysId) (n : Node) (
     away : IsAway deck w.medium.words t.system.0 t r
     away = record { home = home; entry = entry; at = owner.at; away = (false_by (has_manager words entry t.system.0) (λ mine. absurd (owner.apart (one-manages words entry t.system.0 c.0 mine owner.managed))), interested) }
 
-    granted : (k : Node) → slice_get w.nodes t.system.0 ≡ Some k → IsSystem deck w.medium.words (items w.fixed) t.system.0 k (inbox sent_on t.system.0) (g.later t.system.0) (g.out t.system.0)
+    granted : (k : NodeState) → slice_get w.nodes t.system.0 ≡ Some k → IsSystem deck w.medium.words (items w.fixed) t.system.0 k (inbox sent_on t.system.0) (g.later t.system.0) (g.out t.system.0)
     granted k found = subst (λ ms. IsSystem deck words T t.system.0 k ms (g.later t.system.0) (g.out t.system.0)) (sym (its_box k found))
         (system-granted deck words T t.system.0 k (inbox w.medium t.system.0) (g.later t.system.0) (g.out t.system.0) (g.system t.system.0 k found) g.right t r home owner.owned away)
 
-    others : (u : ℕ) (k : Node) → slice_get w.nodes u ≡ Some k → IsSystem deck w.medium.words (items w.fixed) u k (inbox sent_on u) (g.later u) (g.out u)
+    others : (u : ℕ) (k : NodeState) → slice_get w.nodes u ≡ Some k → IsSystem deck w.medium.words (items w.fixed) u k (inbox sent_on u) (g.later u) (g.out u)
     others u k found = go (u == t.system.0) refl
       where
         go : (b : Bool) → (u == t.system.0) ≡ b → IsSystem deck w.medium.words (items w.fixed) u k (inbox sent_on u) (g.later u) (g.out u)
@@ -138,7 +138,7 @@ module _ (deck : Deck) (w : World) (g : IsWhole deck w) (c : SysId) (n : Node) (
             subst (λ z. IsSystem deck words T z k (inbox sent_on z) (g.later z) (g.out z)) (sym same) (granted k (ap (slice_get w.nodes) (sym same) ∙ found))
         go false e = subst (λ ms. IsSystem deck words T u k ms (g.later u) (g.out u)) (sym (other_box u (eqb-false u t.system.0 e))) (g.system u k found)
 
-    same_requests : (u : ℕ) (k : Node) → slice_get w.nodes u ≡ Some k → requests_in (inbox w.medium u) ≡ requests_in (inbox sent_on u)
+    same_requests : (u : ℕ) (k : NodeState) → slice_get w.nodes u ≡ Some k → requests_in (inbox w.medium u) ≡ requests_in (inbox sent_on u)
     same_requests u k found = go (u == t.system.0) refl
       where
         go : (b : Bool) → (u == t.system.0) ≡ b → requests_in (inbox w.medium u) ≡ requests_in (inbox sent_on u)
@@ -150,9 +150,9 @@ module _ (deck : Deck) (w : World) (g : IsWhole deck w) (c : SysId) (n : Node) (
     -- the manager's part is another afterwards, and holds the same requests
     module _ (q : StarPart) (held : q.held ≡ p.held) where
       abbrev after : Turnout
-      after = record { medium = sent_on; step = with_star n (quiet_step n.tasks q) }
+      after = record { medium = sent_on; step = with_star n (fixing_none n.tasks q) }
 
-      own : IsSystem deck w.medium.words (items w.fixed) c.0 (with_star n (quiet_step n.tasks q)).node (inbox sent_on c.0) (g.later c.0) (g.out c.0)
+      own : IsSystem deck w.medium.words (items w.fixed) c.0 (with_star n (fixing_none n.tasks q)).node (inbox sent_on c.0) (g.later c.0) (g.out c.0)
       own = subst (λ ms. IsSystem deck words T c.0 (record n { star = Some q }) ms (g.later c.0) (g.out c.0)) (sym own_box) (with_part (g.system c.0 n at))
         where
           with_part : IsSystem deck w.medium.words (items w.fixed) c.0 n (inbox w.medium c.0) (g.later c.0) (g.out c.0) → IsSystem deck w.medium.words (items w.fixed) c.0 (record n { star = Some q }) (inbox w.medium c.0) (g.later c.0) (g.out c.0)
@@ -177,7 +177,7 @@ module _ (deck : Deck) (w : World) (g : IsWhole deck w) (c : SysId) (n : Node) (
   unfolding row mail_row finish finish_call finish_star
   sends entry x is =
       comes-finished deck w g c n at (sent_on entry x.0 x.1 owner (awake w.medium c)) (choices.Tell entry) replies.Told
-      (subst (λ o. Comes deck w c n (record { medium = sent_on entry x.0 x.1 owner (awake w.medium c); step = with_star n (quiet_step n.tasks (told_by p o)) })) (sym is)
+      (subst (λ o. Comes deck w c n (record { medium = sent_on entry x.0 x.1 owner (awake w.medium c); step = with_star n (fixing_none n.tasks (told_by p o)) })) (sym is)
       (tells entry x.0 x.1 owner (awake w.medium c) (told_by p (Some x)) refl))
     where
       owner : IsOwner deck w.medium.words (lists (items w.fixed)) c.0 entry x.0 x.1

@@ -2,14 +2,14 @@ use Rattle.std.proofs.Common.{◌≡◌, true, ap, ◌∙◌, subst, Result, Ok,
 use Rattle.grs_node.proofs.Fits.{prepare-addressed}
 use Rattle.grs_node.specs.Addressed.{is_addressed, NodeFits}
 use Rattle.grs_node.specs.Log.{NodeView}
-use Rattle.grs_node.specs.Node.{Node, prepare}
+use Rattle.grs_node.specs.Node.{NodeState, prepare}
 use Rattle.grs_node.specs.declared.prepared.Prepared.{Prepared}
 use Rattle.grs_wire.specs.declared.deck.Choice.{Choice}
 use Rattle.grs_wire.specs.declared.deck.Deck.{Deck}
 use Rattle.grs_node.proofs.node.Node.prepare.Goals as goal
 
 -- so does what is prepared
-addressed : {E : Type 0} (deck : Deck) (n : Node) (choice : Choice) (r : Result Prepared E) → NodeFits deck n → IfOk r (λ p. p ≡ prepare deck n choice) → IfOk r (λ p. is_addressed deck p ≡ true)
+addressed : {E : Type 0} (deck : Deck) (n : NodeState) (choice : Choice) (r : Result Prepared E) → NodeFits deck n → IfOk r (λ p. p ≡ prepare deck n choice) → IfOk r (λ p. is_addressed deck p ≡ true)
 addressed deck n choice (Ok p) fits is = ap (is_addressed deck) is ∙ prepare-addressed deck n choice fits
 addressed deck n choice (Err e) fits is = tt
 

@@ -1,10 +1,10 @@
 use Rattle.std.proofs.Common.{◌≡◌, [], refl, sym}
-use Rattle.grs_node.specs.Node.{Node, put_in, all_sent}
+use Rattle.grs_node.specs.Node.{NodeState, put_in, all_sent}
 use Rattle.grs_node.specs.Log.{stepped}
 use Rattle.grs_node.proofs.state.NodeState.put_in.Goals as goal
 
 -- where nothing was put in, all stays
-none : (n : Node) → put_in n 0 ≡ stepped n []
+none : (n : NodeState) → put_in n 0 ≡ stepped n []
 unfolding put_in all_sent
 none n = refl
 
