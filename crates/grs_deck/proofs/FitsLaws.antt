@@ -26,7 +26,7 @@ use Rattle.deck_form.specs.Form.{form}
 use Rattle.deck_form.specs.Unbuilt.{is_unbuilt}
 use Rattle.grs_deck.specs.declared.judge.Draft.{Draft}
 use Rattle.grs_deck.specs.Places.{jobs_now, event_of}
-use Rattle.grs_deck.specs.Judge.{has_bad_name, is_repeated, is_misplaced, is_list_full, is_full, is_crowded, is_unknown, verdict}
+use Rattle.grs_deck.specs.Judge.{has_bad_name, is_repeated, is_misplaced, is_list_full, is_full, is_unknown, verdict}
 use Rattle.grs_deck.specs.Grow.{on_last, add_job, add_task, add_line, in_jobs, in_tasks, add_entry, in_list, with_event, grow}
 use Rattle.grs_deck.specs.Reading.{unless, judge_form, judge}
 use Rattle.grs_deck.proofs.PlacesLaws.{all_head, all_tail}

@@ -1,7 +1,6 @@
 -- A system in a ring: it has no part in star mode, and what its events come to is told without one.
-use Rattle.std.proofs.Common.{◌≡◌, ℕ, Bool, true, false, cond, List, [], ◌∷◌, ◌++◌, length, take, Option, Some, None, is_some, refl, ap, sym, ◌∙◌}
-use Rattle.grs_base.specs.declared.resource.TaskId.{TaskId}
-use Rattle.grs_node.specs.Node.{NodeState, Step, only, most_additions, post, outbox_with, prepare, star_call, turn_call, may_go, is_pending, read_entries, put_in, finish_quiet, send_own, finish_star, finish_call, finish}
+use Rattle.std.proofs.Common.{◌≡◌, cond, [], ◌∷◌, ◌++◌, take, Option, Some, None, is_some, refl, ap, ◌∙◌}
+use Rattle.grs_node.specs.Node.{NodeState, Step, only, most_additions, outbox_with, prepare, star_call, turn_call, may_go, is_pending, read_entries, put_in, finish_quiet, send_own, finish_star, finish_call, finish}
 use Rattle.grs_node.specs.Star.{StarPart}
 use Rattle.grs_node.specs.declared.prepared.Prepared.{Prepared}
 use Rattle.grs_node.specs.declared.prepared.Prepared.TheVariants.{Quiet, Call, Nothing}
@@ -13,7 +12,6 @@ use Rattle.grs_wire.specs.declared.medium.Act.TheVariants as acts
 use Rattle.grs_wire.specs.declared.medium.Reply.{Reply}
 use Rattle.grs_wire.specs.declared.medium.Reply.TheVariants as replies
 use Rattle.grs_wire.specs.declared.request.Req.{Req}
-use Rattle.grs_wire.specs.declared.request.Want.{Want}
 use Rattle.grs_legal.specs.Asks.{lines_of}
 
 -- what a choice comes to

@@ -1,5 +1,5 @@
 -- What happens to a system outside star mode leaves its part there.
-use Rattle.std.proofs.Common.{◌≡◌, ℕ, zero, Bool, true, false, cond, List, [], ◌∷◌, Option, Some, None, refl, ◌∙◌}
+use Rattle.std.proofs.Common.{◌≡◌, ℕ, Bool, true, false, cond, List, [], ◌∷◌, Option, Some, None, refl, ◌∙◌}
 use Rattle.std.specs.Prelude.{slice_get}
 use Rattle.grs_legal.specs.declared.meaning.Meaning.{Meaning}
 use Rattle.grs_legal.specs.declared.meaning.Meaning.TheVariants as lines

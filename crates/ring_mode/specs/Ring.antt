@@ -1,7 +1,6 @@
 -- What a system does with the entries of the authority message, one by one: its table of the Systems resources,
 -- and what its tasks are told.
-use Rattle.std.specs.Prelude.{ℕ, Bool, true, false, cond, ◌&&◌, ◌==◌, List, [], ◌∷◌, Option, Some, None}
-use Rattle.std.specs.List.{list_all}
+use Rattle.std.specs.Prelude.{ℕ, Bool, true, false, cond, ◌&&◌, ◌==◌, List, Option, Some, None}
 use Rattle.std.specs.Str.{bytes_eq}
 use Rattle.grs_base.specs.Same.{same_res}
 use Rattle.grs_base.specs.State.{State, is_systems}
@@ -13,9 +12,6 @@ use Rattle.grs_base.specs.declared.resource.Ret.{Ret}
 use Rattle.grs_base.specs.declared.resource.Ret.TheVariants as rets
 use Rattle.grs_base.specs.declared.resource.Res.{Res}
 use Rattle.grs_wire.specs.Wants.{answer_to, after_want, res_wanted, new_owners}
-use Rattle.grs_wire.specs.declared.medium.RingBody.{RingBody}
-use Rattle.grs_wire.specs.declared.medium.RingBody.TheVariants.{Request, Remove}
-use Rattle.grs_wire.specs.declared.medium.RingEntry.{RingEntry}
 use Rattle.grs_wire.specs.declared.request.Answer.{Answer}
 use Rattle.grs_wire.specs.declared.request.Req.{Req}
 use Rattle.grs_wire.specs.declared.request.Want.{Want}
