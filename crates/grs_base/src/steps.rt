@@ -13,7 +13,9 @@ pub struct Steps<L: Ledger> {
 
 impl<L: Ledger> Model for Steps<L> {
     ghost Value = { ℕ };
+
     ghost view = { λ steps. steps.book.total };
+
     ghost invariant = { λ steps. 0 < steps.share.parts };
 }
 
