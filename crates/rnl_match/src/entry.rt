@@ -1,10 +1,11 @@
 //! The first entry of a list that matches.
-ghost use Rattle.std.specs.Prelude.{◌≡◌, ◌<◌, length, IfSome};
+ghost use Rattle.std.specs.Prelude.{◌≡◌, ◌<◌, ◌+◌, length, IfSome};
 ghost use Rattle.std.specs.Str.{bytes_eq};
 ghost use Rattle.rnl_match.specs.Matches.{matches_qname, matches_rname, matches_every, matches_some_rname, matches, find};
 
 use super::pattern::matches_pattern;
-use grs_base::{Form, Qname, Rname, RnlEntry, RnlList};
+use grs_base::{Form, Qname, Rname, RnlEntry, RnlList, Steps};
+use std::sync::ledger::Ledger;
 
 /// Whether two names are the same bytes. It is asked of each entry of a list, where std's test of two slices would be a
 /// call of its own.
@@ -70,6 +71,20 @@ pub fn matches(entry: &RnlEntry, q: &Qname, r: &Rname) -> bool
     ensures { result ≡ matches entry.now q.now r.now }
 {
     matches_qname(entry.form, &entry.q, q) && matches_some_rname(entry.form, &entry.r, r)
+}
+
+/// The same, counted as one step.
+pub fn matches_counted<L: Ledger>(
+    entry: &RnlEntry,
+    q: &Qname,
+    r: &Rname,
+    steps: &mut Steps<L>,
+) -> bool
+    ensures answer { result ≡ matches entry.now q.now r.now }
+    ensures step { steps.new ≡ steps.old + 1 }
+{
+    steps.tick();
+    matches(entry, q, r)
 }
 
 /// The place of the first entry that matches, from 0; none where no entry matches.

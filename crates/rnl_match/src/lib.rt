@@ -4,7 +4,9 @@
 #![tactic(auto)]
 
 mod entry;
+mod index;
 mod pattern;
 
-pub use entry::{find, matches};
+pub use entry::{find, matches, matches_counted};
+pub use index::RnlIndex;
 pub use pattern::matches_pattern;
