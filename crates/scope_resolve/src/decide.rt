@@ -1,9 +1,9 @@
 //! What the name lists make of a request: its scope, its resource, and whether it reserves a device.
 ghost use Rattle.std.specs.Prelude.{◌≡◌, IfOk};
-ghost use Rattle.scope_resolve.specs.Resolve.{is_listed, unless_excluded, looked_up, reserve_looked_up, kind_of, res_in, resolved};
+ghost use Rattle.scope_resolve.specs.Resolve.{unless_excluded, looked_up, reserve_looked_up, kind_of, res_in, resolved};
 
-use grs_base::{Lists, NoMemory, Qname, Res, Rname, RnlList, Scope, SysId};
-use rnl_match::find;
+use super::listed::Listed;
+use grs_base::{Lists, NoMemory, Qname, Res, Rname, Scope, SysId};
 use std::alloc::Global;
 
 /// What a line asks for: names, a scope, and whether the name lists are looked at (`rnl`). A RESERVE is for
@@ -24,17 +24,11 @@ pub struct Resolved {
     pub hardware: bool,
 }
 
-fn is_listed(list: &RnlList, q: &Qname, r: &Rname) -> bool
-    ensures { result ≡ is_listed list.now q.now r.now }
-{
-    find(list, q, r).is_some()
-}
-
 /// The scope of a request for the whole complex that is looked up.
-fn unless_excluded(lists: &Lists, q: &Qname, r: &Rname) -> Scope
-    ensures { result ≡ unless_excluded lists.now q.now r.now }
+fn unless_excluded<L: Listed>(lists: &L, q: &Qname, r: &Rname) -> Scope
+    ensures { result ≡ unless_excluded (L.lists lists.now) q.now r.now }
 {
-    if is_listed(&lists.excl, q, r) {
+    if lists.is_excluded(q, r) {
         Scope::System
     } else {
         Scope::Systems
@@ -42,35 +36,30 @@ fn unless_excluded(lists: &Lists, q: &Qname, r: &Rname) -> Scope
 }
 
 /// The scope of a request that is looked up.
-fn looked_up(lists: &Lists, scope: Scope, q: &Qname, r: &Rname) -> Scope
-    ensures { result ≡ looked_up lists.now scope q.now r.now }
+fn looked_up<L: Listed>(lists: &L, scope: Scope, q: &Qname, r: &Rname) -> Scope
+    ensures { result ≡ looked_up (L.lists lists.now) scope q.now r.now }
 {
     match scope {
         Scope::Step => Scope::Step,
-        Scope::System if !is_listed(&lists.incl, q, r) => Scope::System,
+        Scope::System if !lists.is_included(q, r) => Scope::System,
         Scope::System | Scope::Systems => unless_excluded(lists, q, r),
     }
 }
 
 /// The scope of a RESERVE that is looked up, and whether its device is reserved.
-fn reserve_looked_up(lists: &Lists, q: &Qname, r: &Rname) -> (Scope, bool)
-    ensures { result ≡ reserve_looked_up lists.now q.now r.now }
+fn reserve_looked_up<L: Listed>(lists: &L, q: &Qname, r: &Rname) -> (Scope, bool)
+    ensures { result ≡ reserve_looked_up (L.lists lists.now) q.now r.now }
 {
-    if is_listed(&lists.excl, q, r) {
+    if lists.is_excluded(q, r) {
         (Scope::System, true)
     } else {
-        (Scope::Systems, !is_listed(&lists.con, q, r))
+        (Scope::Systems, !lists.is_converted(q, r))
     }
 }
 
 /// The scope of what is asked for, and whether its device is reserved.
-///
-/// A request of a system that the inclusion list names goes to the whole complex, and one for the whole
-/// complex that the exclusion list names stays in its system. A RESERVE that the exclusion list names stays
-/// in its system and reserves its device; one that the conversion list names is for the whole complex and
-/// doesn't; any other does both. Requests of a step, and those with RNL=NO, aren't looked up.
-pub fn resolve_kind(lists: &Lists, ask: &Ask<'_>) -> (Scope, bool)
-    ensures { result ≡ kind_of lists.now ask.now.reserve ask.now.scope ask.now.rnl ask.now.q.now ask.now.r.now }
+pub(crate) fn kind_in<L: Listed>(lists: &L, ask: &Ask<'_>) -> (Scope, bool)
+    ensures { result ≡ kind_of (L.lists lists.now) ask.now.reserve ask.now.scope ask.now.rnl ask.now.q.now ask.now.r.now }
 {
     match (ask.reserve, ask.rnl) {
         (true, true) => reserve_looked_up(lists, ask.q, ask.r),
@@ -100,6 +89,33 @@ fn res_in(
     }
 }
 
+/// The resource that a job of a system asks for, and whether its device is reserved.
+pub(crate) fn resolved_in<L: Listed>(
+    alloc: Global,
+    lists: &L,
+    ask: &Ask<'_>,
+    system: SysId,
+    job: u16,
+) -> Result<Resolved, NoMemory>
+    ensures { IfOk result (λ found. found ≡ resolved (L.lists lists.now) ask.now.reserve ask.now.scope ask.now.rnl system job ask.now.q.now ask.now.r.now) }
+{
+    let (scope, hardware) = kind_in(lists, ask);
+    let res = res_in(alloc, scope, system, job, ask.q, ask.r)?;
+    Ok(Resolved { res, hardware })
+}
+
+/// The scope of what is asked for, and whether its device is reserved.
+///
+/// A request of a system that the inclusion list names goes to the whole complex, and one for the whole
+/// complex that the exclusion list names stays in its system. A RESERVE that the exclusion list names stays
+/// in its system and reserves its device; one that the conversion list names is for the whole complex and
+/// doesn't; any other does both. Requests of a step, and those with RNL=NO, aren't looked up.
+pub fn resolve_kind(lists: &Lists, ask: &Ask<'_>) -> (Scope, bool)
+    ensures { result ≡ kind_of lists.now ask.now.reserve ask.now.scope ask.now.rnl ask.now.q.now ask.now.r.now }
+{
+    kind_in(lists, ask)
+}
+
 /// The resource that a job of a system asks for, and whether the device is reserved, as `resolve_kind` says.
 /// Memory is taken for the names alone.
 pub fn resolve(
@@ -111,7 +127,5 @@ pub fn resolve(
 ) -> Result<Resolved, NoMemory>
     ensures { IfOk result (λ found. found ≡ resolved lists.now ask.now.reserve ask.now.scope ask.now.rnl system job ask.now.q.now ask.now.r.now) }
 {
-    let (scope, hardware) = resolve_kind(lists, ask);
-    let res = res_in(alloc, scope, system, job, ask.q, ask.r)?;
-    Ok(Resolved { res, hardware })
+    resolved_in(alloc, lists, ask, system, job)
 }

@@ -5,5 +5,8 @@
 #![tactic(auto)]
 
 mod decide;
+mod listed;
+mod resolver;
 
 pub use decide::{Ask, Resolved, resolve, resolve_kind};
+pub use resolver::Resolver;
