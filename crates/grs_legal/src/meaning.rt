@@ -2,8 +2,8 @@
 ghost use Rattle.std.specs.Prelude.{◌≡◌, IfOk};
 ghost use Rattle.grs_legal.specs.Asks.{named, reserved, meaning_of};
 
-use grs_base::{Ctl, Item, Line, Lists, NoMemory, Qname, Res, Ret, Rname, Scope, TaskId};
-use scope_resolve::{Ask, Resolved, resolve};
+use grs_base::{Ctl, Item, Line, NoMemory, Qname, Res, Ret, Rname, Scope, TaskId};
+use scope_resolve::{Ask, Resolved, Resolver};
 use std::alloc::Global;
 
 /// What a line of a task means.
@@ -45,13 +45,13 @@ fn reserved(found: Resolved, ctl: Ctl, unit: u16, ret: Ret) -> Meaning
 /// What an ENQ line means. Until an ENQ can name several, it means its first item.
 fn meaning_of_items(
     alloc: Global,
-    lists: &Lists,
+    resolver: &Resolver<'_>,
     task: TaskId,
     items: &[Item],
     ret: Ret,
     rnl: bool,
 ) -> Result<Meaning, NoMemory>
-    ensures { IfOk result (λ m. m ≡ meaning_of lists.now task (Line.Enq items.now ret rnl)) }
+    ensures { IfOk result (λ m. m ≡ meaning_of resolver.now task (Line.Enq items.now ret rnl)) }
 {
     let Some((item, _)) = items.split_first() else {
         return Ok(Meaning::Nothing);
@@ -63,7 +63,7 @@ fn meaning_of_items(
         scope: item.scope,
         rnl,
     };
-    let found = resolve(alloc, lists, &ask, task.system, task.job)?;
+    let found = resolver.resolve(alloc, &ask, task.system, task.job)?;
     Ok(Meaning::Enq {
         res: found.res,
         ctl: item.ctl,
@@ -75,14 +75,14 @@ fn meaning_of_items(
 /// The resource of a DEQ or a WAIT, which resolves as that of an ENQ does.
 fn named(
     alloc: Global,
-    lists: &Lists,
+    resolver: &Resolver<'_>,
     task: TaskId,
     scope: Scope,
     q: &Qname,
     r: &Rname,
     rnl: bool,
 ) -> Result<Res, NoMemory>
-    ensures { IfOk result (λ res. res ≡ named lists.now task scope q.now r.now rnl) }
+    ensures { IfOk result (λ res. res ≡ named resolver.now task scope q.now r.now rnl) }
 {
     let ask = Ask {
         reserve: false,
@@ -91,22 +91,22 @@ fn named(
         scope,
         rnl,
     };
-    let found = resolve(alloc, lists, &ask, task.system, task.job)?;
+    let found = resolver.resolve(alloc, &ask, task.system, task.job)?;
     Ok(found.res)
 }
 
 /// What a line of a task means by these name lists.
 pub fn meaning_of(
     alloc: Global,
-    lists: &Lists,
+    resolver: &Resolver<'_>,
     task: TaskId,
     line: &Line,
 ) -> Result<Meaning, NoMemory>
-    ensures { IfOk result (λ m. m ≡ meaning_of lists.now task line.now) }
+    ensures { IfOk result (λ m. m ≡ meaning_of resolver.now task line.now) }
 {
     match line {
         Line::Enq { items, ret, rnl } => {
-            meaning_of_items(alloc, lists, task, items.as_slice(), *ret, *rnl)
+            meaning_of_items(alloc, resolver, task, items.as_slice(), *ret, *rnl)
         }
         Line::Reserve {
             q,
@@ -123,7 +123,7 @@ pub fn meaning_of(
                 scope: Scope::Systems,
                 rnl: *rnl,
             };
-            let found = resolve(alloc, lists, &ask, task.system, task.job)?;
+            let found = resolver.resolve(alloc, &ask, task.system, task.job)?;
             Ok(reserved(found, *ctl, *unit, *ret))
         }
         Line::Deq {
@@ -134,11 +134,11 @@ pub fn meaning_of(
             rnl,
             ..
         } => Ok(Meaning::Deq {
-            res: named(alloc, lists, task, *scope, q, r, *rnl)?,
+            res: named(alloc, resolver, task, *scope, q, r, *rnl)?,
             have: *have,
         }),
         Line::Wait { q, r, scope, rnl } => Ok(Meaning::Wait {
-            res: named(alloc, lists, task, *scope, q, r, *rnl)?,
+            res: named(alloc, resolver, task, *scope, q, r, *rnl)?,
         }),
         Line::Gqscan { .. } | Line::DisplayC | Line::DisplayRes { .. } => Ok(Meaning::Nothing),
     }
