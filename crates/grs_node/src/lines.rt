@@ -4,9 +4,10 @@ ghost use Rattle.grs_legal.specs.Asks.{meaning_of};
 ghost use Rattle.grs_node.specs.Log.{end_in};
 ghost use Rattle.grs_node.specs.Node as steps;
 
-use grs_base::{Line, List, Lists, NoMemory, TaskId};
+use grs_base::{Line, List, NoMemory, TaskId};
 use grs_legal::{Meaning, meaning_of};
 use grs_wire::TaskEnd;
+use scope_resolve::Resolver;
 use std::alloc::Global;
 use task_state::Phase;
 
@@ -14,17 +15,17 @@ use task_state::Phase;
 #[tactic(auto, using(crate::proofs::Places::of_lines))]
 pub(crate) fn meaning_at(
     alloc: Global,
-    lists: &Lists,
+    resolver: &Resolver<'_>,
     task: TaskId,
     lines: &List<Line>,
     place: u32,
 ) -> Result<Option<Meaning>, NoMemory>
-    ensures meaning { IfOk result (λ m. m ≡ slice_get (map (meaning_of lists.now task) lines.now) place) }
+    ensures meaning { IfOk result (λ m. m ≡ slice_get (map (meaning_of resolver.now task) lines.now) place) }
     ensures within { IfOk result (λ m. IfSome m (λ _. place < length lines.now)) }
 {
     match lines.as_slice().get(place as usize) {
         None => Ok(None),
-        Some(line) => Ok(Some(meaning_of(alloc, lists, task, line)?)),
+        Some(line) => Ok(Some(meaning_of(alloc, resolver, task, line)?)),
     }
 }
 

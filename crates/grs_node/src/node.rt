@@ -21,6 +21,7 @@ use super::scripts::{Script, scripts_of, sizes_of};
 use super::state::NodeState;
 use grs_base::{List, NoMemory, SysId, TaskId, copy_all};
 use grs_wire::{Choice, Deck, Fixed, NodeLog, Reply, Req, RingEntry, StepDone, TaskEnd, ToldLine};
+use scope_resolve::Resolver;
 use std::alloc::Global;
 use std::marker::Model;
 
@@ -28,6 +29,7 @@ use std::marker::Model;
 #[derive(Drop)]
 pub struct Node<'d> {
     deck: &'d Deck,
+    resolver: Resolver<'d>,
     scripts: List<Script<'d>>,
     state: NodeState,
     log: NodeLog,
@@ -44,7 +46,7 @@ impl<'d> Model for Node<'d> {
 
     ghost view = { λ a. record { deck = a.deck.now; node = a.state; log = a.log.steps } };
 
-    ghost invariant = { λ a. (a.scripts ≡ scripts_of a.deck.now a.state.tasks.system) × NodeFits a.deck.now a.state };
+    ghost invariant = { λ a. (a.resolver ≡ a.deck.now.lists) × (a.scripts ≡ scripts_of a.deck.now a.state.tasks.system) × NodeFits a.deck.now a.state };
 }
 
 /// The lines from a place on.
@@ -86,11 +88,13 @@ impl<'d> Node<'d> {
         requires system { system.0 < length deck.now.systems }
         ensures { IfOk result (λ n. n ≡ starting deck.now system.0) }
     {
+        let resolver = Resolver::build(alloc, &deck.lists)?;
         let scripts = scripts_of(alloc, deck, system)?;
         let jobs = sizes_of(alloc, deck, system)?;
         let state = NodeState::new(alloc, deck, system, jobs.as_slice())?;
         Ok(Node {
             deck,
+            resolver,
             scripts,
             state,
             log: NodeLog {
@@ -161,10 +165,13 @@ impl<'d> Node<'d> {
     {
         let alloc = self.alloc;
         let deck = self.deck;
-        match self
-            .state
-            .finish_quiet(alloc, deck, self.scripts.as_slice(), choice)
-        {
+        match self.state.finish_quiet(
+            alloc,
+            deck,
+            &self.resolver,
+            self.scripts.as_slice(),
+            choice,
+        ) {
             Ok(fixed) => Ok(fixed),
             Err(refused) => {
                 self.state.give_up();

@@ -14,12 +14,13 @@ ghost use Rattle.grs_node.specs.Star.{manages_if_asked};
 use super::lines::meaning_at;
 use super::scripts::{Script, lines_among};
 use super::star::StarPart;
-use grs_base::{Code, Line, List, Lists, NoMemory, Res, SysId, TaskId};
+use grs_base::{Code, Line, List, NoMemory, Res, SysId, TaskId};
 use grs_legal::Meaning;
 use grs_wire::{Choice, Deck, Fixed, Req, ToldLine, Verb, Want};
 use local_queue::Local;
 use queue_table::Table;
 use ring_mode::{is_for_all, res_of};
+use scope_resolve::Resolver;
 use serial_queue::PlainQueues;
 use std::alloc::Global;
 use std::marker::Model;
@@ -277,20 +278,20 @@ impl NodeState {
     pub(crate) fn phase_step(
         &mut self,
         alloc: Global,
-        lists: &Lists,
+        resolver: &Resolver<'_>,
         task: TaskId,
         lines: &List<Line>,
         limit: u32,
     ) -> Result<List<Fixed>, NoMemory>
         requires task { is_task self.old.tasks task ≡ true }
         requires lines { length lines.now ≤ most_lines }
-        ensures step { IfOk result (λ fixed. stepped self.new fixed ≡ steps.phase_step limit self.old task (map (meaning_of lists.now task) lines.now) (state_of self.old.tasks task).phase) }
+        ensures step { IfOk result (λ fixed. stepped self.new fixed ≡ steps.phase_step limit self.old task (map (meaning_of resolver.now task) lines.now) (state_of self.old.tasks task).phase) }
         ensures system { self.new.tasks.system ≡ self.old.tasks.system }
     {
         let state = self.tasks.state(task);
         match &state.phase {
             Phase::Ready => {
-                let line = meaning_at(alloc, lists, task, lines, state.line)?;
+                let line = meaning_at(alloc, resolver, task, lines, state.line)?;
                 self.ready_step(alloc, task, line, limit)
             }
             Phase::Ending(code) => {
@@ -307,19 +308,19 @@ impl NodeState {
     fn task_step(
         &mut self,
         alloc: Global,
-        lists: &Lists,
+        resolver: &Resolver<'_>,
         task: TaskId,
         lines: Option<&List<Line>>,
         limit: u32,
     ) -> Result<List<Fixed>, NoMemory>
         requires task { is_task self.old.tasks task ≡ true }
         requires lines { IfSome lines (λ lines. length lines.now ≤ most_lines) }
-        ensures step { IfOk result (λ fixed. stepped self.new fixed ≡ steps.task_step limit self.old task (meanings lists.now task (option_copied lines.entry))) }
+        ensures step { IfOk result (λ fixed. stepped self.new fixed ≡ steps.task_step limit self.old task (meanings resolver.now task (option_copied lines.entry))) }
         ensures system { self.new.tasks.system ≡ self.old.tasks.system }
     {
         match lines {
             None => Ok(List::new(alloc)),
-            Some(lines) => self.phase_step(alloc, lists, task, lines, limit),
+            Some(lines) => self.phase_step(alloc, resolver, task, lines, limit),
         }
     }
 
@@ -342,9 +343,11 @@ impl NodeState {
         &mut self,
         alloc: Global,
         deck: &Deck,
+        resolver: &Resolver<'_>,
         scripts: &[Script<'_>],
         choice: Choice,
     ) -> Result<List<Fixed>, NoMemory>
+        requires lists { resolver.now ≡ deck.now.lists }
         requires scripts { scripts.now ≡ scripts_of deck.now self.old.tasks.system }
         requires quiet { steps.prepare deck.now self.old choice ≡ Quiet }
         ensures step { IfOk result (λ fixed. stepped self.new fixed ≡ steps.finish_quiet deck.now self.old choice) }
@@ -353,7 +356,7 @@ impl NodeState {
         match choice {
             Choice::Task(task) => {
                 let lines = lines_among(scripts, task);
-                self.task_step(alloc, &deck.lists, task, lines, deck.limit)
+                self.task_step(alloc, resolver, task, lines, deck.limit)
             }
             Choice::Send(task) => self.send_own(alloc, task),
             Choice::Turn

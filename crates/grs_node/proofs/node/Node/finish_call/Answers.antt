@@ -9,6 +9,7 @@ use Rattle.grs_node.proofs.node.Node.finish_call.Goals as goal
 pub invariant_of-self : goal.invariant_of-self
 invariant_of-self c =
     let comes = subst (λ (v : NodeView). may_come (prepare v.deck v.node c.args.choice) c.args.reply ≡ true) (sym c.self.view_is) c.requires in (
-      c.self.invariant.0 ∙ ap (scripts_of c.self.inside.deck.now) (sym c.finish_call.ensures.system),
-      call-fits-after c.self.inside.deck.now c.self.inside.state c.finish_call.new.self c.args.choice c.args.reply c.in-Ok.fixed c.self.invariant.1 comes c.in-Ok.ensures.system c.in-Ok.ensures.step,
+      c.self.invariant.0,
+      c.self.invariant.1 ∙ ap (scripts_of c.self.inside.deck.now) (sym c.finish_call.ensures.system),
+      call-fits-after c.self.inside.deck.now c.self.inside.state c.finish_call.new.self c.args.choice c.args.reply c.in-Ok.fixed c.self.invariant.2 comes c.in-Ok.ensures.system c.in-Ok.ensures.step,
     )

@@ -16,4 +16,4 @@ addressed deck n choice (Err e) fits is = tt
 pub returns-clause-addressed : goal.returns-clause-addressed
 returns-clause-addressed c =
     subst (λ (v : NodeView). IfOk c.prepare.result (λ p. is_addressed v.deck p ≡ true)) c.self.view_is
-    (addressed c.self.inside.deck.now c.self.inside.state c.args.choice.now c.prepare.result c.self.invariant.1 c.prepare.ensures)
+    (addressed c.self.inside.deck.now c.self.inside.state c.args.choice.now c.prepare.result c.self.invariant.2 c.prepare.ensures)

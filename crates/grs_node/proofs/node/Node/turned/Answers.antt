@@ -6,6 +6,7 @@ use Rattle.grs_node.proofs.node.Node.turned.Goals as goal
 
 pub invariant_of-self : goal.invariant_of-self
 invariant_of-self c = (
-  c.self.invariant.0 ∙ ap (scripts_of c.self.inside.deck.now) (sym c.turned_among.ensures.system),
-  turned-fits-after c.self.inside.deck.now c.self.inside.state c.turned_among.new.self (unseen_by c.args.system c.args.entries.now) c.args.taken c.in-Ok.fixed c.self.invariant.1 c.in-Ok.ensures.system c.in-Ok.ensures.step,
+  c.self.invariant.0,
+  c.self.invariant.1 ∙ ap (scripts_of c.self.inside.deck.now) (sym c.turned_among.ensures.system),
+  turned-fits-after c.self.inside.deck.now c.self.inside.state c.turned_among.new.self (unseen_by c.args.system c.args.entries.now) c.args.taken c.in-Ok.fixed c.self.invariant.2 c.in-Ok.ensures.system c.in-Ok.ensures.step,
 )
