@@ -13,4 +13,6 @@ mod manager;
 #[cfg(test)]
 mod medium;
 #[cfg(test)]
+mod merging;
+#[cfg(test)]
 mod readers;

@@ -1,9 +1,11 @@
-//! Requests in order, answered by one plain list for each resource, and the lists that a history leaves.
-//! Nothing here knows of systems at work, messages or modes.
+//! Requests in order, answered by one plain list for each resource, and the lists that a history leaves; and the events of
+//! systems that ran beside each other, in one order. Nothing here knows of systems at work, messages or modes.
 #![tactic(auto)]
 
+mod order;
 mod queues;
 mod replies;
 
+pub use order::{Merged, merge};
 pub use queues::queues_after;
 pub use replies::answers;

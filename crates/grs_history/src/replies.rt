@@ -105,7 +105,7 @@ fn settle(
 }
 
 /// Carries out what an event of a system fixed, and puts its entries behind a history.
-fn fix(
+pub(crate) fn fix(
     alloc: Global,
     table: &mut Table<PlainQueues>,
     system: SysId,
