@@ -4,7 +4,7 @@ use Rattle.grs_base.specs.declared.resource.Ctl.{Ctl}
 use Rattle.grs_base.specs.declared.resource.Ctl.TheVariants.{E, S}
 use Rattle.grs_base.specs.declared.resource.Elem.{Elem}
 use Rattle.grs_base.specs.declared.resource.Res.TheVariants.{Systems}
-use Rattle.contention_mgr.specs.Loads.{RankedRow}
+use Rattle.lock_structure.specs.RankedRows.{RankedRow}
 
 -- an element of the first task of a system
 abbrev pub elem_of : ℕ → Ctl → Elem

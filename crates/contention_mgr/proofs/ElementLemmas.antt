@@ -14,7 +14,8 @@ use Rattle.grs_wire.specs.Wants.{new_owners}
 use Rattle.grs_wire.specs.declared.request.Want.{Want}
 use Rattle.grs_wire.specs.declared.request.Want.TheVariants.{Enq, Deq, Release, Look}
 use Rattle.contention_mgr.specs.Elements.{all_of, elements_of, ElementsAreAskers, TellingKeepsElements}
-use Rattle.contention_mgr.specs.Manager.{Ranked, Managed, ManagerView, plain, is_of, exclusive, marked, made_exclusive, taken_out, with_mark, with_control, enqueued, given_up, settled, items_of, kept_at, kept_for, managed_for, managed_of, with_entry, entry_wanted, entry_of_res, after_request, after_telling, told}
+use Rattle.contention_mgr.specs.Manager.{Ranked, Managed, ManagerView, plain, is_of, exclusive, marked, made_exclusive, taken_out, with_mark, with_control, enqueued, given_up, settled, items_of, kept_at, kept_for, managed_for, managed_of, with_entry, entry_wanted, after_request, after_telling, told}
+use Rattle.lock_structure.specs.Entries.{entry_of_res}
 
 module _ (p : TaskId → Bool) where
   push : (xs : List Ranked) (y : Ranked) → elements_of p xs ≡ true → p y.elem.task ≡ true → elements_of p (xs ++ y ∷ []) ≡ true

@@ -16,7 +16,8 @@ use Rattle.grs_base.specs.declared.resource.TaskId.{TaskId}
 use Rattle.grs_wire.specs.Wants.{new_owners}
 use Rattle.grs_wire.specs.declared.request.Want.TheVariants.{Enq, Deq, Release, Look}
 use Rattle.contention_mgr.specs.Manager.{Ranked, Managed, plain, is_of, exclusive, marked, made_exclusive, taken_out, with_mark, with_control, enqueued, given_up, settled, kept_at, managed_at, managed_for, with_entry, entry_wanted}
-use Rattle.contention_mgr.specs.Loads.{RankedRow, ranked_list, ranked_rows, greatest, ranks_of, rises, rows_apart}
+use Rattle.contention_mgr.specs.Loads.{ranked_list, ranked_rows, greatest}
+use Rattle.lock_structure.specs.RankedRows.{RankedRow, ranks_of, rises, rows_apart}
 use Rattle.contention_mgr.specs.Laws.{ListsFollow, TellingKeepsLists, by_rank, IsRanked, RanksBegin, LoadedRanksRise, RanksRise, TellingKeepsRanks, FirstIsAny, FirstIsUntold, OthersStay}
 use Rattle.contention_mgr.proofs.UntoldLemmas.{first-any, first-untold}
 

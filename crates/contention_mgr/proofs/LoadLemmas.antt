@@ -18,7 +18,8 @@ use Rattle.grs_base.proofs.StateLaws.{list_at-push, res_equality}
 use Rattle.grs_base.specs.Limits.{last_number}
 use Rattle.contention_mgr.specs.Manager.{Ranked, plain}
 use Rattle.contention_mgr.specs.Marks.{ranked_all, AreMarked}
-use Rattle.contention_mgr.specs.Loads.{RankedRow, ranked_list, ranked_rows, greatest, ranks_of, rows_apart, no_elems, rows_free, all_apart}
+use Rattle.contention_mgr.specs.Loads.{ranked_list, ranked_rows, greatest, no_elems, rows_free}
+use Rattle.lock_structure.specs.RankedRows.{RankedRow, ranks_of, rows_apart, all_apart}
 use Rattle.contention_mgr.proofs.ItemLemmas.{Marking, plain-ranked, ranked-push, marked-push, holds-list}
 
 -- a task that has no element is absent, so its request is queued

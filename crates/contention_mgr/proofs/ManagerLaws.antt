@@ -2,7 +2,8 @@
 use Rattle.std.proofs.Common.{◌≡◌, ℕ, zero, suc, List, [], ◌∷◌, length, replicate, Option, Some, None, refl, subst}
 use Rattle.std.specs.Prelude.{slice_set}
 use Rattle.std.specs.Option.{option_map_or}
-use Rattle.contention_mgr.specs.Manager.{Managed, ManagerView, no_elements, settled, told, kept_at, kept_for, with_entry, entry_of_res, entry_wanted}
+use Rattle.contention_mgr.specs.Manager.{Managed, ManagerView, no_elements, settled, told, kept_at, kept_for, with_entry, entry_wanted}
+use Rattle.lock_structure.specs.Entries.{entry_of_res}
 use Rattle.contention_mgr.specs.Loads.{loaded}
 use Rattle.contention_mgr.specs.Laws.{IsWellKept, AreWellKept, WellKeptBegins, EntriesAreWellKept, RequestsKeepWell, TellingKeepsWell}
 use Rattle.contention_mgr.proofs.LawProofs.{ranks_begin, loaded_ranks_rise, ranks_rise, telling_keeps_ranks}

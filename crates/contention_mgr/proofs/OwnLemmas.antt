@@ -25,7 +25,8 @@ use Rattle.grs_wire.specs.declared.request.Want.TheVariants.{Enq, Deq, Release, 
 use Rattle.queue_table.proofs.OwnerLemmas.{became_owners-enq}
 use Rattle.contention_mgr.specs.Manager.{Ranked, Managed, plain, is_of, marked, made_exclusive, taken_out, with_mark, with_control, enqueued, given_up, settled}
 use Rattle.contention_mgr.specs.Elements.{holds}
-use Rattle.contention_mgr.specs.Loads.{RankedRow, ranked_list, ranked_rows}
+use Rattle.contention_mgr.specs.Loads.{ranked_list, ranked_rows}
+use Rattle.lock_structure.specs.RankedRows.{RankedRow}
 use Rattle.contention_mgr.specs.Laws.{untold_pass, owns_by, is_elsewhere, UntoldOwnBegins, LoadedUntoldOwn, UntoldStayOwners, TellingKeepsUntoldOwn, FirstUntoldOwns, untold_at, gains, UntoldFollow, GainersAreUntold, TellingTells, LoadedAreTold}
 use Rattle.contention_mgr.proofs.ItemLemmas.{holds-list, holds-push, holds-without, holds-exclusive}
 use Rattle.contention_mgr.proofs.LawProofs.{lists_follow, telling_keeps_lists, plain-taken}

@@ -17,8 +17,10 @@ use Rattle.grs_wire.specs.declared.request.Answer.TheVariants.{Coded}
 use Rattle.grs_wire.specs.declared.request.Req.{Req}
 use Rattle.grs_wire.specs.declared.request.Want.{Want}
 use Rattle.grs_wire.specs.declared.request.Want.TheVariants.{Enq, Deq, Release, Look}
-use Rattle.contention_mgr.specs.Manager.{Ranked, Managed, plain, no_elements, settled, rank_given, with_mark, first_untold, any_untold_in, owner_of, entry_of_res, entry_wanted, managed_for, items_of, after_request, rank_for, ManagerView}
-use Rattle.contention_mgr.specs.Loads.{RankedRow, loaded, IsLoadable}
+use Rattle.contention_mgr.specs.Manager.{Ranked, Managed, plain, no_elements, settled, rank_given, with_mark, first_untold, any_untold_in, owner_of, entry_wanted, managed_for, items_of, after_request, rank_for, ManagerView}
+use Rattle.lock_structure.specs.Entries.{entry_of_res}
+use Rattle.contention_mgr.specs.Loads.{loaded}
+use Rattle.lock_structure.specs.RankedRows.{RankedRow, IsLoadable}
 use Rattle.contention_mgr.specs.Laws.{UntoldOwn, untold_at, gains}
 
 -- a task of a system, by its place

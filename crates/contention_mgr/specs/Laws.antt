@@ -9,7 +9,8 @@ use Rattle.grs_base.specs.declared.resource.SysId.{SysId}
 use Rattle.grs_base.specs.declared.resource.TaskId.{TaskId}
 use Rattle.grs_wire.specs.Wants.{after_want}
 use Rattle.grs_wire.specs.declared.request.Want.{Want}
-use Rattle.contention_mgr.specs.Loads.{RankedRow, IsLoadable, loaded}
+use Rattle.contention_mgr.specs.Loads.{loaded}
+use Rattle.lock_structure.specs.RankedRows.{RankedRow, IsLoadable}
 use Rattle.contention_mgr.specs.Manager.{Ranked, Managed, ManagerView, plain, no_elements, is_of, with_mark, settled, told, is_untold, any_untold_in, first_untold, entry_wanted, managed_at, with_entry, after_request, after_telling}
 use Rattle.contention_mgr.specs.Elements.{holds}
 

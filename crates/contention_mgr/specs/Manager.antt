@@ -8,7 +8,7 @@ use Rattle.std.specs.Ordering.{is_lt}
 use Rattle.grs_base.specs.Same.{same_res, same_task}
 use Rattle.grs_base.specs.Lists.{decide_enq, is_owner, standing_of}
 use Rattle.grs_base.specs.ResOrder.{res_order}
-use Rattle.grs_base.specs.Slices.{slice_of, entry_of}
+use Rattle.grs_base.specs.Slices.{entry_of}
 use Rattle.grs_base.specs.State.{State, list_of}
 use Rattle.grs_base.specs.declared.decision.Effect.{Effect}
 use Rattle.grs_base.specs.declared.decision.Effect.TheVariants.{Nothing, Append, MakeExclusive}
@@ -16,9 +16,9 @@ use Rattle.grs_base.specs.declared.resource.Ctl.{Ctl}
 use Rattle.grs_base.specs.declared.resource.Ctl.TheVariants.{E}
 use Rattle.grs_base.specs.declared.resource.Elem.{Elem}
 use Rattle.grs_base.specs.declared.resource.Res.{Res}
-use Rattle.grs_base.specs.declared.resource.Res.TheVariants.{Step, System, Systems}
 use Rattle.grs_base.specs.declared.resource.SysId.{SysId}
 use Rattle.grs_base.specs.declared.resource.TaskId.{TaskId}
+use Rattle.lock_structure.specs.Entries.{entry_of_res}
 use Rattle.grs_wire.specs.Wants.{new_owners}
 use Rattle.grs_wire.specs.declared.request.Want.{Want}
 use Rattle.grs_wire.specs.declared.request.Want.TheVariants.{Enq, Deq, Release, Look}
@@ -136,12 +136,6 @@ abbrev pub owner_of : Ranked → TaskId × Res
 owner_of x = (x.elem.task, x.res)
 
 -- ---- the whole manager
-
--- the lock entry of a resource, where there are so many; only a resource of the whole complex has one
-abbrev pub entry_of_res : ℕ → Res → Option ℕ
-entry_of_res entries (Step s j q r) = None
-entry_of_res entries (System s q r) = None
-entry_of_res entries (Systems q r) = Some (entry_of (slice_of q r) entries)
 
 -- whether so many slices from this one on are all of one entry, e
 abbrev pub are_of : ℕ → ℕ → ℕ → ℕ → Bool

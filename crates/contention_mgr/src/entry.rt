@@ -5,7 +5,8 @@ ghost use Rattle.grs_base.specs.Limits.{last_number};
 ghost use Rattle.grs_base.specs.State.{State as Plain, release_state};
 ghost use Rattle.grs_wire.specs.Wants.{answer_to, after_want, new_owners};
 ghost use Rattle.contention_mgr.specs.Manager.{plain, no_elements, settled, appends, queues as queues_by, rank_given, with_control, taken_out, with_mark, any_untold_in, first_untold, owner_of};
-ghost use Rattle.contention_mgr.specs.Loads.{loaded, rows_apart, all_apart, ranks_of};
+ghost use Rattle.contention_mgr.specs.Loads.{loaded};
+ghost use Rattle.lock_structure.specs.RankedRows.{rows_apart, all_apart, ranks_of};
 ghost use Rattle.contention_mgr.specs.Marks.{mark_in, ranked_all, entry_of_parts, is_gone, AreMarked};
 
 use crate::load::{add_rows, greatest_rank};

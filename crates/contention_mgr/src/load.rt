@@ -3,7 +3,8 @@ ghost use Rattle.std.specs.Prelude.{◌≡◌, ◌+◌, ◌++◌, ◌∷◌, [],
 ghost use Rattle.grs_base.specs.Lists.{is_apart, has_task};
 ghost use Rattle.grs_base.specs.State.{list_of};
 ghost use Rattle.contention_mgr.specs.Marks.{mark_in, ranked_all, AreMarked};
-ghost use Rattle.contention_mgr.specs.Loads.{ranked_list, ranked_rows, rows_free, all_apart, greatest, ranks_of};
+ghost use Rattle.contention_mgr.specs.Loads.{ranked_list, ranked_rows, rows_free, greatest};
+ghost use Rattle.lock_structure.specs.RankedRows.{all_apart, ranks_of};
 
 use crate::marks::{Mark, Marks};
 use grs_base::{Elem, List, NoMemory, Res, Ret, Row};

@@ -3,8 +3,10 @@ ghost use Rattle.std.specs.Prelude.{◌≡◌, ◌≢◌, ◌<◌, ◌≤◌, �
 ghost use Rattle.std.specs.Option.{option_copied};
 ghost use Rattle.grs_base.specs.Limits.{last_number};
 ghost use Rattle.grs_wire.specs.Wants.{answer_to, new_owners};
-ghost use Rattle.contention_mgr.specs.Loads.{IsLoadable, loaded};
-ghost use Rattle.contention_mgr.specs.Manager.{plain, no_elements, settled, rank_given, entry_of_res, are_of, entry_of_looks, entry_wanted, kept_at, managed_at, managed_of, managed_for, items_of, with_entry, after_request, rank_for, told, after_telling, any_untold_in, any_untold_at, first_untold, owner_of};
+ghost use Rattle.contention_mgr.specs.Loads.{loaded};
+ghost use Rattle.lock_structure.specs.RankedRows.{IsLoadable};
+ghost use Rattle.contention_mgr.specs.Manager.{plain, no_elements, settled, rank_given, are_of, entry_of_looks, entry_wanted, kept_at, managed_at, managed_of, managed_for, items_of, with_entry, after_request, rank_for, told, after_telling, any_untold_in, any_untold_at, first_untold, owner_of};
+ghost use Rattle.lock_structure.specs.Entries.{entry_of_res};
 
 use crate::entry::Entry;
 use grs_base::{List, NoMemory, Res, Row, SLICES, SysId, TaskId, entry_of, slice_of};

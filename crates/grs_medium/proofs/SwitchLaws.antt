@@ -10,7 +10,7 @@ use Rattle.grs_base.specs.declared.resource.SysId.{SysId}
 use Rattle.grs_wire.specs.LockWords.{interest, manager, manager_number}
 use Rattle.grs_wire.specs.Masks.{has, all_others}
 use Rattle.lock_structure.specs.Words.{ManagerIsBelow}
-use Rattle.grs_medium.specs.Apply.{manager_fits, word_fits}
+use Rattle.lock_structure.specs.Words.{manager_fits, word_fits}
 
 -- one word
 empty-below : (systems : ℕ) → ManagerIsBelow systems 0

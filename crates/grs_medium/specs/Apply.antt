@@ -1,7 +1,6 @@
 -- The calls of the medium, row by row: what each is answered, and what the medium is afterwards.
-use Rattle.std.specs.Prelude.{◌≡◌, ◌≢◌, ◌<◌, ◌≤◌, ℕ, Bool, true, false, cond, not, ◌==◌, nat_lt, ◌&&◌, ◌||◌, List, [], ◌∷◌, length, Option, Some, None, is_none}
+use Rattle.std.specs.Prelude.{◌≡◌, ◌≢◌, ◌<◌, ◌≤◌, ℕ, Bool, true, cond, not, ◌==◌, nat_lt, ◌&&◌, List, [], ◌∷◌, length, Option, Some, None, is_none}
 use Rattle.std.specs.List.{list_all}
-use Rattle.grs_base.specs.Limits.{most_systems}
 use Rattle.grs_base.specs.declared.resource.SysId.{SysId}
 use Rattle.grs_wire.specs.declared.request.Req.{Req}
 use Rattle.grs_wire.specs.declared.medium.Act.{Act}
@@ -11,9 +10,9 @@ use Rattle.grs_wire.specs.declared.medium.Mail.{Mail}
 use Rattle.grs_wire.specs.declared.medium.Mail.TheVariants as mails
 use Rattle.grs_wire.specs.declared.medium.Reply.{Reply}
 use Rattle.grs_wire.specs.declared.medium.Reply.TheVariants.{Behind, Switched, Already, Sole, Sent, Taken, Empty, Settled, Told, Purged, NoSuch, InStar, Resting, Over, Stale, Removed}
-use Rattle.grs_wire.specs.Masks.{has, with_also, all_others}
-use Rattle.grs_wire.specs.LockWords.{interest, manager, is_manager, leave_reply, leave_changes}
-use Rattle.lock_structure.specs.Words.{route, submitted_words, left_words}
+use Rattle.grs_wire.specs.Masks.{has, with_also}
+use Rattle.grs_wire.specs.LockWords.{manager, is_manager, leave_reply, leave_changes}
+use Rattle.lock_structure.specs.Words.{route, submitted_words, left_words, word_fits}
 use Rattle.lock_structure.specs.declared.word.Route.{Route}
 use Rattle.lock_structure.specs.declared.word.Route.TheVariants as routes
 use Rattle.rsa_message.specs.Message.{unseen, first_number, turn_reply, turned, rest_after_turn, turn_changes, closed_by, dropped}
@@ -130,14 +129,6 @@ row_changes m c Rest = not (has m.rest c.0)
 -- whether a call changes the medium
 unfoldable pub changes : MediumState → SysId → Call → Bool
 changes m c call = not (has m.removed c.0) && (call.known == m.removed) && row_changes m c call.act
-
--- whether a lock word names systems alone, and its manager has interest
-abbrev pub manager_fits : ℕ → ℕ → Option SysId → Bool
-manager_fits systems w None = false
-manager_fits systems w (Some s) = nat_lt s.0 systems && has (interest w) s.0
-
-abbrev pub word_fits : ℕ → ℕ → Bool
-word_fits systems w = (w == 0) || (manager_fits systems w (manager w) && all_others most_systems 0 (λ s. not (has (interest w) s) || nat_lt s systems))
 
 -- What a call needs of the medium: its caller is a system, and so is whom a mail goes to; at most 32 requests;
 -- lock entries that are there; as many lock words as entries, each 0 or with a manager; and no system that

@@ -13,7 +13,8 @@ use Rattle.grs_base.specs.Slices.{entry_of, slice_of}
 use Rattle.grs_base.specs.declared.resource.Res.TheVariants.{Step as StepRes, System as SystemRes, Systems}
 use Rattle.contention_mgr.proofs.ElementLemmas.{elements_are_askers, telling_keeps_elements, elements-kept, elements-set}
 use Rattle.contention_mgr.specs.Elements.{all_of, elements_of}
-use Rattle.contention_mgr.specs.Manager.{Ranked, Managed, ManagerView, no_elements, first_untold, owner_of, sooner, is_untold, entry_of_res, are_of, entry_wanted, managed_at, managed_of, managed_for, items_of, with_entry, settled, told, after_request, after_telling}
+use Rattle.contention_mgr.specs.Manager.{Ranked, Managed, ManagerView, no_elements, first_untold, owner_of, sooner, is_untold, are_of, entry_wanted, managed_at, managed_of, managed_for, items_of, with_entry, settled, told, after_request, after_telling}
+use Rattle.lock_structure.specs.Entries.{entry_of_res}
 use Rattle.grs_base.specs.declared.resource.Res.{Res}
 use Rattle.grs_base.specs.declared.resource.SysId.{SysId}
 use Rattle.grs_base.specs.declared.resource.TaskId.{TaskId}

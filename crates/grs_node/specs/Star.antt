@@ -3,7 +3,8 @@
 use Rattle.std.specs.Prelude.{ℕ, Bool, true, false, not, ◌&&◌, ◌||◌, ◌==◌, List, [], ◌∷◌, ◌++◌, length, drop, replicate, cond, Option, Some, None, is_some, slice_get, slice_index_or, slice_set}
 use Rattle.std.specs.List.{list_any}
 use Rattle.std.specs.Option.{option_map, option_map_or}
-use Rattle.contention_mgr.specs.Manager.{ManagerView, no_elements, plain, first_untold, owner_of, any_untold_at, entry_of_res, entry_wanted, managed_at, managed_for, items_of, with_entry, after_request, rank_for, after_telling}
+use Rattle.contention_mgr.specs.Manager.{ManagerView, no_elements, plain, first_untold, owner_of, any_untold_at, entry_wanted, managed_at, managed_for, items_of, with_entry, after_request, rank_for, after_telling}
+use Rattle.lock_structure.specs.Entries.{entry_of_res}
 use Rattle.grs_base.specs.State.{State}
 use Rattle.grs_base.specs.declared.resource.Res.{Res}
 use Rattle.grs_base.specs.declared.resource.SysId.{SysId}

@@ -4,7 +4,7 @@
 ghost use Rattle.std.specs.Prelude.{◌≡◌, ◌≢◌, ◌<◌, ◌&&◌, false, length, replicate, IfOk};
 ghost use Rattle.std.specs.List.{list_any};
 ghost use Rattle.std.specs.Option.{option_copied};
-ghost use Rattle.contention_mgr.specs.Manager.{entry_of_res};
+ghost use Rattle.lock_structure.specs.Entries.{entry_of_res};
 ghost use Rattle.grs_node.specs.Node.{is_to_send};
 ghost use Rattle.grs_node.specs.Star as star;
 

@@ -1,7 +1,8 @@
 -- What the systems keep of the resources of the whole complex is what the history says of them.
 use Rattle.std.specs.Prelude.{◌≡◌, ℕ, Bool, true, false, List, [], length, Option, Some, None, slice_get}
 use Rattle.contention_mgr.specs.Laws.{AreWellKept}
-use Rattle.contention_mgr.specs.Manager.{plain, entry_of_res, items_of, managed_of}
+use Rattle.contention_mgr.specs.Manager.{plain, items_of, managed_of}
+use Rattle.lock_structure.specs.Entries.{entry_of_res}
 use Rattle.grs_base.specs.State.{is_systems, list_of}
 use Rattle.grs_base.specs.declared.resource.Elem.{Elem}
 use Rattle.grs_base.specs.declared.resource.Res.{Res}

@@ -1,7 +1,9 @@
 -- The lock words of all entries: where a request goes, and the words after a call.
-use Rattle.std.specs.Prelude.{◌≤◌, ℕ, cond, ◌==◌, List, slice_index, slice_set, Option, Some, None}
+use Rattle.std.specs.Prelude.{◌≤◌, ℕ, Bool, false, not, cond, ◌==◌, ◌&&◌, ◌||◌, nat_lt, List, slice_index, slice_set, Option, Some, None}
+use Rattle.grs_base.specs.Limits.{most_systems}
 use Rattle.grs_base.specs.declared.resource.SysId.{SysId}
-use Rattle.grs_wire.specs.LockWords.{manager, manager_number, submitted, left_word}
+use Rattle.grs_wire.specs.LockWords.{interest, manager, manager_number, submitted, left_word}
+use Rattle.grs_wire.specs.Masks.{has, all_others}
 use Rattle.lock_structure.specs.declared.word.Route.{Route}
 use Rattle.lock_structure.specs.declared.word.Route.TheVariants.{Sole, To}
 
@@ -28,3 +30,11 @@ left_words words entry c = slice_set words entry (left_word (word_at words entry
 -- whether the manager of a word, if it has one, is one of so many systems
 abbrev pub ManagerIsBelow : ℕ → ℕ → Type 0
 ManagerIsBelow systems w = manager_number (manager w) ≤ systems
+
+-- whether a lock word names some of so many systems alone, and its manager has interest; a word of 0 has no manager
+abbrev pub manager_fits : ℕ → ℕ → Option SysId → Bool
+manager_fits systems w None = false
+manager_fits systems w (Some s) = nat_lt s.0 systems && has (interest w) s.0
+
+abbrev pub word_fits : ℕ → ℕ → Bool
+word_fits systems w = (w == 0) || (manager_fits systems w (manager w) && all_others most_systems 0 (λ s. not (has (interest w) s) || nat_lt s systems))

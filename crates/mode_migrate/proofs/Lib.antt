@@ -1,2 +1,4 @@
 pub mod Ranges
 pub mod Samples
+pub mod PartLaws
+pub mod WordLaws

@@ -7,7 +7,7 @@ use Rattle.std.proofs.lemmas.List.{map-append}
 use Rattle.std.proofs.lemmas.List.Elements.{filter-append}
 use Rattle.std.proofs.lemmas.List.Folds.{list_all-append}
 use Rattle.grs_base.specs.Limits.{last_number}
-use Rattle.contention_mgr.specs.Loads.{RankedRow, ranks_of}
+use Rattle.lock_structure.specs.RankedRows.{RankedRow, ranks_of}
 
 -- one number more
 pub range-more : (a n : ℕ) → range_with_len a (n + 1) ≡ range_with_len a n ++ (a + n) ∷ []

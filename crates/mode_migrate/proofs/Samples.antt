@@ -1,7 +1,7 @@
 -- Worked tables, by which the definitions of the change to star mode are checked: the words and the parts of the systems
 -- are what the rules give by hand.
 use Rattle.std.proofs.Common.{◌≡◌, ℕ, true, false, [], ◌∷◌, Some, refl, codes}
-use Rattle.grs_base.specs.State.{State, list_of}
+use Rattle.grs_base.specs.State.{State}
 use Rattle.grs_base.specs.declared.resource.Ctl.{Ctl}
 use Rattle.grs_base.specs.declared.resource.Ctl.TheVariants.{E, S}
 use Rattle.grs_base.specs.declared.resource.Elem.{Elem}
@@ -10,10 +10,10 @@ use Rattle.grs_base.specs.declared.resource.Res.TheVariants.{System, Systems}
 use Rattle.grs_base.specs.declared.resource.SysId.{SysId}
 use Rattle.grs_wire.specs.LockWords.{manager, lock_word}
 use Rattle.grs_wire.specs.Masks.{has, with_also}
-use Rattle.contention_mgr.specs.Loads.{IsLoadable, loaded}
-use Rattle.contention_mgr.specs.Manager.{entry_of_res, plain}
-use Rattle.grs_medium.specs.Apply.{word_fits}
-use Rattle.mode_migrate.specs.Migrate.{table_words, managed_by, interested_by, ranked_by, part_of}
+use Rattle.lock_structure.specs.RankedRows.{IsLoadable}
+use Rattle.lock_structure.specs.Entries.{entry_of_res}
+use Rattle.lock_structure.specs.Words.{word_fits}
+use Rattle.mode_migrate.specs.Migrate.{table_words, managed_by, interested_by, ranked_by, part_of, part_by}
 
 abbrev sys : ℕ → SysId
 sys n = record { 0 = n }
@@ -74,10 +74,8 @@ ranks :
     -- each entry begins with 1 again
     × (ranked_by 2 ((ac, by 3 0 E) ∷ (ab, by 1 0 E) ∷ [])
     ≡ (record { res = ab; elems = by 1 0 E ∷ []; owners = 1 }, 1 ∷ []) ∷ (record { res = ac; elems = by 3 0 E ∷ []; owners = 1 }, 1 ∷ []) ∷ [])
-    -- a manager loads them as they are, and gives the next rank behind them
+    -- a manager may load them as they are
     × (IsLoadable 2 0 (part_of 2 0 (ranked_by 2 table)))
-    × ((loaded (part_of 2 0 (ranked_by 2 table))).next ≡ 6)
-    × (list_of (plain (loaded (part_of 2 0 (ranked_by 2 table))).items) ab ≡ list_of table ab)
-    × (list_of (plain (loaded (part_of 2 0 (ranked_by 2 table))).items) ad ≡ list_of table ad)
+    × (part_of 2 0 (ranked_by 2 table) ≡ part_by 2 table 0)
 unfolding table
-ranks = (refl, refl, refl, record { of_entry = refl; once = refl; apart = refl; ranked = refl; rising = refl; distinct = refl; small = refl }, refl, refl, refl)
+ranks = (refl, refl, refl, record { of_entry = refl; once = refl; apart = refl; ranked = refl; rising = refl; distinct = refl; small = refl }, refl)

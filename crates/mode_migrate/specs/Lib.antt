@@ -1,1 +1,2 @@
 pub mod Migrate
+pub mod Laws

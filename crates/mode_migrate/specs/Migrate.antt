@@ -1,17 +1,19 @@
 -- What a table of resources leads to where the complex changes to star mode: the lock words, and for each system the
 -- entries that it manages and has interest in. It is read off the lists that aren't empty, resources in name order.
-use Rattle.std.specs.Prelude.{ℕ, zero, suc, ◌+◌, Bool, ◌&&◌, ◌==◌, cond, List, [], ◌∷◌, length, map, filter, Option, Some, None}
+use Rattle.std.specs.Prelude.{◌≡◌, ℕ, zero, suc, ◌+◌, Bool, true, ◌&&◌, ◌==◌, cond, List, [], ◌∷◌, length, map, filter, Option, Some, None}
 use Rattle.std.specs.List.{range_with_len, list_any, flat_map}
 use Rattle.grs_base.specs.Limits.{most_systems}
 use Rattle.grs_base.specs.Rows.{rows_of}
-use Rattle.grs_base.specs.State.{State}
+use Rattle.grs_base.specs.Lists.{is_apart}
+use Rattle.grs_base.specs.State.{State, list_of}
 use Rattle.grs_base.specs.declared.resource.Elem.{Elem}
+use Rattle.grs_base.specs.declared.resource.Res.{Res}
 use Rattle.grs_base.specs.declared.resource.Row.{Row}
 use Rattle.grs_base.specs.declared.resource.SysId.{SysId}
 use Rattle.grs_wire.specs.LockWords.{lock_word, is_manager}
 use Rattle.grs_wire.specs.Masks.{with_also}
-use Rattle.contention_mgr.specs.Loads.{RankedRow, is_entry}
-use Rattle.contention_mgr.specs.Manager.{entry_of_res}
+use Rattle.lock_structure.specs.RankedRows.{RankedRow, IsLoadable}
+use Rattle.lock_structure.specs.Entries.{is_entry, entry_of_res}
 
 -- ---- who has elements on resources of a lock entry
 
@@ -85,6 +87,27 @@ numbered_in entries e rows = numbered_from 1 (rows_in entries e rows)
 abbrev pub ranked_by : ℕ → State → List RankedRow
 ranked_by entries t = flat_map (λ e. numbered_in entries e (rows_of t)) (range_with_len 0 entries)
 
+-- whether a system manages an entry by a table, and the rows of the entry with their ranks, which it then keeps
+abbrev pub managed_by_table : ℕ → SysId → State → ℕ → Bool
+managed_by_table entries s t e = is_manager (manager_by entries e (rows_of t)) s
+
+abbrev pub part_by : ℕ → State → ℕ → List RankedRow
+part_by entries t e = numbered_in entries e (rows_of t)
+
+-- whether a system has interest in an entry by a table
+abbrev pub interest_by_table : ℕ → SysId → State → ℕ → Bool
+interest_by_table entries s t e = has_elements entries e (rows_of t) s.0
+
 -- the part of ranked rows that a manager loads for an entry
 abbrev pub part_of : ℕ → ℕ → List RankedRow → List RankedRow
 part_of entries e xs = filter (λ x. row_is_of entries e x.0) xs
+
+-- ---- which tables, and which rows
+
+-- In no list of a table does a task stand twice.
+abbrev pub AreApart : State → Type 0
+AreApart t = (r : Res) → is_apart (list_of t r) ≡ true
+
+-- Each entry's part of ranked rows is one that its manager may keep.
+abbrev pub AreLoadable : ℕ → List RankedRow → Type 0
+AreLoadable entries xs = (e : ℕ) → IsLoadable entries e (part_of entries e xs)

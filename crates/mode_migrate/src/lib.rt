@@ -4,8 +4,9 @@
 //! MODE=STAR; how entries get their managers and elements their ranks is this project's own.
 #![tactic(auto)]
 
+pub mod laws;
 mod roles;
 mod words;
 
-pub use roles::{Roles, roles_of};
+pub use roles::{Roles, part_of, roles_of};
 pub use words::words_of;

@@ -3,8 +3,8 @@ ghost use Rattle.std.specs.Prelude.{◌≡◌, ◌≢◌, ◌≤◌, ◌+◌, �
 ghost use Rattle.std.specs.List.{range_with_len, flat_map, list_all};
 ghost use Rattle.grs_base.specs.Limits.{last_number};
 ghost use Rattle.grs_wire.specs.LockWords.{is_manager};
-ghost use Rattle.contention_mgr.specs.Loads.{ranks_of};
-ghost use Rattle.mode_migrate.specs.Migrate.{has_elements, manager_by, managed_by, interested_by, numbered_in, ranked_by};
+ghost use Rattle.lock_structure.specs.RankedRows.{ranks_of};
+ghost use Rattle.mode_migrate.specs.Migrate.{has_elements, manager_by, managed_by, interested_by, numbered_in, ranked_by, part_of};
 
 use crate::words::{has_elements, is_of, manager};
 use grs_base::{LAST_NUMBER, List, NoMemory, Queues, Row, SysId};
@@ -185,4 +185,23 @@ pub fn roles_of<Q: Queues>(
         interest,
         ranked,
     })
+}
+
+/// The rows of a lock entry, among those of all entries, with their ranks: what its manager keeps of it from then on.
+pub fn part_of(
+    alloc: Global,
+    ranked: &[(Row, List<u64>)],
+    entries: u32,
+    entry: u32,
+) -> Result<List<(Row, List<u64>)>, NoMemory>
+    requires { entries ≢ 0 }
+    ensures { IfOk result (λ part. part ≡ part_of entries entry ranked.now) }
+{
+    let mut part = List::new(alloc);
+    for row in ranked {
+        if is_of(&row.0, entries, entry) {
+            part.push((row.0.copy(alloc)?, row.1.copy(alloc)?))?;
+        }
+    }
+    Ok(part)
 }

@@ -6,7 +6,8 @@ use Rattle.std.proofs.lemmas.Bool.{and_parts, and_from, or_left, or_right, or_pa
 use Rattle.std.proofs.lemmas.Bool.Decides.{nat_tests}
 use Rattle.std.proofs.lemmas.List.Elements.{filter-append}
 use Rattle.std.proofs.lemmas.List.Folds.{list_any_at}
-use Rattle.contention_mgr.specs.Manager.{entry_of_res, entry_wanted}
+use Rattle.contention_mgr.specs.Manager.{entry_wanted}
+use Rattle.lock_structure.specs.Entries.{entry_of_res}
 use Rattle.grs_base.specs.Same.{same_res, same_task}
 use Rattle.grs_base.specs.Lists.{has_task}
 use Rattle.grs_base.specs.State.{list_of}

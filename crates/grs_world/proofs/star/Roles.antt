@@ -7,7 +7,8 @@ use Rattle.std.proofs.lemmas.List.{length-set, get_or-set_same, get_or-set_other
 use Rattle.std.proofs.lemmas.Nat.{mod_below}
 use Rattle.std.proofs.lemmas.Option.{unwrap_or-slice_get, slice_get_within}
 use Rattle.contention_mgr.specs.Laws.{AreWellKept}
-use Rattle.contention_mgr.specs.Manager.{Managed, ManagerView, plain, items_of, settled, told, entry_of_res, entry_wanted, are_of, kept_at, kept_for, managed_at, with_entry, after_request, after_telling}
+use Rattle.contention_mgr.specs.Manager.{Managed, ManagerView, plain, items_of, settled, told, entry_wanted, are_of, kept_at, kept_for, managed_at, with_entry, after_request, after_telling}
+use Rattle.lock_structure.specs.Entries.{entry_of_res}
 use Rattle.contention_mgr.proofs.LawProofs.{lists_follow, telling_keeps_lists}
 use Rattle.contention_mgr.proofs.ManagerLaws.{entries_are_well_kept, requests_keep_well, telling_keeps_well}
 use Rattle.grs_base.specs.Slices.{slice_of, entry_of}

@@ -3,7 +3,8 @@ use Rattle.std.proofs.Common.{◌≡◌, ◌<◌, ◌≤◌, ◌+◌, ◌%◌, �
 use Rattle.std.specs.Prelude.{is_some, slice_get, replicate, slice_index_or}
 use Rattle.std.proofs.lemmas.List.{length-replicate}
 use Rattle.std.proofs.lemmas.Option.{slice_get_within, same_Some}
-use Rattle.contention_mgr.specs.Manager.{plain, items_of, entry_of_res, kept_at, kept_for}
+use Rattle.contention_mgr.specs.Manager.{plain, items_of, kept_at, kept_for}
+use Rattle.lock_structure.specs.Entries.{entry_of_res}
 use Rattle.contention_mgr.proofs.ManagerLaws.{well_kept_begins}
 use Rattle.grs_base.specs.Slices.{slice_of, entry_of}
 use Rattle.grs_base.specs.State.{list_of, is_systems}

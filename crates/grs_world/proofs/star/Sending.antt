@@ -5,7 +5,8 @@ use Rattle.std.specs.List.{All}
 use Rattle.std.proofs.lemmas.Bool.{eqb-true, eqb-false, eq-eqb, or_left, or_right}
 use Rattle.std.proofs.lemmas.List.{get_or-set_same, get_or-set_other}
 use Rattle.std.proofs.lemmas.Option.{slice_get_within, same_Some}
-use Rattle.contention_mgr.specs.Manager.{entry_wanted, entry_of_res}
+use Rattle.contention_mgr.specs.Manager.{entry_wanted}
+use Rattle.lock_structure.specs.Entries.{entry_of_res}
 use Rattle.grs_base.specs.Limits.{most_systems}
 use Rattle.grs_base.specs.Lists.{owns}
 use Rattle.grs_base.specs.Same.{same_task}

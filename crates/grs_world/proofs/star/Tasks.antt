@@ -1,7 +1,8 @@
 -- What a task does by itself leaves its system's part in star mode, and the lists of all lock entries.
 use Rattle.std.proofs.Common.{◌≡◌, ℕ, false, cond, List, [], ◌∷◌, ◌++◌, Option, Some, None, refl, ap, ◌∙◌}
 use Rattle.std.specs.Prelude.{is_some, slice_get}
-use Rattle.contention_mgr.specs.Manager.{entry_of_res, entry_wanted}
+use Rattle.contention_mgr.specs.Manager.{entry_wanted}
+use Rattle.lock_structure.specs.Entries.{entry_of_res}
 use Rattle.grs_base.specs.State.{State, is_systems}
 use Rattle.grs_base.specs.declared.resource.Res.{Res}
 use Rattle.grs_base.specs.declared.resource.Res.TheVariants.{Step as StepRes, System, Systems}

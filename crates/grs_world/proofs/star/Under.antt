@@ -3,7 +3,8 @@ use Rattle.std.proofs.Common.{◌≡◌, ℕ, Bool, true, false, cond, [], ◌�
 use Rattle.std.specs.List.{list_all}
 use Rattle.std.proofs.lemmas.Bool.{eqb-true, eq-eqb, and_from}
 use Rattle.std.proofs.lemmas.Option.{same_Some}
-use Rattle.contention_mgr.specs.Manager.{entry_of_res, entry_wanted}
+use Rattle.contention_mgr.specs.Manager.{entry_wanted}
+use Rattle.lock_structure.specs.Entries.{entry_of_res}
 use Rattle.grs_base.specs.Lists.{has_task}
 use Rattle.grs_base.specs.State.{State, list_of}
 use Rattle.grs_base.specs.declared.resource.Res.{Res}

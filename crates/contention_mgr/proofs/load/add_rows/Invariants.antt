@@ -1,5 +1,6 @@
 use Rattle.std.proofs.Common.{◌≡◌, ◌++◌, length, true}
-use Rattle.contention_mgr.specs.Loads.{ranked_rows, rows_free, all_apart}
+use Rattle.contention_mgr.specs.Loads.{ranked_rows, rows_free}
+use Rattle.lock_structure.specs.RankedRows.{all_apart}
 use Rattle.contention_mgr.specs.Marks.{mark_in, ranked_all, AreMarked}
 use Rattle.contention_mgr.proofs.load.add_rows.Given as goal
 

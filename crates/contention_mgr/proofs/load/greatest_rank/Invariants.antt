@@ -1,5 +1,6 @@
 use Rattle.std.proofs.Common.{◌≡◌, length}
-use Rattle.contention_mgr.specs.Loads.{greatest, ranks_of}
+use Rattle.contention_mgr.specs.Loads.{greatest}
+use Rattle.lock_structure.specs.RankedRows.{ranks_of}
 use Rattle.contention_mgr.proofs.load.greatest_rank.Given as goal
 
 abbrev pub invariant-rows : goal.invariant-rows

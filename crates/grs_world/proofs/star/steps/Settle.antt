@@ -2,7 +2,8 @@
 use Rattle.std.proofs.Common.{◌≡◌, ◌++◌, true, cond, List, [], ◌∷◌, length, Option, Some, None, refl, ap, sym, ◌∙◌, subst}
 use Rattle.std.specs.Prelude.{drop, slice_get}
 use Rattle.std.proofs.lemmas.Option.{same_Some}
-use Rattle.contention_mgr.specs.Manager.{Managed, plain, items_of, kept_for, entry_of_res, entry_wanted, after_request, rank_for}
+use Rattle.contention_mgr.specs.Manager.{Managed, plain, items_of, kept_for, entry_wanted, after_request, rank_for}
+use Rattle.lock_structure.specs.Entries.{entry_of_res}
 use Rattle.grs_base.specs.Lists.{owns}
 use Rattle.grs_base.specs.State.{list_of}
 use Rattle.grs_base.specs.declared.resource.SysId.{SysId}

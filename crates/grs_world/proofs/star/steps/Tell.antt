@@ -5,7 +5,8 @@ use Rattle.std.specs.Option.{option_map}
 use Rattle.std.proofs.lemmas.Bool.{and_parts, eqb-true, eqb-false, eq-eqb, and_from, not-true}
 use Rattle.std.proofs.lemmas.List.{get_or-set_same, get_or-set_other}
 use Rattle.std.proofs.lemmas.Option.{slice_get_within, same_Some}
-use Rattle.contention_mgr.specs.Manager.{Ranked, Managed, plain, items_of, first_untold, owner_of, entry_of_res, managed_at}
+use Rattle.contention_mgr.specs.Manager.{Ranked, Managed, plain, items_of, first_untold, owner_of, managed_at}
+use Rattle.lock_structure.specs.Entries.{entry_of_res}
 use Rattle.contention_mgr.proofs.LawProofs.{first_is_untold}
 use Rattle.contention_mgr.proofs.OwnLemmas.{first_untold_owns}
 use Rattle.grs_base.specs.Lists.{owns}

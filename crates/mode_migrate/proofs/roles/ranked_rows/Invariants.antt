@@ -2,7 +2,7 @@ use Rattle.std.proofs.Common.{◌≡◌, true}
 use Rattle.std.specs.Prelude.{nat_le}
 use Rattle.std.specs.List.{range_with_len, flat_map, list_all}
 use Rattle.grs_base.specs.Limits.{last_number}
-use Rattle.contention_mgr.specs.Loads.{ranks_of}
+use Rattle.lock_structure.specs.RankedRows.{ranks_of}
 use Rattle.mode_migrate.specs.Migrate.{numbered_in}
 use Rattle.mode_migrate.proofs.roles.ranked_rows.Given as goal
 

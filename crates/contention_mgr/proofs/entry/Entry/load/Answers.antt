@@ -1,5 +1,5 @@
 use Rattle.std.proofs.Common.{arith}
-use Rattle.contention_mgr.specs.Loads.{ranks_of}
+use Rattle.lock_structure.specs.RankedRows.{ranks_of}
 use Rattle.contention_mgr.proofs.LoadLemmas.{rows-free_none, small-next}
 use Rattle.contention_mgr.proofs.entry.Entry.load.Goals as goal
 

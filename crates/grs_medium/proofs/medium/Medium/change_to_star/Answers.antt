@@ -2,7 +2,7 @@ use Rattle.std.proofs.Common.{◌≡◌, ℕ, true, List, ap, sym, ◌∙◌, su
 use Rattle.std.specs.List.{All, list_all}
 use Rattle.lock_structure.specs.Words.{ManagerIsBelow}
 use Rattle.rsa_message.specs.Message.{closed_by}
-use Rattle.grs_medium.specs.Apply.{word_fits}
+use Rattle.lock_structure.specs.Words.{word_fits}
 use Rattle.grs_medium.specs.Medium.{systems_of}
 use Rattle.grs_medium.specs.Room.{MediumValue}
 use Rattle.grs_medium.proofs.SwitchLaws.{words-below}

@@ -1,0 +1,5 @@
+use Rattle.mode_migrate.proofs.PartLaws.{parts_are_loadable}
+use Rattle.mode_migrate.proofs.laws.parts_are_loadable.Goals as goal
+
+pub returns : goal.returns
+returns c = parts_are_loadable

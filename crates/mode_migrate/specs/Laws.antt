@@ -1,0 +1,32 @@
+-- Laws of the words and the parts to which a table leads.
+use Rattle.std.specs.Prelude.{◌≡◌, ◌<◌, ℕ, Bool, true, nat_le, nat_lt, List, length}
+use Rattle.std.specs.List.{list_all}
+use Rattle.grs_base.specs.Limits.{last_number}
+use Rattle.grs_base.specs.Rows.{rows_of}
+use Rattle.grs_base.specs.State.{State}
+use Rattle.grs_base.specs.declared.resource.Row.{Row}
+use Rattle.grs_wire.specs.LockWords.{interest, manager}
+use Rattle.lock_structure.specs.RankedRows.{ranks_of}
+use Rattle.lock_structure.specs.Words.{word_fits}
+use Rattle.mode_migrate.specs.Migrate.{interest_by, manager_by, word_by, table_words, ranked_by, part_of, part_by, AreApart, AreLoadable}
+
+-- whether all elements of a table are of systems below n
+abbrev pub are_within : ℕ → State → Bool
+are_within n t = list_all (λ h. nat_lt h.1.task.system.0 n) t
+
+-- A word says who has interest in its entry by the table, and who manages it.
+abbrev pub WordsSay : Type 0
+WordsSay = (entries e : ℕ) (rows : List Row) → (interest (word_by entries e rows) ≡ interest_by entries e rows) × (manager (word_by entries e rows) ≡ manager_by entries e rows)
+
+-- The words of a table with elements of so many systems are such as the complex may change by: one for each entry, each 0
+-- or with a manager that has interest, and they name these systems alone.
+abbrev pub OwnWordsFit : Type 0
+OwnWordsFit = (n entries : ℕ) (t : State) → are_within n t ≡ true → (length (table_words entries t) ≡ entries) × (list_all (word_fits n) (table_words entries t) ≡ true)
+
+-- An entry's part of all ranked rows is the rows of the entry, their elements numbered from 1.
+abbrev pub PartsAreNumbered : Type 0
+PartsAreNumbered = (entries e : ℕ) (t : State) → e < entries → part_of entries e (ranked_by entries t) ≡ part_by entries t e
+
+-- Its manager may keep it, where no task stands twice in a list and ranks are small.
+abbrev pub PartsAreLoadable : Type 0
+PartsAreLoadable = (entries : ℕ) (t : State) → AreApart t → list_all (λ n. nat_le n last_number) (ranks_of (ranked_by entries t)) ≡ true → AreLoadable entries (ranked_by entries t)

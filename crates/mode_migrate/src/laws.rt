@@ -1,0 +1,22 @@
+//! Laws of the words and the parts to which a table leads: each function's contract is one, and there is nothing to run.
+ghost use Rattle.mode_migrate.specs.Laws.{WordsSay, OwnWordsFit, PartsAreNumbered, PartsAreLoadable};
+
+/// A word says who has interest in its entry by the table, and who manages it.
+pub fn words_say()
+    ensures { WordsSay }
+{}
+
+/// The words of a table are such as the complex may change by.
+pub fn own_words_fit()
+    ensures { OwnWordsFit }
+{}
+
+/// An entry's part of all ranked rows is the rows of the entry, their elements numbered from 1.
+pub fn parts_are_numbered()
+    ensures { PartsAreNumbered }
+{}
+
+/// Its manager may keep it, where no task stands twice in a list and ranks are small.
+pub fn parts_are_loadable()
+    ensures { PartsAreLoadable }
+{}
