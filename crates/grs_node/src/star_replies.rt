@@ -1,12 +1,13 @@
 //! What the events of star mode come to: what a system decides as a manager, and what the replies to its calls do to its
 //! tasks and its part.
-ghost use Rattle.std.specs.Prelude.{◌≡◌, ◌<◌, ◌==◌, [], Some, true, false, length, drop, IfOk, IfSome, IfNone, OnOk};
+ghost use Rattle.std.specs.Prelude.{◌≡◌, ◌≢◌, ◌<◌, ◌==◌, [], Some, true, false, length, drop, IfOk, IfSome, IfNone, OnOk};
 ghost use Rattle.std.specs.Option.{option_copied};
 ghost use Rattle.contention_mgr.specs.Manager.{items_of, managed_at};
 ghost use Rattle.grs_node.specs.Node as steps;
 ghost use Rattle.grs_node.specs.Star as star;
 ghost use Rattle.grs_node.specs.Star.{starred};
-ghost use Rattle.grs_wire.specs.declared.deck.Choice.TheVariants.{Send};
+ghost use Rattle.grs_wire.specs.declared.deck.Choice.TheVariants.{Send, Take};
+ghost use Rattle.grs_wire.specs.declared.deck.Deck.{Deck as DeckValue};
 ghost use Rattle.task_state.specs.View.{is_task, state_of};
 
 use super::scripts::is_of_deck;
@@ -314,6 +315,35 @@ impl StarPart {
         }
     }
 
+    /// What the reply to a call of star mode other than a Take comes to. Those that say nothing new change nothing.
+    fn finish_by(
+        &mut self,
+        alloc: Global,
+        tasks: &mut Tasks,
+        choice: Choice,
+        reply: &Reply,
+    ) -> Result<List<Fixed>, NoMemory>
+        requires call { star.was_prepared tasks.old self.old choice ≡ true }
+        requires other { choice ≢ Take }
+        ensures step { (deck : DeckValue) → IfOk result (λ fixed. starred tasks.new self.new fixed ≡ steps.star_step deck tasks.old self.old choice reply.now) }
+        ensures system { tasks.new.system ≡ tasks.old.system }
+        ensures count { length tasks.new.tasks ≡ length tasks.old.tasks }
+    {
+        match choice {
+            Choice::Send(task) => self.finish_send(alloc, tasks, task, reply),
+            Choice::Settle => self.finish_settle(alloc, tasks, reply),
+            Choice::Tell(entry) => {
+                self.finish_tell(tasks, entry, reply)?;
+                Ok(List::new(alloc))
+            }
+            Choice::Leave(entry) => {
+                self.finish_leave(tasks, entry, reply);
+                Ok(List::new(alloc))
+            }
+            _ => Ok(List::new(alloc)),
+        }
+    }
+
     /// What the reply to a call of star mode comes to. Those that say nothing new change nothing.
     pub(crate) fn finish(
         &mut self,
@@ -329,20 +359,8 @@ impl StarPart {
         ensures count { length tasks.new.tasks ≡ length tasks.old.tasks }
     {
         match choice {
-            Choice::Send(task) => self.finish_send(alloc, tasks, task, &reply),
             Choice::Take => self.finish_take(alloc, deck, tasks, reply),
-            Choice::Settle => self.finish_settle(alloc, tasks, &reply),
-            Choice::Tell(entry) => {
-                self.finish_tell(tasks, entry, &reply)?;
-                Ok(List::new(alloc))
-            }
-            Choice::Leave(entry) => {
-                self.finish_leave(tasks, entry, &reply);
-                Ok(List::new(alloc))
-            }
-            Choice::Task(_) | Choice::Turn | Choice::Switch | Choice::Purge(_) | Choice::Rest => {
-                Ok(List::new(alloc))
-            }
+            choice => self.finish_by(alloc, tasks, choice, &reply),
         }
     }
 }
