@@ -166,7 +166,7 @@ fn turn_after(alloc: Global, medium: &mut Medium) -> Result<Brief, NoMemory>
     made(medium, SysId(0), Call { known: 2, act })
 }
 
-fn seen_by_replay(alloc: Global, medium: &mut Medium) -> Result<(Seen, Seen, Brief), Fail>
+fn calls_seen(alloc: Global, medium: &mut Medium) -> Result<(Seen, Seen, Brief), Fail>
     requires { systems_of medium.old.state ≡ 2 }
 {
     put(alloc, medium)?;
@@ -178,7 +178,7 @@ fn seen_by_replay(alloc: Global, medium: &mut Medium) -> Result<(Seen, Seen, Bri
 
 fn two_systems(alloc: Global) -> Result<(Seen, Seen, Brief), Fail> {
     let mut medium = Medium::new(alloc, 2, 1, false)?;
-    seen_by_replay(alloc, &mut medium)
+    calls_seen(alloc, &mut medium)
 }
 
 #[test]

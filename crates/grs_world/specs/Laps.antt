@@ -82,8 +82,8 @@ LeftHome t es =
     → entry.body ≡ Request q → q.task ≡ t → OnlyLeft t.system entry
 
 -- Where the next event tells a task an answer, no other system has still to process a request of that task which
--- stands in the message, neither before that event nor behind it. So whatever answer is told, every other system has
--- processed the request before; and no request is answered by the very event that puts it in.
+-- stands in the message, neither before that event nor behind it. So of a request that went into the message every other
+-- system has processed it before its answer is told; and no request is answered by the very event that puts it in.
 abbrev pub AnsweredLast : Deck → List Event → Event → Type 0
 AnsweredLast deck es e =
     (t : TaskId) → list_any (λ x. answers t x.line) (told_next deck es e) ≡ true
