@@ -9,6 +9,7 @@ ghost use Rattle.rnl_match.specs.Index.{most_compared, places, is_under, is_patt
 use super::entry::matches_counted;
 use grs_base::{Form, List, NoMemory, Qname, Rname, RnlEntry, RnlList, Steps};
 use indexmap::IndexMap;
+use indexmap::map::Entry;
 use std::alloc::Global;
 use std::marker::{Brand, Model};
 use std::sync::ledger::{Blank, Ledger};
@@ -64,15 +65,15 @@ fn add_place(
     ensures own { OnOk result (bucket_at buckets.new.entries q.now ≡ bucket_at buckets.old.entries q.now ++ place ∷ []) }
     ensures others { OnOk result ((other : List ℕ) → bytes_eq q.now other ≡ false → bucket_at buckets.new.entries other ≡ bucket_at buckets.old.entries other) }
 {
-    if let Some(bucket) = buckets.get_mut(q) {
-        return add_to(bucket, place);
-    }
-    let bucket = Bucket {
-        first: place,
-        more: List::new(alloc),
-    };
-    match buckets.insert(q.copy(alloc)?, bucket) {
-        Ok(_) => Ok(()),
+    match buckets.entry(q.copy(alloc)?) {
+        Ok(Entry::Occupied(entry)) => add_to(entry.into_mut(), place),
+        Ok(Entry::Vacant(entry)) => {
+            entry.insert(Bucket {
+                first: place,
+                more: List::new(alloc),
+            });
+            Ok(())
+        }
         Err(_) => Err(NoMemory),
     }
 }
