@@ -7,6 +7,8 @@ mod commands;
 #[cfg(test)]
 mod copies;
 #[cfg(test)]
+mod lists;
+#[cfg(test)]
 mod looks;
 #[cfg(test)]
 mod manager;
