@@ -78,7 +78,11 @@ struct Shown {
     told: [u64; 2],
 }
 
-fn shown(alloc: Global, journal: &List<JEntry>, logs: &List<NodeLog>) -> Result<Shown, NoMemory> {
+fn merged_in_brief(
+    alloc: Global,
+    journal: &List<JEntry>,
+    logs: &List<NodeLog>,
+) -> Result<Shown, NoMemory> {
     let merged = merge(alloc, journal.as_slice(), logs.as_slice())?;
     let told = match merged.told.as_slice() {
         [first, second] => [first.event, second.event],
@@ -93,7 +97,7 @@ fn shown(alloc: Global, journal: &List<JEntry>, logs: &List<NodeLog>) -> Result<
 
 fn with_logs(alloc: Global, journal: &List<JEntry>) -> Result<Shown, NoMemory> {
     let logs = logs(alloc)?;
-    shown(alloc, journal, &logs)
+    merged_in_brief(alloc, journal, &logs)
 }
 
 fn with_journal(alloc: Global) -> Result<Shown, NoMemory> {
