@@ -1,4 +1,7 @@
 //! Logs of systems that ran beside each other, in the order of a journal. What the program runs by a schedule needs none.
+ghost use Rattle.std.specs.Prelude.{◌≡◌, ◌≤◌, length, IfOk};
+ghost use Rattle.grs_base.specs.Limits.{most_systems};
+
 use grs_base::{List, NoMemory, SysId, TaskId};
 use grs_history::merge;
 use grs_wire::{Act, Call, Choice, Event, JEntry, NodeLog, Reply, StepDone, ToldLine};
@@ -48,7 +51,9 @@ fn journal(alloc: Global, systems: &[u8]) -> Result<List<JEntry>, NoMemory> {
 }
 
 /// One system turns, tells its task's end and rests; the other one rests twice.
-fn logs(alloc: Global) -> Result<List<NodeLog>, NoMemory> {
+fn logs(alloc: Global) -> Result<List<NodeLog>, NoMemory>
+    ensures { IfOk result (λ logs. length logs ≡ 2) }
+{
     let mut first = List::new(alloc);
     first.push(step(alloc, Choice::Turn, true))?;
     first.push(telling(alloc, SysId(0))?)?;
@@ -82,7 +87,9 @@ fn merged_in_brief(
     alloc: Global,
     journal: &List<JEntry>,
     logs: &List<NodeLog>,
-) -> Result<Shown, NoMemory> {
+) -> Result<Shown, NoMemory>
+    requires { length logs.now ≤ most_systems }
+{
     let merged = merge(alloc, journal.as_slice(), logs.as_slice())?;
     let told = match merged.told.as_slice() {
         [first, second] => [first.event, second.event],
