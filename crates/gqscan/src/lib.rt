@@ -3,7 +3,7 @@
 #![tactic(auto)]
 
 ghost use Rattle.std.specs.Prelude.{◌≡◌};
-ghost use Rattle.grs_base.specs.Looks.{is_at as is_at_place, is_named, matches};
+ghost use Rattle.grs_base.specs.Looks.{is_of_place, is_named, matches};
 ghost use Rattle.gqscan.specs.Shown.{code_for};
 
 use grs_base::{Code, Filter, Place, Qname, Res, Rname, slice_of};
@@ -40,8 +40,8 @@ pub fn matches_filter(filter: &Filter, res: &Res, waits: bool) -> bool
 }
 
 /// Whether a resource is of a place: a Systems resource of its slice, any other of its system.
-pub fn is_at(place: Place, res: &Res) -> bool
-    ensures { result ≡ is_at_place place res.now }
+pub fn is_of_place(place: Place, res: &Res) -> bool
+    ensures { result ≡ is_of_place place res.now }
 {
     match (place, res) {
         (Place::Slice(slice), Res::Systems { q, r }) => slice_of(q, r) == slice,

@@ -14,13 +14,13 @@ use Rattle.grs_base.specs.declared.look.Filter.{Filter}
 use Rattle.grs_base.specs.declared.look.Filter.TheVariants as filters
 
 -- whether a resource is of a place: a Systems resource of its slice, any other of its system
-abbrev pub is_at : Place → Res → Bool
-is_at (Slice n) (Systems q r) = slice_of q r == n
-is_at (Slice n) (System s q r) = false
-is_at (Slice n) (Step s j q r) = false
-is_at (Local t) (Systems q r) = false
-is_at (Local t) (System s q r) = s.0 == t.0
-is_at (Local t) (Step s j q r) = s.0 == t.0
+abbrev pub is_of_place : Place → Res → Bool
+is_of_place (Slice n) (Systems q r) = slice_of q r == n
+is_of_place (Slice n) (System s q r) = false
+is_of_place (Slice n) (Step s j q r) = false
+is_of_place (Local t) (Systems q r) = false
+is_of_place (Local t) (System s q r) = s.0 == t.0
+is_of_place (Local t) (Step s j q r) = s.0 == t.0
 
 -- whether a name is the one that is asked for, if one is
 abbrev pub is_named : Option (List ℕ) → List ℕ → Bool
@@ -39,7 +39,7 @@ is_contended row = nat_lt row.owners (length row.elems)
 
 -- whether a list is shown by a look at this place with this filter
 abbrev pub is_shown : Place → Filter → Row → Bool
-is_shown place f row = is_at place row.res && matches f row.res (is_contended row)
+is_shown place f row = is_of_place place row.res && matches f row.res (is_contended row)
 
 -- the lists of a place that pass a filter, in the order in which lists are shown; empty lists aren't
 abbrev pub look : State → Place → Filter → List Row

@@ -8,7 +8,7 @@ use Rattle.grs_wire.specs.declared.medium.Act.TheVariants.{Turn, Switch, Purge, 
 use Rattle.grs_wire.specs.declared.medium.RingEntry.{RingEntry}
 use Rattle.grs_wire.specs.declared.medium.Reply.{Reply}
 use Rattle.grs_wire.specs.declared.medium.Reply.TheVariants.{Turned, NotYours, Behind, Switched, Already, Purged, NoSuch, InStar, Resting, Over, Stale, Removed}
-use Rattle.rsa_message.specs.Message.{unseen, first_number, turn_reply, is_at}
+use Rattle.rsa_message.specs.Message.{unseen, first_number, turn_reply, stands_at}
 use Rattle.grs_medium.specs.Apply.{turn_row, switch_ring, switch_row, is_live, without_system, purge_row, resting, rest_row, row, apply}
 use Rattle.grs_medium.specs.Medium.{MediumState, all_rest, medium_at_end}
 use Rattle.grs_medium.specs.Causes.{is_removed, turns_elsewhere, switches_in_star, switches_behind, switches, purges_in_star, purges_nobody, rests_last, rests_early, RemovedComes, StaleComes, NotYoursComes, AlreadyComes, BehindComes, SwitchedComes, InStarComes, NoSuchComes, OverComes, RestingComes}
@@ -55,7 +55,7 @@ rest_resting false = (λ e. refl, λ e. refl)
 -- each reply to an act
 row_not_yours : (m : MediumState) (c : SysId) (act : Act) (at : Option SysId) → ((row m c act).0 ≡ NotYours at) ↔ ((turns_elsewhere m c act ≡ true) × (at ≡ m.message.holder))
 unfolding row turn_row turn_reply
-row_not_yours m c (Turn out) at = turn_not_yours (is_at m.message.holder c) (unseen c m.message.entries) _ m.message.closed m.message.holder at
+row_not_yours m c (Turn out) at = turn_not_yours (stands_at m.message.holder c) (unseen c m.message.entries) _ m.message.closed m.message.holder at
 row_not_yours m c act at = neither (other_reply m c act (NotYours at) refl) (λ p. false≢true p.0)
 
 row_already : (m : MediumState) (c : SysId) (act : Act) → ((row m c act).0 ≡ Already) ↔ (switches_in_star m act ≡ true)

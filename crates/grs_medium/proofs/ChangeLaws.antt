@@ -18,7 +18,7 @@ use Rattle.grs_wire.specs.Masks.{has, only}
 use Rattle.grs_wire.proofs.MaskLaws.{has-without_same, has-with_same}
 use Rattle.lock_structure.specs.Words.{word_at, route_by, route, submitted_words}
 use Rattle.lock_structure.proofs.WordLaws.{submitted-unmanaged, left_word-changed}
-use Rattle.rsa_message.specs.Message.{Message, is_at, or_else, first_after, is_unseen, unseen, first_number, any_unseen, left_by, cleared, stamped, is_due, moves, turned_open, turned_closed, turned, turn_changes}
+use Rattle.rsa_message.specs.Message.{Message, stands_at, or_else, first_after, is_unseen, unseen, first_number, any_unseen, left_by, cleared, stamped, is_due, moves, turned_open, turned_closed, turned, turn_changes}
 use Rattle.grs_medium.specs.Apply.{turn_row, switch_ring, switch_row, joined, submit_on, submit_row, take_from, take_row, mail_row, leave_row, purge_row, rest_row, row, row_changes, apply, changes, is_live, without_system}
 use Rattle.grs_medium.specs.Inboxes.{inbox_of, is_empty, with_mail, without_first}
 use Rattle.grs_medium.specs.Medium.{MediumState, systems_of, awake, inbox, live, word}
@@ -50,8 +50,8 @@ unseen-cleared s (e ∷ es) = by_mask (e.mask == only s.0) (unseen-cleared s es)
     by_mask false none = rw (has-without_same e.mask s.0) none
 
 -- a Turn at the open message that is said to move something
-open_moves : (m : Message) (c : SysId) (out : List Req) (lives rest : ℕ) → is_at m.holder c ≡ true
-    → (moves m c (length out) || not (is_at (Some (or_else (first_after m.systems c (is_due m.entries lives rest)) c)) c)) ≡ true → ¬ (turned_open m c out lives rest ≡ m)
+open_moves : (m : Message) (c : SysId) (out : List Req) (lives rest : ℕ) → stands_at m.holder c ≡ true
+    → (moves m c (length out) || not (stands_at (Some (or_else (first_after m.systems c (is_due m.entries lives rest)) c)) c)) ≡ true → ¬ (turned_open m c out lives rest ≡ m)
 unfolding stamped
 open_moves m c (r ∷ rs) lives rest here h e = let same : m.next + length (r ∷ rs) ≡ m.next = ap (λ (x : Message). x.next) e in absurd (omega arith)
 open_moves m c [] lives rest here h e = by_unseen (any_unseen c m.entries) refl
@@ -62,24 +62,24 @@ open_moves m c [] lives rest here h e = by_unseen (any_unseen c m.entries) refl
     by_unseen : (b : Bool) → any_unseen c m.entries ≡ b → ⊥
     by_unseen true u = apart_by (any_unseen c) m.entries (cleared c m.entries) u (unseen-cleared c m.entries) (sym entries)
     by_unseen false u =
-        let asked : not (is_at (Some (or_else (first_after m.systems c (is_due m.entries lives rest)) c)) c) ≡ true = rw u at h in
+        let asked : not (stands_at (Some (or_else (first_after m.systems c (is_due m.entries lives rest)) c)) c) ≡ true = rw u at h in
         let moved = rw u at (ap (λ (x : Message). x.holder) e) in
         let holder : Some (or_else (first_after m.systems c (is_due m.entries lives rest)) c) ≡ m.holder =
         subst (λ (es : List RingEntry). Some (or_else (first_after m.systems c (is_due es lives rest)) c) ≡ m.holder) (append-nil (cleared c m.entries) ∙ entries) moved in
-        apart_by (λ (x : Option SysId). is_at x c) m.holder _ here (is_false _ asked) (sym holder)
+        apart_by (λ (x : Option SysId). stands_at x c) m.holder _ here (is_false _ asked) (sym holder)
 
 closed_moves : (m : Message) (c : SysId) → has m.still c.0 ≡ true → ¬ (turned_closed m c ≡ m)
 closed_moves m c waits e = apart_by (λ (x : Message). has x.still c.0) m (turned_closed m c) waits (has-without_same m.still c.0) (sym e)
 
-turned_moves : (m : Message) (c : SysId) (out : List Req) (lives rest : ℕ) → (m.closed ≡ true → (s : SysId) → is_at m.holder s ≡ true → has m.still s.0 ≡ true)
+turned_moves : (m : Message) (c : SysId) (out : List Req) (lives rest : ℕ) → (m.closed ≡ true → (s : SysId) → stands_at m.holder s ≡ true → has m.still s.0 ≡ true)
     → turn_changes m c (length out) lives rest ≡ true → ¬ (turned m c out lives rest ≡ m)
 unfolding turned turn_changes
 turned_moves m c out lives rest waits h =
-    let parts = and_parts (is_at m.holder c) _ h in
+    let parts = and_parts (stands_at m.holder c) _ h in
     rw parts.0 (by_closed m.closed refl parts.0 parts.1)
   where
-    by_closed : (b : Bool) → m.closed ≡ b → is_at m.holder c ≡ true
-        → (m.closed || moves m c (length out) || not (is_at (Some (or_else (first_after m.systems c (is_due m.entries lives rest)) c)) c)) ≡ true
+    by_closed : (b : Bool) → m.closed ≡ b → stands_at m.holder c ≡ true
+        → (m.closed || moves m c (length out) || not (stands_at (Some (or_else (first_after m.systems c (is_due m.entries lives rest)) c)) c)) ≡ true
         → ¬ (cond b (turned_closed m c) (turned_open m c out lives rest) ≡ m)
     by_closed true closed here g = closed_moves m c (waits closed c here)
     by_closed false closed here g = open_moves m c out lives rest here (rw closed at g)

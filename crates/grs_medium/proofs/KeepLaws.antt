@@ -16,8 +16,8 @@ use Rattle.grs_wire.specs.LockWords.{manager, is_manager}
 use Rattle.grs_wire.specs.Masks.{has, without, only}
 use Rattle.grs_wire.proofs.MaskLaws.{without-absent, with-present, has-with_same}
 use Rattle.lock_structure.specs.Words.{route_by, route}
-use Rattle.rsa_message.specs.Message.{Message, is_at, or_else, first_after, is_unseen, unseen, first_number, any_unseen, left_by, cleared, stamped, is_due, moves, wakes, rest_after_turn, turned_open, turned_closed, turned, turn_changes}
-use Rattle.rsa_message.proofs.OrderLaws.{is_at-exact}
+use Rattle.rsa_message.specs.Message.{Message, stands_at, or_else, first_after, is_unseen, unseen, first_number, any_unseen, left_by, cleared, stamped, is_due, moves, wakes, rest_after_turn, turned_open, turned_closed, turned, turn_changes}
+use Rattle.rsa_message.proofs.OrderLaws.{stands_at-exact}
 use Rattle.grs_medium.specs.Apply.{turn_row, switch_ring, switch_row, joined, submit_on, submit_row, take_from, take_row, leave_row, purge_row, rest_row, row, row_changes, apply, changes, is_live}
 use Rattle.grs_medium.specs.Inboxes.{is_empty}
 use Rattle.grs_medium.specs.Medium.{MediumState, inbox, live, word}
@@ -65,12 +65,12 @@ none_asked c false [] h = (refl, refl)
 none_asked c false (r ∷ rs) h = let e : length (r ∷ rs) ≡ 0 = eqb-true (length (r ∷ rs)) 0 (is_true _ h) in absurd (omega arith)
 
 -- a Turn that moves nothing, and leaves the message where it is
-open_kept : (m : Message) (c : SysId) (lives rest : ℕ) → is_at m.holder c ≡ true → any_unseen c m.entries ≡ false
-    → is_at (Some (or_else (first_after m.systems c (is_due m.entries lives rest)) c)) c ≡ true → turned_open m c [] lives rest ≡ m
+open_kept : (m : Message) (c : SysId) (lives rest : ℕ) → stands_at m.holder c ≡ true → any_unseen c m.entries ≡ false
+    → stands_at (Some (or_else (first_after m.systems c (is_due m.entries lives rest)) c)) c ≡ true → turned_open m c [] lives rest ≡ m
 unfolding stamped
 open_kept m c lives rest here seen stays =
     let entries : cleared c m.entries ++ [] ≡ m.entries = append-nil (cleared c m.entries) ∙ cleared-seen c m.entries seen in
-    let holder : Some (or_else (first_after m.systems c (is_due m.entries lives rest)) c) ≡ m.holder = is_at-exact _ c stays ∙ sym (is_at-exact m.holder c here) in
+    let holder : Some (or_else (first_after m.systems c (is_due m.entries lives rest)) c) ≡ m.holder = stands_at-exact _ c stays ∙ sym (stands_at-exact m.holder c here) in
     rw seen
     (subst (λ (es : List RingEntry). record m { holder = Some (or_else (first_after m.systems c (is_due es lives rest)) c); entries = es; next = m.next + 0 } ≡ m) (sym entries)
     (ap (λ (h : Option SysId). record m { holder = h; next = m.next + 0 }) holder ∙ ap (λ (n : ℕ). record m { next = n }) (add-zero m.next)))
@@ -82,12 +82,12 @@ unless_closed false x y m e same = same
 
 turned_kept : (m : Message) (c : SysId) (out : List Req) (lives rest : ℕ) → turn_changes m c (length out) lives rest ≡ false → turned m c out lives rest ≡ m
 unfolding turned turn_changes
-turned_kept m c out lives rest h = by_at (is_at m.holder c) refl
+turned_kept m c out lives rest h = by_at (stands_at m.holder c) refl
   where
-    by_at : (a : Bool) → is_at m.holder c ≡ a → cond a (cond m.closed (turned_closed m c) (turned_open m c out lives rest)) m ≡ m
+    by_at : (a : Bool) → stands_at m.holder c ≡ a → cond a (cond m.closed (turned_closed m c) (turned_open m c out lives rest)) m ≡ m
     by_at false e = refl
     by_at true e =
-        let g : (m.closed || moves m c (length out) || not (is_at (Some (or_else (first_after m.systems c (is_due m.entries lives rest)) c)) c)) ≡ false = rw e at h in
+        let g : (m.closed || moves m c (length out) || not (stands_at (Some (or_else (first_after m.systems c (is_due m.entries lives rest)) c)) c)) ≡ false = rw e at h in
         let ends = or_parts (m.closed || moves m c (length out)) _ g in
         let begins = or_parts m.closed (moves m c (length out)) ends.0 in
         let none = none_asked c (any_unseen c m.entries) out begins.1 in
@@ -96,7 +96,7 @@ turned_kept m c out lives rest h = by_at (is_at m.holder c) refl
 
 rest_kept : (m : Message) (c : SysId) (count lives rest : ℕ) → turn_changes m c count lives rest ≡ false → rest_after_turn m c count rest ≡ rest
 unfolding turn_changes rest_after_turn wakes
-rest_kept m c count lives rest h = by_at (is_at m.holder c) (m.closed || moves m c count) (not (is_at (Some (or_else (first_after m.systems c (is_due m.entries lives rest)) c)) c)) h
+rest_kept m c count lives rest h = by_at (stands_at m.holder c) (m.closed || moves m c count) (not (stands_at (Some (or_else (first_after m.systems c (is_due m.entries lives rest)) c)) c)) h
   where
     by_at : (a b d : Bool) → (a && (b || d)) ≡ false → cond (a && b) (without rest c.0) rest ≡ rest
     by_at true true d e = absurd cc

@@ -17,7 +17,7 @@ use Rattle.grs_wire.specs.declared.request.Req.{Req}
 use Rattle.lock_structure.specs.Words.{route, word_fits}
 use Rattle.lock_structure.specs.declared.word.Route.{Route}
 use Rattle.lock_structure.specs.declared.word.Route.TheVariants as routes
-use Rattle.rsa_message.specs.Message.{unseen, first_number, is_at, closed_by, turned_closed, turned_open, turned, dropped}
+use Rattle.rsa_message.specs.Message.{unseen, first_number, stands_at, closed_by, turned_closed, turned_open, turned, dropped}
 use Rattle.grs_medium.specs.Apply.{turn_row, switch_ring, switch_row, manages, joined, submit_on, submit_row, take_from, take_row, mail_row, leave_row, is_live, without_system, purge_row, rest_row, row, apply, medium_after, ActFits, MayCall}
 use Rattle.grs_medium.specs.Medium.{MediumState, systems_of, live, inbox, word}
 
@@ -31,7 +31,7 @@ keeps-either m false x y p q = q
 
 turns : (m : MediumState) (c : SysId) (out : List Req) → Keeps m (turn_row m c out).1
 unfolding turn_row turned
-turns m c out = (refl, go (is_at m.message.holder c) m.message.closed)
+turns m c out = (refl, go (stands_at m.message.holder c) m.message.closed)
   where
     go : (b d : Bool) → (cond b (cond d (turned_closed m.message c) (turned_open m.message c out (live m) m.rest)) m.message).systems ≡ m.message.systems
     go true true = refl

@@ -15,7 +15,7 @@ use Rattle.grs_wire.specs.LockWords.{is_kept, interest, leave_reply}
 use Rattle.lock_structure.specs.Words.{route}
 use Rattle.lock_structure.specs.declared.word.Route.{Route}
 use Rattle.lock_structure.specs.declared.word.Route.TheVariants as routes
-use Rattle.rsa_message.specs.Message.{unseen, first_number, turn_reply, is_at}
+use Rattle.rsa_message.specs.Message.{unseen, first_number, turn_reply, stands_at}
 use Rattle.grs_medium.specs.Apply.{turn_row, switch_ring, switch_row, submit_on, submit_row, take_from, take_row, mail_row, leave_row, is_live, purge_row, resting, rest_row, row, apply, reply_to}
 use Rattle.grs_medium.specs.Medium.{MediumState, inbox, word, all_rest, medium_at_end}
 use Rattle.grs_medium.specs.Causes.{is_removed, is_heard}
@@ -55,7 +55,7 @@ kind_of (Switch words) = 0
 -- each act is answered by a reply of its kind
 turn_kind : (m : MediumState) (c : SysId) (out : List Req) → kind (turn_row m c out).0 ≡ 1
 unfolding turn_row turn_reply
-turn_kind m c out = by_at (is_at m.message.holder c) _ _ _ _
+turn_kind m c out = by_at (stands_at m.message.holder c) _ _ _ _
   where
     by_at : (b : Bool) (entries : List RingEntry) (taken : ℕ) (closed : Bool) (at : Option SysId) → kind (cond b (Turned entries taken closed) (NotYours at)) ≡ 1
     by_at true entries taken closed at = refl

@@ -6,7 +6,7 @@ use Rattle.grs_wire.specs.Masks.{has, without}
 use Rattle.grs_wire.specs.declared.medium.Reply.{Reply}
 use Rattle.grs_wire.specs.declared.medium.Reply.TheVariants.{Turned, NotYours, Stale, Removed}
 use Rattle.grs_wire.specs.declared.request.Req.{Req}
-use Rattle.rsa_message.specs.Message.{is_at, moves, unseen, turn_reply, turned, turned_open, turned_closed, wakes, rest_after_turn}
+use Rattle.rsa_message.specs.Message.{stands_at, moves, unseen, turn_reply, turned, turned_open, turned_closed, wakes, rest_after_turn}
 use Rattle.grs_medium.specs.Apply.{turn_row, row, apply}
 use Rattle.grs_medium.specs.Medium.{MediumState, live}
 use Rattle.grs_medium.specs.TurnReplies.{refusal, TurnIsRefused, TurnIsServed}
@@ -31,7 +31,7 @@ reply_in (Some r) = r
 
 pub turn_is_refused : TurnIsRefused
 unfolding refusal apply row turn_row turn_reply turned rest_after_turn wakes
-turn_is_refused m c known out r h = go (has m.removed c.0) (known == m.removed) (is_at m.message.holder c) h
+turn_is_refused m c known out r h = go (has m.removed c.0) (known == m.removed) (stands_at m.message.holder c) h
   where
     go : (b d e : Bool) → refused_by m b d e ≡ Some r → cond {A = Reply × MediumState} b (Removed, m) (cond d (row_where m c out e) (Stale m.removed, m)) ≡ (r, m)
     go true d e k = ap (λ (o : Option Reply). (reply_in o, m)) k
@@ -41,7 +41,7 @@ turn_is_refused m c known out r h = go (has m.removed c.0) (known == m.removed) 
 
 pub turn_is_served : TurnIsServed
 unfolding refusal apply row turn_row turn_reply turned rest_after_turn wakes
-turn_is_served m c known out h = go (has m.removed c.0) (known == m.removed) (is_at m.message.holder c) h
+turn_is_served m c known out h = go (has m.removed c.0) (known == m.removed) (stands_at m.message.holder c) h
   where
     go : (b d e : Bool) → refused_by m b d e ≡ None → cond {A = Reply × MediumState} b (Removed, m) (cond d (row_where m c out e) (Stale m.removed, m)) ≡ (Turned (unseen c m.message.entries) (cond m.message.closed 0 (length out)) m.message.closed, (row_where m c out e).1)
     go true d e k = absurd (cc)
@@ -50,9 +50,9 @@ turn_is_served m c known out h = go (has m.removed c.0) (known == m.removed) (is
     go false false e k = absurd (cc)
 
 -- the message is at the caller of a Turn that isn't refused
-pub turn_is_here : (m : MediumState) (c : SysId) (known : ℕ) → refusal m c known ≡ None → is_at m.message.holder c ≡ true
+pub turn_is_here : (m : MediumState) (c : SysId) (known : ℕ) → refusal m c known ≡ None → stands_at m.message.holder c ≡ true
 unfolding refusal
-turn_is_here m c known h = go (has m.removed c.0) (known == m.removed) (is_at m.message.holder c) h
+turn_is_here m c known h = go (has m.removed c.0) (known == m.removed) (stands_at m.message.holder c) h
   where
     go : (b d e : Bool) → refused_by m b d e ≡ None → e ≡ true
     go true d e k = absurd (cc)

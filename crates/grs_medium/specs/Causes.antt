@@ -9,7 +9,7 @@ use Rattle.grs_wire.specs.declared.medium.Mail.{Mail}
 use Rattle.grs_wire.specs.declared.medium.Reply.TheVariants as replies
 use Rattle.grs_wire.specs.LockWords.{interest, manager, is_manager}
 use Rattle.lock_structure.specs.Laws.{has_others}
-use Rattle.rsa_message.specs.Message.{is_at, unseen, first_number}
+use Rattle.rsa_message.specs.Message.{stands_at, unseen, first_number}
 use Rattle.grs_medium.specs.Apply.{is_live, resting, reply_to}
 use Rattle.grs_medium.specs.Inboxes.{is_empty, first_mail}
 use Rattle.grs_medium.specs.Medium.{MediumState, all_rest, inbox, medium_at_end, word}
@@ -28,7 +28,7 @@ is_heard m c call = not (is_removed m c) && not (is_uninformed m call)
 
 -- a Turn, and the message isn't at the caller
 abbrev pub turns_elsewhere : MediumState → SysId → Act → Bool
-turns_elsewhere m c (Turn out) = not (is_at m.message.holder c)
+turns_elsewhere m c (Turn out) = not (stands_at m.message.holder c)
 turns_elsewhere m c act = false
 
 -- a Switch in star mode

@@ -1,7 +1,7 @@
 -- What is said of calls that change the medium, and of calls that don't.
 use Rattle.std.specs.Prelude.{◌≡◌, ◌<◌, ◌≤◌, true, false, length}
 use Rattle.grs_wire.specs.Masks.{has}
-use Rattle.rsa_message.specs.Message.{is_at}
+use Rattle.rsa_message.specs.Message.{stands_at}
 use Rattle.grs_base.specs.declared.resource.SysId.{SysId}
 use Rattle.grs_wire.specs.LockWords.{manager, manager_number}
 use Rattle.grs_wire.specs.declared.medium.Act.{Act}
@@ -16,7 +16,7 @@ LeavesTheRest = (m : MediumState) (c : SysId) (call : Call) → changes m c call
 
 -- where a closed message stands at a system, that one has yet to change to star mode
 abbrev pub WaitsForItsHolder : MediumState → Type 0
-WaitsForItsHolder m = m.message.closed ≡ true → (c : SysId) → is_at m.message.holder c ≡ true → has m.message.still c.0 ≡ true
+WaitsForItsHolder m = m.message.closed ≡ true → (c : SysId) → stands_at m.message.holder c ≡ true → has m.message.still c.0 ≡ true
 
 -- The lock entry that an act names is there, and so is the inbox that gets its mail.
 abbrev pub NamesWhatIsThere : MediumState → Act → Type 0

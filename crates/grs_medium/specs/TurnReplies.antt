@@ -6,7 +6,7 @@ use Rattle.grs_wire.specs.declared.medium.Act.TheVariants.{Turn}
 use Rattle.grs_wire.specs.declared.medium.Reply.{Reply}
 use Rattle.grs_wire.specs.declared.medium.Reply.TheVariants as replies
 use Rattle.grs_wire.specs.declared.request.Req.{Req}
-use Rattle.rsa_message.specs.Message.{is_at, unseen}
+use Rattle.rsa_message.specs.Message.{stands_at, unseen}
 use Rattle.grs_medium.specs.Apply.{turn_row, apply}
 use Rattle.grs_medium.specs.Medium.{MediumState}
 use Rattle.grs_medium.specs.declared.medium.TurnRefusal.{TurnRefusal}
@@ -25,7 +25,7 @@ refusal m c known =
     cond (has m.removed c.0)
     (Some replies.Removed)
     (cond (known == m.removed)
-    (cond (is_at m.message.holder c) None (Some (replies.NotYours m.message.holder)))
+    (cond (stands_at m.message.holder c) None (Some (replies.NotYours m.message.holder)))
     (Some (replies.Stale m.removed)))
 
 -- A Turn that is refused so is answered that, whatever it would put in, and leaves the medium as it was.

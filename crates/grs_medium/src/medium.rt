@@ -9,7 +9,7 @@ ghost use Rattle.grs_medium.specs.Medium.{first_medium, systems_of, awake, inbox
 ghost use Rattle.grs_medium.specs.Apply.{turn_row, manages, joined, submit_row, switch_ring, switch_row, take_row, mail_row, leave_row, purge_row, rest_row, reply_to, medium_after, changes, row, row_changes, ActFits, MayCall};
 ghost use Rattle.grs_medium.specs.Room.{HasRoomFor, HasRoomOn, request_on};
 ghost use Rattle.grs_medium.specs.TurnReplies.{reply_of, refusal};
-ghost use Rattle.rsa_message.specs.Message.{is_at, rest_after_turn, unseen, first_number};
+ghost use Rattle.rsa_message.specs.Message.{stands_at, rest_after_turn, unseen, first_number};
 ghost use Rattle.rsa_message.specs.Places.{HasPlaces};
 ghost use Rattle.rsa_message.specs.Room.{HasRoom};
 ghost use Rattle.std.specs.Option.{option_map};
@@ -206,7 +206,7 @@ impl Medium {
         if known != self.removed {
             return Some(TurnRefusal::Stale { set: self.removed });
         }
-        if !self.rsa.is_at(caller) {
+        if !self.rsa.stands_at(caller) {
             return Some(TurnRefusal::NotYours {
                 at: self.rsa.holder(),
             });
@@ -242,7 +242,7 @@ impl Medium {
     #[tactic(auto, unfolding(crate::specs::Apply::turn_row))]
     pub fn pass_on(&mut self, caller: SysId, out: List<Req>)
         requires caller { caller.0 < systems_of self.old.state }
-        requires here { is_at self.old.state.message.holder caller ≡ true }
+        requires here { stands_at self.old.state.message.holder caller ≡ true }
         requires few { length out ≤ 32 }
         requires places { HasPlaces self.old.room (length out) }
         ensures state { self.new.state ≡ (turn_row self.old.state caller out).1 }

@@ -21,7 +21,7 @@ use Rattle.grs_wire.specs.declared.request.Req.{Req}
 use Rattle.grs_wire.specs.declared.told.Told.{Told}
 use Rattle.grs_wire.specs.declared.told.ToldLine.{ToldLine}
 use Rattle.grs_wire.specs.declared.told.ToldLine.TheVariants.{Coded, Shown}
-use Rattle.rsa_message.specs.Message.{Message, is_at}
+use Rattle.rsa_message.specs.Message.{Message, stands_at}
 use Rattle.grs_world.specs.World.{World, run, told}
 
 -- No system but this one has still to process the entry.
@@ -33,7 +33,7 @@ OnlyLeft s entry = (u : ℕ) → u ≢ s.0 → has entry.mask u ≡ false
 abbrev pub LastAtHome : Message → Type 0
 LastAtHome m =
     (s : SysId) (before behind : List RingEntry) (entry : RingEntry) (q : Req) → m.entries ≡ before ++ entry ∷ behind
-    → entry.body ≡ Request q → entry.from ≡ s → is_at m.holder s ≡ true → OnlyLeft s entry
+    → entry.body ≡ Request q → entry.from ≡ s → stands_at m.holder s ≡ true → OnlyLeft s entry
 
 -- So it is in each world that a run reaches.
 abbrev pub ComesBackLast : Type 0

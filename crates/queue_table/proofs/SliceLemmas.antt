@@ -4,7 +4,7 @@ use Rattle.std.specs.Prelude.{filter, ◌%◌}
 use Rattle.std.proofs.lemmas.Bool.Decides.{nat_tests}
 use Rattle.grs_base.specs.State.{State}
 use Rattle.grs_base.specs.Rows.{rows_of}
-use Rattle.grs_base.specs.Looks.{look, is_shown, is_at}
+use Rattle.grs_base.specs.Looks.{look, is_shown, is_of_place}
 use Rattle.grs_base.specs.Slices.{hash_of}
 use Rattle.grs_base.specs.declared.look.Filter.{Filter}
 use Rattle.grs_base.specs.declared.look.Place.TheVariants.{Slice}
@@ -20,7 +20,7 @@ below_64 h = omega arith
 other_slice : (h n : ℕ) → 64 ≤ n → eqb (h % 64) n ≡ false
 other_slice h n b = grind (arith, nat_tests, b, below_64 h)
 
-out_of_place : (n : ℕ) (r : Res) → 64 ≤ n → is_at (Slice n) r ≡ false
+out_of_place : (n : ℕ) (r : Res) → 64 ≤ n → is_of_place (Slice n) r ≡ false
 out_of_place n (Systems q r) b = other_slice (hash_of q r) n b
 out_of_place n (System s q r) b = refl
 out_of_place n (Step s j q r) b = refl

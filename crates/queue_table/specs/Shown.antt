@@ -3,7 +3,7 @@ use Rattle.std.specs.Prelude.{ℕ, nat_eq, Bool, true, ◌&&◌, cond, List, [],
 use Rattle.std.specs.FinMap.{put}
 use Rattle.grs_base.specs.State.{Held, list_at}
 use Rattle.grs_base.specs.ResOrder.{res_order}
-use Rattle.grs_base.specs.Looks.{is_at, matches, is_contended}
+use Rattle.grs_base.specs.Looks.{is_of_place, matches, is_contended}
 use Rattle.grs_base.specs.declared.look.Place.{Place}
 use Rattle.grs_base.specs.declared.look.Filter.{Filter}
 use Rattle.grs_base.specs.declared.resource.Row.{Row}
@@ -24,7 +24,7 @@ with_list r (x ∷ xs) m = put res_order r (x ∷ xs) m
 -- whether a resource is of the place that is looked at, if it is one
 abbrev pub is_of : Option Place → Res → Bool
 is_of None r = true
-is_of (Some p) r = is_at p r
+is_of (Some p) r = is_of_place p r
 
 -- whether the list of a resource may be shown, as far as the resource tells
 abbrev pub may_show : Option Place → Filter → Res → Bool

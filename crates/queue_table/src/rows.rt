@@ -10,7 +10,7 @@ ghost use Rattle.queue_table.specs.Shown.{plain, with_list, may_show, passes, sh
 
 use super::parts::number;
 use super::placed::Placed;
-use gqscan::{is_at, matches_filter};
+use gqscan::{is_of_place, matches_filter};
 use grs_base::{Elem, Filter, List, NoMemory, Place, Queues, Res, Row};
 use indexmap::IndexMap;
 use ret_codes::owners_among;
@@ -61,7 +61,7 @@ fn may_be_shown(place: Option<Place>, chosen: &Filter, res: &Res) -> bool
     ensures { result ≡ may_show place chosen.now res.now }
 {
     match place {
-        Some(place) => is_at(place, res) && matches_filter(chosen, res, true),
+        Some(place) => is_of_place(place, res) && matches_filter(chosen, res, true),
         None => matches_filter(chosen, res, true),
     }
 }

@@ -4,12 +4,12 @@ use Rattle.std.specs.Prelude.{find}
 use Rattle.std.specs.List.{range_with_len}
 use Rattle.std.proofs.lemmas.Bool.{eqb-true}
 use Rattle.grs_base.specs.declared.resource.SysId.{SysId}
-use Rattle.rsa_message.specs.Message.{is_at}
+use Rattle.rsa_message.specs.Message.{stands_at}
 
 -- the message stands at one system alone
-pub is_at-exact : (h : Option SysId) (s : SysId) → is_at h s ≡ true → h ≡ Some s
-is_at-exact None s e = absurd cc
-is_at-exact (Some t) s e = ap (λ (n : ℕ). Some (record { 0 = n })) (eqb-true t.0 s.0 e)
+pub stands_at-exact : (h : Option SysId) (s : SysId) → stands_at h s ≡ true → h ≡ Some s
+stands_at-exact None s e = absurd cc
+stands_at-exact (Some t) s e = ap (λ (n : ℕ). Some (record { 0 = n })) (eqb-true t.0 s.0 e)
 
 -- the first of the systems from this place on, by the next place
 pub find_step : (test : SysId → Bool) (systems s k n : ℕ) → k < n →

@@ -27,9 +27,9 @@ abbrev pub never_opened : ℕ → Message
 never_opened systems = record { systems = systems; holder = None; closed = true; still = 0; entries = []; next = 1 }
 
 -- whether the message stands at s
-abbrev pub is_at : Option SysId → SysId → Bool
-is_at None s = false
-is_at (Some h) s = h.0 == s.0
+abbrev pub stands_at : Option SysId → SysId → Bool
+stands_at None s = false
+stands_at (Some h) s = h.0 == s.0
 
 -- the systems in the order in which a message that leaves s comes to them: from the next number to the last, from 0 on, and
 -- to s again
@@ -90,14 +90,14 @@ moves m c count = any_unseen c m.entries || not (count == 0)
 -- the reply to a Turn of c with this many requests
 unfoldable pub turn_reply : Message → SysId → ℕ → Reply
 turn_reply m c count =
-    cond (is_at m.holder c)
+    cond (stands_at m.holder c)
     (Turned (unseen c m.entries) (cond m.closed 0 count) m.closed)
     (NotYours m.holder)
 
 -- whether such a Turn clears the flag of rest of c: where something was given or put in, and at the closed
 -- message always
 unfoldable pub wakes : Message → SysId → ℕ → Bool
-wakes m c count = is_at m.holder c && (m.closed || moves m c count)
+wakes m c count = stands_at m.holder c && (m.closed || moves m c count)
 
 -- the flags of rest after a Turn of c
 unfoldable pub rest_after_turn : Message → SysId → ℕ → ℕ → ℕ
@@ -131,18 +131,18 @@ turned_closed m c =
 
 -- the message after a Turn of c
 unfoldable pub turned : Message → SysId → List Req → ℕ → ℕ → Message
-turned m c out live rest = cond (is_at m.holder c) (cond m.closed (turned_closed m c) (turned_open m c out live rest)) m
+turned m c out live rest = cond (stands_at m.holder c) (cond m.closed (turned_closed m c) (turned_open m c out live rest)) m
 
 -- whether a Turn of c with this many requests changes the message
 unfoldable pub turn_changes : Message → SysId → ℕ → ℕ → ℕ → Bool
 turn_changes m c count live rest =
-    is_at m.holder c && (m.closed || moves m c count || not (is_at (Some (or_else (first_after m.systems c (is_due m.entries live rest)) c)) c))
+    stands_at m.holder c && (m.closed || moves m c count || not (stands_at (Some (or_else (first_after m.systems c (is_due m.entries live rest)) c)) c))
 
 -- the message after c has removed t, with the systems that are live then
 unfoldable pub dropped : Message → SysId → SysId → ℕ → Message
 dropped m c t live = record {
   systems = m.systems;
-  holder = cond (is_at m.holder t) (first_after m.systems t (λ s. has live s.0)) m.holder;
+  holder = cond (stands_at m.holder t) (first_after m.systems t (λ s. has live s.0)) m.holder;
   closed = m.closed;
   still = m.still;
   entries = cleared t m.entries ++ record { number = m.next; from = c; body = Remove t; mask = live } ∷ [];

@@ -2,7 +2,7 @@
 use Rattle.std.specs.Prelude.{◌≡◌, ℕ, ◌≤◌, cond, max, List, [], Option, Some, None}
 use Rattle.grs_base.specs.declared.resource.SysId.{SysId}
 use Rattle.grs_wire.specs.declared.medium.RingEntry.{RingEntry}
-use Rattle.rsa_message.specs.Message.{Message, is_at, unseen}
+use Rattle.rsa_message.specs.Message.{Message, stands_at, unseen}
 
 -- For whose Turn there is room, if for any, and for how many new entries.
 pub record Room : Type 0 where
@@ -21,4 +21,4 @@ pub record RsaValue : Type 0 where
 -- the copies that are kept for the reply: those that it gives, where the message stands at its caller
 abbrev pub given_to : Option SysId → Option SysId → List RingEntry → List RingEntry
 given_to None holder es = []
-given_to (Some s) holder es = cond (is_at holder s) (unseen s es) []
+given_to (Some s) holder es = cond (stands_at holder s) (unseen s es) []

@@ -2,7 +2,7 @@
 ghost use Rattle.std.specs.Prelude.{◌≡◌, ◌+◌, ◌%◌, ◌<◌, ◌≤◌};
 ghost use Rattle.grs_base.specs.Limits.{most_systems};
 ghost use Rattle.grs_wire.specs.Masks.{has};
-ghost use Rattle.rsa_message.specs.Message.{is_at, is_due, first_after, moved_on, or_else, number_of};
+ghost use Rattle.rsa_message.specs.Message.{stands_at, is_due, first_after, moved_on, or_else, number_of};
 
 use crate::entries::has_unseen;
 use grs_base::SysId;
@@ -11,7 +11,7 @@ use grs_wire::masks::has_system;
 
 /// Whether the message stands at the system.
 pub fn stands_at(holder: Option<SysId>, system: SysId) -> bool
-    ensures { result ≡ is_at holder system }
+    ensures { result ≡ stands_at holder system }
 {
     match holder {
         Some(at) => at.0 == system.0,

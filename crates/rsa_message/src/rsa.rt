@@ -1,7 +1,7 @@
 //! The message as a whole.
 ghost use Rattle.std.specs.Prelude.{◌≡◌, ◌+◌, ◌<◌, ◌≤◌, true, length, if◌then◌else◌, Some, None, IfOk, OnOk};
 ghost use Rattle.grs_base.specs.Limits.{most_systems, last_number};
-ghost use Rattle.rsa_message.specs.Message.{is_at, opened, never_opened, unseen, first_number, turn_reply, turned, turned_open, turned_closed, turn_changes, wakes, dropped, closed_by, message_at_end};
+ghost use Rattle.rsa_message.specs.Message.{stands_at, opened, never_opened, unseen, first_number, turn_reply, turned, turned_open, turned_closed, turn_changes, wakes, dropped, closed_by, message_at_end};
 ghost use Rattle.rsa_message.specs.Places.{HasPlaces};
 ghost use Rattle.rsa_message.specs.Room.{HasRoom, given_to};
 
@@ -112,7 +112,7 @@ impl Rsa {
     /// The copies for a reply, of which there are none afterwards.
     fn take_given(&mut self, caller: SysId) -> List<RingEntry>
         requires caller { self.old.room.caller ≡ Some caller }
-        requires here { is_at self.old.message.holder caller ≡ true }
+        requires here { stands_at self.old.message.holder caller ≡ true }
         ensures given { result ≡ unseen caller self.old.message.entries }
         ensures message { self.new.message ≡ self.old.message }
         ensures caller { self.new.room.caller ≡ None }
@@ -172,8 +172,8 @@ impl Rsa {
     }
 
     /// Whether the message stands at the system.
-    pub fn is_at(&self, system: SysId) -> bool
-        ensures { result ≡ is_at self.now.message.holder system }
+    pub fn stands_at(&self, system: SysId) -> bool
+        ensures { result ≡ stands_at self.now.message.holder system }
     {
         stands_at(self.holder, system)
     }
@@ -184,7 +184,7 @@ impl Rsa {
     #[tactic(auto, unfolding(crate::specs::Message::turned))]
     pub fn pass_on(&mut self, caller: SysId, out: List<Req>, live: u32, rest: u32)
         requires system { caller.0 < self.old.message.systems }
-        requires here { is_at self.old.message.holder caller ≡ true }
+        requires here { stands_at self.old.message.holder caller ≡ true }
         requires places { HasPlaces self.old.room (length out) }
         ensures message { self.new.message ≡ turned self.old.message caller out live rest }
         ensures systems { self.new.message.systems ≡ self.old.message.systems }

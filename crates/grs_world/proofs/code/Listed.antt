@@ -23,7 +23,7 @@ use Rattle.grs_wire.specs.declared.medium.Mail.{Mail}
 use Rattle.grs_wire.specs.declared.medium.Reply.{Reply}
 use Rattle.grs_wire.specs.declared.medium.Reply.TheVariants.{Turned, NotYours, Already, Left, Kept, Purged, NoSuch, InStar, Resting, Over, Stale, Removed}
 use Rattle.grs_wire.specs.declared.request.Req.{Req}
-use Rattle.rsa_message.specs.Message.{unseen, first_number, turn_reply, is_at}
+use Rattle.rsa_message.specs.Message.{unseen, first_number, turn_reply, stands_at}
 
 no_more : (n : ℕ) (closed : Bool) → nat_le (cond closed 0 n) n ≡ true
 no_more n true = grind (arith, nat_tests)
@@ -31,7 +31,7 @@ no_more n false = grind (arith, nat_tests)
 
 turn_listed : (m : MediumState) (c : SysId) (out : List Req) → is_listed (acts.Turn out) (turn_row m c out).0 ≡ true
 unfolding turn_row turn_reply
-turn_listed m c out = by_at (is_at m.message.holder c)
+turn_listed m c out = by_at (stands_at m.message.holder c)
   where
     by_at : (b : Bool) → is_listed (acts.Turn out) (cond b (Turned (unseen c m.message.entries) (cond m.message.closed 0 (length out)) m.message.closed) (NotYours m.message.holder)) ≡ true
     by_at true = no_more (length out) m.message.closed

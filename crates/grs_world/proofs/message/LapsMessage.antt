@@ -13,8 +13,8 @@ use Rattle.grs_wire.specs.declared.request.Req.{Req}
 use Rattle.grs_wire.specs.Masks.{has, without, with_also, only, others}
 use Rattle.grs_wire.proofs.WantLaws.{by_test}
 use Rattle.grs_wire.proofs.MaskLaws.{has-zero, has-with_other, has-without_same, has-without_other}
-use Rattle.rsa_message.specs.Message.{Message, is_at, first_after, or_else, is_unseen, unseen, any_unseen, left_by, cleared, stamped, is_due, moves, turned_open, turned_closed, turned}
-use Rattle.rsa_message.proofs.OrderLaws.{is_at-exact}
+use Rattle.rsa_message.specs.Message.{Message, stands_at, first_after, or_else, is_unseen, unseen, any_unseen, left_by, cleared, stamped, is_due, moves, turned_open, turned_closed, turned}
+use Rattle.rsa_message.proofs.OrderLaws.{stands_at-exact}
 use Rattle.grs_world.specs.Laps.{OnlyLeft, LastAtHome}
 use Rattle.grs_world.proofs.message.LapsRound.{Ahead, home, inside_round, after_some, first_found, first_inside}
 use Rattle.grs_world.proofs.message.Stands.{has-others}
@@ -230,12 +230,12 @@ open_round m c out live rest laws all here opened =
 
 pub turned_round : (m : Message) (c : SysId) (out : List Req) (live rest : ℕ) → Round m → live ≡ others m.systems 0 → Round (turned m c out live rest)
 unfolding turned
-turned_round m c out live rest laws all = go (is_at m.holder c) m.closed refl refl
+turned_round m c out live rest laws all = go (stands_at m.holder c) m.closed refl refl
   where
-    go : (here closed : Bool) → is_at m.holder c ≡ here → m.closed ≡ closed → Round (cond here (cond closed (turned_closed m c) (turned_open m c out live rest)) m)
+    go : (here closed : Bool) → stands_at m.holder c ≡ here → m.closed ≡ closed → Round (cond here (cond closed (turned_closed m c) (turned_open m c out live rest)) m)
     go false closed at shut = laws
-    go true false at shut = open_round m c out live rest laws all (is_at-exact m.holder c at) shut
-    go true true at shut = let none : m.holder ≡ None = laws.shut shut in let some : m.holder ≡ Some c = is_at-exact m.holder c at in absurd cc
+    go true false at shut = open_round m c out live rest laws all (stands_at-exact m.holder c at) shut
+    go true true at shut = let none : m.holder ≡ None = laws.shut shut in let some : m.holder ≡ Some c = stands_at-exact m.holder c at in absurd cc
 
 -- ---- where it has come home
 awaited_of : (n : ℕ) (h : SysId) (before behind : List RingEntry) (e : RingEntry) → AllAwaited n h (before ++ e ∷ behind) → Awaited n h e
@@ -247,7 +247,7 @@ pub left_at_home : (n : ℕ) (s : SysId) (es before behind : List RingEntry) (e 
 left_at_home n s es before behind e all is from = only_left n s e from (awaited_of n s before behind e (subst (AllAwaited n s) is all))
 
 pub last_at_home : (m : Message) → Round m → LastAtHome m
-last_at_home m laws s before behind e q held body from here = left_at_home m.systems s m.entries before behind e (laws.awaited s (is_at-exact m.holder s here)) held from
+last_at_home m laws s before behind e q held body from here = left_at_home m.systems s m.entries before behind e (laws.awaited s (stands_at-exact m.holder s here)) held from
 
 -- The entries that a system has still to process are awaited as all are.
 pub unseen_awaited : (n : ℕ) (s : SysId) (es : List RingEntry) → AllAwaited n s es → AllAwaited n s (unseen s es)

@@ -24,7 +24,7 @@ use Rattle.grs_wire.specs.declared.medium.RingBody.TheVariants.{Request, Remove}
 use Rattle.grs_wire.specs.declared.medium.RingEntry.{RingEntry}
 use Rattle.grs_wire.specs.declared.request.Req.{Req}
 use Rattle.grs_wire.proofs.WantLaws.{by_test}
-use Rattle.rsa_message.specs.Message.{Message, is_at, unseen, opened, never_opened, left_by, cleared, stamped, turn_reply, turned, turned_open, turned_closed, rest_after_turn}
+use Rattle.rsa_message.specs.Message.{Message, stands_at, unseen, opened, never_opened, left_by, cleared, stamped, turn_reply, turned, turned_open, turned_closed, rest_after_turn}
 use Rattle.grs_known.proofs.lists.Facts.{all-behind, take-none}
 use Rattle.grs_known.proofs.lists.Truths.{no_truth}
 use Rattle.grs_world.specs.World.{World, Turnout, carry_out, chosen, placed, counted, happens, run, first_world}
@@ -39,7 +39,7 @@ use Rattle.grs_known.proofs.system.Says.{is_home_at, own_requests}
 pub data Came (deck : Deck) (w : World) (s : SysId) (n : NodeState) : Turnout → Type 0 where
   nothing : (m : MediumState) (k : NodeState) → m.message ≡ w.medium.message → k.tasks.told ≡ n.tasks.told → Came deck w s n (record { medium = m; step = record { node = k; fixed = [] } })
   went_on : (t : TaskId) → may_go deck n t ≡ true → Came deck w s n (record { medium = w.medium; step = finish_quiet deck n (choices.Task t) })
-  turn : (m : MediumState) → is_at w.medium.message.holder s ≡ true → m.message ≡ turned_open w.medium.message s (take most_additions n.outbox) (live w.medium) w.medium.rest →
+  turn : (m : MediumState) → stands_at w.medium.message.holder s ≡ true → m.message ≡ turned_open w.medium.message s (take most_additions n.outbox) (live w.medium) w.medium.rest →
       Came deck w s n (record { medium = m; step = put_in (read_entries deck n (unseen s w.medium.message.entries)) (length (take most_additions n.outbox)) })
 
 module _ (deck : Deck) (w : World) (s : SysId) (n : NodeState) (shut : w.medium.message.closed ≡ true → w.medium.message.holder ≡ None) (alone : n.star ≡ None) where
@@ -64,16 +64,16 @@ module _ (deck : Deck) (w : World) (s : SysId) (n : NodeState) (shut : w.medium.
 
   came_turn : ComesBy choices.Turn (row w.medium s (acts.Turn (take most_additions n.outbox)))
   unfolding row turn_row turn_reply turned
-  came_turn = go (is_at w.medium.message.holder s) refl w.medium.message.closed refl
+  came_turn = go (stands_at w.medium.message.holder s) refl w.medium.message.closed refl
     where
-      go : (b : Bool) → is_at w.medium.message.holder s ≡ b → (d : Bool) → w.medium.message.closed ≡ d →
+      go : (b : Bool) → stands_at w.medium.message.holder s ≡ b → (d : Bool) → w.medium.message.closed ≡ d →
           ComesBy choices.Turn (
             cond b (replies.Turned (unseen s w.medium.message.entries) (cond d 0 (length (take most_additions n.outbox))) w.medium.message.closed) (replies.NotYours w.medium.message.holder),
             after_turn (cond b (cond d (turned_closed w.medium.message s) (turned_open w.medium.message s (take most_additions n.outbox) (live w.medium) w.medium.rest)) w.medium.message),
           )
       go false b d k = still (after_turn w.medium.message) refl
       go true b false k = turn (after_turn (turned_open w.medium.message s (take most_additions n.outbox) (live w.medium) w.medium.rest)) b refl
-      go true b true k = no_truth (is_at w.medium.message.holder s) b (ap (λ h. is_at h s) (shut k))
+      go true b true k = no_truth (stands_at w.medium.message.holder s) b (ap (λ h. stands_at h s) (shut k))
 
   called : (choice : Choice) (call : CallOfMedium) → ComesBy choice (apply w.medium s call) → Comes (carry_out deck w.medium s n choice (Call call))
   unfolding carry_out

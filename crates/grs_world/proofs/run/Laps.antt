@@ -14,8 +14,8 @@ use Rattle.grs_wire.specs.declared.medium.RingBody.TheVariants.{Request}
 use Rattle.grs_wire.specs.declared.medium.RingEntry.{RingEntry}
 use Rattle.grs_wire.specs.declared.request.Req.{Req}
 use Rattle.grs_wire.proofs.WantLaws.{by_test}
-use Rattle.rsa_message.specs.Message.{Message, is_at, opened, never_opened, unseen, turn_reply, turned, turned_open, turned_closed}
-use Rattle.rsa_message.proofs.OrderLaws.{is_at-exact}
+use Rattle.rsa_message.specs.Message.{Message, stands_at, opened, never_opened, unseen, turn_reply, turned, turned_open, turned_closed}
+use Rattle.rsa_message.proofs.OrderLaws.{stands_at-exact}
 use Rattle.grs_medium.specs.Medium.{MediumState, first_medium, systems_of, live, all_rest, medium_at_end}
 use Rattle.grs_medium.specs.Apply.{turn_row, resting, rest_row, row, reply_to, medium_after}
 use Rattle.grs_node.specs.Node.{NodeState, most_additions, prepare}
@@ -58,7 +58,7 @@ goes_at_start n entries true = record { whole = refl; round = closed_at_start n;
 -- Nobody has a Turn where the message stands nowhere.
 turned_nowhere : (m : Message) (c : SysId) (out : List Req) (live rest : ℕ) → m.holder ≡ None → turned m c out live rest ≡ m
 unfolding turned
-turned_nowhere m c out live rest none = ap (λ h. cond (is_at h c) (cond m.closed (turned_closed m c) (turned_open m c out live rest)) m) none
+turned_nowhere m c out live rest none = ap (λ h. cond (stands_at h c) (cond m.closed (turned_closed m c) (turned_open m c out live rest)) m) none
 
 turn_goes : (m : MediumState) (c : SysId) (out : List Req) → Goes m → Goes (row m c (Turn out)).1
 unfolding row turn_row
@@ -109,8 +109,8 @@ no_gift s (x ∷ before) behind entry q is body from = absurd cc
 turn_gift : (m : MediumState) (s : SysId) (out : List Req) → Goes m → Gives s (given_by (row m s (Turn out)).0)
 unfolding row turn_row turn_reply
 turn_gift m s out g =
-    by_test (λ r. Gives s (given_by r)) (is_at m.message.holder s) (Turned (unseen s m.message.entries) (cond m.message.closed 0 (length out)) m.message.closed) (NotYours m.message.holder)
-    (λ here before behind entry q is body from. left_at_home m.message.systems s (unseen s m.message.entries) before behind entry (unseen_awaited m.message.systems s m.message.entries (g.round.awaited s (is_at-exact m.message.holder s here))) is from)
+    by_test (λ r. Gives s (given_by r)) (stands_at m.message.holder s) (Turned (unseen s m.message.entries) (cond m.message.closed 0 (length out)) m.message.closed) (NotYours m.message.holder)
+    (λ here before behind entry q is body from. left_at_home m.message.systems s (unseen s m.message.entries) before behind entry (unseen_awaited m.message.systems s m.message.entries (g.round.awaited s (stands_at-exact m.message.holder s here))) is from)
     (λ away. no_gift s)
 
 rest_gift : (m : MediumState) (s : SysId) → Gives s (given_by (row m s Rest).0)

@@ -24,8 +24,8 @@ use Rattle.grs_wire.specs.declared.request.Req.{Req}
 use Rattle.grs_wire.specs.declared.told.ToldLine.{ToldLine}
 use Rattle.grs_wire.specs.declared.told.ToldLine.TheVariants as lines
 use Rattle.grs_medium.specs.Medium.{live}
-use Rattle.rsa_message.specs.Message.{Message, is_at, is_unseen, unseen}
-use Rattle.rsa_message.proofs.OrderLaws.{is_at-exact}
+use Rattle.rsa_message.specs.Message.{Message, stands_at, is_unseen, unseen}
+use Rattle.rsa_message.proofs.OrderLaws.{stands_at-exact}
 use Rattle.grs_known.specs.Items.{RunItem, items}
 use Rattle.grs_known.proofs.lists.Facts.{filter-cons_kept}
 use Rattle.grs_known.proofs.lists.Owners.{is_among}
@@ -128,12 +128,12 @@ module _ (deck : Deck) (ring : deck.star ≡ false) (es : List Event) (e : Event
 
   module _ (g : GoodWorld deck es w) (n : NodeState) (at : slice_get w.nodes e.system.0 ≡ Some n) where
     -- So it is where the message stands at the task's system,
-    at_home : is_at w.medium.message.holder e.system ≡ true → (t : TaskId) → t.system.0 ≡ s → Last t
+    at_home : stands_at w.medium.message.holder e.system ≡ true → (t : TaskId) → t.system.0 ≡ s → Last t
     at_home here t home before behind entry q is body same =
         let m = w.medium.message in
         let mine : IsHome entry.from entry.body = home_of before behind entry (subst AllHome is (all_home deck ring es)) in
         let from : entry.from ≡ t.system = ap (λ (x : ℕ). let y : SysId = record { 0 = x } in y) (from_home t entry q body same mine) in
-        left_at_home m.systems t.system m.entries before behind entry ((goes deck ring es).round.awaited t.system (is_at-exact m.holder e.system here ∙ ap Some (sym (its_system t home)))) is from
+        left_at_home m.systems t.system m.entries before behind entry ((goes deck ring es).round.awaited t.system (stands_at-exact m.holder e.system here ∙ ap Some (sym (its_system t home)))) is from
 
     -- and where the task has no request that its system has still to process.
     at_rest : (t : TaskId) → t.system.0 ≡ s → is_among t (askers (own_requests e.system.0 (g.later e.system.0))) ≡ false → Last t

@@ -23,7 +23,7 @@ use Rattle.grs_wire.specs.declared.medium.Reply.TheVariants as replies
 use Rattle.grs_wire.specs.declared.request.Fixed.TheVariants.{Asked}
 use Rattle.grs_wire.specs.declared.request.Req.{Req}
 use Rattle.grs_wire.proofs.WantLaws.{by_test}
-use Rattle.rsa_message.specs.Message.{Message, is_at, unseen, turn_reply, turned, turned_open, turned_closed, rest_after_turn, opened, never_opened}
+use Rattle.rsa_message.specs.Message.{Message, stands_at, unseen, turn_reply, turned, turned_open, turned_closed, rest_after_turn, opened, never_opened}
 use Rattle.grs_known.specs.Items.{RunItem, rounds, items}
 use Rattle.grs_known.specs.Change.{put_at}
 use Rattle.grs_known.proofs.known.Histories.{IsHistory}
@@ -131,16 +131,16 @@ module _ (deck : Deck) (es : List Event) (e : Event) (g : GoodWorld deck es (run
 
     good_turn : LeadsBy choices.Turn (row (run deck es).medium e.system (acts.Turn (take most_additions n.outbox)))
     unfolding row turn_row turn_reply turned flags after_turn
-    good_turn = go (is_at w.medium.message.holder c) refl w.medium.message.closed refl
+    good_turn = go (stands_at w.medium.message.holder c) refl w.medium.message.closed refl
       where
-        go : (b : Bool) → is_at (run deck es).medium.message.holder e.system ≡ b → (d : Bool) → (run deck es).medium.message.closed ≡ d →
+        go : (b : Bool) → stands_at (run deck es).medium.message.holder e.system ≡ b → (d : Bool) → (run deck es).medium.message.closed ≡ d →
             LeadsBy choices.Turn (
               cond b (replies.Turned (unseen e.system (run deck es).medium.message.entries) (cond d 0 (length (take most_additions n.outbox))) (run deck es).medium.message.closed) (replies.NotYours (run deck es).medium.message.holder),
               after_turn (cond b (cond d (turned_closed (run deck es).medium.message e.system) (turned_open (run deck es).medium.message e.system (take most_additions n.outbox) (live (run deck es).medium) (run deck es).medium.rest)) (run deck es).medium.message),
             )
         go false b d k = idle_push (after_turn w.medium.message) refl refl
         go true b false k = good_open k
-        go true b true k = no_truth (is_at w.medium.message.holder c) b (ap (λ h. is_at h c) (g.message.no_turn k))
+        go true b true k = no_truth (stands_at w.medium.message.holder c) b (ap (λ h. stands_at h c) (g.message.no_turn k))
 
     -- a task goes on
     good_task : (t : TaskId) → may_go deck n t ≡ true → Leads (record { medium = (run deck es).medium; step = finish deck n (choices.Task t) None })
