@@ -32,7 +32,7 @@ use Rattle.grs_wire.specs.declared.told.ToldLine.{ToldLine}
 use Rattle.grs_wire.specs.declared.told.ToldLine.TheVariants as told
 use Rattle.grs_wire.specs.declared.told.Verb.TheVariants as verbs
 use Rattle.star_client.specs.Client.{tell_answer_ranked, after_mail}
-use Rattle.task_state.specs.Replies.{tell_code, record_enq, answered, replied, tell_line, tell_untold, tell_control, tell_all, tell_new, recalled, tell_answer}
+use Rattle.task_state.specs.Replies.{tell_code, record_enq, after_code, replied, tell_line, tell_untold, tell_control, tell_all, tell_new, recalled, tell_answer}
 use Rattle.task_state.specs.View.{TasksView, new_tasks, state_of, with_state, with_phase, with_outstanding, with_record, without_record, with_told, with_rank, telling}
 use Rattle.task_state.specs.declared.state.Asked.{Asked}
 use Rattle.task_state.specs.declared.state.Phase.{Phase}
@@ -172,7 +172,7 @@ unknown_grant = refl
 -- an answer and control reach a task of the deck and of this system
 own_answer : take_mail deck (one phases.Sent [] (outstanding enq)) (managing []) (Answered (task 0 0) (Coded C00) 2)
     ≡ fixing_none (record (one phases.Ready (rec_told true ∷ []) None) { told = told.Coded (task 0 0) 1 0 verbs.Enq C00 ∷ [] }) (managing [])
-unfolding state_of with_state with_phase with_outstanding with_record with_rank telling tell_code record_enq answered replied recalled tell_answer tell_answer_ranked after_mail took_mail
+unfolding state_of with_state with_phase with_outstanding with_record with_rank telling tell_code record_enq after_code replied recalled tell_answer tell_answer_ranked after_mail took_mail
 own_answer = refl
 
 own_grant : take_mail deck (one phases.HeldAnswer (rec_told false ∷ []) None) (managing []) (Granted (task 0 0) res)
@@ -223,15 +223,15 @@ abbrev answered_with : TaskState → List ToldLine → TasksView
 answered_with second lines = record (of_system (in_phase phases.Ready [] None ∷ second ∷ [])) { told = told.Coded (task 0 0) 1 0 verbs.Deq C00 ∷ lines }
 
 own_goes_on : gives_up_own (in_phase phases.HeldAnswer (rec_told false ∷ []) None) (answered_with (in_phase phases.Ready (rec_told true ∷ []) None) (told.Coded (task 0 1) 1 0 verbs.Enq C00 ∷ []))
-unfolding state_of with_state with_phase with_outstanding without_record with_told with_rank telling tell_code answered replied recalled tell_answer tell_answer_ranked tell_line tell_untold tell_control tell_all tell_new decide_own
+unfolding state_of with_state with_phase with_outstanding without_record with_told with_rank telling tell_code after_code replied recalled tell_answer tell_answer_ranked tell_line tell_untold tell_control tell_all tell_new decide_own
 own_goes_on = refl
 
 own_without_record : gives_up_own (in_phase phases.Ready [] None) (answered_with (in_phase phases.Ready [] None) [])
-unfolding state_of with_state with_phase with_outstanding without_record with_rank telling tell_code answered replied recalled tell_answer tell_answer_ranked tell_untold tell_control tell_all tell_new decide_own
+unfolding state_of with_state with_phase with_outstanding without_record with_rank telling tell_code after_code replied recalled tell_answer tell_answer_ranked tell_untold tell_control tell_all tell_new decide_own
 own_without_record = refl
 
 own_told_before : gives_up_own (in_phase phases.Ready (rec_told true ∷ []) None) (answered_with (in_phase phases.Ready (rec_told true ∷ []) None) [])
-unfolding state_of with_state with_phase with_outstanding without_record with_rank telling tell_code answered replied recalled tell_answer tell_answer_ranked tell_untold tell_control tell_all tell_new decide_own
+unfolding state_of with_state with_phase with_outstanding without_record with_rank telling tell_code after_code replied recalled tell_answer tell_answer_ranked tell_untold tell_control tell_all tell_new decide_own
 own_told_before = refl
 
 -- ---- what is asked of the medium

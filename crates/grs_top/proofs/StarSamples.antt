@@ -15,7 +15,7 @@ use Rattle.grs_wire.specs.declared.deck.Event.{Event}
 use Rattle.grs_wire.specs.declared.seen.TaskEnd.TheVariants as ends
 use Rattle.lock_structure.specs.Words.{route}
 use Rattle.star_client.specs.Client.{tell_answer_ranked, after_mail}
-use Rattle.task_state.specs.Replies.{tell_code, record_enq, answered, replied, passes_wait, tell_line, tell_untold, tell_control, tell_all, tell_new, recalled, tell_answer, tell_answer_any}
+use Rattle.task_state.specs.Replies.{tell_code, record_enq, after_code, replied, passes_wait, tell_line, tell_untold, tell_control, tell_all, tell_new, recalled, tell_answer, tell_answer_any}
 use Rattle.task_state.specs.View.{state_of, with_state, with_line, with_phase, with_outstanding, with_record, without_record, with_told, with_exclusive, with_rank, telling}
 use Rattle.grs_world.specs.World.{first_world, carry_out, chosen, placed, happens_at, happens}
 use Rattle.grs_world.proofs.samples.Samples.{system, task_of, shared, enq, deq, goes}
@@ -39,5 +39,5 @@ shown :
     × ((seen_of_run reserving mailed).ended ≡ (task_of 0 0, ends.Open) ∷ (task_of 1 0, ends.Waits) ∷ [])
     × ((seen_of_run reserving (mailed ++ takes 1 ∷ [])).units ≡ (system 1, 6657, 1) ∷ [])
     × ((seen_of_run reserving (mailed ++ takes 1 ∷ [])).ended ≡ (task_of 0 0, ends.Open) ∷ (task_of 1 0, ends.Open) ∷ [])
-unfolding state_of with_state with_line with_phase with_outstanding with_record without_record with_told with_exclusive with_rank telling tell_code record_enq answered replied passes_wait tell_line tell_untold tell_control tell_all tell_new recalled tell_answer tell_answer_any tell_answer_ranked after_mail decide_own took_mail post ask wait take_line ready_step phase_step may_go may_send star_call prepare finish_quiet finish_star finish_call finish has without with_also manager lock_word submitted route submit_row take_row mail_row row apply first_node first_world carry_out chosen placed happens_at happens seen_of_run
+unfolding state_of with_state with_line with_phase with_outstanding with_record without_record with_told with_exclusive with_rank telling tell_code record_enq after_code replied passes_wait tell_line tell_untold tell_control tell_all tell_new recalled tell_answer tell_answer_any tell_answer_ranked after_mail decide_own took_mail post ask wait take_line ready_step phase_step may_go may_send star_call prepare finish_quiet finish_star finish_call finish has without with_also manager lock_word submitted route submit_row take_row mail_row row apply first_node first_world carry_out chosen placed happens_at happens seen_of_run
 shown = (refl, refl, refl, refl, refl, refl, refl)

@@ -15,7 +15,7 @@ use Rattle.grs_wire.specs.declared.told.ToldLine.TheVariants as told
 use Rattle.grs_wire.specs.declared.told.Verb.{Verb}
 use Rattle.grs_wire.specs.declared.told.Verb.TheVariants as verbs
 use Rattle.ring_mode.specs.Ring.{side_of, answer_own, process, process_entry}
-use Rattle.task_state.specs.Replies.{tell_code, record_enq, answered, replied, tell_line, tell_untold, tell_control, tell_all, tell_new, recalled, tell_answer, tell_answer_any}
+use Rattle.task_state.specs.Replies.{tell_code, record_enq, after_code, replied, tell_line, tell_untold, tell_control, tell_all, tell_new, recalled, tell_answer, tell_answer_any}
 use Rattle.task_state.specs.View.{TasksView, state_of, with_state, with_phase, with_outstanding, with_record, without_record, with_told, with_exclusive, telling}
 use Rattle.task_state.specs.declared.state.Asked.{Asked}
 use Rattle.task_state.specs.declared.state.Phase.{Phase}
@@ -59,7 +59,7 @@ with_first t c s = (res, record { task = t; ctl = c }) ∷ s
 -- ---- an entry of the system's own
 -- the task has sent this request: it is told the answer
 answers_own : process_entry (side_of (one phases.Sent [] (outstanding enq)) []) (asks (task 0) enq) ≡ side_of (told_00 verbs.Enq (rec_told true ∷ [])) (with_first (task 0) E [])
-unfolding state_of with_state with_phase with_outstanding with_record telling tell_code record_enq answered replied recalled tell_answer tell_answer_any answer_own tell_all tell_new process process_entry
+unfolding state_of with_state with_phase with_outstanding with_record telling tell_code record_enq after_code replied recalled tell_answer tell_answer_any answer_own tell_all tell_new process process_entry
 answers_own = refl
 
 -- It isn't Sent, or with another request: the table is carried on, and the task told nothing.
@@ -93,22 +93,22 @@ of_one_step = refl
 -- ---- records
 -- no second record is made, and none is changed or taken out where there is none; all else that the answer does is done
 makes_none : process_entry (side_of (one phases.Sent (rec_told false ∷ []) (outstanding enq)) []) (asks (task 0) enq) ≡ side_of (told_00 verbs.Enq (rec_told false ∷ [])) (with_first (task 0) E [])
-unfolding state_of with_state with_phase with_outstanding with_record telling tell_code record_enq answered replied recalled tell_answer tell_answer_any answer_own tell_all tell_new process process_entry
+unfolding state_of with_state with_phase with_outstanding with_record telling tell_code record_enq after_code replied recalled tell_answer tell_answer_any answer_own tell_all tell_new process process_entry
 makes_none = refl
 
 abbrev chng : Want
 chng = Enq res E RetChng false
 
 changes_none : process_entry (side_of (one phases.Sent [] (outstanding chng)) (with_first (task 0) S [])) (asks (task 0) chng) ≡ side_of (told_00 verbs.Enq []) (with_first (task 0) E [])
-unfolding state_of with_state with_phase with_outstanding with_exclusive telling tell_code record_enq answered replied recalled tell_answer tell_answer_any answer_own tell_all tell_new process process_entry
+unfolding state_of with_state with_phase with_outstanding with_exclusive telling tell_code record_enq after_code replied recalled tell_answer tell_answer_any answer_own tell_all tell_new process process_entry
 changes_none = refl
 
 takes_none : process_entry (side_of (one phases.Sent [] (outstanding deq)) (with_first (task 0) E [])) (asks (task 0) deq) ≡ side_of (told_00 verbs.Deq []) []
-unfolding state_of with_state with_phase with_outstanding without_record telling tell_code answered replied recalled tell_answer tell_answer_any answer_own tell_all tell_new process process_entry
+unfolding state_of with_state with_phase with_outstanding without_record telling tell_code after_code replied recalled tell_answer tell_answer_any answer_own tell_all tell_new process process_entry
 takes_none = refl
 
 releases_none : process_entry (side_of (one phases.Sent [] (outstanding (Release res))) (with_first (task 0) E [])) (asks (task 0) (Release res)) ≡ side_of (one (phases.Ending 0) [] None) []
-unfolding state_of with_state with_phase with_outstanding without_record answered replied recalled tell_answer tell_answer_any answer_own tell_all tell_new process process_entry
+unfolding state_of with_state with_phase with_outstanding without_record after_code replied recalled tell_answer tell_answer_any answer_own tell_all tell_new process process_entry
 releases_none = refl
 
 -- ---- control by another system's request

@@ -15,7 +15,7 @@ use Rattle.grs_wire.specs.declared.request.Want.TheVariants.{Enq, Deq, Release, 
 use Rattle.grs_wire.specs.declared.told.ToldLine.TheVariants as told
 use Rattle.grs_wire.specs.declared.told.Verb.TheVariants as verbs
 use Rattle.star_client.specs.Client.{can_get, tell_answer_ranked, after_mail}
-use Rattle.task_state.specs.Replies.{tell_code, record_enq, answered, replied, tell_line, tell_untold, tell_control, recalled, tell_answer}
+use Rattle.task_state.specs.Replies.{tell_code, record_enq, after_code, replied, tell_line, tell_untold, tell_control, recalled, tell_answer}
 use Rattle.task_state.specs.View.{TasksView, state_of, with_state, with_phase, with_outstanding, with_record, without_record, with_told, with_exclusive, with_rank, telling}
 use Rattle.task_state.specs.declared.state.Asked.{Asked}
 use Rattle.task_state.specs.declared.state.Phase.{Phase}
@@ -105,19 +105,19 @@ asking phase = having [] phase (Some (Enq res E RetNone false))
 -- the record gets the rank, and the task is told
 answer : after_mail (asking phases.Sent) (Answered task (Coded C00) 7)
     ≡ record (having (record { res = res; ctl = E; rank = 7; told = true; unit = None; line = 1 } ∷ []) phases.Ready None) { told = told.Coded task 1 0 verbs.Enq C00 ∷ [] }
-unfolding state_of with_state with_phase with_outstanding with_record with_rank telling tell_code record_enq answered replied recalled tell_answer tell_answer_ranked after_mail
+unfolding state_of with_state with_phase with_outstanding with_record with_rank telling tell_code record_enq after_code replied recalled tell_answer tell_answer_ranked after_mail
 answer = refl
 
 -- one that waits is told nothing yet
 waiting : after_mail (asking phases.Sent) (Answered task (Coded Wait) 7)
     ≡ having (record { res = res; ctl = E; rank = 7; told = false; unit = None; line = 1 } ∷ []) phases.HeldAnswer None
-unfolding state_of with_state with_phase with_outstanding with_record with_rank telling tell_code record_enq answered replied recalled tell_answer tell_answer_ranked after_mail
+unfolding state_of with_state with_phase with_outstanding with_record with_rank telling tell_code record_enq after_code replied recalled tell_answer tell_answer_ranked after_mail
 waiting = refl
 
 -- the last rank is one, and there is none behind it
 last_rank : after_mail (asking phases.Sent) (Answered task (Coded Wait) (2 ^ 57))
     ≡ having (record { res = res; ctl = E; rank = 2 ^ 57; told = false; unit = None; line = 1 } ∷ []) phases.HeldAnswer None
-unfolding state_of with_state with_phase with_outstanding with_record with_rank telling tell_code record_enq answered replied recalled tell_answer tell_answer_ranked after_mail
+unfolding state_of with_state with_phase with_outstanding with_record with_rank telling tell_code record_enq after_code replied recalled tell_answer tell_answer_ranked after_mail
 last_rank = refl
 
 past_the_last : after_mail (asking phases.Sent) (Answered task (Coded C00) (2 ^ 57 + 1)) ≡ asking phases.Sent
@@ -194,58 +194,58 @@ other = record { res = Systems (codes "C") (codes "D"); ctl = S; rank = 3; told 
 -- 00 of CHNG makes the record's control exclusive, and its rank stays
 made_exclusive : after_mail (having (other ∷ shared ∷ []) phases.Sent (Some (Enq res E RetChng false))) (Answered task (Coded C00) 0)
     ≡ record (having (other ∷ told_rec ∷ []) phases.Ready None) { told = told.Coded task 1 0 verbs.Enq C00 ∷ [] }
-unfolding state_of with_state with_phase with_outstanding with_exclusive with_rank telling tell_code record_enq answered replied recalled tell_answer tell_answer_ranked after_mail
+unfolding state_of with_state with_phase with_outstanding with_exclusive with_rank telling tell_code record_enq after_code replied recalled tell_answer tell_answer_ranked after_mail
 made_exclusive = refl
 
 -- 00 of DEQ, and a RELEASE, take the record out, and none else
 taken_out : after_mail (having (other ∷ told_rec ∷ []) phases.Sent (Some (Deq res false))) (Answered task (Coded C00) 0)
     ≡ record (having (other ∷ []) phases.Ready None) { told = told.Coded task 1 0 verbs.Deq C00 ∷ [] }
-unfolding state_of with_state with_phase with_outstanding without_record with_rank telling tell_code answered replied recalled tell_answer tell_answer_ranked after_mail
+unfolding state_of with_state with_phase with_outstanding without_record with_rank telling tell_code after_code replied recalled tell_answer tell_answer_ranked after_mail
 taken_out = refl
 
 released_record : after_mail (having (told_rec ∷ other ∷ []) phases.Sent (Some (Release res))) (Answered task (Coded C00) 0) ≡ having (other ∷ []) (phases.Ending 0) None
-unfolding state_of with_state with_phase with_outstanding without_record with_rank answered replied recalled tell_answer tell_answer_ranked after_mail
+unfolding state_of with_state with_phase with_outstanding without_record with_rank after_code replied recalled tell_answer tell_answer_ranked after_mail
 released_record = refl
 
 -- a new record comes last, and a record of another resource keeps its rank
 behind_another : after_mail (having (other ∷ []) phases.Sent (Some (Enq res E RetNone false))) (Answered task (Coded C00) 7)
     ≡ record (having (other ∷ told_rec ∷ []) phases.Ready None) { told = told.Coded task 1 0 verbs.Enq C00 ∷ [] }
-unfolding state_of with_state with_phase with_outstanding with_record with_rank telling tell_code record_enq answered replied recalled tell_answer tell_answer_ranked after_mail
+unfolding state_of with_state with_phase with_outstanding with_record with_rank telling tell_code record_enq after_code replied recalled tell_answer tell_answer_ranked after_mail
 behind_another = refl
 
 -- An answer that would make a record where the task has one of that resource leaves this one, its rank and its mark too.
 -- All else that the answer does is done.
 makes_none : after_mail (having (told_rec ∷ []) phases.Sent (Some (Enq res S RetNone false))) (Answered task (Coded C00) 9)
     ≡ record (having (told_rec ∷ []) phases.Ready None) { told = told.Coded task 1 0 verbs.Enq C00 ∷ [] }
-unfolding state_of with_state with_phase with_outstanding with_record with_rank telling tell_code record_enq answered replied recalled tell_answer tell_answer_ranked after_mail
+unfolding state_of with_state with_phase with_outstanding with_record with_rank telling tell_code record_enq after_code replied recalled tell_answer tell_answer_ranked after_mail
 makes_none = refl
 
 marks_none : after_mail (having (untold ∷ []) phases.Sent (Some (Enq res E RetNone false))) (Answered task (Coded C00) 9)
     ≡ record (having (untold ∷ []) phases.Ready None) { told = told.Coded task 1 0 verbs.Enq C00 ∷ [] }
-unfolding state_of with_state with_phase with_outstanding with_record with_rank telling tell_code record_enq answered replied recalled tell_answer tell_answer_ranked after_mail
+unfolding state_of with_state with_phase with_outstanding with_record with_rank telling tell_code record_enq after_code replied recalled tell_answer tell_answer_ranked after_mail
 marks_none = refl
 
 waits_with_one : after_mail (having (told_rec ∷ []) phases.Sent (Some (Enq res E RetNone false))) (Answered task (Coded Wait) 9) ≡ having (told_rec ∷ []) phases.HeldAnswer None
-unfolding state_of with_state with_phase with_outstanding with_record with_rank tell_code record_enq answered replied recalled tell_answer tell_answer_ranked after_mail
+unfolding state_of with_state with_phase with_outstanding with_record with_rank tell_code record_enq after_code replied recalled tell_answer tell_answer_ranked after_mail
 waits_with_one = refl
 
 -- so does one that would change a record, or take one out, where the task has none of that resource
 changes_none : after_mail (having (other ∷ []) phases.Sent (Some (Enq res E RetChng false))) (Answered task (Coded C00) 9)
     ≡ record (having (other ∷ []) phases.Ready None) { told = told.Coded task 1 0 verbs.Enq C00 ∷ [] }
-unfolding state_of with_state with_phase with_outstanding with_exclusive with_rank telling tell_code record_enq answered replied recalled tell_answer tell_answer_ranked after_mail
+unfolding state_of with_state with_phase with_outstanding with_exclusive with_rank telling tell_code record_enq after_code replied recalled tell_answer tell_answer_ranked after_mail
 changes_none = refl
 
 takes_none : after_mail (having (other ∷ []) phases.Sent (Some (Deq res false))) (Answered task (Coded C00) 9)
     ≡ record (having (other ∷ []) phases.Ready None) { told = told.Coded task 1 0 verbs.Deq C00 ∷ [] }
-unfolding state_of with_state with_phase with_outstanding without_record with_rank telling tell_code answered replied recalled tell_answer tell_answer_ranked after_mail
+unfolding state_of with_state with_phase with_outstanding without_record with_rank telling tell_code after_code replied recalled tell_answer tell_answer_ranked after_mail
 takes_none = refl
 
 releases_none : after_mail (having (other ∷ []) phases.Sent (Some (Release res))) (Answered task (Coded C00) 9) ≡ having (other ∷ []) (phases.Ending 0) None
-unfolding state_of with_state with_phase with_outstanding without_record with_rank answered replied recalled tell_answer tell_answer_ranked after_mail
+unfolding state_of with_state with_phase with_outstanding without_record with_rank after_code replied recalled tell_answer tell_answer_ranked after_mail
 releases_none = refl
 
 -- an answer without effect on a record leaves its rank
 keeps_rank : after_mail (having (untold ∷ []) phases.Sent (Some (Deq res true))) (Answered task (Coded C04) 0)
     ≡ record (having (untold ∷ []) phases.Ready None) { told = told.Coded task 1 0 verbs.Deq C04 ∷ [] }
-unfolding state_of with_state with_phase with_outstanding with_rank telling tell_code answered replied recalled tell_answer tell_answer_ranked after_mail
+unfolding state_of with_state with_phase with_outstanding with_rank telling tell_code after_code replied recalled tell_answer tell_answer_ranked after_mail
 keeps_rank = refl

@@ -69,15 +69,15 @@ record_enq v t r c unit ret code =
     (cond (is_changed ret code) (with_exclusive v t r) v)
 
 -- a task after its own request was answered; a record that it makes has this unit
-unfoldable pub answered : TasksView → TaskId → Want → Option ℕ → Code → TasksView
-answered v t (Enq r c ret full) unit code = tell_code (with_phase (record_enq v t r c unit ret code) t (phase_after code)) t verbs.Enq code
-answered v t (Deq r have) unit code = tell_code (with_phase (cond (is_granted code) (without_record v t r) v) t (phase_after code)) t verbs.Deq code
-answered v t (Release r) unit code = without_record v t r
-answered v t (Look first count filter) unit code = v
+unfoldable pub after_code : TasksView → TaskId → Want → Option ℕ → Code → TasksView
+after_code v t (Enq r c ret full) unit code = tell_code (with_phase (record_enq v t r c unit ret code) t (phase_after code)) t verbs.Enq code
+after_code v t (Deq r have) unit code = tell_code (with_phase (cond (is_granted code) (without_record v t r) v) t (phase_after code)) t verbs.Deq code
+after_code v t (Release r) unit code = without_record v t r
+after_code v t (Look first count filter) unit code = v
 
 -- the same by the whole answer; no task asks for looks yet
 unfoldable pub replied : TasksView → TaskId → Want → Option ℕ → Answer → TasksView
-replied v t w unit (Coded code) = answered v t w unit code
+replied v t w unit (Coded code) = after_code v t w unit code
 replied v t w unit (Rows rows) = v
 
 -- whether a task is held by the answer of its last line

@@ -86,8 +86,8 @@ fn record_deq(tasks: &mut Tasks, task: TaskId, res: &Res, code: Code)
 }
 
 /// Answers a task's own request; a record that it makes has this unit.
-#[tactic(auto, using(crate::proofs::Keeps::keeps), unfolding(crate::specs::Replies::answered))]
-fn answered(
+#[tactic(auto, using(crate::proofs::Keeps::keeps), unfolding(crate::specs::Replies::after_code))]
+fn after_code(
     alloc: Global,
     tasks: &mut Tasks,
     task: TaskId,
@@ -96,7 +96,7 @@ fn answered(
     code: Code,
 ) -> Result<(), NoMemory>
     requires { is_task tasks.old task ≡ true }
-    ensures step { OnOk result (tasks.new ≡ steps.answered tasks.old task want.now unit code) }
+    ensures step { OnOk result (tasks.new ≡ steps.after_code tasks.old task want.now unit code) }
     ensures system { tasks.new.system ≡ tasks.old.system }
     ensures count { length tasks.new.tasks ≡ length tasks.old.tasks }
 {
@@ -135,7 +135,7 @@ pub fn replied(
     ensures count { length tasks.new.tasks ≡ length tasks.old.tasks }
 {
     match answer {
-        Answer::Coded(code) => answered(alloc, tasks, task, want, unit, *code),
+        Answer::Coded(code) => after_code(alloc, tasks, task, want, unit, *code),
         Answer::Rows(_) => Ok(()),
     }
 }

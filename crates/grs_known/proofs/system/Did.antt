@@ -18,7 +18,7 @@ use Rattle.task_state.specs.declared.state.Phase.{Phase}
 use Rattle.task_state.specs.declared.state.TaskState.{TaskState}
 use Rattle.task_state.specs.View.{TasksView, is_task, state_of, with_state, with_line, with_phase, with_outstanding, with_record, without_record, with_exclusive, telling, on_record, with_last, without_first, code_in}
 use Rattle.task_state.proofs.ViewLaws.{state_of-same, told-state, state_of-telling, told-telling}
-use Rattle.task_state.specs.Replies.{is_queued, is_changed, is_granted, phase_after, tell_code, record_enq, answered, new_record}
+use Rattle.task_state.specs.Replies.{is_queued, is_changed, is_granted, phase_after, tell_code, record_enq, after_code, new_record}
 use Rattle.grs_known.proofs.system.Ours.{IsChanged, changed-state, changed-telling, changed-then, changed-none}
 use Rattle.grs_known.proofs.tasks.Asked.{told_after}
 use Rattle.grs_known.proofs.tasks.Decided.{enq_records}
@@ -101,21 +101,21 @@ module _ (v w : TasksView) (t : TaskId) (x : TaskState) (T : List ToldLine) (her
   did-taken r false = d
 
 -- a task after the answer to its own request
-pub did-answered_enq : (v w : TasksView) (t : TaskId) (x : TaskState) (T : List ToldLine) → is_task v t ≡ true → Did v w t x T → (r : Res) (c : Ctl) (unit : Option ℕ) (ret : Ret) (full : Bool) (code : Code) →
-    Did v (answered w t (Enq r c ret full) unit code) t (record { line = x.line; phase = phase_after code; code = code_in (phase_after code) x.code; records = enq_records r c unit ret code x.line x.records; outstanding = x.outstanding; rows = x.rows }) (told_after T t x.line verbs.Enq code)
-unfolding answered
-did-answered_enq v w t x T here d r c unit ret full code =
+pub did-after_code_enq : (v w : TasksView) (t : TaskId) (x : TaskState) (T : List ToldLine) → is_task v t ≡ true → Did v w t x T → (r : Res) (c : Ctl) (unit : Option ℕ) (ret : Ret) (full : Bool) (code : Code) →
+    Did v (after_code w t (Enq r c ret full) unit code) t (record { line = x.line; phase = phase_after code; code = code_in (phase_after code) x.code; records = enq_records r c unit ret code x.line x.records; outstanding = x.outstanding; rows = x.rows }) (told_after T t x.line verbs.Enq code)
+unfolding after_code
+did-after_code_enq v w t x T here d r c unit ret full code =
     did-code v (with_phase (record_enq w t r c unit ret code) t (phase_after code)) t (record { line = x.line; phase = phase_after code; code = code_in (phase_after code) x.code; records = enq_records r c unit ret code x.line x.records; outstanding = x.outstanding; rows = x.rows }) T here
     (did-phase v (record_enq w t r c unit ret code) t (record x { records = enq_records r c unit ret code x.line x.records }) T here (did-enq v w t x T here d r c unit ret code) (phase_after code)) verbs.Enq code
 
-pub did-answered_deq : (v w : TasksView) (t : TaskId) (x : TaskState) (T : List ToldLine) → is_task v t ≡ true → Did v w t x T → (r : Res) (have : Bool) (unit : Option ℕ) (code : Code) →
-    Did v (answered w t (Deq r have) unit code) t (record { line = x.line; phase = phase_after code; code = code_in (phase_after code) x.code; records = cond (is_granted code) (without_first x.records r) x.records; outstanding = x.outstanding; rows = x.rows }) (told_after T t x.line verbs.Deq code)
-unfolding answered
-did-answered_deq v w t x T here d r have unit code =
+pub did-after_code_deq : (v w : TasksView) (t : TaskId) (x : TaskState) (T : List ToldLine) → is_task v t ≡ true → Did v w t x T → (r : Res) (have : Bool) (unit : Option ℕ) (code : Code) →
+    Did v (after_code w t (Deq r have) unit code) t (record { line = x.line; phase = phase_after code; code = code_in (phase_after code) x.code; records = cond (is_granted code) (without_first x.records r) x.records; outstanding = x.outstanding; rows = x.rows }) (told_after T t x.line verbs.Deq code)
+unfolding after_code
+did-after_code_deq v w t x T here d r have unit code =
     did-code v (with_phase (cond (is_granted code) (without_record w t r) w) t (phase_after code)) t (record { line = x.line; phase = phase_after code; code = code_in (phase_after code) x.code; records = cond (is_granted code) (without_first x.records r) x.records; outstanding = x.outstanding; rows = x.rows }) T here
     (did-phase v (cond (is_granted code) (without_record w t r) w) t (record x { records = cond (is_granted code) (without_first x.records r) x.records }) T here (did-taken v w t x T here d r (is_granted code)) (phase_after code)) verbs.Deq code
 
-pub did-answered_release : (v w : TasksView) (t : TaskId) (x : TaskState) (T : List ToldLine) → is_task v t ≡ true → Did v w t x T → (r : Res) (unit : Option ℕ) (code : Code) →
-    Did v (answered w t (Release r) unit code) t (record x { records = without_first x.records r }) T
-unfolding answered
-did-answered_release v w t x T here d r unit code = did-without v w t x T here d r
+pub did-after_code_release : (v w : TasksView) (t : TaskId) (x : TaskState) (T : List ToldLine) → is_task v t ≡ true → Did v w t x T → (r : Res) (unit : Option ℕ) (code : Code) →
+    Did v (after_code w t (Release r) unit code) t (record x { records = without_first x.records r }) T
+unfolding after_code
+did-after_code_release v w t x T here d r unit code = did-without v w t x T here d r

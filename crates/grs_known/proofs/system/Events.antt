@@ -46,7 +46,7 @@ use Rattle.grs_known.proofs.tasks.Invariant.{IsTask, with_control}
 use Rattle.grs_known.proofs.tasks.Speaking.{speaks-control}
 use Rattle.grs_known.proofs.tasks.Steps.{task-released}
 use Rattle.grs_known.proofs.system.Asking.{unasked, unasked-none, Opens, IsAtLines, IsOpenBy, asked-absent, sent-absent}
-use Rattle.grs_known.proofs.system.Did.{Did, did-answered_enq, did-answered_deq, did-answered_release}
+use Rattle.grs_known.proofs.system.Did.{Did, did-after_code_enq, did-after_code_deq, did-after_code_release}
 use Rattle.grs_known.proofs.system.Good.{IsGood, Untold, home-ours, task-told_after}
 use Rattle.grs_known.proofs.system.Ours.{IsOurs, IsHere, holds-changed, ours-line, agrees-ours}
 use Rattle.grs_known.proofs.system.Says.{askers, ToldBy, none, more}
@@ -153,7 +153,7 @@ module _ (deck : Deck) (s : ℕ) (os os' : Opens) (P P' : List RunItem) (v : Tas
       pub enq-settles : Settles deck s os' P' v.told (tell_new (replied v0 t (Enq r c ret full) unit (answers.Coded code)) (Some r) ts)
       unfolding tell_new replied
       enq-settles =
-          let did = did-answered_enq v v0 t (record { line = suc n; phase = phases.Ready; code = code0; records = xs; outstanding = None; rows = ws }) v.told ours.here did0 r c unit ret full code in
+          let did = did-after_code_enq v v0 t (record { line = suc n; phase = phases.Ready; code = code0; records = xs; outstanding = None; rows = ws }) v.told ours.here did0 r c unit ret full code in
           decided-settles enq d _ (record { line = suc n; phase = phase_after code; code = code_in (phase_after code) code0; records = enq_records r c unit ret code (suc n) xs; outstanding = None; rows = ws }) (told_after v.told t (suc n) verbs.Enq code) did refl (after-at_lines code code0)
           (task-enq ls p v.told t n code0 xs None ws l r c unit ret code k d.learns.fits)
           (λ u ms apart q leaving y j. task-told_after ms q v.told leaving u y t (suc n) verbs.Enq code apart j)
@@ -167,7 +167,7 @@ module _ (deck : Deck) (s : ℕ) (os os' : Opens) (P P' : List RunItem) (v : Tas
       pub deq-settles : (unit : Option ℕ) → Settles deck s os' P' v.told (tell_new (replied v0 t (Deq r have) unit (answers.Coded code)) (Some r) ts)
       unfolding tell_new replied
       deq-settles unit =
-          let did = did-answered_deq v v0 t (record { line = suc n; phase = phases.Ready; code = code0; records = xs; outstanding = None; rows = ws }) v.told ours.here did0 r have unit code in
+          let did = did-after_code_deq v v0 t (record { line = suc n; phase = phases.Ready; code = code0; records = xs; outstanding = None; rows = ws }) v.told ours.here did0 r have unit code in
           decided-settles deq d _ (record { line = suc n; phase = phase_after code; code = code_in (phase_after code) code0; records = cond (is_granted code) (without_first xs r) xs; outstanding = None; rows = ws }) (told_after v.told t (suc n) verbs.Deq code) did refl (after-at_lines code code0)
           (task-deq ls p v.told leaving t n code0 xs None ws l r have code k others d.learns.fits)
           (λ u ms apart q hold y j. task-told_after ms q v.told hold u y t (suc n) verbs.Deq code apart j)
@@ -184,6 +184,6 @@ module _ (deck : Deck) (s : ℕ) (os os' : Opens) (P P' : List RunItem) (v : Tas
       Decides deck os os' P P' t p (entries.Release t r) r ts → (unit : Option ℕ) → Settles deck s os' P' v.told (tell_new (replied v0 t (Release r) unit (answers.Coded C00)) (Some r) ts)
   unfolding tell_new replied
   release-settles n c code0 xs ws v0 did0 coded leaving others k d unit =
-      let did = did-answered_release v v0 t (record { line = n; phase = phases.Ending c; code = code0; records = xs; outstanding = None; rows = ws }) v.told ours.here did0 r unit C00 in
+      let did = did-after_code_release v v0 t (record { line = n; phase = phases.Ending c; code = code0; records = xs; outstanding = None; rows = ws }) v.told ours.here did0 r unit C00 in
       decided-settles (entries.Release t r) d _ (record { line = n; phase = phases.Ending c; code = code0; records = without_first xs r; outstanding = None; rows = ws }) v.told did refl coded
       (task-released ls p v.told leaving t n c code0 xs None ws r others k) (λ u ms apart q hold y j. j) none

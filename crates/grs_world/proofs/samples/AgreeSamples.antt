@@ -22,7 +22,7 @@ use Rattle.grs_wire.specs.declared.told.ToldLine.{ToldLine}
 use Rattle.grs_wire.specs.declared.told.ToldLine.TheVariants.{Coded, Post, Ended, Desk}
 use Rattle.grs_wire.specs.declared.told.Said.TheVariants.{StarDone, StarAlready, VaryDone, VaryNoSuch, VaryInStar}
 use Rattle.grs_wire.specs.declared.told.Verb.TheVariants as verbs
-use Rattle.task_state.specs.Replies.{tell_code, record_enq, answered, replied, passes_wait, tell_line, tell_untold, tell_control, tell_all, tell_new}
+use Rattle.task_state.specs.Replies.{tell_code, record_enq, after_code, replied, passes_wait, tell_line, tell_untold, tell_control, tell_all, tell_new}
 use Rattle.task_state.specs.View.{state_of, with_state, with_line, with_phase, with_outstanding, with_record, without_record, with_told, with_exclusive, telling}
 use Rattle.grs_world.specs.Agree.{Agrees, Moment, RemovalsTold, is_of_event}
 use Rattle.grs_world.specs.World.{first_world, carry_out, chosen, placed, happens_at, happens, hist, told}
@@ -60,7 +60,7 @@ behind history before = record { history = history; fixed = []; before = before 
 runs_again :
     (hist asks_again again_events ≡ again_history)
     × (told asks_again again_events ≡ before_post ++ the_post ∷ the_wait ∷ [])
-unfolding state_of with_state with_line with_phase with_outstanding with_record without_record with_told with_exclusive telling tell_code record_enq answered replied passes_wait tell_line tell_untold tell_control tell_all tell_new decide post ask wait take_line end_step ready_step phase_step may_go prepare finish_quiet finish has first_node first_world carry_out chosen placed happens_at happens
+unfolding state_of with_state with_line with_phase with_outstanding with_record without_record with_told with_exclusive telling tell_code record_enq after_code replied passes_wait tell_line tell_untold tell_control tell_all tell_new decide post ask wait take_line end_step ready_step phase_step may_go prepare finish_quiet finish has first_node first_world carry_out chosen placed happens_at happens
 runs_again = (refl, refl)
 
 -- behind the post the WAIT may be told 00

@@ -24,7 +24,7 @@ use Rattle.grs_wire.specs.declared.told.ToldLine.TheVariants.{Coded, Post, Ended
 use Rattle.grs_wire.specs.declared.told.Verb.TheVariants as verbs
 use Rattle.lock_structure.specs.Words.{route}
 use Rattle.star_client.specs.Client.{tell_answer_ranked, after_mail}
-use Rattle.task_state.specs.Replies.{tell_code, record_enq, answered, replied, passes_wait, tell_line, tell_untold, tell_control, tell_all, tell_new, recalled, tell_answer, tell_answer_any}
+use Rattle.task_state.specs.Replies.{tell_code, record_enq, after_code, replied, passes_wait, tell_line, tell_untold, tell_control, tell_all, tell_new, recalled, tell_answer, tell_answer_any}
 use Rattle.task_state.specs.View.{state_of, with_state, with_line, with_phase, with_outstanding, with_record, without_record, with_told, with_exclusive, with_rank, telling}
 use Rattle.grs_world.specs.Kept.{kept, places}
 use Rattle.grs_world.specs.Running.{at_rest}
@@ -77,7 +77,7 @@ lonely :
     × ((run apart (asked ++ leaves 0 ∷ leaves 1 ∷ [])).medium.words ≡ 257 ∷ [])
     × ((run apart (asked ++ left)).medium.words ≡ 0 ∷ [])
     × (reply_to (run apart (asked ++ left)).medium (system 1) (record { known = 0; act = acts.Rest }) ≡ replies.Over)
-unfolding state_of with_state with_line with_phase with_outstanding with_record without_record with_told with_exclusive with_rank telling tell_code record_enq answered replied passes_wait tell_line tell_untold tell_control tell_all tell_new recalled tell_answer tell_answer_any tell_answer_ranked after_mail decide_own took_mail post ask take_line end_step ready_step phase_step is_pending may_go may_send star_call prepare finish_quiet finish_star finish_call finish has without with_also manager lock_word submitted leave_reply leave_changes left_word route submit_row take_row mail_row leave_row medium_at_end rest_row row apply first_node first_world carry_out chosen placed happens_at happens
+unfolding state_of with_state with_line with_phase with_outstanding with_record without_record with_told with_exclusive with_rank telling tell_code record_enq after_code replied passes_wait tell_line tell_untold tell_control tell_all tell_new recalled tell_answer tell_answer_any tell_answer_ranked after_mail decide_own took_mail post ask take_line end_step ready_step phase_step is_pending may_go may_send star_call prepare finish_quiet finish_star finish_call finish has without with_also manager lock_word submitted leave_reply leave_changes left_word route submit_row take_row mail_row leave_row medium_at_end rest_row row apply first_node first_world carry_out chosen placed happens_at happens
 lonely = (refl, refl, refl, refl, refl, refl, refl, refl)
 
 -- ---- a wait and two grants
@@ -127,7 +127,7 @@ waits :
     × (words_after (goes 0 0 ∷ sends 0 0 ∷ goes 1 0 ∷ sends 1 0 ∷ []) ≡ 259 ∷ [])
     × (kept_after asks_all ≡ elem 0 0 E ∷ elem 1 0 E ∷ elem 1 1 S ∷ [])
     × (places waiting asks_all (shared 66) ≡ elem 0 0 E ∷ elem 1 0 E ∷ elem 1 1 S ∷ [])
-unfolding state_of with_state with_line with_phase with_outstanding with_record without_record with_told with_exclusive with_rank telling tell_code record_enq answered replied passes_wait tell_line tell_untold tell_control tell_all tell_new recalled tell_answer tell_answer_any tell_answer_ranked after_mail decide_own took_mail post ask take_line end_step ready_step phase_step is_pending may_go may_send star_call prepare finish_quiet finish_star finish_call finish has without with_also manager lock_word submitted leave_reply leave_changes left_word route submit_row take_row mail_row leave_row medium_at_end rest_row row apply first_node first_world carry_out chosen placed happens_at happens at_rest
+unfolding state_of with_state with_line with_phase with_outstanding with_record without_record with_told with_exclusive with_rank telling tell_code record_enq after_code replied passes_wait tell_line tell_untold tell_control tell_all tell_new recalled tell_answer tell_answer_any tell_answer_ranked after_mail decide_own took_mail post ask take_line end_step ready_step phase_step is_pending may_go may_send star_call prepare finish_quiet finish_star finish_call finish has without with_also manager lock_word submitted leave_reply leave_changes left_word route submit_row take_row mail_row leave_row medium_at_end rest_row row apply first_node first_world carry_out chosen placed happens_at happens at_rest
 waits = (refl, refl, refl, refl, refl, refl)
 
 first_granted :
@@ -138,7 +138,7 @@ first_granted :
     × (words_after (asks_all ++ first_grant) ≡ 259 ∷ [])
     × (kept_after (asks_all ++ first_grant) ≡ elem 1 0 E ∷ elem 1 1 S ∷ [])
     × (places waiting (asks_all ++ first_grant) (shared 66) ≡ elem 1 0 E ∷ elem 1 1 S ∷ [])
-unfolding state_of with_state with_line with_phase with_outstanding with_record without_record with_told with_exclusive with_rank telling tell_code record_enq answered replied passes_wait tell_line tell_untold tell_control tell_all tell_new recalled tell_answer tell_answer_any tell_answer_ranked after_mail decide_own took_mail post ask take_line end_step ready_step phase_step is_pending may_go may_send star_call prepare finish_quiet finish_star finish_call finish has without with_also manager lock_word submitted leave_reply leave_changes left_word route submit_row take_row mail_row leave_row medium_at_end rest_row row apply first_node first_world carry_out chosen placed happens_at happens at_rest
+unfolding state_of with_state with_line with_phase with_outstanding with_record without_record with_told with_exclusive with_rank telling tell_code record_enq after_code replied passes_wait tell_line tell_untold tell_control tell_all tell_new recalled tell_answer tell_answer_any tell_answer_ranked after_mail decide_own took_mail post ask take_line end_step ready_step phase_step is_pending may_go may_send star_call prepare finish_quiet finish_star finish_call finish has without with_also manager lock_word submitted leave_reply leave_changes left_word route submit_row take_row mail_row leave_row medium_at_end rest_row row apply first_node first_world carry_out chosen placed happens_at happens at_rest
 first_granted = (refl, refl, refl, refl, refl)
 
 second_granted :
@@ -151,7 +151,7 @@ second_granted :
     × (words_after both_grants ≡ 259 ∷ [])
     × (kept_after both_grants ≡ elem 1 1 S ∷ [])
     × (places waiting both_grants (shared 66) ≡ elem 1 1 S ∷ [])
-unfolding state_of with_state with_line with_phase with_outstanding with_record without_record with_told with_exclusive with_rank telling tell_code record_enq answered replied passes_wait tell_line tell_untold tell_control tell_all tell_new recalled tell_answer tell_answer_any tell_answer_ranked after_mail decide_own took_mail post ask take_line end_step ready_step phase_step is_pending may_go may_send star_call prepare finish_quiet finish_star finish_call finish has without with_also manager lock_word submitted leave_reply leave_changes left_word route submit_row take_row mail_row leave_row medium_at_end rest_row row apply first_node first_world carry_out chosen placed happens_at happens at_rest
+unfolding state_of with_state with_line with_phase with_outstanding with_record without_record with_told with_exclusive with_rank telling tell_code record_enq after_code replied passes_wait tell_line tell_untold tell_control tell_all tell_new recalled tell_answer tell_answer_any tell_answer_ranked after_mail decide_own took_mail post ask take_line end_step ready_step phase_step is_pending may_go may_send star_call prepare finish_quiet finish_star finish_call finish has without with_also manager lock_word submitted leave_reply leave_changes left_word route submit_row take_row mail_row leave_row medium_at_end rest_row row apply first_node first_world carry_out chosen placed happens_at happens at_rest
 second_granted = (refl, refl, refl, refl, refl)
 
 -- Where a mail is still in an inbox the complex isn't at rest, though nothing is pending at a system. Once it is taken, and
@@ -168,5 +168,5 @@ rests :
     × (words_after (both_grants ++ releases ++ ends) ≡ 259 ∷ [])
     × (words_after (both_grants ++ releases ++ ends ++ leaves 1 ∷ []) ≡ 257 ∷ [])
     × (words_after (both_grants ++ releases ++ ends ++ leaves 1 ∷ leaves 0 ∷ []) ≡ 0 ∷ [])
-unfolding state_of with_state with_line with_phase with_outstanding with_record without_record with_told with_exclusive with_rank telling tell_code record_enq answered replied passes_wait tell_line tell_untold tell_control tell_all tell_new recalled tell_answer tell_answer_any tell_answer_ranked after_mail decide_own took_mail post ask take_line end_step ready_step phase_step is_pending may_go may_send star_call prepare finish_quiet finish_star finish_call finish has without with_also manager lock_word submitted leave_reply leave_changes left_word route submit_row take_row mail_row leave_row medium_at_end rest_row row apply first_node first_world carry_out chosen placed happens_at happens at_rest
+unfolding state_of with_state with_line with_phase with_outstanding with_record without_record with_told with_exclusive with_rank telling tell_code record_enq after_code replied passes_wait tell_line tell_untold tell_control tell_all tell_new recalled tell_answer tell_answer_any tell_answer_ranked after_mail decide_own took_mail post ask take_line end_step ready_step phase_step is_pending may_go may_send star_call prepare finish_quiet finish_star finish_call finish has without with_also manager lock_word submitted leave_reply leave_changes left_word route submit_row take_row mail_row leave_row medium_at_end rest_row row apply first_node first_world carry_out chosen placed happens_at happens at_rest
 rests = (refl, refl, refl, refl, refl, refl, refl, refl, refl, refl, refl)

@@ -36,7 +36,7 @@ use Rattle.grs_wire.specs.declared.told.ToldLine.TheVariants.{Coded}
 use Rattle.grs_wire.specs.declared.told.Verb.TheVariants as verbs
 use Rattle.ring_mode.specs.Ring.{answer_own, process, process_entry}
 use Rattle.rsa_message.specs.Message.{first_after, unseen, any_unseen, cleared, stamped, turn_reply, wakes, rest_after_turn, turned}
-use Rattle.task_state.specs.Replies.{tell_code, record_enq, answered as answered_task, replied, passes_wait, tell_line, tell_untold, tell_control, tell_all, tell_new, recalled, tell_answer, tell_answer_any}
+use Rattle.task_state.specs.Replies.{tell_code, record_enq, after_code, replied, passes_wait, tell_line, tell_untold, tell_control, tell_all, tell_new, recalled, tell_answer, tell_answer_any}
 use Rattle.task_state.specs.View.{state_of, with_state, with_line, with_phase, with_outstanding, with_record, without_record, with_told, with_exclusive, telling}
 use Rattle.grs_world.specs.Kept.{places, kept}
 use Rattle.grs_world.specs.Laps.{LeftHome, given, told_next}
@@ -142,7 +142,7 @@ keeps :
     × (given ring (run ring half_way) (turn 0) ≡ entry 1 ∷ [])
     × (told_next ring put (turn 1) ≡ [])
     × (told_next ring half_way (turn 0) ≡ record { event = 4; system = sys 0; line = Coded (task_of 0) 1 0 verbs.Enq C00 } ∷ [])
-unfolding state_of with_state with_line with_phase with_outstanding with_record without_record with_told with_exclusive telling tell_code record_enq answered_task replied passes_wait tell_line tell_untold tell_control tell_all tell_new recalled tell_answer tell_answer_any answer_own process process_entry decide post ask wait take_line end_step ready_step phase_step may_go prepare finish_quiet read_entries all_sent put_in finish_call finish has without with_also first_after unseen any_unseen cleared stamped turn_reply wakes rest_after_turn turned turn_row row apply first_node first_world carry_out chosen placed happens_at happens
+unfolding state_of with_state with_line with_phase with_outstanding with_record without_record with_told with_exclusive telling tell_code record_enq after_code replied passes_wait tell_line tell_untold tell_control tell_all tell_new recalled tell_answer tell_answer_any answer_own process process_entry decide post ask wait take_line end_step ready_step phase_step may_go prepare finish_quiet read_entries all_sent put_in finish_call finish has without with_also first_after unseen any_unseen cleared stamped turn_reply wakes rest_after_turn turned turn_row row apply first_node first_world carry_out chosen placed happens_at happens
 keeps = (refl, refl, refl, refl, refl, refl, refl, refl, refl, refl, refl)
 
 -- ---- a complex that changes to star mode
@@ -178,7 +178,7 @@ keeps_in_change :
     × (kept ring (changing 515 (Some manages_one)) (sys 0) shared ≡ element 1 ∷ [])
     × (kept ring (changing 515 (Some manages_none)) (sys 0) shared ≡ [])
     × (kept ring (changing 0 (Some manages_one)) (sys 1) shared ≡ [])
-unfolding state_of with_state with_line with_phase with_outstanding with_record without_record with_told with_exclusive telling tell_code record_enq answered_task replied passes_wait tell_line tell_untold tell_control tell_all tell_new recalled tell_answer tell_answer_any answer_own process process_entry decide post ask wait take_line end_step ready_step phase_step may_go prepare finish_quiet read_entries all_sent put_in finish_call finish has without with_also first_after unseen any_unseen cleared stamped turn_reply wakes rest_after_turn turned turn_row row apply first_node first_world carry_out chosen placed happens_at happens manager
+unfolding state_of with_state with_line with_phase with_outstanding with_record without_record with_told with_exclusive telling tell_code record_enq after_code replied passes_wait tell_line tell_untold tell_control tell_all tell_new recalled tell_answer tell_answer_any answer_own process process_entry decide post ask wait take_line end_step ready_step phase_step may_go prepare finish_quiet read_entries all_sent put_in finish_call finish has without with_also first_after unseen any_unseen cleared stamped turn_reply wakes rest_after_turn turned turn_row row apply first_node first_world carry_out chosen placed happens_at happens manager
 keeps_in_change = (refl, refl, refl, refl, refl, refl)
 
 -- Were the asker told by the Turn that puts its request in, it would be told too early: the message was empty before, but
@@ -186,5 +186,5 @@ keeps_in_change = (refl, refl, refl, refl, refl, refl)
 told_at_once :
     ((run ring (goes ∷ [])).medium.message.entries ≡ [])
     × (LeftHome (task_of 0) (run ring put).medium.message.entries → ⊥)
-unfolding state_of with_state with_line with_phase with_outstanding with_record without_record with_told with_exclusive telling tell_code record_enq answered_task replied passes_wait tell_line tell_untold tell_control tell_all tell_new recalled tell_answer tell_answer_any answer_own process process_entry decide post ask wait take_line end_step ready_step phase_step may_go prepare finish_quiet read_entries all_sent put_in finish_call finish has without with_also first_after unseen any_unseen cleared stamped turn_reply wakes rest_after_turn turned turn_row row apply first_node first_world carry_out chosen placed happens_at happens
+unfolding state_of with_state with_line with_phase with_outstanding with_record without_record with_told with_exclusive telling tell_code record_enq after_code replied passes_wait tell_line tell_untold tell_control tell_all tell_new recalled tell_answer tell_answer_any answer_own process process_entry decide post ask wait take_line end_step ready_step phase_step may_go prepare finish_quiet read_entries all_sent put_in finish_call finish has without with_also first_after unseen any_unseen cleared stamped turn_reply wakes rest_after_turn turned turn_row row apply first_node first_world carry_out chosen placed happens_at happens
 told_at_once = (refl, λ law. let unseen_by_1 : true ≡ false = law [] [] (entry 3) (enq_by 0) refl refl refl 1 (λ e. omega arith) in absurd cc)
