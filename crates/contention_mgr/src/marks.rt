@@ -47,7 +47,7 @@ pub(crate) struct Marks {
 }
 
 /// The number of a resource, if it has one.
-fn number_of(names: &IndexMap<Res, usize>, res: &Res) -> Option<usize>
+fn find_number(names: &IndexMap<Res, usize>, res: &Res) -> Option<usize>
     ensures { result ≡ lookup (same_res res.now) names.now.entries }
 {
     names.get(res).copied()
@@ -174,7 +174,7 @@ impl Marks {
     pub(crate) fn get(&self, res: &Res, task: TaskId) -> Option<Mark>
         ensures { result ≡ mark_in self.now.names.entries self.now.marks.entries res.now task }
     {
-        match number_of(&self.names, res) {
+        match find_number(&self.names, res) {
             Some(number) => find_mark(&self.marks, Spot { number, task }),
             None => None,
         }
@@ -186,7 +186,7 @@ impl Marks {
         ensures marks { self.new.marks.entries ≡ self.old.marks.entries }
         ensures same { (r : ResValue) (t : TaskValue) → mark_in self.new.names.entries self.new.marks.entries r t ≡ mark_in self.old.names.entries self.old.marks.entries r t }
     {
-        match number_of(&self.names, res) {
+        match find_number(&self.names, res) {
             Some(number) => Ok(number),
             None => {
                 let number = self.names.len();
@@ -220,7 +220,7 @@ impl Marks {
     pub(crate) fn take(&mut self, res: &Res, task: TaskId)
         ensures { (r : ResValue) (t : TaskValue) → mark_in self.new.names.entries self.new.marks.entries r t ≡ cond (same_res res.now r && same_task task t) None (mark_in self.old.names.entries self.old.marks.entries r t) }
     {
-        if let Some(number) = number_of(&self.names, res) {
+        if let Some(number) = find_number(&self.names, res) {
             let mark = take_mark(&mut self.marks, Spot { number, task });
             self.told = told_without(self.told, mark, &self.marks);
         }
@@ -230,7 +230,7 @@ impl Marks {
     pub(crate) fn set(&mut self, res: &Res, task: TaskId, untold: bool)
         ensures { (r : ResValue) (t : TaskValue) → mark_in self.new.names.entries self.new.marks.entries r t ≡ cond (same_res res.now r && same_task task t) (with_told untold (mark_in self.old.names.entries self.old.marks.entries r t)) (mark_in self.old.names.entries self.old.marks.entries r t) }
     {
-        if let Some(number) = number_of(&self.names, res) {
+        if let Some(number) = find_number(&self.names, res) {
             set_mark(&mut self.marks, Spot { number, task }, untold);
             self.told = told_after(self.told, untold, &self.marks);
         }

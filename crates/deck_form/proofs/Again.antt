@@ -24,7 +24,7 @@ use Rattle.deck_form.specs.declared.event.Act.TheVariants as acts
 use Rattle.deck_form.specs.declared.form.Stmt.{Stmt}
 use Rattle.deck_form.specs.declared.form.Stmt.TheVariants as stmts
 use Rattle.deck_form.specs.declared.form.Key.TheVariants as keys
-use Rattle.deck_form.specs.Words.{short_at, parted, dotted_at, number_of, named_at}
+use Rattle.deck_form.specs.Words.{short_at, parted, dotted_at, written_number, named_at}
 use Rattle.deck_form.specs.Complex.{no_setup, mode_of, entries_of, limit_of, with_operand, operand_at, complex_at}
 use Rattle.deck_form.specs.Event.{event_word, pair_at, entry_at, act_at, event_at}
 use Rattle.deck_form.specs.UnbuiltWord.{is_unbuilt_word}
@@ -158,7 +158,7 @@ pair_again : (j t : List ℕ) → IsName j → IsName t → pair_at (Word (j ++ 
 unfolding pair_at dotted_at
 pair_again j t hj ht = rw (parted_again j t hj ht) refl
 
-entry_again : (entries : ℕ) (w : List ℕ) (e : ℕ) → number_of w ≡ Some e → e < entries → entry_at entries (Word w ∷ []) ≡ Some e
+entry_again : (entries : ℕ) (w : List ℕ) (e : ℕ) → written_number w ≡ Some e → e < entries → entry_at entries (Word w ∷ []) ≡ Some e
 unfolding entry_at
 entry_again entries w e h lt = rw (h, lt-ltb e entries lt) refl
 

@@ -28,7 +28,7 @@ use Rattle.deck_form.specs.declared.form.Stmt.{Stmt}
 use Rattle.deck_form.specs.declared.form.Stmt.TheVariants as stmts
 use Rattle.deck_form.specs.declared.form.Key.{Key}
 use Rattle.deck_form.specs.declared.form.Key.TheVariants as keys
-use Rattle.deck_form.specs.Words.{short_at, parted, dotted_at, number_of, named_at}
+use Rattle.deck_form.specs.Words.{short_at, parted, dotted_at, written_number, named_at}
 use Rattle.deck_form.specs.Complex.{no_setup, mode_of, entries_of, limit_of, with_star, with_entries, with_limit, with_operand, operand_at, complex_at}
 use Rattle.deck_form.specs.Event.{event_word, pair_at, entry_at, alone_at, act_at, event_at}
 use Rattle.deck_form.specs.UnbuiltWord.{is_unbuilt_word}
@@ -58,19 +58,19 @@ mode_taken : (w : List ℕ) (b : Bool) → mode_of w ≡ Some b → w ≡ mode_w
 unfolding mode_of
 mode_taken w b e = subst (IsWordOf mode_word w) e (row mode_word w false _ (row mode_word w true None tt))
 
-entries_taken : (w : List ℕ) (n : ℕ) → entries_of w ≡ Some n → (number_of w ≡ Some n) × (is_entries n ≡ true)
+entries_taken : (w : List ℕ) (n : ℕ) → entries_of w ≡ Some n → (written_number w ≡ Some n) × (is_entries n ≡ true)
 unfolding entries_of
 entries_taken w n e =
-    let k = bind_some (number_of w) (λ m. cond (is_entries m) (Some m) None) n e in
+    let k = bind_some (written_number w) (λ m. cond (is_entries m) (Some m) None) n e in
     let g = guard_some (is_entries k.0) k.0 n k.2 in
-    subst (λ (m : ℕ). (number_of w ≡ Some m) × (is_entries m ≡ true)) g.1 (k.1, g.0)
+    subst (λ (m : ℕ). (written_number w ≡ Some m) × (is_entries m ≡ true)) g.1 (k.1, g.0)
 
-limit_taken : (w : List ℕ) (n : ℕ) → limit_of w ≡ Some n → (number_of w ≡ Some n) × (is_limit n ≡ true)
+limit_taken : (w : List ℕ) (n : ℕ) → limit_of w ≡ Some n → (written_number w ≡ Some n) × (is_limit n ≡ true)
 unfolding limit_of
 limit_taken w n e =
-    let k = bind_some (number_of w) (λ m. cond (is_limit m) (Some m) None) n e in
+    let k = bind_some (written_number w) (λ m. cond (is_limit m) (Some m) None) n e in
     let g = guard_some (is_limit k.0) k.0 n k.2 in
-    subst (λ (m : ℕ). (number_of w ≡ Some m) × (is_limit m ≡ true)) g.1 (k.1, g.0)
+    subst (λ (m : ℕ). (written_number w ≡ Some m) × (is_limit m ≡ true)) g.1 (k.1, g.0)
 
 enclosed_is : (w v word value : List ℕ) → w ≡ word → v ≡ value → enclosed w v ≡ enclosed word value
 enclosed_is w v word value p q = cc
@@ -168,14 +168,14 @@ pair_taken ts x e =
     let d = dotted_taken ts p.0 p.1 in
     subst (λ (y : List ℕ × List ℕ). (ts ≡ Word (y.0 ++ 46 ∷ y.1) ∷ []) × IsName y.0 × IsName y.1) (some_is (p.0.0, p.0.1) x z.2) (d.0 ∙ front _ _ p.0.2 _ refl (end_taken p.0.2 z.0 z.1), d.1, d.2)
 
-entry_taken : (entries : ℕ) (ts : List Token) (e : ℕ) → entry_at entries ts ≡ Some e → (w : List ℕ) × (ts ≡ Word w ∷ []) × (number_of w ≡ Some e) × (e < entries)
+entry_taken : (entries : ℕ) (ts : List Token) (e : ℕ) → entry_at entries ts ≡ Some e → (w : List ℕ) × (ts ≡ Word w ∷ []) × (written_number w ≡ Some e) × (e < entries)
 unfolding entry_at
 entry_taken entries ts e h =
-    let w = bind_some (any_word_at ts) (λ w. number_of w.0 >>= λ n. end_at w.1 >>= λ end. cond (ltb n entries) (Some n) None) e h in
-    let n = bind_some (number_of w.0.0) (λ n. end_at w.0.1 >>= λ end. cond (ltb n entries) (Some n) None) e w.2 in
+    let w = bind_some (any_word_at ts) (λ w. written_number w.0 >>= λ n. end_at w.1 >>= λ end. cond (ltb n entries) (Some n) None) e h in
+    let n = bind_some (written_number w.0.0) (λ n. end_at w.0.1 >>= λ end. cond (ltb n entries) (Some n) None) e w.2 in
     let z = bind_some (end_at w.0.1) (λ end. cond (ltb n.0 entries) (Some n.0) None) e n.2 in
     let g = guard_some (ltb n.0 entries) n.0 e z.2 in
-    subst (λ (m : ℕ). (w : List ℕ) × (ts ≡ Word w ∷ []) × (number_of w ≡ Some m) × (m < entries)) g.1 (w.0.0, any_word_taken ts w.0 w.1 ∙ front w.0.0 _ w.0.1 _ refl (end_taken w.0.1 z.0 z.1), n.1, ltb-true n.0 entries g.0)
+    subst (λ (m : ℕ). (w : List ℕ) × (ts ≡ Word w ∷ []) × (written_number w ≡ Some m) × (m < entries)) g.1 (w.0.0, any_word_taken ts w.0 w.1 ∙ front w.0.0 _ w.0.1 _ refl (end_taken w.0.1 z.0 z.1), n.1, ltb-true n.0 entries g.0)
 
 -- the word of an event
 abbrev SaysWord : List ℕ → EventWord → Type 0

@@ -5,7 +5,7 @@ use Rattle.grs_base.specs.Limits.{is_entries, is_limit}
 use Rattle.deck_scan.specs.declared.token.Token.{Token}
 use Rattle.deck_form.specs.declared.complex.Setup.{Setup}
 use Rattle.deck_scan.specs.Next.{◌>>=◌, open_at, close_at, any_word_at, up_to, once}
-use Rattle.deck_form.specs.Words.{number_of}
+use Rattle.deck_form.specs.Words.{written_number}
 
 abbrev pub no_setup : Setup
 no_setup = record { star = None; entries = None; limit = None }
@@ -15,12 +15,12 @@ mode_of w = if bytes_eq w (codes "RING") then Some false else if bytes_eq w (cod
 
 unfoldable pub entries_of : List ℕ → Option ℕ
 entries_of w = do
-  n ← number_of w
+  n ← written_number w
   if is_entries n then Some n else None
 
 unfoldable pub limit_of : List ℕ → Option ℕ
 limit_of w = do
-  n ← number_of w
+  n ← written_number w
   if is_limit n then Some n else None
 
 -- MODE stands once.

@@ -7,7 +7,7 @@ use Rattle.deck_form.specs.declared.event.Act.TheVariants as acts
 use Rattle.deck_form.specs.declared.event.EventWord.{EventWord}
 use Rattle.deck_form.specs.declared.event.EventWord.TheVariants as words
 use Rattle.deck_scan.specs.Next.{◌>>=◌, end_at, any_word_at}
-use Rattle.deck_form.specs.Words.{short_at, named_at, dotted_at, number_of}
+use Rattle.deck_form.specs.Words.{short_at, named_at, dotted_at, written_number}
 
 unfoldable pub event_word : List ℕ → EventWord
 event_word w =
@@ -34,7 +34,7 @@ pair_at ts = do
 unfoldable pub entry_at : ℕ → List Token → Option ℕ
 entry_at entries ts = do
   w ← any_word_at ts
-  n ← number_of w.0
+  n ← written_number w.0
   end ← end_at w.1
   if nat_lt n entries then Some n else None
 

@@ -19,7 +19,7 @@ use Rattle.job_syntax.specs.LineAsk.{line_word}
 use Rattle.job_syntax.specs.Spelled.{IsLineAsk}
 use Rattle.rnl_syntax.specs.Lines.{is_rnldef_word}
 use Rattle.rnl_syntax.specs.Spelled.{IsRnldef}
-use Rattle.deck_form.specs.Words.{number_of}
+use Rattle.deck_form.specs.Words.{written_number}
 use Rattle.deck_form.specs.Complex.{no_setup}
 use Rattle.deck_form.specs.UnbuiltWord.{is_unbuilt_word}
 
@@ -48,8 +48,8 @@ operand (Limit w n) = enclosed (codes "LIMIT") w
 -- None of its kind stands yet, and its number may be.
 abbrev pub IsFreeOperand : Operand → Setup → Type 0
 IsFreeOperand (Mode star) o = o.star ≡ None
-IsFreeOperand (Entries w n) o = (o.entries ≡ None) × (number_of w ≡ Some n) × (is_entries n ≡ true)
-IsFreeOperand (Limit w n) o = (o.limit ≡ None) × (number_of w ≡ Some n) × (is_limit n ≡ true)
+IsFreeOperand (Entries w n) o = (o.entries ≡ None) × (written_number w ≡ Some n) × (is_entries n ≡ true)
+IsFreeOperand (Limit w n) o = (o.limit ≡ None) × (written_number w ≡ Some n) × (is_limit n ≡ true)
 
 abbrev pub set_operand : Operand → Setup → Setup
 set_operand (Mode star) o = record o { star = Some star }
@@ -78,7 +78,7 @@ IsPair word ts j t = (ts ≡ Word word ∷ Word (j ++ 46 ∷ t) ∷ []) × IsNam
 
 -- An entry is below the number of entries.
 abbrev pub IsEntry : List ℕ → ℕ → List Token → ℕ → Type 0
-IsEntry word entries ts e = (w : List ℕ) × (ts ≡ Word word ∷ Word w ∷ []) × (number_of w ≡ Some e) × (e < entries)
+IsEntry word entries ts e = (w : List ℕ) × (ts ≡ Word word ∷ Word w ∷ []) × (written_number w ≡ Some e) × (e < entries)
 
 -- What stands behind the system of an event line.
 abbrev pub IsAct : ℕ → List Token → Act → Type 0

@@ -37,5 +37,5 @@ abbrev pub most_digits : ℕ
 most_digits = 9
 
 -- The number that 1 to 9 decimal digits write.
-unfoldable pub number_of : List ℕ → Option ℕ
-number_of w = if (length w == 0) || nat_lt most_digits (length w) then None else digits 0 w
+unfoldable pub written_number : List ℕ → Option ℕ
+written_number w = if (length w == 0) || nat_lt most_digits (length w) then None else digits 0 w

@@ -4,7 +4,7 @@ ghost use Rattle.grs_base.specs.Limits.{is_entries};
 ghost use Rattle.deck_scan.specs.Next.{Reads, maybe};
 ghost use Rattle.deck_form.specs.Complex.{mode_of, entries_of, limit_of, with_star, with_entries, with_limit, with_operand, operand_at, complex_at};
 
-use crate::words::number_of;
+use crate::words::written_number;
 use deck_scan::{Miss, Token, any_word_at, close_at, end_at, open_at};
 use grs_base::MOST_LIMIT;
 
@@ -42,7 +42,7 @@ fn is_entries(n: u32) -> bool
 fn entries_of(w: &[u8]) -> Result<u32, Miss>
     ensures { Reads (λ x. x) result (entries_of w.now) }
 {
-    let n = number_of(w)?;
+    let n = written_number(w)?;
     if is_entries(n) { Ok(n) } else { Err(Miss) }
 }
 
@@ -50,7 +50,7 @@ fn entries_of(w: &[u8]) -> Result<u32, Miss>
 fn limit_of(w: &[u8]) -> Result<u32, Miss>
     ensures { Reads (λ x. x) result (limit_of w.now) }
 {
-    let n = number_of(w)?;
+    let n = written_number(w)?;
     if 1 <= n && n <= MOST_LIMIT {
         Ok(n)
     } else {

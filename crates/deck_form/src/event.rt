@@ -3,7 +3,7 @@ ghost use Rattle.std.specs.Prelude.{◌≡◌};
 ghost use Rattle.deck_scan.specs.Next.{Reads};
 ghost use Rattle.deck_form.specs.Event.{event_word, pair_at, alone_at, entry_at, act_at, event_at};
 
-use crate::words::{dotted_at, named_at, number_of, short_at};
+use crate::words::{dotted_at, named_at, short_at, written_number};
 use deck_scan::{GivenName, Miss, Token, any_word_at, end_at};
 
 /// What a system does at an event, with names of any length.
@@ -98,7 +98,7 @@ fn entry_at(entries: u32, ts: &[Token<'_>]) -> Result<u32, Miss>
     ensures { Reads (λ x. x) result (entry_at entries ts.now) }
 {
     let (w, ts) = any_word_at(ts)?;
-    let entry = number_of(w)?;
+    let entry = written_number(w)?;
     end_at(ts)?;
     if entry < entries {
         Ok(entry)

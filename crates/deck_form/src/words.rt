@@ -2,7 +2,7 @@
 ghost use Rattle.std.specs.Prelude.{◌≡◌, ◌<◌, ◌==◌, length, position, IfSome};
 ghost use Rattle.grs_base.specs.ShortNames.{is_digit, is_name_byte, is_name, all_name};
 ghost use Rattle.deck_scan.specs.Next.{Reads};
-ghost use Rattle.deck_form.specs.Words.{short_at, named_at, dotted_at, parted, digits, number_of};
+ghost use Rattle.deck_form.specs.Words.{short_at, named_at, dotted_at, parted, digits, written_number};
 
 use deck_scan::{GivenName, Miss, Token, any_word_at, end_at};
 
@@ -111,9 +111,9 @@ pub fn dotted_at<'a, 't>(ts: &'a [Token<'t>]) -> Result<Dotted<'a, 't>, Miss>
 }
 
 /// The number that 1 to 9 decimal digits write.
-#[tactic(auto, unfolding(crate::specs::Words::number_of, crate::specs::Words::digits))]
-pub fn number_of(w: &[u8]) -> Result<u32, Miss>
-    ensures { Reads (λ x. x) result (number_of w.now) }
+#[tactic(auto, unfolding(crate::specs::Words::written_number, crate::specs::Words::digits))]
+pub fn written_number(w: &[u8]) -> Result<u32, Miss>
+    ensures { Reads (λ x. x) result (written_number w.now) }
 {
     if w.is_empty() || w.len() > MOST_DIGITS {
         return Err(Miss);

@@ -55,7 +55,7 @@ pub fn epoch(word: u32) -> u32
 }
 
 /// The number that stands in a word for the manager.
-fn number_of(manager: Option<SysId>) -> u32
+fn manager_number(manager: Option<SysId>) -> u32
     ensures { result ≡ manager_number manager }
 {
     match manager {
@@ -72,7 +72,7 @@ fn word_of(mask: u32, manager: Option<SysId>, epoch: u32) -> u32
     requires epoch { epoch < 2 ^ 20 }
     ensures { result ≡ lock_word mask manager epoch }
 {
-    mask + SETS * number_of(manager) + SETS * NUMBERS * epoch
+    mask + SETS * manager_number(manager) + SETS * NUMBERS * epoch
 }
 
 /// Whether the caller manages the entry.

@@ -102,7 +102,7 @@ pub(crate) fn manager(rows: &[Row], entries: u32, entry: u32) -> Option<SysId>
 }
 
 /// The number that stands in a word for the manager.
-fn number_of(manager: Option<SysId>) -> u32
+fn manager_number(manager: Option<SysId>) -> u32
     ensures number { result ≡ manager_number manager }
     ensures small { result < 257 }
 {
@@ -118,7 +118,7 @@ fn word(rows: &[Row], entries: u32, entry: u32) -> u32
     requires { entries ≢ 0 }
     ensures { result ≡ word_by entries entry rows.now }
 {
-    let number = number_of(manager(rows, entries, entry));
+    let number = manager_number(manager(rows, entries, entry));
     interest(rows, entries, entry) + SETS * number
 }
 

@@ -20,22 +20,22 @@ use Rattle.grs_base.specs.declared.resource.Elem.{Elem}
 use Rattle.grs_base.specs.declared.resource.TaskId.{TaskId}
 use Rattle.grs_base.specs.declared.resource.Ctl.TheVariants.{E}
 use Rattle.grs_base.proofs.SameLaws.{same_res-exact, same_res-itself}
-use Rattle.queue_table.specs.Names.{Numbers, number_of, name_of, named, is_paired, all_numbers, all_named, IsTable}
+use Rattle.queue_table.specs.Names.{Numbers, queue_number, name_of, named, is_paired, all_numbers, all_named, IsTable}
 
 -- the number of a resource has that resource as its name
-pub name_of-number : (es : Numbers) (r : Res) (q : ℕ) → is_paired es ≡ true → number_of es r ≡ Some q → name_of es q ≡ Some r
+pub name_of-number : (es : Numbers) (r : Res) (q : ℕ) → is_paired es ≡ true → queue_number es r ≡ Some q → name_of es q ≡ Some r
 name_of-number [] r q p h = cc
 name_of-number (e ∷ es) r q p h = grind (arith, nat_tests, p, h, same_res-exact r e.0, name_of-number es r q)
 
 -- and the other way
-pub number_of-name : (es : Numbers) (r : Res) (q : ℕ) → is_paired es ≡ true → name_of es q ≡ Some r → number_of es r ≡ Some q
-number_of-name [] r q p h = cc
-number_of-name (e ∷ es) r q p h = grind (arith, nat_tests, p, h, same_res-exact r e.0, same_res-itself r, number_of-name es r q)
+pub queue_number-name : (es : Numbers) (r : Res) (q : ℕ) → is_paired es ≡ true → name_of es q ≡ Some r → queue_number es r ≡ Some q
+queue_number-name [] r q p h = cc
+queue_number-name (e ∷ es) r q p h = grind (arith, nat_tests, p, h, same_res-exact r e.0, same_res-itself r, queue_number-name es r q)
 
 -- two resources are one where their numbers are
-same_as : (es : Numbers) (r x : Res) (q n : ℕ) → is_paired es ≡ true → number_of es r ≡ Some q → name_of es n ≡ Some x → same_res r x ≡ eqb q n
+same_as : (es : Numbers) (r x : Res) (q n : ℕ) → is_paired es ≡ true → queue_number es r ≡ Some q → name_of es n ≡ Some x → same_res r x ≡ eqb q n
 same_as es r x q n p h e = elim (same_res r x) as (λ b. same_res r x ≡ b → b ≡ eqb q n) [
-  | true ↦ λ s. sym (eq-eqb q n (same_number q n (sym h ∙ ap (number_of es) (same_res-exact r x s) ∙ number_of-name es x n p e)))
+  | true ↦ λ s. sym (eq-eqb q n (same_number q n (sym h ∙ ap (queue_number es) (same_res-exact r x s) ∙ queue_number-name es x n p e)))
   | false ↦ λ s. sym (ne_eqb q n (λ i. apart r x s (same_name r x (sym (name_of-number es r q p h) ∙ ap (name_of es) i ∙ e))))
 ] refl
   where
@@ -49,7 +49,7 @@ same_as es r x q n p h e = elim (same_res r x) as (λ b. same_res r x ≡ b → 
     apart a b s i = grind (arith, s, i, same_res-itself a)
 
 -- the list of a resource is that of its queue
-pub list_of-named : (es : Numbers) (hs : Held ℕ) (r : Res) (q : ℕ) → is_paired es ≡ true → number_of es r ≡ Some q → list_of (named es hs) r ≡ list_at nat_eq hs q
+pub list_of-named : (es : Numbers) (hs : Held ℕ) (r : Res) (q : ℕ) → is_paired es ≡ true → queue_number es r ≡ Some q → list_of (named es hs) r ≡ list_at nat_eq hs q
 list_of-named es [] r q p h = refl
 list_of-named es (x ∷ hs) r q p h = step (list_of-named es hs r q p h) (name_of es x.0) refl
   where
@@ -58,13 +58,13 @@ list_of-named es (x ∷ hs) r q p h = step (list_of-named es hs r q p h) (name_o
     step rest (Some y) e = grind (arith, e, same_as es r y q x.0 p h e, rest)
 
 -- a resource without a queue has an empty list
-pub list_of-unnamed : (es : Numbers) (hs : Held ℕ) (r : Res) → is_paired es ≡ true → number_of es r ≡ None → list_of (named es hs) r ≡ []
+pub list_of-unnamed : (es : Numbers) (hs : Held ℕ) (r : Res) → is_paired es ≡ true → queue_number es r ≡ None → list_of (named es hs) r ≡ []
 list_of-unnamed es [] r p h = refl
 list_of-unnamed es (x ∷ hs) r p h = step (list_of-unnamed es hs r p h) (name_of es x.0) refl
   where
     step : list_of (named es hs) r ≡ [] → (o : Option Res) → name_of es x.0 ≡ o → list_of (option_map_or (λ y. (y, x.1) ∷ named es hs) o (named es hs)) r ≡ []
     step rest None e = rest
-    step rest (Some y) e = grind (arith, e, h, same_res-exact r y, number_of-name es y x.0 p e, rest)
+    step rest (Some y) e = grind (arith, e, h, same_res-exact r y, queue_number-name es y x.0 p e, rest)
 
 -- a new element goes last under its resource
 pub named-push : (es : Numbers) (hs : Held ℕ) (q : ℕ) (r : Res) (e : Elem) → name_of es q ≡ Some r → named es (hs ++ (q, e) ∷ []) ≡ named es hs ++ (r, e) ∷ []
@@ -91,10 +91,10 @@ named-map es f g keeps same (x ∷ hs) = step (named-map es f g keeps same hs) (
     step rest None e = grind (arith, e, keeps x, rest)
     step rest (Some y) e = grind (arith, e, keeps x, same x y e, rest)
 
-pub named-without : (es : Numbers) (hs : Held ℕ) (r : Res) (q : ℕ) (t : TaskId) → is_paired es ≡ true → number_of es r ≡ Some q → named es (without nat_eq hs q t) ≡ without same_res (named es hs) r t
+pub named-without : (es : Numbers) (hs : Held ℕ) (r : Res) (q : ℕ) (t : TaskId) → is_paired es ≡ true → queue_number es r ≡ Some q → named es (without nat_eq hs q t) ≡ without same_res (named es hs) r t
 named-without es hs r q t p h = named-filter es (λ x. not (is_at nat_eq q t x)) (λ x. not (is_at same_res r t x)) (λ x y e. grind (arith, same_as es r y q x.0 p h e)) hs
 
-pub named-exclusive : (es : Numbers) (hs : Held ℕ) (r : Res) (q : ℕ) (t : TaskId) → is_paired es ≡ true → number_of es r ≡ Some q → named es (with_exclusive nat_eq hs q t) ≡ with_exclusive same_res (named es hs) r t
+pub named-exclusive : (es : Numbers) (hs : Held ℕ) (r : Res) (q : ℕ) (t : TaskId) → is_paired es ≡ true → queue_number es r ≡ Some q → named es (with_exclusive nat_eq hs q t) ≡ with_exclusive same_res (named es hs) r t
 named-exclusive es hs r q t p h = named-map es (λ x. cond (is_at nat_eq q t x) (x.0, record { task = x.1.task; ctl = E }) x) (λ x. cond (is_at same_res r t x) (x.0, record { task = x.1.task; ctl = E }) x)
     (λ x. grind arith) (λ x y e. grind (arith, same_as es r y q x.0 p h e)) hs
 
@@ -111,16 +111,16 @@ name_of-push_none : (es : Numbers) (r : Res) (q n : ℕ) → name_of es n ≡ No
 name_of-push_none [] r q n h a = grind (arith, a)
 name_of-push_none (e ∷ es) r q n h a = grind (arith, h, a, name_of-push_none es r q n)
 
-number_of-push_none : (es : Numbers) (r : Res) (q : ℕ) (x : Res) → number_of es x ≡ None → same_res x r ≡ false → number_of (es ++ (r, q) ∷ []) x ≡ None
-number_of-push_none [] r q x h a = grind (arith, a)
-number_of-push_none (e ∷ es) r q x h a = grind (arith, h, a, number_of-push_none es r q x)
+queue_number-push_none : (es : Numbers) (r : Res) (q : ℕ) (x : Res) → queue_number es x ≡ None → same_res x r ≡ false → queue_number (es ++ (r, q) ∷ []) x ≡ None
+queue_number-push_none [] r q x h a = grind (arith, a)
+queue_number-push_none (e ∷ es) r q x h a = grind (arith, h, a, queue_number-push_none es r q x)
 
 pub same_res-sym_false : (a b : Res) → same_res a b ≡ false → same_res b a ≡ false
 same_res-sym_false a b h = grind (arith, h, same_res-exact b a, same_res-itself a)
 
-pub is_paired-push : (es : Numbers) (r : Res) (q : ℕ) → is_paired es ≡ true → number_of es r ≡ None → name_of es q ≡ None → is_paired (es ++ (r, q) ∷ []) ≡ true
+pub is_paired-push : (es : Numbers) (r : Res) (q : ℕ) → is_paired es ≡ true → queue_number es r ≡ None → name_of es q ≡ None → is_paired (es ++ (r, q) ∷ []) ≡ true
 is_paired-push [] r q p h f = refl
-is_paired-push (e ∷ es) r q p h f = grind (arith, nat_tests, p, h, f, number_of-push_none es r q e.0, name_of-push_none es r q e.1, same_res-sym_false r e.0, is_paired-push es r q)
+is_paired-push (e ∷ es) r q p h f = grind (arith, nat_tests, p, h, f, queue_number-push_none es r q e.0, name_of-push_none es r q e.1, same_res-sym_false r e.0, is_paired-push es r q)
 
 pub all_numbers-push : (live : ℕ → Bool) (es : Numbers) (r : Res) (q : ℕ) → all_numbers live es ≡ true → live q ≡ true → all_numbers live (es ++ (r, q) ∷ []) ≡ true
 all_numbers-push live [] r q h l = grind (arith, l)
@@ -134,7 +134,7 @@ pub name_of-dead : (live : ℕ → Bool) (es : Numbers) (q : ℕ) → all_number
 name_of-dead live [] q h d = refl
 name_of-dead live (e ∷ es) q h d = grind (arith, h, d, eqb-true q e.1, name_of-dead live es q)
 
-pub number_live : (live : ℕ → Bool) (es : Numbers) (r : Res) (q : ℕ) → all_numbers live es ≡ true → number_of es r ≡ Some q → live q ≡ true
+pub number_live : (live : ℕ → Bool) (es : Numbers) (r : Res) (q : ℕ) → all_numbers live es ≡ true → queue_number es r ≡ Some q → live q ≡ true
 number_live live [] r q h n = cc
 number_live live (e ∷ es) r q h n = grind (arith, h, n, number_live live es r q)
 
@@ -160,7 +160,7 @@ pub all_named-exclusive : (es : Numbers) (hs : Held ℕ) (q : ℕ) (t : TaskId) 
 all_named-exclusive es [] q t = refl
 all_named-exclusive es (x ∷ hs) q t = grind (arith, all_named-exclusive es hs q t)
 
-pub list_of-some : (es : Numbers) (hs : Held ℕ) (r : Res) (o : Option ℕ) → is_paired es ≡ true → o ≡ number_of es r → list_at_some hs o ≡ list_of (named es hs) r
+pub list_of-some : (es : Numbers) (hs : Held ℕ) (r : Res) (o : Option ℕ) → is_paired es ≡ true → o ≡ queue_number es r → list_at_some hs o ≡ list_of (named es hs) r
 list_of-some es hs r None p h = sym (list_of-unnamed es hs r p (sym h))
 list_of-some es hs r (Some q) p h = sym (list_of-named es hs r q p (sym h))
 
@@ -169,7 +169,7 @@ when_ok (Ok x) P h p = p
 when_ok (Err e) P h p = cc
 
 -- what an element that is pushed into a queue that is there leaves
-pub IsTable-push : (es : Numbers) (hs new : Held ℕ) (live more : ℕ → Bool) (r : Res) (q : ℕ) (e : Elem) → IsTable es hs live → number_of es r ≡ Some q → new ≡ hs ++ (q, e) ∷ [] → ((n : ℕ) → more n ≡ live n) → IsTable es new more × (named es new ≡ named es hs ++ (r, e) ∷ [])
+pub IsTable-push : (es : Numbers) (hs new : Held ℕ) (live more : ℕ → Bool) (r : Res) (q : ℕ) (e : Elem) → IsTable es hs live → queue_number es r ≡ Some q → new ≡ hs ++ (q, e) ∷ [] → ((n : ℕ) → more n ≡ live n) → IsTable es new more × (named es new ≡ named es hs ++ (r, e) ∷ [])
 IsTable-push es hs new live more r q e t n is same =
     let name : name_of es q ≡ Some r = name_of-number es r q t.paired n in (
       record {
@@ -181,7 +181,7 @@ IsTable-push es hs new live more r q e t n is same =
     )
 
 -- the same for a resource whose queue is made first
-pub IsTable-push_new : (es more_es : Numbers) (hs new : Held ℕ) (live made more : ℕ → Bool) (r : Res) (q : ℕ) (e : Elem) → IsTable es hs live → number_of es r ≡ None → live q ≡ false → ((n : ℕ) → made n ≡ (eqb n q || live n)) → more_es ≡ es ++ (r, q) ∷ [] → new ≡ hs ++ (q, e) ∷ [] → ((n : ℕ) → more n ≡ made n) →
+pub IsTable-push_new : (es more_es : Numbers) (hs new : Held ℕ) (live made more : ℕ → Bool) (r : Res) (q : ℕ) (e : Elem) → IsTable es hs live → queue_number es r ≡ None → live q ≡ false → ((n : ℕ) → made n ≡ (eqb n q || live n)) → more_es ≡ es ++ (r, q) ∷ [] → new ≡ hs ++ (q, e) ∷ [] → ((n : ℕ) → more n ≡ made n) →
     IsTable more_es new more × (named more_es new ≡ named es hs ++ (r, e) ∷ [])
 IsTable-push_new es more_es hs new live made more r q e t none dead up is_es is same =
     let old : name_of es q ≡ None = name_of-dead live es q t.live_numbers dead in
@@ -200,7 +200,7 @@ IsTable-push_new es more_es hs new live made more r q e t none dead up is_es is 
     )
 
 -- what is left where an element is taken out
-pub IsTable-take : (es : Numbers) (hs new : Held ℕ) (live more : ℕ → Bool) (r : Res) (q : ℕ) (t : TaskId) → IsTable es hs live → number_of es r ≡ Some q → new ≡ without nat_eq hs q t → ((n : ℕ) → more n ≡ live n) → IsTable es new more × (named es new ≡ without same_res (named es hs) r t)
+pub IsTable-take : (es : Numbers) (hs new : Held ℕ) (live more : ℕ → Bool) (r : Res) (q : ℕ) (t : TaskId) → IsTable es hs live → queue_number es r ≡ Some q → new ≡ without nat_eq hs q t → ((n : ℕ) → more n ≡ live n) → IsTable es new more × (named es new ≡ without same_res (named es hs) r t)
 IsTable-take es hs new live more r q t table n is same = (
   record {
     paired = table.paired;
@@ -211,7 +211,7 @@ IsTable-take es hs new live more r q t table n is same = (
 )
 
 -- where an element is made exclusive
-pub IsTable-exclusive : (es : Numbers) (hs new : Held ℕ) (live more : ℕ → Bool) (r : Res) (q : ℕ) (t : TaskId) → IsTable es hs live → number_of es r ≡ Some q → new ≡ with_exclusive nat_eq hs q t → ((n : ℕ) → more n ≡ live n) → IsTable es new more × (named es new ≡ with_exclusive same_res (named es hs) r t)
+pub IsTable-exclusive : (es : Numbers) (hs new : Held ℕ) (live more : ℕ → Bool) (r : Res) (q : ℕ) (t : TaskId) → IsTable es hs live → queue_number es r ≡ Some q → new ≡ with_exclusive nat_eq hs q t → ((n : ℕ) → more n ≡ live n) → IsTable es new more × (named es new ≡ with_exclusive same_res (named es hs) r t)
 IsTable-exclusive es hs new live more r q t table n is same = (
   record {
     paired = table.paired;

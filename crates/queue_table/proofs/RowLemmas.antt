@@ -22,7 +22,7 @@ use Rattle.grs_base.specs.declared.resource.Elem.{Elem}
 use Rattle.grs_base.proofs.SameLaws.{same_res-exact}
 use Rattle.grs_base.proofs.OrderLaws.{res_total, res_order-IsAntisymmetric, same_res-tie}
 use Rattle.queue_table.specs.declared.placed.Placed.{Placed}
-use Rattle.queue_table.specs.Names.{Numbers, number_of, named, is_paired}
+use Rattle.queue_table.specs.Names.{Numbers, queue_number, named, is_paired}
 use Rattle.queue_table.specs.Shown.{plain, with_list, with_lists, is_of, may_show, passes, shows}
 use Rattle.queue_table.proofs.NameLemmas.{list_of-some}
 
@@ -62,10 +62,10 @@ either : {X : Type 0} (b : Bool) (x : X) → x ≡ cond b x x
 either true x = refl
 either false x = refl
 
-none_behind : (e : Res × ℕ) (es : Numbers) (q : Res) → is_paired (e ∷ es) ≡ true → q ≡ e.0 → number_of es q ≡ None
-none_behind e es q p is = ap (number_of es) is ∙ step (number_of es e.0) refl
+none_behind : (e : Res × ℕ) (es : Numbers) (q : Res) → is_paired (e ∷ es) ≡ true → q ≡ e.0 → queue_number es q ≡ None
+none_behind e es q p is = ap (queue_number es) is ∙ step (queue_number es e.0) refl
   where
-    step : (o : Option ℕ) → number_of es e.0 ≡ o → o ≡ None
+    step : (o : Option ℕ) → queue_number es e.0 ≡ o → o ≡ None
     step None h = refl
     step (Some n) h = grind (arith, p, h)
 
@@ -119,15 +119,15 @@ module _ (R : Res → Res → Ordering) (total : IsTotalOrder R) (exact : IsAnti
   find-with_some true q r xs m = find-with q r xs m
   find-with_some false q r xs m = refl
 
-  find-with_all : (t : Res → Bool) (es : Numbers) (hs : Held ℕ) (m : Lists) (q : Res) → is_paired es ≡ true → find R q (with_all t es hs m) ≡ cond (t q) (found (list_at_some hs (number_of es q)) (find R q m)) (find R q m)
+  find-with_all : (t : Res → Bool) (es : Numbers) (hs : Held ℕ) (m : Lists) (q : Res) → is_paired es ≡ true → find R q (with_all t es hs m) ≡ cond (t q) (found (list_at_some hs (queue_number es q)) (find R q m)) (find R q m)
   find-with_all t [] hs m q p = either (t q) (find R q m)
   find-with_all t (e ∷ es) hs m q p =
       find-with_all t es hs (cond (t e.0) (with e.0 (list_at nat_eq hs e.1) m) m) q (grind (arith, p))
-      ∙ ap (λ (o : Option (List Elem)). cond (t q) (found (list_at_some hs (number_of es q)) o) o) (find-with_some (t e.0) q e.0 (list_at nat_eq hs e.1) m)
+      ∙ ap (λ (o : Option (List Elem)). cond (t q) (found (list_at_some hs (queue_number es q)) o) o) (find-with_some (t e.0) q e.0 (list_at nat_eq hs e.1) m)
       ∙ step (same_res q e.0) refl
     where
-      passed : (b : Bool) → t e.0 ≡ b → t q ≡ b → number_of es q ≡ None →
-          cond (t q) (found (list_at_some hs (number_of es q)) (cond (t e.0 && true) (found (list_at nat_eq hs e.1) (find R q m)) (find R q m))) (cond (t e.0 && true) (found (list_at nat_eq hs e.1) (find R q m)) (find R q m))
+      passed : (b : Bool) → t e.0 ≡ b → t q ≡ b → queue_number es q ≡ None →
+          cond (t q) (found (list_at_some hs (queue_number es q)) (cond (t e.0 && true) (found (list_at nat_eq hs e.1) (find R q m)) (find R q m))) (cond (t e.0 && true) (found (list_at nat_eq hs e.1) (find R q m)) (find R q m))
           ≡ cond (t q) (found (list_at nat_eq hs e.1) (find R q m)) (find R q m)
       passed true a b none = rw (a, b, none) refl
       passed false a b none = rw (a, b) refl
@@ -137,8 +137,8 @@ module _ (R : Res → Res → Ordering) (total : IsTotalOrder R) (exact : IsAnti
       other false = refl
 
       step : (b : Bool) → same_res q e.0 ≡ b →
-          cond (t q) (found (list_at_some hs (number_of es q)) (cond (t e.0 && b) (found (list_at nat_eq hs e.1) (find R q m)) (find R q m))) (cond (t e.0 && b) (found (list_at nat_eq hs e.1) (find R q m)) (find R q m))
-          ≡ cond (t q) (found (list_at_some hs (cond b (Some e.1) (number_of es q))) (find R q m)) (find R q m)
+          cond (t q) (found (list_at_some hs (queue_number es q)) (cond (t e.0 && b) (found (list_at nat_eq hs e.1) (find R q m)) (find R q m))) (cond (t e.0 && b) (found (list_at nat_eq hs e.1) (find R q m)) (find R q m))
+          ≡ cond (t q) (found (list_at_some hs (cond b (Some e.1) (queue_number es q))) (find R q m)) (find R q m)
       step true s =
           let same : q ≡ e.0 = same_res-exact q e.0 s in
           passed (t e.0) refl (ap t same) (none_behind e es q p same)
@@ -146,7 +146,7 @@ module _ (R : Res → Res → Ordering) (total : IsTotalOrder R) (exact : IsAnti
 
   all-from : (t : Res → Bool) (es : Numbers) (hs : Held ℕ) → is_paired es ≡ true → with_all t es hs [] ≡ where_key R t (from (named es hs) (named es hs))
   all-from t es hs p = same_entries R total exact (with_all t es hs []) (where_key R t (from (named es hs) (named es hs))) (with_all-sorted t es hs [] tt) (is_sorted-where_key R t _ (from-sorted (named es hs) (named es hs)))
-      (λ q. find-with_all t es hs [] q p ∙ ap (λ (l : List Elem). cond (t q) (found l None) None) (list_of-some es hs q (number_of es q) p refl)
+      (λ q. find-with_all t es hs [] q p ∙ ap (λ (l : List Elem). cond (t q) (found l None) None) (list_of-some es hs q (queue_number es q) p refl)
       ∙ ap (λ (o : Option (List Elem)). cond (t q) o None) (found-shown (list_of (named es hs) q) ∙ sym (find-from (named es hs) (named es hs) q))
       ∙ sym (find-where_key R t q (λ x tied. ap t (sym (exact q x tied))) (from (named es hs) (named es hs))))
 

@@ -46,9 +46,9 @@ or_else None s = s
 or_else (Some t) s = t
 
 -- the number of a system, 0 where there is none
-abbrev pub number_of : Option SysId → ℕ
-number_of None = 0
-number_of (Some s) = s.0
+abbrev pub system_number : Option SysId → ℕ
+system_number None = 0
+system_number (Some s) = s.0
 
 -- whether s has yet to process an entry: those that have are the entry's mask
 abbrev pub is_unseen : SysId → RingEntry → Bool

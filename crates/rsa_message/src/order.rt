@@ -2,7 +2,7 @@
 ghost use Rattle.std.specs.Prelude.{◌≡◌, ◌+◌, ◌%◌, ◌<◌, ◌≤◌};
 ghost use Rattle.grs_base.specs.Limits.{most_systems};
 ghost use Rattle.grs_wire.specs.Masks.{has};
-ghost use Rattle.rsa_message.specs.Message.{stands_at, is_due, first_after, moved_on, or_else, number_of};
+ghost use Rattle.rsa_message.specs.Message.{stands_at, is_due, first_after, moved_on, or_else, system_number};
 
 use crate::entries::has_unseen;
 use grs_base::SysId;
@@ -36,7 +36,7 @@ pub fn first_in(systems: u32, system: SysId, set: u32) -> Option<SysId>
     requires some { 0 < systems }
     requires few { systems ≤ most_systems }
     ensures first { result ≡ first_after systems system (λ s. has set s.0) }
-    ensures below { number_of result < systems }
+    ensures below { system_number result < systems }
 {
     for places in 0..systems {
         let next = system_after(systems, system, places + 1);
@@ -75,10 +75,10 @@ pub fn next_due(systems: u32, system: SysId, entries: &[RingEntry], live: u32, r
 /// Where the message stands once only the systems of the set have to come to it: where it is, if that is one of
 /// them, else at the first of them after that; nowhere if there is none.
 pub fn moved_to(systems: u32, holder: Option<SysId>, set: u32) -> Option<SysId>
-    requires holder { number_of holder < systems }
+    requires holder { system_number holder < systems }
     requires few { systems ≤ most_systems }
     ensures moved { result ≡ moved_on systems holder set }
-    ensures below { number_of result < systems }
+    ensures below { system_number result < systems }
 {
     match holder {
         Some(at) => {

@@ -32,14 +32,14 @@ pub struct Rsa {
 impl Model for Rsa {
     ghost use Rattle.std.specs.Prelude.{◌≡◌, ◌+◌, ◌<◌, ◌≤◌, vec_len, vec_capacity};
     ghost use Rattle.grs_base.specs.Limits.{most_systems, last_number};
-    ghost use Rattle.rsa_message.specs.Message.{number_of};
+    ghost use Rattle.rsa_message.specs.Message.{system_number};
     ghost use Rattle.rsa_message.specs.Room.{RsaValue, given_to};
 
     ghost Value = { RsaValue };
 
     ghost view = { λ r. record { message = record { systems = r.systems; holder = r.holder; closed = r.closed; still = r.still; entries = r.entries.items; next = r.next }; room = record { caller = r.ready; entries = r.room } } };
 
-    ghost invariant = { λ r. (r.systems ≤ most_systems) × (number_of r.holder < r.systems) × (r.next + r.room ≤ last_number + 1) × (vec_len r.entries + r.room ≤ vec_capacity r.entries) × (r.given ≡ given_to r.ready r.holder r.entries.items) };
+    ghost invariant = { λ r. (r.systems ≤ most_systems) × (system_number r.holder < r.systems) × (r.next + r.room ≤ last_number + 1) × (vec_len r.entries + r.room ≤ vec_capacity r.entries) × (r.given ≡ given_to r.ready r.holder r.entries.items) };
 }
 
 impl Rsa {

@@ -13,7 +13,7 @@ use Rattle.grs_base.specs.contracts.resource.ResPartialEq.TheImpl.{eq-value}
 use Rattle.grs_base.specs.declared.resource.Res.{Res}
 use Rattle.grs_base.proofs.SameLaws.{same_res-exact, same_res-itself, derived_eq-same}
 use Rattle.task_state.specs.declared.state.Rec.{Rec}
-use Rattle.task_state.specs.Numbers.{Numbered, number_of, all_above, rises_to, all_apart, without_number, on_number, IsKept}
+use Rattle.task_state.specs.Numbers.{Numbered, record_number, all_above, rises_to, all_apart, without_number, on_number, IsKept}
 use Rattle.task_state.specs.View.{record_of, without_first, on_record}
 
 -- the first record
@@ -26,20 +26,20 @@ is_at-number : (k j : ℕ) → is_at (nat_cmp k) j ≡ (k == j)
 is_at-number k j = grind (arith, nat_tests)
 
 -- a number that is found is above one that all are above
-found_above : (j : ℕ) (es : Numbered) (r : Res) (k : ℕ) → all_above j es ≡ true → number_of es r ≡ Some k → j < k
+found_above : (j : ℕ) (es : Numbered) (r : Res) (k : ℕ) → all_above j es ≡ true → record_number es r ≡ Some k → j < k
 found_above j [] r k a h = cc
 found_above j (e ∷ es) r k a h = grind (arith, nat_tests, a, h, found_above j es r k)
 
 -- a resource's record is that of its number
-pub record_at : (n : ℕ) (es : Numbered) (r : Res) (k : ℕ) → rises_to n es ≡ true → number_of es r ≡ Some k → lookup (is_at (nat_cmp k)) es ≡ record_of (values_of es) r
+pub record_at : (n : ℕ) (es : Numbered) (r : Res) (k : ℕ) → rises_to n es ≡ true → record_number es r ≡ Some k → lookup (is_at (nat_cmp k)) es ≡ record_of (values_of es) r
 record_at n [] r k a h = cc
 record_at n (e ∷ es) r k a h = grind (arith, nat_tests, a, h, is_at-number k e.0, found_above e.0 es r k, record_at n es r k)
 
-pub no_record : (es : Numbered) (r : Res) → number_of es r ≡ None → record_of (values_of es) r ≡ None
+pub no_record : (es : Numbered) (r : Res) → record_number es r ≡ None → record_of (values_of es) r ≡ None
 no_record [] r h = refl
 no_record (e ∷ es) r h = grind (arith, h, no_record es r)
 
-pub no_number : (es : Numbered) (r : Res) → record_of (values_of es) r ≡ None → number_of es r ≡ None
+pub no_number : (es : Numbered) (r : Res) → record_of (values_of es) r ≡ None → record_number es r ≡ None
 no_number [] r h = refl
 no_number (e ∷ es) r h = grind (arith, h, no_number es r)
 
@@ -48,19 +48,19 @@ pub removed : (k : ℕ) (es : Numbered) → remove_entry (is_at (nat_cmp k)) es 
 removed k [] = refl
 removed k (e ∷ es) = grind (arith, nat_tests, is_at-number k e.0, removed k es)
 
-pub values-without : (n : ℕ) (es : Numbered) (r : Res) (k : ℕ) → rises_to n es ≡ true → number_of es r ≡ Some k → values_of (without_number k es) ≡ without_first (values_of es) r
+pub values-without : (n : ℕ) (es : Numbered) (r : Res) (k : ℕ) → rises_to n es ≡ true → record_number es r ≡ Some k → values_of (without_number k es) ≡ without_first (values_of es) r
 values-without n [] r k a h = cc
 values-without n (e ∷ es) r k a h = grind (arith, nat_tests, a, h, found_above e.0 es r k, values-without n es r k)
 
-pub without-none : (es : Numbered) (r : Res) → number_of es r ≡ None → without_first (values_of es) r ≡ values_of es
+pub without-none : (es : Numbered) (r : Res) → record_number es r ≡ None → without_first (values_of es) r ≡ values_of es
 without-none [] r h = refl
 without-none (e ∷ es) r h = grind (arith, h, without-none es r)
 
-number_of-without : (n : ℕ) (es : Numbered) (r : Res) (k : ℕ) (q : Res) → rises_to n es ≡ true → all_apart es ≡ true → number_of es r ≡ Some k → number_of (without_number k es) q ≡ cond (same_res r q) None (number_of es q)
-number_of-without n [] r k q a d h = cc
-number_of-without n (e ∷ es) r k q a d h = grind (arith, nat_tests, a, d, h, same_res-exact r e.1.res, same_res-exact q e.1.res, same_res-exact r q, same_res-itself r, found_above e.0 es r k, number_of-without n es r k q)
+record_number-without : (n : ℕ) (es : Numbered) (r : Res) (k : ℕ) (q : Res) → rises_to n es ≡ true → all_apart es ≡ true → record_number es r ≡ Some k → record_number (without_number k es) q ≡ cond (same_res r q) None (record_number es q)
+record_number-without n [] r k q a d h = cc
+record_number-without n (e ∷ es) r k q a d h = grind (arith, nat_tests, a, d, h, same_res-exact r e.1.res, same_res-exact q e.1.res, same_res-exact r q, same_res-itself r, found_above e.0 es r k, record_number-without n es r k q)
 
-none-without : (k : ℕ) (es : Numbered) (q : Res) → number_of es q ≡ None → number_of (without_number k es) q ≡ None
+none-without : (k : ℕ) (es : Numbered) (q : Res) → record_number es q ≡ None → record_number (without_number k es) q ≡ None
 none-without k [] q h = refl
 none-without k (e ∷ es) q h = grind (arith, nat_tests, h, none-without k es q)
 
@@ -89,18 +89,18 @@ pub unchanged : (k : ℕ) (f : Rec → Rec) (es : Numbered) → lookup (is_at (n
 unchanged k f [] h = refl
 unchanged k f (e ∷ es) h = grind (arith, nat_tests, h, is_at-number k e.0, unchanged k f es)
 
-pub on-none : (f : Rec → Rec) (es : Numbered) (r : Res) → number_of es r ≡ None → on_record r f (values_of es) ≡ values_of es
+pub on-none : (f : Rec → Rec) (es : Numbered) (r : Res) → record_number es r ≡ None → on_record r f (values_of es) ≡ values_of es
 on-none f [] r h = refl
 on-none f (e ∷ es) r h = grind (arith, h, on-none f es r)
 
-pub values-on : (n : ℕ) (f : Rec → Rec) (es : Numbered) (r : Res) (k : ℕ) → rises_to n es ≡ true → all_apart es ≡ true → number_of es r ≡ Some k → values_of (on_number k f es) ≡ on_record r f (values_of es)
+pub values-on : (n : ℕ) (f : Rec → Rec) (es : Numbered) (r : Res) (k : ℕ) → rises_to n es ≡ true → all_apart es ≡ true → record_number es r ≡ Some k → values_of (on_number k f es) ≡ on_record r f (values_of es)
 values-on n f [] r k a d h = cc
 values-on n f (e ∷ es) r k a d h = grind (arith, nat_tests, a, d, h, same_res-exact r e.1.res, on-none f es r, found_above e.0 es r k, values-on n f es r k)
 
 module _ (f : Rec → Rec) (same : (x : Rec) → (f x).res ≡ x.res) where
-  number_of-on : (k : ℕ) (es : Numbered) (q : Res) → number_of (on_number k f es) q ≡ number_of es q
-  number_of-on k [] q = refl
-  number_of-on k (e ∷ es) q = grind (arith, nat_tests, same e.1, number_of-on k es q)
+  record_number-on : (k : ℕ) (es : Numbered) (q : Res) → record_number (on_number k f es) q ≡ record_number es q
+  record_number-on k [] q = refl
+  record_number-on k (e ∷ es) q = grind (arith, nat_tests, same e.1, record_number-on k es q)
 
   all_above-on : (j k : ℕ) (es : Numbered) → all_above j es ≡ true → all_above j (on_number k f es) ≡ true
   all_above-on j k [] a = refl
@@ -112,7 +112,7 @@ module _ (f : Rec → Rec) (same : (x : Rec) → (f x).res ≡ x.res) where
 
   all_apart-on : (k : ℕ) (es : Numbered) → all_apart es ≡ true → all_apart (on_number k f es) ≡ true
   all_apart-on k [] d = refl
-  all_apart-on k (e ∷ es) d = grind (arith, nat_tests, d, same e.1, number_of-on k es e.1.res, all_apart-on k es)
+  all_apart-on k (e ∷ es) d = grind (arith, nat_tests, d, same e.1, record_number-on k es e.1.res, all_apart-on k es)
 
   length-on : (k : ℕ) (es : Numbered) → length (on_number k f es) ≡ length es
   length-on k [] = refl
@@ -130,9 +130,9 @@ pub values-push : (es : Numbered) (n : ℕ) (x : Rec) → values_of (es ++ (n, x
 values-push [] n x = refl
 values-push (e ∷ es) n x = ap (λ (l : List Rec). e.1 ∷ l) (values-push es n x)
 
-number_of-push : (es : Numbered) (n : ℕ) (x : Rec) (q : Res) → number_of es x.res ≡ None → number_of (es ++ (n, x) ∷ []) q ≡ cond (same_res x.res q) (Some n) (number_of es q)
-number_of-push [] n x q h = grind (arith, same_res-exact q x.res, same_res-exact x.res q, same_res-itself q, same_res-itself x.res)
-number_of-push (e ∷ es) n x q h = grind (arith, h, same_res-exact q e.1.res, same_res-exact x.res q, number_of-push es n x q)
+record_number-push : (es : Numbered) (n : ℕ) (x : Rec) (q : Res) → record_number es x.res ≡ None → record_number (es ++ (n, x) ∷ []) q ≡ cond (same_res x.res q) (Some n) (record_number es q)
+record_number-push [] n x q h = grind (arith, same_res-exact q x.res, same_res-exact x.res q, same_res-itself q, same_res-itself x.res)
+record_number-push (e ∷ es) n x q h = grind (arith, h, same_res-exact q e.1.res, same_res-exact x.res q, record_number-push es n x q)
 
 all_above-push : (j : ℕ) (es : Numbered) (n : ℕ) (x : Rec) → j < n → all_above j es ≡ true → all_above j (es ++ (n, x) ∷ []) ≡ true
 all_above-push j [] n x l a = grind (arith, nat_tests, l)
@@ -142,28 +142,28 @@ rises-push : (es : Numbered) (n : ℕ) (x : Rec) → rises_to n es ≡ true → 
 rises-push [] n x a = grind (arith, nat_tests)
 rises-push (e ∷ es) n x a = grind (arith, nat_tests, a, all_above-push e.0 es n x, rises-push es n x)
 
-all_apart-push : (es : Numbered) (n : ℕ) (x : Rec) → number_of es x.res ≡ None → all_apart es ≡ true → all_apart (es ++ (n, x) ∷ []) ≡ true
+all_apart-push : (es : Numbered) (n : ℕ) (x : Rec) → record_number es x.res ≡ None → all_apart es ≡ true → all_apart (es ++ (n, x) ∷ []) ≡ true
 all_apart-push [] n x h d = refl
-all_apart-push (e ∷ es) n x h d = grind (arith, h, d, number_of-push es n x e.1.res, all_apart-push es n x)
+all_apart-push (e ∷ es) n x h d = grind (arith, h, d, record_number-push es n x e.1.res, all_apart-push es n x)
 
 -- ---- what is kept true
 pub kept-push : (ns ms : List (Res × ℕ)) (es fs : Numbered) (n : ℕ) (x : Rec) → IsKept ns es n → record_of (values_of es) x.res ≡ None → length es < 0xffff_ffff → fs ≡ es ++ (n, x) ∷ [] → ((r : Res) → lookup (same_res r) ms ≡ cond (same_res x.res r) (Some n) (lookup (same_res r) ns)) → IsKept ms fs (n + 1)
 kept-push ns ms es fs n x k none few is said =
-    let absent : number_of es x.res ≡ None = no_number es x.res none in
+    let absent : record_number es x.res ≡ None = no_number es x.res none in
     record {
       rising = ap (rises_to (n + 1)) is ∙ rises-push es n x k.rising;
       apart = ap all_apart is ∙ all_apart-push es n x absent k.apart;
-      numbered = λ r. said r ∙ ap (cond (same_res x.res r) (Some n)) (k.numbered r) ∙ sym (number_of-push es n x r absent) ∙ ap (λ (l : Numbered). number_of l r) (sym is);
+      numbered = λ r. said r ∙ ap (cond (same_res x.res r) (Some n)) (k.numbered r) ∙ sym (record_number-push es n x r absent) ∙ ap (λ (l : Numbered). record_number l r) (sym is);
       few = grind (arith, few, is, length-append es ((n, x) ∷ []));
     }
 
 pub kept-take : (ns ms : List (Res × ℕ)) (es fs : Numbered) (n : ℕ) (r : Res) (k : ℕ) → IsKept ns es n → lookup (same_res r) ns ≡ Some k → fs ≡ without_number k es → ((q : Res) → lookup (same_res q) ms ≡ cond (same_res r q) None (lookup (same_res q) ns)) → IsKept ms fs n
 kept-take ns ms es fs n r k kept found is said =
-    let there : number_of es r ≡ Some k = sym (kept.numbered r) ∙ found in
+    let there : record_number es r ≡ Some k = sym (kept.numbered r) ∙ found in
     record {
       rising = ap (rises_to n) is ∙ rises-without n k es kept.rising;
       apart = ap all_apart is ∙ all_apart-without k es kept.apart;
-      numbered = λ q. said q ∙ ap (cond (same_res r q) None) (kept.numbered q) ∙ sym (number_of-without n es r k q kept.rising kept.apart there) ∙ ap (λ (l : Numbered). number_of l q) (sym is);
+      numbered = λ q. said q ∙ ap (cond (same_res r q) None) (kept.numbered q) ∙ sym (record_number-without n es r k q kept.rising kept.apart there) ∙ ap (λ (l : Numbered). record_number l q) (sym is);
       few = grind (arith, is, kept.few, length-without k es);
     }
 
@@ -171,7 +171,7 @@ pub kept-on : (ns : List (Res × ℕ)) (es fs : Numbered) (n k : ℕ) (f : Rec �
 kept-on ns es fs n k f same kept is = record {
   rising = ap (rises_to n) is ∙ rises-on f same n k es kept.rising;
   apart = ap all_apart is ∙ all_apart-on f same k es kept.apart;
-  numbered = λ q. kept.numbered q ∙ sym (number_of-on f same k es q) ∙ ap (λ (l : Numbered). number_of l q) (sym is);
+  numbered = λ q. kept.numbered q ∙ sym (record_number-on f same k es q) ∙ ap (λ (l : Numbered). record_number l q) (sym is);
   few = grind (arith, is, kept.few, length-on f same k es);
 }
 

@@ -11,9 +11,9 @@ abbrev pub Numbered : Type 0
 Numbered = List (ℕ × Rec)
 
 -- the number of the first record of a resource
-abbrev pub number_of : Numbered → Res → Option ℕ
-number_of [] r = None
-number_of (e ∷ es) r = cond (same_res r e.1.res) (Some e.0) (number_of es r)
+abbrev pub record_number : Numbered → Res → Option ℕ
+record_number [] r = None
+record_number (e ∷ es) r = cond (same_res r e.1.res) (Some e.0) (record_number es r)
 
 -- whether all numbers are above one
 abbrev pub all_above : ℕ → Numbered → Bool
@@ -28,7 +28,7 @@ rises_to next (e ∷ es) = (nat_lt e.0 next && all_above e.0 es) && rises_to nex
 -- whether no resource has two records
 abbrev pub all_apart : Numbered → Bool
 all_apart [] = true
-all_apart (e ∷ es) = not (is_some (number_of es e.1.res)) && all_apart es
+all_apart (e ∷ es) = not (is_some (record_number es e.1.res)) && all_apart es
 
 -- records without that of a number
 abbrev pub without_number : ℕ → Numbered → Numbered
@@ -44,5 +44,5 @@ on_number k f (e ∷ es) = cond (k == e.0) ((e.0, f e.1) ∷ es) (e ∷ on_numbe
 pub record IsKept (numbers : List (Res × ℕ)) (recs : Numbered) (next : ℕ) : Type 0 where
   pub rising : rises_to next recs ≡ true
   pub apart : all_apart recs ≡ true
-  pub numbered : (r : Res) → lookup (same_res r) numbers ≡ number_of recs r
+  pub numbered : (r : Res) → lookup (same_res r) numbers ≡ record_number recs r
   pub few : length recs ≤ 0xffff_ffff

@@ -11,7 +11,7 @@ invariant_of-self-in-None c = record {
 }
 
 pub returns-in_ok-reserve_name-in-None-clause-number : goal.returns-in_ok-reserve_name-in-None-clause-number
-returns-in_ok-reserve_name-in-None-clause-number c = number-named c.args.self.now.names.entries c.reserve_name.new.names.entries c.add_name.new.names.entries c.args.res.now c.in_ok-name-in-None.name c.len-number.result c.reserve_name.ensures.same c.add_name.ensures c.in_ok-name-in-None.ensures c.len-number.ensures.len (sym c.number_of.ensures ∙ c.in-None.is)
+returns-in_ok-reserve_name-in-None-clause-number c = number-named c.args.self.now.names.entries c.reserve_name.new.names.entries c.add_name.new.names.entries c.args.res.now c.in_ok-name-in-None.name c.len-number.result c.reserve_name.ensures.same c.add_name.ensures c.in_ok-name-in-None.ensures c.len-number.ensures.len (sym c.find_number.ensures ∙ c.in-None.is)
 
 pub returns-in_ok-reserve_name-in-None-clause-same : goal.returns-in_ok-reserve_name-in-None-clause-same
-returns-in_ok-reserve_name-in-None-clause-same c = marks-named c.args.self.now.names.entries c.reserve_name.new.names.entries c.add_name.new.names.entries c.args.res.now c.in_ok-name-in-None.name c.len-number.result c.reserve_name.ensures.same c.add_name.ensures c.in_ok-name-in-None.ensures c.len-number.ensures.len (mark_at c.args.self.now.marks.entries) (sym c.number_of.ensures ∙ c.in-None.is) c.args.self.now.fresh
+returns-in_ok-reserve_name-in-None-clause-same c = marks-named c.args.self.now.names.entries c.reserve_name.new.names.entries c.add_name.new.names.entries c.args.res.now c.in_ok-name-in-None.name c.len-number.result c.reserve_name.ensures.same c.add_name.ensures c.in_ok-name-in-None.ensures c.len-number.ensures.len (mark_at c.args.self.now.marks.entries) (sym c.find_number.ensures ∙ c.in-None.is) c.args.self.now.fresh

@@ -1,7 +1,7 @@
 use Rattle.std.proofs.Common.{◌≡◌, ◌-◌, ◌∙◌, true, length, refl, sym, arith}
 use Rattle.grs_base.specs.ShortNames.{is_digit}
 use Rattle.deck_form.proofs.Numbers.{none_yet, digits_more, digit_small, small_more, small_now}
-use Rattle.deck_form.proofs.words.number_of.Goals as goal
+use Rattle.deck_form.proofs.words.written_number.Goals as goal
 
 pub loop-b-init : goal.loop-b-init
 loop-b-init c = record { reads = refl; small = none_yet (9 - length c.args.w.now); short = omega arith }
