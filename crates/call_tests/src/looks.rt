@@ -100,14 +100,14 @@ fn rows_of(outcome: &Outcome) -> usize {
     }
 }
 
-fn settled(alloc: Global, table: &mut Table<PlainQueues>, req: &Req) -> Result<usize, NameFault> {
-    let outcome = table.settle(alloc, req)?;
+fn rows_for(alloc: Global, table: &mut Table<PlainQueues>, req: &Req) -> Result<usize, NameFault> {
+    let outcome = table.carry_out(alloc, req)?;
     Ok(rows_of(&outcome))
 }
 
 fn asks(alloc: Global, table: &mut Table<PlainQueues>) -> Result<usize, NameFault> {
     let req = enq(shared(alloc)?);
-    settled(alloc, table, &req)
+    rows_for(alloc, table, &req)
 }
 
 fn looks_from(
@@ -116,7 +116,7 @@ fn looks_from(
     first: u32,
 ) -> Result<usize, NameFault> {
     let req = look(first);
-    settled(alloc, table, &req)
+    rows_for(alloc, table, &req)
 }
 
 /// How many rows an ENQ shows, a look that misses its slice, and one that meets it.

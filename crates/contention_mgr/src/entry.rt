@@ -132,7 +132,7 @@ fn settle_queued(
                 untold: false,
             };
             marks.add(alloc, res, req.task, mark)?;
-            match table.settle(alloc, req) {
+            match table.carry_out(alloc, req) {
                 Ok(outcome) => {
                     *next = rank + 1;
                     Ok(Outcome {
@@ -187,7 +187,7 @@ fn settle_unqueued(
     ensures unchanged { OnErr result (entry_of_parts next table.new.held (mark_in marks.new.names.entries marks.new.marks.entries) ≡ entry_of_parts next table.old.held (mark_in marks.old.names.entries marks.old.marks.entries)) }
     ensures marked { AreMarked (mark_in marks.new.names.entries marks.new.marks.entries) table.new.held }
 {
-    let outcome = table.settle(alloc, req)?;
+    let outcome = table.carry_out(alloc, req)?;
     mark_after(marks, system, req, &outcome);
     Ok(outcome)
 }

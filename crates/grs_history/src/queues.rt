@@ -10,7 +10,7 @@ use serial_queue::CountedQueues;
 use std::alloc::Global;
 
 /// Does what one entry of a history asks for.
-fn settle(
+fn carry_out(
     alloc: Global,
     limit: u32,
     table: &mut Table<CountedQueues>,
@@ -55,7 +55,7 @@ pub fn queues_after(alloc: Global, hist: &[HistEntry], limit: u32) -> Result<Lis
 {
     let mut table = Table::new(alloc, CountedQueues::new(alloc));
     for entry in hist {
-        settle(alloc, limit, &mut table, entry)?;
+        carry_out(alloc, limit, &mut table, entry)?;
     }
     table.rows(alloc)
 }

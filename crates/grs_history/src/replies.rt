@@ -53,7 +53,7 @@ fn look_slices(
 }
 
 /// Carries out a request, and puts its entries behind a history.
-fn settle(
+fn carry_out(
     alloc: Global,
     table: &mut Table<PlainQueues>,
     req: &Req,
@@ -116,7 +116,7 @@ pub(crate) fn fix(
     ensures after { OnOk result (table.new.held ≡ after_fixed table.old.held fixed.now) }
 {
     match fixed {
-        Fixed::Asked(req) => settle(alloc, table, req, hist),
+        Fixed::Asked(req) => carry_out(alloc, table, req, hist),
         Fixed::LocalLook { task, filter } => {
             hist.push(look(alloc, table, *task, Place::Local(task.system), filter)?)
         }

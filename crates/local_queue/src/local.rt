@@ -49,7 +49,7 @@ impl Local {
         ensures after { OnOk result (self.new.held ≡ after_want self.old.held req.now.task req.now.want) }
         ensures unchanged { OnErr result (self.new ≡ self.old) }
     {
-        self.table.settle(self.alloc, req)
+        self.table.carry_out(self.alloc, req)
     }
 
     /// The lists of the system's own resources that pass a filter, in the order in which resources are shown.

@@ -55,7 +55,7 @@ impl<Q: Queues> Table<Q> {
     /// Carries a request out, whatever its resource, and answers it at once. Without memory the table stays as
     /// it was.
     #[tactic(auto, using(crate::proofs::OwnerLemmas::outcomes))]
-    pub fn settle(&mut self, alloc: Global, req: &Req) -> Result<Outcome, NoMemory>
+    pub fn carry_out(&mut self, alloc: Global, req: &Req) -> Result<Outcome, NoMemory>
         ensures answer { IfOk result (λ outcome. outcome.answer ≡ answer_to self.old.held req.now.task req.now.want) }
         ensures rank { IfOk result (λ outcome. outcome.rank ≡ 0) }
         ensures owners { IfOk result (λ outcome. outcome.owners ≡ new_owners self.old.held req.now.task req.now.want) }

@@ -65,7 +65,7 @@ fn process<Q: Queues>(
     ensures system { tasks.new.system ≡ tasks.old.system }
     ensures count { length tasks.new.tasks ≡ length tasks.old.tasks }
 {
-    let outcome = table.settle(alloc, req)?;
+    let outcome = table.carry_out(alloc, req)?;
     answer_own(alloc, tasks, req, &outcome.answer)?;
     tell_new(tasks, res_of(&req.want), outcome.owners.as_slice())
 }

@@ -52,8 +52,8 @@ use Rattle.grs_known.proofs.system.Ours.{IsOurs, IsHere, holds-changed, ours-lin
 use Rattle.grs_known.proofs.system.Says.{askers, ToldBy, none, more}
 use Rattle.grs_known.proofs.system.Telling.{learned_all, LearnedAll, StillOwns}
 
--- the tasks after a step, what they were told agreeing
-pub record Settles (deck : Deck) (s : ℕ) (os : Opens) (P : List RunItem) (T0 : List ToldLine) (v : TasksView) : Type 0 where
+-- the tasks stay good in a step, and what they were told agrees
+pub record StaysGood (deck : Deck) (s : ℕ) (os : Opens) (P : List RunItem) (T0 : List ToldLine) (v : TasksView) : Type 0 where
   pub good : IsGood deck s os P v
   pub told : ToldBy deck s os.all (history P) T0 v.told
 
@@ -62,8 +62,8 @@ abbrev pub Owners : Deck → Opens → List RunItem → Res → List TaskId → 
 Owners deck os P r ts = (u : TaskId) → is_among u ts ≡ true → (is_some (lines_of deck u) ≡ true) × StillOwns deck os P r u
 
 -- control is told to them
-pub settles : (deck : Deck) (s : ℕ) (os : Opens) (P : List RunItem) → IsHistory deck P → (T0 : List ToldLine) (v : TasksView) → IsGood deck s os P v → ToldBy deck s os.all (history P) T0 v.told → (r : Res) (ts : List TaskId) → Owners deck os P r ts → Settles deck s os P T0 (tell_all v r ts)
-settles deck s os P right T0 v good agreed r ts owners =
+pub tells_good : (deck : Deck) (s : ℕ) (os : Opens) (P : List RunItem) → IsHistory deck P → (T0 : List ToldLine) (v : TasksView) → IsGood deck s os P v → ToldBy deck s os.all (history P) T0 v.told → (r : Res) (ts : List TaskId) → Owners deck os P r ts → StaysGood deck s os P T0 (tell_all v r ts)
+tells_good deck s os P right T0 v good agreed r ts owners =
     let m : LearnedAll deck s os P T0 v (tell_all v r ts) = learned_all deck s os P right T0 r ts v (λ u e. (λ here. home-ours deck s v u good.system (owners u e).0 here, (owners u e).1)) good.tasks agreed in
     record { good = record { tasks = m.holds; here = λ u h. m.here u ∙ good.here u h; system = m.system ∙ good.system }; told = m.agreed }
 
@@ -109,9 +109,9 @@ module _ (deck : Deck) (s : ℕ) (os os' : Opens) (P P' : List RunItem) (v : Tas
     decided-speaks : Speaks deck.limit t (after_entry h p) (history P')
     decided-speaks = subst (λ q. Speaks deck.limit t q (history P')) d.learns.past (speaks-known deck P' t d.learns.known d.right d.learns.knows.right none_open)
 
-    pub decided-settles : (v1 : TasksView) (x : TaskState) (T1 : List ToldLine) → Did v v1 t x T1 → x.outstanding ≡ None → IsAtLines x.phase x.code → IsTask ls (after_entry h p) T1 (λ q. false) t x →
-        ((u : TaskId) (ms : List Meaning) → same_task u t ≡ false → Untold v.told T1 u ms) → ToldBy deck s os'.all (history P') v.told T1 → Settles deck s os' P' v.told (tell_all v1 r ts)
-    decided-settles v1 x T1 did closed at_lines task told agreed = settles deck s os' P' d.right v.told v1 (record {
+    pub decided-good : (v1 : TasksView) (x : TaskState) (T1 : List ToldLine) → Did v v1 t x T1 → x.outstanding ≡ None → IsAtLines x.phase x.code → IsTask ls (after_entry h p) T1 (λ q. false) t x →
+        ((u : TaskId) (ms : List Meaning) → same_task u t ≡ false → Untold v.told T1 u ms) → ToldBy deck s os'.all (history P') v.told T1 → StaysGood deck s os' P' v.told (tell_all v1 r ts)
+    decided-good v1 x T1 did closed at_lines task told agreed = tells_good deck s os' P' d.right v.told v1 (record {
       tasks = holds-changed deck s os os' P P' v v1 t ls good.tasks did.changed ours (λ u ms o apart k. d.leaves u ms v.told v1.told (state_of v u) apart (subst (λ T. Untold v.told T u ms) (sym did.told) (told u ms apart)) k) own;
       here = λ u g. did.changed.here u ∙ good.here u g;
       system = did.changed.system ∙ good.system;
@@ -150,11 +150,11 @@ module _ (deck : Deck) (s : ℕ) (os os' : Opens) (P P' : List RunItem) (v : Tas
           enq-agrees (with_control r (after_entry enq p)) (speaks-control deck.limit t (after_entry enq p) (history P') (decided-speaks enq d) r owned) refl e (λ f. or_right ((after_entry enq p).owns r) (same_res r r) (same_res-itself r))
       by_control e false g = enq-agrees (after_entry enq p) (decided-speaks enq d) refl e (λ f. no_truth (gets_control ret code) f g)
 
-      pub enq-settles : Settles deck s os' P' v.told (tell_new (replied v0 t (Enq r c ret full) unit (answers.Coded code)) (Some r) ts)
+      pub enq-good : StaysGood deck s os' P' v.told (tell_new (replied v0 t (Enq r c ret full) unit (answers.Coded code)) (Some r) ts)
       unfolding tell_new replied
-      enq-settles =
+      enq-good =
           let did = did-after_code_enq v v0 t (record { line = suc n; phase = phases.Ready; code = code0; records = xs; outstanding = None; rows = ws }) v.told ours.here did0 r c unit ret full code in
-          decided-settles enq d _ (record { line = suc n; phase = phase_after code; code = code_in (phase_after code) code0; records = enq_records r c unit ret code (suc n) xs; outstanding = None; rows = ws }) (told_after v.told t (suc n) verbs.Enq code) did refl (after-at_lines code code0)
+          decided-good enq d _ (record { line = suc n; phase = phase_after code; code = code_in (phase_after code) code0; records = enq_records r c unit ret code (suc n) xs; outstanding = None; rows = ws }) (told_after v.told t (suc n) verbs.Enq code) did refl (after-at_lines code code0)
           (task-enq ls p v.told t n code0 xs None ws l r c unit ret code k d.learns.fits)
           (λ u ms apart q leaving y j. task-told_after ms q v.told leaving u y t (suc n) verbs.Enq code apart j)
           (agreed-code deck s os'.all (history P') v.told t (suc n) verbs.Enq (ours-line deck s v t ls ours) d.away code (λ e. by_control e (gets_control ret code) refl))
@@ -164,11 +164,11 @@ module _ (deck : Deck) (s : ℕ) (os os' : Opens) (P P' : List RunItem) (v : Tas
       abbrev deq : HistEntry
       deq = entries.Deq t r have code
 
-      pub deq-settles : (unit : Option ℕ) → Settles deck s os' P' v.told (tell_new (replied v0 t (Deq r have) unit (answers.Coded code)) (Some r) ts)
+      pub deq-good : (unit : Option ℕ) → StaysGood deck s os' P' v.told (tell_new (replied v0 t (Deq r have) unit (answers.Coded code)) (Some r) ts)
       unfolding tell_new replied
-      deq-settles unit =
+      deq-good unit =
           let did = did-after_code_deq v v0 t (record { line = suc n; phase = phases.Ready; code = code0; records = xs; outstanding = None; rows = ws }) v.told ours.here did0 r have unit code in
-          decided-settles deq d _ (record { line = suc n; phase = phase_after code; code = code_in (phase_after code) code0; records = cond (is_granted code) (without_first xs r) xs; outstanding = None; rows = ws }) (told_after v.told t (suc n) verbs.Deq code) did refl (after-at_lines code code0)
+          decided-good deq d _ (record { line = suc n; phase = phase_after code; code = code_in (phase_after code) code0; records = cond (is_granted code) (without_first xs r) xs; outstanding = None; rows = ws }) (told_after v.told t (suc n) verbs.Deq code) did refl (after-at_lines code code0)
           (task-deq ls p v.told leaving t n code0 xs None ws l r have code k others d.learns.fits)
           (λ u ms apart q hold y j. task-told_after ms q v.told hold u y t (suc n) verbs.Deq code apart j)
           (agreed-code deck s os'.all (history P') v.told t (suc n) verbs.Deq (ours-line deck s v t ls ours) d.away code (λ e. agrees-ours deck t ls (history P') v.told (Coded t (suc n) 0 verbs.Deq code) ours.lines (
@@ -179,11 +179,11 @@ module _ (deck : Deck) (s : ℕ) (os os' : Opens) (P P' : List RunItem) (v : Tas
           )))
 
   -- The task is seen ending, and the release of a resource is decided. v0 are the tasks when it asks for that.
-  pub release-settles : (n c code0 : ℕ) (xs : List Rec) (ws : List Row) (v0 : TasksView) → Did v v0 t (record { line = n; phase = phases.Ending c; code = code0; records = xs; outstanding = None; rows = ws }) v.told → code0 ≡ c →
+  pub release-good : (n c code0 : ℕ) (xs : List Rec) (ws : List Row) (v0 : TasksView) → Did v v0 t (record { line = n; phase = phases.Ending c; code = code0; records = xs; outstanding = None; rows = ws }) v.told → code0 ≡ c →
       (leaving : Res → Bool) → ((q : Res) → same_res q r ≡ false → leaving q ≡ false) → IsTask ls p v.told leaving t (record { line = n; phase = phases.Ending c; code = code0; records = xs; outstanding = None; rows = ws }) →
-      Decides deck os os' P P' t p (entries.Release t r) r ts → (unit : Option ℕ) → Settles deck s os' P' v.told (tell_new (replied v0 t (Release r) unit (answers.Coded C00)) (Some r) ts)
+      Decides deck os os' P P' t p (entries.Release t r) r ts → (unit : Option ℕ) → StaysGood deck s os' P' v.told (tell_new (replied v0 t (Release r) unit (answers.Coded C00)) (Some r) ts)
   unfolding tell_new replied
-  release-settles n c code0 xs ws v0 did0 coded leaving others k d unit =
+  release-good n c code0 xs ws v0 did0 coded leaving others k d unit =
       let did = did-after_code_release v v0 t (record { line = n; phase = phases.Ending c; code = code0; records = xs; outstanding = None; rows = ws }) v.told ours.here did0 r unit C00 in
-      decided-settles (entries.Release t r) d _ (record { line = n; phase = phases.Ending c; code = code0; records = without_first xs r; outstanding = None; rows = ws }) v.told did refl coded
+      decided-good (entries.Release t r) d _ (record { line = n; phase = phases.Ending c; code = code0; records = without_first xs r; outstanding = None; rows = ws }) v.told did refl coded
       (task-released ls p v.told leaving t n c code0 xs None ws r others k) (λ u ms apart q hold y j. j) none

@@ -16,18 +16,18 @@ use Rattle.grs_known.proofs.tasks.Invariant.{IsTask}
 use Rattle.grs_known.proofs.system.Says.{ToldBy}
 use Rattle.grs_known.proofs.system.Asking.{unasked, unasked-none, Opens, IsAskedBy, are_sent}
 use Rattle.grs_known.proofs.system.Did.{Did}
-use Rattle.grs_known.proofs.system.Events.{Settles}
+use Rattle.grs_known.proofs.system.Events.{StaysGood}
 use Rattle.grs_known.proofs.system.Good.{IsGood, Untold, here-kept}
 use Rattle.grs_known.proofs.system.Ours.{IsOurs, IsHere, holds-changed}
 
 -- a step that changes one task alone, and tells no more than lines to it
-pub quiet_settles : (deck : Deck) (s : ℕ) (os os' : Opens) (P : List RunItem) (v : TasksView) (good : IsGood deck s os P v) (t : TaskId) (ls : List Meaning) (ours : IsOurs deck s v t ls) (w : TasksView) (x : TaskState) (T : List ToldLine) →
+pub quiet_good : (deck : Deck) (s : ℕ) (os os' : Opens) (P : List RunItem) (v : TasksView) (good : IsGood deck s os P v) (t : TaskId) (ls : List Meaning) (ours : IsOurs deck s v t ls) (w : TasksView) (x : TaskState) (T : List ToldLine) →
     Did v w t x T → IsHere deck os' P T t ls x →
     ((u : TaskId) (o : Option Asked) → same_task u t ≡ false → IsAskedBy u o os.all → IsAskedBy u o os'.all) →
     ((u : TaskId) (p : Phase) → same_task u t ≡ false → are_sent u p os.out ≡ true → are_sent u p os'.out ≡ true) →
     os'.later ≡ os.later → ((u : TaskId) (ms : List Meaning) → same_task u t ≡ false → Untold v.told T u ms) →
-    ToldBy deck s os'.all (history P) v.told T → Settles deck s os' P v.told w
-quiet_settles deck s os os' P v good t ls ours w x T did here asked sent same told agreed = record {
+    ToldBy deck s os'.all (history P) v.told T → StaysGood deck s os' P v.told w
+quiet_good deck s os os' P v good t ls ours w x T did here asked sent same told agreed = record {
   good = record {
     tasks = holds-changed deck s os os' P P v w t ls good.tasks did.changed ours
         (λ u ms o apart k. here-kept deck os os' P v.told w.told u ms (state_of v u) (ap (mine u) same) (asked u (state_of v u).outstanding apart) (sent u (state_of v u).phase apart) (subst (λ U. Untold v.told U u ms) (sym did.told) (told u ms apart)) k)

@@ -43,14 +43,14 @@ use Rattle.grs_known.proofs.tasks.Invariant.{IsTask}
 use Rattle.grs_known.proofs.system.Askers.{apart-push}
 use Rattle.grs_known.proofs.system.Asking.{unasked_by, IsOpenBy, Opens, IsReq, IsAskedBy, task-open}
 use Rattle.grs_world.proofs.system.AtNode.{opens_of, Seen}
-use Rattle.grs_known.proofs.system.Events.{Settles, Decides, settles}
+use Rattle.grs_known.proofs.system.Events.{StaysGood, Decides, tells_good}
 use Rattle.grs_known.proofs.system.Good.{IsGood, here-kept, here-other, ours-home}
 use Rattle.grs_known.proofs.system.Ours.{IsOurs, IsHere}
 use Rattle.grs_world.proofs.system.Puts.{MayPut, may_put, seen-put, put}
 use Rattle.grs_known.proofs.system.Says.{is_home_at, askers, stand_apart, ToldBy, none}
-use Rattle.grs_known.proofs.system.Outstanding.{asked-settles}
+use Rattle.grs_known.proofs.system.Outstanding.{asked-good}
 use Rattle.grs_world.proofs.star.Ghosts.{ghosted, IsAt, without-box}
-use Rattle.grs_world.proofs.star.Ranked.{ranked-settles}
+use Rattle.grs_world.proofs.star.Ranked.{ranked-good}
 
 -- ---- the answer to an outstanding request
 tell-none : (v : TasksView) (o : Option Res) → tell_new v o [] ≡ v
@@ -66,15 +66,15 @@ module _ (deck : Deck) (s : ℕ) (os os' : Opens) (P P' : List RunItem) (v : Tas
   p = past_of t (good.tasks.each t ls ours).known P
 
   pub answers-asked : (a : Asked) → (state_of v t).outstanding ≡ Some a → (S : State) → ((h : HistEntry) (r : Res) → entries_for S t a.req.want ≡ h ∷ [] → Decides deck os os' P P' t p h r []) → (rank : ℕ) →
-      Settles deck s os' P' v.told (tell_answer_ranked v t a (answer_to S t a.req.want) rank)
+      StaysGood deck s os' P' v.told (tell_answer_ranked v t a (answer_to S t a.req.want) rank)
   unfolding tell_answer tell_answer_ranked
   answers-asked a is S d rank =
       let x : TaskState = state_of v t in
       let opened : IsOpenBy deck.limit ls t x (Some a) = subst (λ o. IsOpenBy deck.limit ls t x o) is here.opened in
       let task : IsTask ls p v.told (λ r. is_leaving r (Some a)) t (unasked_by (Some a) x) = subst (λ o. IsTask ls p v.told (λ r. is_leaving r o) t (unasked_by o x)) is here.task in
-      let z = subst (λ y. Settles deck s os' P' v.told y) (tell-none (replied (recalled v t a.req.want) t a.req.want a.unit (answer_to S t a.req.want)) (res_wanted a.req.want))
-      (asked-settles deck s os os' P P' v good t ls ours a.req.want a.unit S [] (task-open ls p v.told _ t _ None task) opened.2 (λ h r wanted one. d h r one)) in
-      ranked-settles deck s os' P' v.told _ t ls _ rank (record { lines = ours.lines; home = ours.home; here = z.good.here t (ours-home deck s v t ls ours) }) z
+      let z = subst (λ y. StaysGood deck s os' P' v.told y) (tell-none (replied (recalled v t a.req.want) t a.req.want a.unit (answer_to S t a.req.want)) (res_wanted a.req.want))
+      (asked-good deck s os os' P P' v good t ls ours a.req.want a.unit S [] (task-open ls p v.told _ t _ None task) opened.2 (λ h r wanted one. d h r one)) in
+      ranked-good deck s os' P' v.told _ t ls _ rank (record { lines = ours.lines; home = ours.home; here = z.good.here t (ours-home deck s v t ls ours) }) z
 
 -- ---- what is open without a task's
 abbrev pub others_of : TaskId → List RunItem → List RunItem
@@ -223,7 +223,7 @@ calm-open r later u (Some y) calm due = calm-one r u y later calm due
 pub tells-owners : (deck : Deck) (s : ℕ) (T later : List RunItem) (out : List Req) → IsHistory deck T → (T0 : List ToldLine) (v : TasksView) → Taken deck s T later out T0 v → (r : Res) (ts : List TaskId) →
     ((u : TaskId) → is_among u ts ≡ true → owns (list_of (lists T) r) u ≡ true) → list_any (λ y. gives_back r y.fixed) later ≡ false → Taken deck s T later out T0 (tell_all v r ts)
 tells-owners deck s T later out right T0 v k r ts owned calm =
-    let z = settles deck s (record { later = later; out = out; all = out ++ [] }) T right T0 v k.good k.told r ts
+    let z = tells_good deck s (record { later = later; out = out; all = out ++ [] }) T right T0 v k.good k.told r ts
     (λ u e. ((and_parts _ _ (owns-may deck T r u right.asks (owned u e))).0, λ U ls y j. owns-still r u T (outstanding u j.known T) (calm-open r later u (outstanding u j.known T) calm j.due) (owned u e))) in
     record { good = z.good; told = z.told }
 
@@ -231,7 +231,7 @@ tells-owners deck s T later out right T0 v k r ts owned calm =
 pub takes-control : (deck : Deck) (s : ℕ) (T later : List RunItem) (out : List Req) → IsHistory deck T → (n : NodeState) → IsAt deck s T later out n → (t : TaskId) (r : Res) → is_some (lines_of deck t) ≡ true →
     ((o : Option RunItem) → mine t later ≡ one o → Still r t T o) → Taken deck s T later out n.tasks.told (tell_all n.tasks r (t ∷ []))
 takes-control deck s T later out right n k t r some still =
-    let z = settles deck s (record { later = later; out = out; all = out ++ [] }) T right n.tasks.told n.tasks k.good none r (t ∷ []) (λ u e. owner u (only u e)) in
+    let z = tells_good deck s (record { later = later; out = out; all = out ++ [] }) T right n.tasks.told n.tasks k.good none r (t ∷ []) (λ u e. owner u (only u e)) in
     record { good = z.good; told = z.told }
   where
     only : (u : TaskId) → (same_task u t || false) ≡ true → u ≡ t

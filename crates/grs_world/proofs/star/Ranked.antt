@@ -24,11 +24,11 @@ use Rattle.grs_known.proofs.tasks.Invariant.{Each, IsRec, IsTask}
 use Rattle.grs_known.proofs.tasks.Keys.{keys-on_record, distinct-on_record}
 use Rattle.grs_known.proofs.system.Asking.{Opens, unasked, unasked-told, IsAskedFor, IsOpenBy, IsOpen}
 use Rattle.grs_known.proofs.system.Did.{Did}
-use Rattle.grs_known.proofs.system.Events.{Settles}
+use Rattle.grs_known.proofs.system.Events.{StaysGood}
 use Rattle.grs_known.proofs.system.Good.{IsGood}
 use Rattle.grs_known.proofs.system.Ours.{IsOurs, changed-state}
 use Rattle.grs_known.proofs.system.Says.{ToldBy, none}
-use Rattle.grs_known.proofs.system.Turns.{quiet_settles}
+use Rattle.grs_known.proofs.system.Turns.{quiet_good}
 
 abbrev ranked : ℕ → Rec → Rec
 ranked k y = record y { rank = k }
@@ -90,7 +90,7 @@ good-rank : (deck : Deck) (s : ℕ) (os : Opens) (P : List RunItem) (v : TasksVi
 good-rank deck s os P v t ls r k ours g =
     let x : TaskState = state_of v t in
     let h = g.tasks.each t ls ours in
-    (quiet_settles deck s os os P v g t ls ours (with_rank v t r k) (record x { records = on_record r (ranked k) x.records }) v.told (did-rank v t r k ours.here)
+    (quiet_good deck s os os P v g t ls ours (with_rank v t r k) (record x { records = on_record r (ranked k) x.records }) v.told (did-rank v t r k ours.here)
     (record {
       known = h.known;
       knows = h.knows;
@@ -105,6 +105,6 @@ good-rank deck s os P v t ls r k ours g =
 told-rank : (v : TasksView) (t : TaskId) (r : Res) (k : ℕ) → is_task v t ≡ true → (with_rank v t r k).told ≡ v.told
 told-rank v t r k here = (did-rank v t r k here).told
 
-pub ranked-settles : (deck : Deck) (s : ℕ) (os : Opens) (P : List RunItem) (T0 : List ToldLine) (v : TasksView) (t : TaskId) (ls : List Meaning) (o : Option Res) (k : ℕ) → IsOurs deck s v t ls → Settles deck s os P T0 v → Settles deck s os P T0 (with_rank_of v t o k)
-ranked-settles deck s os P T0 v t ls None k ours z = z
-ranked-settles deck s os P T0 v t ls (Some r) k ours z = record { good = good-rank deck s os P v t ls r k ours z.good; told = subst (ToldBy deck s os.all (history P) T0) (sym (told-rank v t r k ours.here)) z.told }
+pub ranked-good : (deck : Deck) (s : ℕ) (os : Opens) (P : List RunItem) (T0 : List ToldLine) (v : TasksView) (t : TaskId) (ls : List Meaning) (o : Option Res) (k : ℕ) → IsOurs deck s v t ls → StaysGood deck s os P T0 v → StaysGood deck s os P T0 (with_rank_of v t o k)
+ranked-good deck s os P T0 v t ls None k ours z = z
+ranked-good deck s os P T0 v t ls (Some r) k ours z = record { good = good-rank deck s os P v t ls r k ours z.good; told = subst (ToldBy deck s os.all (history P) T0) (sym (told-rank v t r k ours.here)) z.told }

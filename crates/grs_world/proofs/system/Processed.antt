@@ -44,11 +44,11 @@ use Rattle.grs_known.proofs.tasks.Invariant.{IsTask}
 use Rattle.grs_known.proofs.system.Askers.{among-front}
 use Rattle.grs_known.proofs.system.Asking.{line_asked, unasked_by, IsAskedFor, IsOpenBy, IsReq, Opens, are_sent, task-open}
 use Rattle.grs_world.proofs.system.AtNode.{opens_of, Seen, after-asked, not-ours}
-use Rattle.grs_known.proofs.system.Events.{Settles, Decides, settles}
+use Rattle.grs_known.proofs.system.Events.{StaysGood, Decides, tells_good}
 use Rattle.grs_known.proofs.system.Good.{IsGood, here-kept}
 use Rattle.grs_known.proofs.system.Ours.{IsOurs, IsHere}
 use Rattle.grs_known.proofs.system.Says.{is_home_at, askers, stand_apart, own_asked, ToldBy, none}
-use Rattle.grs_known.proofs.system.Outstanding.{asked-settles}
+use Rattle.grs_known.proofs.system.Outstanding.{asked-good}
 
 -- a request is told by itself
 same_ctl-itself : (c : Ctl) → same_ctl c c ≡ true
@@ -147,27 +147,27 @@ module _ (deck : Deck) (s : ℕ) (P before : List RunItem) (right : IsHistory de
     own_read : (r : Res) → res_wanted q.want ≡ Some r → ReadBy deck P before x later q r → (unit : Option ℕ) →
         IsTask ls p v.told (λ z. gives_up z q.want) q.task (record (state_of v q.task) { line = line_asked q.want (state_of v q.task).line; phase = phase_asking q.want (state_of v q.task).code; outstanding = None }) →
         IsAskedFor deck.limit ls (state_of v q.task).line (state_of v q.task).records q.want unit →
-        Settles deck s os' P v.told (tell_new (replied (recalled v q.task q.want) q.task q.want unit (answer_to (lists before) q.task q.want)) (res_wanted q.want) (new_owners (lists before) q.task q.want))
+        StaysGood deck s os' P v.told (tell_new (replied (recalled v q.task q.want) q.task q.want unit (answer_to (lists before) q.task q.want)) (res_wanted q.want) (new_owners (lists before) q.task q.want))
     own_read r wanted b unit k a =
-        subst (λ z. Settles deck s os' P v.told (tell_new (replied (recalled v q.task q.want) q.task q.want unit z) (res_wanted q.want) (new_owners (lists before) q.task q.want))) (sym b.answer)
-        (asked-settles deck s os os' P P v seen.good q.task ls ours q.want unit b.at (new_owners (lists before) q.task q.want) k a
+        subst (λ z. StaysGood deck s os' P v.told (tell_new (replied (recalled v q.task q.want) q.task q.want unit z) (res_wanted q.want) (new_owners (lists before) q.task q.want))) (sym b.answer)
+        (asked-good deck s os os' P P v seen.good q.task ls ours q.want unit b.at (new_owners (lists before) q.task q.want) k a
         (λ h z is one. decides z (subst (ReadBy deck P before x later q) (same_Some r z (sym wanted ∙ is)) b) h (b.made ∙ one)))
 
   -- the system afterwards, given its tasks
   module _ (a : IsAsk deck x) (out0 out : List Req) (seen : Seen deck s P before (x ∷ later) out0 n) (homes : list_all (λ q. is_home_at deck s q.task) (out ++ n.outbox) ≡ true) (apart : stand_apart (askers (out ++ n.outbox)) ≡ true) where
-    reads-by : (w : TasksView) → tell_new (answer_own n.tasks a.req (answer_to (lists before) a.req.task a.req.want)) (res_wanted a.req.want) (new_owners (lists before) a.req.task a.req.want) ≡ w → Settles deck s (opens_of later out n) P n.tasks.told w → Reads deck s P before x later out n a.req
-    reads-by w e settled =
+    reads-by : (w : TasksView) → tell_new (answer_own n.tasks a.req (answer_to (lists before) a.req.task a.req.want)) (res_wanted a.req.want) (new_owners (lists before) a.req.task a.req.want) ≡ w → StaysGood deck s (opens_of later out n) P n.tasks.told w → Reads deck s P before x later out n a.req
+    reads-by w e done =
         let q : Req = a.req in
         let is : (after_read n q).tasks ≡ w = read-tasks n q ∙ ap (λ z. tell_new (answer_own n.tasks q (answer_to z q.task q.want)) (res_wanted q.want) (new_owners z q.task q.want)) seen.shared ∙ e in
         record {
           seen = record {
-            good = subst (λ v. IsGood deck s (opens_of later out n) P v) (sym is) settled.good;
+            good = subst (λ v. IsGood deck s (opens_of later out n) P v) (sym is) done.good;
             own = seen.own;
             shared = read-shared n q ∙ ap (λ z. after_want z q.task q.want) seen.shared ∙ sym (after-asked before x q a.asked);
             homes = homes;
             apart = apart;
           };
-          told = subst (λ (v : TasksView). ToldBy deck s (out ++ n.outbox) (history P) n.tasks.told v.told) (sym is) settled.told;
+          told = subst (λ (v : TasksView). ToldBy deck s (out ++ n.outbox) (history P) n.tasks.told v.told) (sym is) done.told;
         }
 
   -- one of its own
@@ -220,7 +220,7 @@ module _ (deck : Deck) (s : ℕ) (P before : List RunItem) (right : IsHistory de
       reads-by a out out seen seen.homes seen.apart _
       (ap (λ z. tell_new z (res_wanted q.want) (new_owners (lists before) q.task q.want)) (answers-none n.tasks q (answer_to (lists before) q.task q.want) (false_by (is_task n.tasks q.task) (λ e. absurd (ne (sym (is_task-system n.tasks q.task e) ∙ seen.good.system)))))
       ∙ ap (λ o. tell_new n.tasks o (new_owners (lists before) q.task q.want)) a.wanted)
-      (settles deck s (opens_of later out n) P right n.tasks.told n.tasks (record {
+      (tells_good deck s (opens_of later out n) P right n.tasks.told n.tasks (record {
         tasks = record { each = λ u ls o. here-kept deck (opens_of (x ∷ later) out n) (opens_of later out n) P n.tasks.told n.tasks.told u ls _ (sym (filter-cons_left (λ z. is_of u z.fixed) x later (not-ours deck s n.tasks x a ne u ls o))) (λ k. k) (λ k. k) (λ p leaving y j. j) (seen.good.tasks.each u ls o) };
         here = seen.good.here;
         system = seen.good.system;

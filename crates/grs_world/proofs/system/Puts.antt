@@ -44,7 +44,7 @@ use Rattle.grs_known.proofs.system.Good.{IsGood, here-kept, here-other}
 use Rattle.grs_known.proofs.system.Ours.{IsOurs, IsHere}
 use Rattle.grs_known.proofs.system.Says.{is_home_at, askers, stand_apart, none}
 use Rattle.grs_known.proofs.system.Telling.{told-phase}
-use Rattle.grs_known.proofs.system.Turns.{quiet_settles}
+use Rattle.grs_known.proofs.system.Turns.{quiet_good}
 
 asked-middle : (t : TaskId) (o : Option Asked) (xs : List Req) (q : Req) (ys : List Req) → IsAskedBy t o (xs ++ q ∷ ys) → same_task t q.task ≡ true → IsReq q o
 asked-middle t o [] q ys h e = h.0 e
@@ -73,7 +73,7 @@ put_one deck s P later out q box v good home =
     let k = good.tasks.each q.task mine.0 mine.1 in
     let x : TaskState = state_of v q.task in
     let did = did-phase v v q.task x v.told mine.1.here (did-none v q.task) phases.Sent in
-    (quiet_settles deck s (record { later = later; out = out; all = out ++ q ∷ box }) (record { later = later; out = out ++ q ∷ []; all = out ++ q ∷ box }) P v good q.task mine.0 mine.1 (with_phase v q.task phases.Sent) _ v.told did
+    (quiet_good deck s (record { later = later; out = out; all = out ++ q ∷ box }) (record { later = later; out = out ++ q ∷ []; all = out ++ q ∷ box }) P v good q.task mine.0 mine.1 (with_phase v q.task phases.Sent) _ v.told did
     (record {
       known = k.known;
       knows = k.knows;

@@ -66,12 +66,12 @@ use Rattle.grs_known.proofs.system.Askers.{among-front, apart-push}
 use Rattle.grs_known.proofs.system.Asking.{line_asked, unasked, IsAtLines, IsAskedFor, IsOpenBy, Opens, IsReq, IsAskedBy, asked-none, sent-absent, held-none, stays-open, task-open}
 use Rattle.grs_world.proofs.system.AtNode.{opens_of, Seen, QuietStep, keeps, fixes, part-same}
 use Rattle.grs_known.proofs.system.Did.{Did, did-none, did-line, did-phase, did-outstanding, did-telling}
-use Rattle.grs_known.proofs.system.Events.{Settles, Decides, task-closed, enq-settles, deq-settles, release-settles}
+use Rattle.grs_known.proofs.system.Events.{StaysGood, Decides, task-closed, enq-good, deq-good, release-good}
 use Rattle.grs_known.proofs.system.Good.{IsGood, Untold, here-kept, here-other, home-ours, ours-home}
 use Rattle.grs_world.proofs.system.Meant.{is_own, lines_own}
 use Rattle.grs_known.proofs.system.Ours.{IsOurs, IsHere, ours-line, agrees-ours}
 use Rattle.grs_known.proofs.system.Says.{is_home_at, askers, stand_apart, ToldBy, none, more}
-use Rattle.grs_known.proofs.system.Turns.{quiet_settles, state-is, plain-task}
+use Rattle.grs_known.proofs.system.Turns.{quiet_good, state-is, plain-task}
 
 -- one request more behind the open ones
 asked-push_own : (t : TaskId) (o : Option Asked) (qs : List Req) (q : Req) → is_among t (askers qs) ≡ false → IsReq q o → IsAskedBy t o (qs ++ q ∷ [])
@@ -87,7 +87,7 @@ module _ (deck : Deck) (s : ℕ) (c : SysId) (P before later : List RunItem) (ri
   os = opens_of later out n
 
   -- a step that changes the tasks alone, and fixes nothing
-  by_tasks : (v : TasksView) → Settles deck s os P n.tasks.told v → QuietStep deck s c P before later out n (only (with_tasks n v))
+  by_tasks : (v : TasksView) → StaysGood deck s os P n.tasks.told v → QuietStep deck s c P before later out n (only (with_tasks n v))
   by_tasks v z = keeps refl (record { good = z.good; own = seen.own; shared = seen.shared; homes = seen.homes; apart = seen.apart }) z.told
 
   module _ (t : TaskId) (ls : List Meaning) (ours : IsOurs deck s n.tasks t ls) (closed : (state_of n.tasks t).outstanding ≡ None) where
@@ -137,11 +137,11 @@ module _ (deck : Deck) (s : ℕ) (c : SysId) (P before later : List RunItem) (ri
 
       -- the code that the entry tells
       decided : (v0 : TasksView) (unit : Option ℕ) (answer : Answer) → answer_to (lists P) t w ≡ answer → (m : MayFollow deck P x) →
-          (Decides deck os os P (P ++ x ∷ []) t p h r (new_owners n.own t w) → Settles deck s os (P ++ x ∷ []) n.tasks.told (tell_new (replied v0 t w unit answer) (Some r) (new_owners n.own t w))) →
+          (Decides deck os os P (P ++ x ∷ []) t p h r (new_owners n.own t w) → StaysGood deck s os (P ++ x ∷ []) n.tasks.told (tell_new (replied v0 t w unit answer) (Some r) (new_owners n.own t w))) →
           QuietStep deck s c P before later out n (decide (with_tasks n v0) t w unit)
       unfolding decide
-      decided v0 unit answer told_is m settled =
-          let z = settled (decides m) in
+      decided v0 unit answer told_is m done =
+          let z = done (decides m) in
           let tasks : tell_new (replied v0 t w unit (answer_to n.own t w)) (res_wanted w) (new_owners n.own t w) ≡ tell_new (replied v0 t w unit answer) (Some r) (new_owners n.own t w) =
           ap (λ y. tell_new (replied v0 t w unit y) (res_wanted w) (new_owners n.own t w)) (ap (λ y. answer_to y t w) seen.own ∙ answer_to-part (is_res_of s) (lists P) t w r wanted own ∙ told_is)
           ∙ ap (λ y. tell_new (replied v0 t w unit answer) y (new_owners n.own t w)) wanted in
@@ -170,7 +170,7 @@ module _ (deck : Deck) (s : ℕ) (c : SysId) (P before later : List RunItem) (ri
         let os' : Opens = record { later = later; out = out; all = out ++ (n.outbox ++ q ∷ []) } in
         let task : IsTask ls p n.tasks.told (λ r. is_leaving r (Some a)) t (unasked z) =
         task-leaving ls p n.tasks.told (λ r. is_leaving r (Some a)) t (unasked z) (task-open ls p n.tasks.told (λ q. false) t (record x { line = line_asked w x.line; phase = phase_asking w x.code }) (Some a) k) in
-        let settled = quiet_settles deck s os os' P n.tasks seen.good t ls ours (with_outstanding (with_phase v1 t phases.ToSend) t (Some a)) z n.tasks.told did2
+        let done = quiet_good deck s os os' P n.tasks seen.good t ls ours (with_outstanding (with_phase v1 t phases.ToSend) t (Some a)) z n.tasks.told did2
         (record {
           known = here.known;
           knows = record { right = here.knows.right; request = subst (IsOutstanding (Some a)) (sym none_open) tt };
@@ -184,13 +184,13 @@ module _ (deck : Deck) (s : ℕ) (c : SysId) (P before later : List RunItem) (ri
         subst (λ (qs : List Req). QuietStep deck s c P before later out n (only (record n { tasks = with_outstanding (with_phase v1 t phases.ToSend) t (Some a); outbox = qs }))) (sym (outbox-ring (with_tasks n v1) q alone))
         (keeps refl
         (record {
-          good = settled.good;
+          good = done.good;
           own = seen.own;
           shared = seen.shared;
           homes = ap (list_all (λ y. is_home_at deck s y.task)) (sym pushed) ∙ all-more (λ (y : Req). is_home_at deck s y.task) (out ++ n.outbox) q seen.homes (ours-home deck s n.tasks t ls ours);
           apart = ap (λ qs. stand_apart (askers qs)) (sym pushed) ∙ apart-push (out ++ n.outbox) q seen.apart free;
         })
-        settled.told)
+        done.told)
 
     -- what makes the task one of ours after a step that leaves its open requests
     still_here : (T : List ToldLine) (x : TaskState) → x.outstanding ≡ None → IsAtLines x.phase x.code → IsTask ls p T (λ q. false) t x → IsHere deck os P T t ls x
@@ -208,7 +208,7 @@ module _ (deck : Deck) (s : ℕ) (c : SysId) (P before later : List RunItem) (ri
     by_task : (v : TasksView) (x : TaskState) (T : List ToldLine) → Did n.tasks v t x T → x.outstanding ≡ None → IsAtLines x.phase x.code → IsTask ls p T (λ q. false) t x →
         ((u : TaskId) (ms : List Meaning) → same_task u t ≡ false → Untold n.tasks.told T u ms) →
         ToldBy deck s (out ++ n.outbox) (history P) n.tasks.told T → QuietStep deck s c P before later out n (only (with_tasks n v))
-    by_task v x T did o at k told agreed = by_tasks v (quiet_settles deck s os os P n.tasks seen.good t ls ours v x T did (still_here T x o at k) (λ u z apart j. j) (λ u ph apart j. j) refl told agreed)
+    by_task v x T did o at k told agreed = by_tasks v (quiet_good deck s os os P n.tasks seen.good t ls ours v x T did (still_here T x o at k) (λ u z apart j. j) (λ u ph apart j. j) refl told agreed)
 
     place : (r : Res) → is_own s r ≡ true → is_own t.system.0 r ≡ true
     place r h = subst (λ z. is_own z r ≡ true) (sym ours.home) h
@@ -230,7 +230,7 @@ module _ (deck : Deck) (s : ℕ) (c : SysId) (P before later : List RunItem) (ri
           let own : is_res_of s y.res ≡ true = or_other (is_systems y.res) (is_res_of s y.res) proper alone in
           decided (Release y.res) y.res refl own (entries.Release t y.res) refl v None (answers.Coded C00) refl
           (may_follow deck P right t p speaks ls ours.lines c (Release y.res) y.res refl (place y.res proper) tt (AsksRelease y.res) refl (next-ending ls p n.tasks.told (λ q. false) t m d code xs None ws k y.res first))
-          (λ z. release-settles deck s os os P _ n.tasks seen.good t ls ours p y.res _ m d code xs ws v did coded (λ q. false) (λ q apart. refl) k z None))
+          (λ z. release-good deck s os os P _ n.tasks seen.good t ls ours p y.res _ m d code xs ws v did coded (λ q. false) (λ q apart. refl) k z None))
         where
           first : slice_get (map (λ (z : Rec). z.res) xs) 0 ≡ Some y.res
           first = ap (λ zs. slice_get (map (λ (z : Rec). z.res) zs) 0) e
@@ -359,7 +359,7 @@ module _ (deck : Deck) (s : ℕ) (c : SysId) (P before later : List RunItem) (ri
           let k : Asks ls p n.tasks.told (λ q. false) t x.line x.code x.records None x.rows (lines.Enq r ctl ret unit) (AsksEnq r ctl ret) = record { before = is_ready; at = at; asks = refl } in
           decided (Enq r ctl ret full) r refl (or_other (is_systems r) (is_res_of s r) proper alone) (entries.Enq t r ctl ret (enq_code (lists P) r t ctl ret full)) refl (with_line n.tasks t) unit (answers.Coded (enq_code (lists P) r t ctl ret full)) refl
           (may_follow deck P right t p speaks ls ours.lines c (Enq r ctl ret full) r refl (place r proper) full_is (AsksEnq r ctl ret) refl (next-asked ls p n.tasks.told (λ q. false) t x.line x.code x.records None x.rows (lines.Enq r ctl ret unit) (AsksEnq r ctl ret) k))
-          (λ z. enq-settles deck s os os P _ n.tasks seen.good t ls ours p r _ x.line x.code x.records x.rows (with_line n.tasks t) taken (lines.Enq r ctl ret unit) (enq_code (lists P) r t ctl ret full) ctl unit ret full z k))
+          (λ z. enq-good deck s os os P _ n.tasks seen.good t ls ours p r _ x.line x.code x.records x.rows (with_line n.tasks t) taken (lines.Enq r ctl ret unit) (enq_code (lists P) r t ctl ret full) ctl unit ret full z k))
       line_outcome (lines.Deq r have) at =
           let x : TaskState = state_of n.tasks t in
           let proper : is_own s r ≡ true = own-of r (lines_own deck t ls x.line (lines.Deq r have) ours.lines at) in
@@ -369,7 +369,7 @@ module _ (deck : Deck) (s : ℕ) (c : SysId) (P before later : List RunItem) (ri
           let k : Asks ls p n.tasks.told (λ q. false) t x.line x.code x.records None x.rows (lines.Deq r have) (AsksDeq r have) = record { before = is_ready; at = at; asks = refl } in
           decided (Deq r have) r refl (or_other (is_systems r) (is_res_of s r) proper alone) (entries.Deq t r have (deq_reply (lists P) r t have)) refl (with_line n.tasks t) None (answers.Coded (deq_reply (lists P) r t have)) refl
           (may_follow deck P right t p speaks ls ours.lines c (Deq r have) r refl (place r proper) tt (AsksDeq r have) refl (next-asked ls p n.tasks.told (λ q. false) t x.line x.code x.records None x.rows (lines.Deq r have) (AsksDeq r have) k))
-          (λ z. deq-settles deck s os os P _ n.tasks seen.good t ls ours p r _ x.line x.code x.records x.rows (with_line n.tasks t) taken (lines.Deq r have) (deq_reply (lists P) r t have) have (λ q. false) (λ q apart. refl) z k None))
+          (λ z. deq-good deck s os os P _ n.tasks seen.good t ls ours p r _ x.line x.code x.records x.rows (with_line n.tasks t) taken (lines.Deq r have) (deq_reply (lists P) r t have) have (λ q. false) (λ q apart. refl) z k None))
       line_outcome (lines.Wait r) at = wait_outcome r at
       line_outcome lines.Nothing at = skipped lines.Nothing at refl refl
 
