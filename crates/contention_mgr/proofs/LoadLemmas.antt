@@ -122,8 +122,8 @@ pub ranks-more : (most next : ℕ) (x : RankedRow) (all xs : List RankedRow) (ns
 ranks-more most next x all xs ns z so is own before =
     ap (λ (k : ℕ). greatest k (ranks_of xs)) (is ∙ ap (greatest most) own) ∙ sym (greatest-append most x.1 (ranks_of xs)) ∙ sym (ap (λ (l : List RankedRow). greatest most (ranks_of l)) so) ∙ before
 
-pub held-added : (s mid after : State) (r : Res) (e : Elem) → mid ≡ s → after ≡ enq_state mid r e.task e.ctl RetHave false → has_task (list_of s r) e.task ≡ false → after ≡ s ++ (r, e) ∷ []
-held-added s mid after r e same is absent = is ∙ ap (λ (l : State). enq_state l r e.task e.ctl RetHave false) same ∙ append-free s r e absent
+pub elements-added : (s mid after : State) (r : Res) (e : Elem) → mid ≡ s → after ≡ enq_state mid r e.task e.ctl RetHave false → has_task (list_of s r) e.task ≡ false → after ≡ s ++ (r, e) ∷ []
+elements-added s mid after r e same is absent = is ∙ ap (λ (l : State). enq_state l r e.task e.ctl RetHave false) same ∙ append-free s r e absent
 
 all_pass : (xs : List RankedRow) → list_all (λ x. no_elems (list_of [] x.0.res)) xs ≡ true
 all_pass [] = refl

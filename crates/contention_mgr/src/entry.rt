@@ -35,14 +35,14 @@ impl Model for Entry {
 
     ghost use Rattle.contention_mgr.specs.Marks.{mark_in, ranked_all, AreMarked};
 
-    ghost view = { λ a. record { next = a.next; items = ranked_all (mark_in a.marks.names.entries a.marks.marks.entries) a.table.held } };
+    ghost view = { λ a. record { next = a.next; items = ranked_all (mark_in a.marks.names.entries a.marks.marks.entries) a.table.elements } };
 
-    ghost invariant = { λ a. AreMarked (mark_in a.marks.names.entries a.marks.marks.entries) a.table.held };
+    ghost invariant = { λ a. AreMarked (mark_in a.marks.names.entries a.marks.marks.entries) a.table.elements };
 }
 
 /// Whether a request puts an element into a list.
 fn queues(table: &Table<PlainQueues>, req: &Req) -> bool
-    ensures { result ≡ queues_by table.now.held req.now.task req.now.want }
+    ensures { result ≡ queues_by table.now.elements req.now.task req.now.want }
 {
     match &req.want {
         Want::Enq {
@@ -111,15 +111,15 @@ fn settle_queued(
     marks: &mut Marks,
     req: &Req,
 ) -> Result<Outcome, NoMemory>
-    requires marked { AreMarked (mark_in marks.old.names.entries marks.old.marks.entries) table.old.held }
-    requires queues { queues_by table.old.held req.now.task req.now.want ≡ true }
-    ensures answer { IfOk result (λ outcome. outcome.answer ≡ answer_to table.old.held req.now.task req.now.want) }
+    requires marked { AreMarked (mark_in marks.old.names.entries marks.old.marks.entries) table.old.elements }
+    requires queues { queues_by table.old.elements req.now.task req.now.want ≡ true }
+    ensures answer { IfOk result (λ outcome. outcome.answer ≡ answer_to table.old.elements req.now.task req.now.want) }
     ensures rank { IfOk result (λ outcome. outcome.rank ≡ next.old) }
     ensures last { IfOk result (λ outcome. outcome.rank ≤ last_number) }
-    ensures owners { IfOk result (λ outcome. outcome.owners ≡ new_owners table.old.held req.now.task req.now.want) }
-    ensures after { OnOk result ((s : ℕ) → entry_of_parts next.new table.new.held (mark_in marks.new.names.entries marks.new.marks.entries) ≡ settled s (entry_of_parts next.old table.old.held (mark_in marks.old.names.entries marks.old.marks.entries)) req.now.task req.now.want) }
-    ensures unchanged { OnErr result (entry_of_parts next.new table.new.held (mark_in marks.new.names.entries marks.new.marks.entries) ≡ entry_of_parts next.old table.old.held (mark_in marks.old.names.entries marks.old.marks.entries)) }
-    ensures marked { AreMarked (mark_in marks.new.names.entries marks.new.marks.entries) table.new.held }
+    ensures owners { IfOk result (λ outcome. outcome.owners ≡ new_owners table.old.elements req.now.task req.now.want) }
+    ensures after { OnOk result ((s : ℕ) → entry_of_parts next.new table.new.elements (mark_in marks.new.names.entries marks.new.marks.entries) ≡ settled s (entry_of_parts next.old table.old.elements (mark_in marks.old.names.entries marks.old.marks.entries)) req.now.task req.now.want) }
+    ensures unchanged { OnErr result (entry_of_parts next.new table.new.elements (mark_in marks.new.names.entries marks.new.marks.entries) ≡ entry_of_parts next.old table.old.elements (mark_in marks.old.names.entries marks.old.marks.entries)) }
+    ensures marked { AreMarked (mark_in marks.new.names.entries marks.new.marks.entries) table.new.elements }
 {
     if *next > LAST_NUMBER {
         return Err(NoMemory);
@@ -178,14 +178,14 @@ fn settle_unqueued(
     marks: &mut Marks,
     req: &Req,
 ) -> Result<Outcome, NoMemory>
-    requires marked { AreMarked (mark_in marks.old.names.entries marks.old.marks.entries) table.old.held }
-    requires queues { queues_by table.old.held req.now.task req.now.want ≡ false }
-    ensures answer { IfOk result (λ outcome. outcome.answer ≡ answer_to table.old.held req.now.task req.now.want) }
+    requires marked { AreMarked (mark_in marks.old.names.entries marks.old.marks.entries) table.old.elements }
+    requires queues { queues_by table.old.elements req.now.task req.now.want ≡ false }
+    ensures answer { IfOk result (λ outcome. outcome.answer ≡ answer_to table.old.elements req.now.task req.now.want) }
     ensures rank { IfOk result (λ outcome. outcome.rank ≡ 0) }
-    ensures owners { IfOk result (λ outcome. outcome.owners ≡ new_owners table.old.held req.now.task req.now.want) }
-    ensures after { OnOk result (entry_of_parts next table.new.held (mark_in marks.new.names.entries marks.new.marks.entries) ≡ settled system.0 (entry_of_parts next table.old.held (mark_in marks.old.names.entries marks.old.marks.entries)) req.now.task req.now.want) }
-    ensures unchanged { OnErr result (entry_of_parts next table.new.held (mark_in marks.new.names.entries marks.new.marks.entries) ≡ entry_of_parts next table.old.held (mark_in marks.old.names.entries marks.old.marks.entries)) }
-    ensures marked { AreMarked (mark_in marks.new.names.entries marks.new.marks.entries) table.new.held }
+    ensures owners { IfOk result (λ outcome. outcome.owners ≡ new_owners table.old.elements req.now.task req.now.want) }
+    ensures after { OnOk result (entry_of_parts next table.new.elements (mark_in marks.new.names.entries marks.new.marks.entries) ≡ settled system.0 (entry_of_parts next table.old.elements (mark_in marks.old.names.entries marks.old.marks.entries)) req.now.task req.now.want) }
+    ensures unchanged { OnErr result (entry_of_parts next table.new.elements (mark_in marks.new.names.entries marks.new.marks.entries) ≡ entry_of_parts next table.old.elements (mark_in marks.old.names.entries marks.old.marks.entries)) }
+    ensures marked { AreMarked (mark_in marks.new.names.entries marks.new.marks.entries) table.new.elements }
 {
     let outcome = table.carry_out(alloc, req)?;
     mark_after(marks, system, req, &outcome);

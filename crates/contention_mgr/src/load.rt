@@ -21,11 +21,11 @@ fn add_elem(
     elem: Elem,
     rank: u64,
 ) -> Result<(), NoMemory>
-    requires marked { AreMarked (mark_in marks.old.names.entries marks.old.marks.entries) table.old.held }
-    requires absent { has_task (list_of table.old.held res.now) elem.task ≡ false }
-    ensures held { OnOk result (table.new.held ≡ table.old.held ++ (res.now, elem) ∷ []) }
-    ensures items { OnOk result (ranked_all (mark_in marks.new.names.entries marks.new.marks.entries) table.new.held ≡ ranked_all (mark_in marks.old.names.entries marks.old.marks.entries) table.old.held ++ record { res = res.now; elem = elem; rank = rank; untold = false } ∷ []) }
-    ensures marked { OnOk result (AreMarked (mark_in marks.new.names.entries marks.new.marks.entries) table.new.held) }
+    requires marked { AreMarked (mark_in marks.old.names.entries marks.old.marks.entries) table.old.elements }
+    requires absent { has_task (list_of table.old.elements res.now) elem.task ≡ false }
+    ensures elements { OnOk result (table.new.elements ≡ table.old.elements ++ (res.now, elem) ∷ []) }
+    ensures items { OnOk result (ranked_all (mark_in marks.new.names.entries marks.new.marks.entries) table.new.elements ≡ ranked_all (mark_in marks.old.names.entries marks.old.marks.entries) table.old.elements ++ record { res = res.now; elem = elem; rank = rank; untold = false } ∷ []) }
+    ensures marked { OnOk result (AreMarked (mark_in marks.new.names.entries marks.new.marks.entries) table.new.elements) }
 {
     let mark = Mark {
         rank,
@@ -46,10 +46,10 @@ fn add_list(
     elems: &[Elem],
     ranks: &[u64],
 ) -> Result<(), NoMemory>
-    requires marked { AreMarked (mark_in marks.old.names.entries marks.old.marks.entries) table.old.held }
-    requires apart { is_apart (list_of table.old.held res.now ++ elems.now) ≡ true }
-    ensures items { OnOk result (ranked_all (mark_in marks.new.names.entries marks.new.marks.entries) table.new.held ≡ ranked_all (mark_in marks.old.names.entries marks.old.marks.entries) table.old.held ++ ranked_list res.now elems.now ranks.now) }
-    ensures marked { OnOk result (AreMarked (mark_in marks.new.names.entries marks.new.marks.entries) table.new.held) }
+    requires marked { AreMarked (mark_in marks.old.names.entries marks.old.marks.entries) table.old.elements }
+    requires apart { is_apart (list_of table.old.elements res.now ++ elems.now) ≡ true }
+    ensures items { OnOk result (ranked_all (mark_in marks.new.names.entries marks.new.marks.entries) table.new.elements ≡ ranked_all (mark_in marks.old.names.entries marks.old.marks.entries) table.old.elements ++ ranked_list res.now elems.now ranks.now) }
+    ensures marked { OnOk result (AreMarked (mark_in marks.new.names.entries marks.new.marks.entries) table.new.elements) }
 {
     let mut rest = elems;
     let mut numbers = ranks;
@@ -72,11 +72,11 @@ pub(crate) fn add_rows(
     marks: &mut Marks,
     rows: &[(Row, List<u64>)],
 ) -> Result<(), NoMemory>
-    requires marked { AreMarked (mark_in marks.old.names.entries marks.old.marks.entries) table.old.held }
-    requires free { rows_free table.old.held rows.now ≡ true }
+    requires marked { AreMarked (mark_in marks.old.names.entries marks.old.marks.entries) table.old.elements }
+    requires free { rows_free table.old.elements rows.now ≡ true }
     requires apart { all_apart rows.now ≡ true }
-    ensures items { OnOk result (ranked_all (mark_in marks.new.names.entries marks.new.marks.entries) table.new.held ≡ ranked_all (mark_in marks.old.names.entries marks.old.marks.entries) table.old.held ++ ranked_rows rows.now) }
-    ensures marked { OnOk result (AreMarked (mark_in marks.new.names.entries marks.new.marks.entries) table.new.held) }
+    ensures items { OnOk result (ranked_all (mark_in marks.new.names.entries marks.new.marks.entries) table.new.elements ≡ ranked_all (mark_in marks.old.names.entries marks.old.marks.entries) table.old.elements ++ ranked_rows rows.now) }
+    ensures marked { OnOk result (AreMarked (mark_in marks.new.names.entries marks.new.marks.entries) table.new.elements) }
 {
     let mut rest = rows;
     'rows: while let Some((row, tail)) = rest.split_first() {

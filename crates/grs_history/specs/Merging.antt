@@ -14,13 +14,13 @@ after_all_fixed s (f ∷ fs) = after_all_fixed (after_fixed s f) fs
 
 -- what is shown in the end, where the lists are these, this is shown so far, and these steps come
 abbrev pub shown_with : State → Merged → List Step → Merged
-shown_with held m xs = record {
+shown_with elements m xs = record {
   events = m.events ++ map event_of xs;
-  hist = m.hist ++ answered_from held (flat_map fixed_in xs);
+  hist = m.hist ++ answered_from elements (flat_map fixed_in xs);
   told = m.told ++ told_behind (length m.events) xs;
 }
 
 -- With these steps the lists and what is shown become the others, so that whatever steps come then, the same is shown in the
 -- end.
 abbrev pub Leads : State → Merged → List Step → State → Merged → Type 0
-Leads held m xs held' m' = (ys : List Step) → shown_with held' m' ys ≡ shown_with held m (xs ++ ys)
+Leads elements m xs elements' m' = (ys : List Step) → shown_with elements' m' ys ≡ shown_with elements m (xs ++ ys)

@@ -59,8 +59,8 @@ fn add_fixed(
     fixed: &[Fixed],
     hist: &mut List<HistEntry>,
 ) -> Result<(), NoMemory>
-    ensures entries { OnOk result (hist.new ≡ hist.old ++ answered_from table.old.held (map (λ f. (system, f)) fixed.now)) }
-    ensures after { OnOk result (table.new.held ≡ after_all_fixed table.old.held fixed.now) }
+    ensures entries { OnOk result (hist.new ≡ hist.old ++ answered_from table.old.elements (map (λ f. (system, f)) fixed.now)) }
+    ensures after { OnOk result (table.new.elements ≡ after_all_fixed table.old.elements fixed.now) }
 {
     for one in fixed {
         fix(alloc, table, system, one, hist)?;
@@ -93,7 +93,7 @@ impl Merging {
     /// Goes through one more step. There is no memory for more than 2^57.
     fn add(&mut self, alloc: Global, system: SysId, step: &StepDone) -> Result<(), NoMemory>
         requires { length self.old.merged.events ≤ last_number }
-        ensures leads { OnOk result (Leads self.old.table.held self.old.merged ((system, step.now) ∷ []) self.new.table.held self.new.merged) }
+        ensures leads { OnOk result (Leads self.old.table.elements self.old.merged ((system, step.now) ∷ []) self.new.table.elements self.new.merged) }
         ensures few { length self.new.merged.events ≤ last_number }
     {
         if self.merged.events.len() as u64 >= LAST_NUMBER {
@@ -114,7 +114,7 @@ impl Merging {
     /// Goes through steps of one system.
     fn add_all(&mut self, alloc: Global, system: SysId, steps: &[StepDone]) -> Result<(), NoMemory>
         requires { length self.old.merged.events ≤ last_number }
-        ensures leads { OnOk result (Leads self.old.table.held self.old.merged (merges.steps_by system steps.now) self.new.table.held self.new.merged) }
+        ensures leads { OnOk result (Leads self.old.table.elements self.old.merged (merges.steps_by system steps.now) self.new.table.elements self.new.merged) }
         ensures few { length self.new.merged.events ≤ last_number }
     {
         for step in steps {
@@ -131,7 +131,7 @@ impl Merging {
     ) -> Result<Vec<&'l [StepDone]>, NoMemory>
         requires systems { length logs.now ≤ most_systems }
         requires few { length self.old.merged.events ≤ last_number }
-        ensures leads { OnOk result (Leads self.old.table.held self.old.merged (merges.quiet_fronts 0 (map (λ l. l.steps) logs.now)) self.new.table.held self.new.merged) }
+        ensures leads { OnOk result (Leads self.old.table.elements self.old.merged (merges.quiet_fronts 0 (map (λ l. l.steps) logs.now)) self.new.table.elements self.new.merged) }
         ensures rests { IfOk result (λ rests. map (λ r. r.now) rests.items ≡ map merges.without_front (map (λ l. l.steps) logs.now)) }
         ensures few { length self.new.merged.events ≤ last_number }
     {
@@ -155,7 +155,7 @@ impl Merging {
         system: SysId,
     ) -> Result<(), NoMemory>
         requires { length self.old.merged.events ≤ last_number }
-        ensures leads { OnOk result (let rest = merges.rest_of (map (λ r. r.now) rests.old.items) system in Leads self.old.table.held self.old.merged (merges.steps_by system (take (merges.run_count rest) rest)) self.new.table.held self.new.merged) }
+        ensures leads { OnOk result (let rest = merges.rest_of (map (λ r. r.now) rests.old.items) system in Leads self.old.table.elements self.old.merged (merges.steps_by system (take (merges.run_count rest) rest)) self.new.table.elements self.new.merged) }
         ensures rests { let rest = merges.rest_of (map (λ r. r.now) rests.old.items) system in map (λ r. r.now) rests.new.items ≡ set (map (λ r. r.now) rests.old.items) system.0 (drop (merges.run_count rest) rest) }
         ensures few { length self.new.merged.events ≤ last_number }
     {

@@ -16,7 +16,7 @@ fn carry_out(
     table: &mut Table<CountedQueues>,
     entry: &HistEntry,
 ) -> Result<(), NoMemory>
-    ensures { OnOk result (table.new.held ≡ step limit table.old.held entry.now) }
+    ensures { OnOk result (table.new.elements ≡ step limit table.old.elements entry.now) }
 {
     match entry {
         HistEntry::Enq {

@@ -18,7 +18,7 @@ fn look(
     place: Place,
     filter: &Filter,
 ) -> Result<HistEntry, NoMemory>
-    ensures { IfOk result (λ entry. entry ≡ HistEntry.Look task place filter.now (looked table.now.held place filter.now)) }
+    ensures { IfOk result (λ entry. entry ≡ HistEntry.Look task place filter.now (looked table.now.elements place filter.now)) }
 {
     let rows = table.look(alloc, place, filter)?;
     let filter = filter.copy(alloc)?;
@@ -41,7 +41,7 @@ fn look_slices(
     filter: &Filter,
     hist: &mut List<HistEntry>,
 ) -> Result<(), NoMemory>
-    ensures { OnOk result (hist.new ≡ hist.old ++ look_entries table.now.held task first count filter.now) }
+    ensures { OnOk result (hist.new ≡ hist.old ++ look_entries table.now.elements task first count filter.now) }
 {
     let Some(end) = first.checked_add(count) else {
         return Err(NoMemory);
@@ -59,8 +59,8 @@ fn carry_out(
     req: &Req,
     hist: &mut List<HistEntry>,
 ) -> Result<(), NoMemory>
-    ensures entries { OnOk result (hist.new ≡ hist.old ++ entries_for table.old.held req.now.task req.now.want) }
-    ensures after { OnOk result (table.new.held ≡ after_want table.old.held req.now.task req.now.want) }
+    ensures entries { OnOk result (hist.new ≡ hist.old ++ entries_for table.old.elements req.now.task req.now.want) }
+    ensures after { OnOk result (table.new.elements ≡ after_want table.old.elements req.now.task req.now.want) }
 {
     let task = req.task;
     match &req.want {
@@ -112,8 +112,8 @@ pub(crate) fn fix(
     fixed: &Fixed,
     hist: &mut List<HistEntry>,
 ) -> Result<(), NoMemory>
-    ensures entries { OnOk result (hist.new ≡ hist.old ++ fixed_entries table.old.held system fixed.now) }
-    ensures after { OnOk result (table.new.held ≡ after_fixed table.old.held fixed.now) }
+    ensures entries { OnOk result (hist.new ≡ hist.old ++ fixed_entries table.old.elements system fixed.now) }
+    ensures after { OnOk result (table.new.elements ≡ after_fixed table.old.elements fixed.now) }
 {
     match fixed {
         Fixed::Asked(req) => carry_out(alloc, table, req, hist),

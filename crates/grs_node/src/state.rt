@@ -45,7 +45,7 @@ impl Model for NodeState {
 
     ghost Value = { steps.NodeState };
 
-    ghost view = { λ a. record { tasks = a.tasks; own = a.local.held; shared = a.shared.held; outbox = a.outbox; star = a.star; known = a.known; done = a.done } };
+    ghost view = { λ a. record { tasks = a.tasks; own = a.local.elements; shared = a.shared.elements; outbox = a.outbox; star = a.star; known = a.known; done = a.done } };
 
     ghost invariant = { λ a. are_of_system a.tasks.system (length a.tasks.tasks) a.outbox ≡ true };
 }

@@ -2,7 +2,7 @@
 use Rattle.grs_base.specs.State.{State}
 use Rattle.grs_base.specs.declared.resource.SysId.{SysId}
 
--- the system, and what is held in its lists, in order of arrival
+-- the system, and the elements in its lists, with their resources, in order of arrival
 pub record LocalView : Type 0 where
   pub system : SysId
-  pub held : State
+  pub elements : State

@@ -25,13 +25,13 @@ impl Model for Local {
 
     ghost Value = { LocalView };
 
-    ghost view = { λ a. record { system = a.system; held = a.table.held } };
+    ghost view = { λ a. record { system = a.system; elements = a.table.elements } };
 }
 
 impl Local {
     /// No lists yet, of this system.
     pub fn new(alloc: Global, system: SysId) -> Self
-        ensures { result ≡ record { system = system; held = [] } }
+        ensures { result ≡ record { system = system; elements = [] } }
     {
         Local {
             system,
@@ -42,11 +42,11 @@ impl Local {
 
     /// Answers a request at once. Without memory nothing changes.
     pub fn request(&mut self, req: &Req) -> Result<Outcome, NoMemory>
-        ensures answer { IfOk result (λ outcome. outcome.answer ≡ answer_to self.old.held req.now.task req.now.want) }
+        ensures answer { IfOk result (λ outcome. outcome.answer ≡ answer_to self.old.elements req.now.task req.now.want) }
         ensures rank { IfOk result (λ outcome. outcome.rank ≡ 0) }
-        ensures owners { IfOk result (λ outcome. outcome.owners ≡ new_owners self.old.held req.now.task req.now.want) }
+        ensures owners { IfOk result (λ outcome. outcome.owners ≡ new_owners self.old.elements req.now.task req.now.want) }
         ensures system { self.new.system ≡ self.old.system }
-        ensures after { OnOk result (self.new.held ≡ after_want self.old.held req.now.task req.now.want) }
+        ensures after { OnOk result (self.new.elements ≡ after_want self.old.elements req.now.task req.now.want) }
         ensures unchanged { OnErr result (self.new ≡ self.old) }
     {
         self.table.carry_out(self.alloc, req)
@@ -54,7 +54,7 @@ impl Local {
 
     /// The lists of the system's own resources that pass a filter, in the order in which resources are shown.
     pub fn look(&self, filter: &Filter) -> Result<List<Row>, NoMemory>
-        ensures { IfOk result (λ rows. rows ≡ looked self.now.held (LocalPlace self.now.system) filter.now) }
+        ensures { IfOk result (λ rows. rows ≡ looked self.now.elements (LocalPlace self.now.system) filter.now) }
     {
         self.table
             .look(self.alloc, Place::Local(self.system), filter)

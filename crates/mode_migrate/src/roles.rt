@@ -171,9 +171,9 @@ pub fn roles_of<Q: Queues>(
     system: SysId,
 ) -> Result<Roles, NoMemory>
     requires { entries ≢ 0 }
-    ensures managed { IfOk result (λ roles. roles.managed ≡ managed_by entries system table.now.held) }
-    ensures interest { IfOk result (λ roles. roles.interest ≡ interested_by entries system table.now.held) }
-    ensures ranked { IfOk result (λ roles. roles.ranked ≡ ranked_by entries table.now.held) }
+    ensures managed { IfOk result (λ roles. roles.managed ≡ managed_by entries system table.now.elements) }
+    ensures interest { IfOk result (λ roles. roles.interest ≡ interested_by entries system table.now.elements) }
+    ensures ranked { IfOk result (λ roles. roles.ranked ≡ ranked_by entries table.now.elements) }
     ensures small { IfOk result (λ roles. list_all (λ n. nat_le n last_number) (ranks_of roles.ranked) ≡ true) }
 {
     let rows = table.rows(alloc)?;

@@ -144,7 +144,7 @@ pub fn words_of<Q: Queues>(
     entries: u32,
 ) -> Result<List<u32>, NoMemory>
     requires { entries ≢ 0 }
-    ensures { IfOk result (λ words. words ≡ table_words entries table.now.held) }
+    ensures { IfOk result (λ words. words ≡ table_words entries table.now.elements) }
 {
     let rows = table.rows(alloc)?;
     words(alloc, rows.as_slice(), entries)

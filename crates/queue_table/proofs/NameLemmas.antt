@@ -138,7 +138,7 @@ pub number_live : (live : ℕ → Bool) (es : Numbers) (r : Res) (q : ℕ) → a
 number_live live [] r q h n = cc
 number_live live (e ∷ es) r q h n = grind (arith, h, n, number_live live es r q)
 
--- names that are kept keep what is held
+-- names that are kept keep the elements under them
 pub named-more : (es more : Numbers) → ((n : ℕ) (x : Res) → name_of es n ≡ Some x → name_of more n ≡ Some x) → (hs : Held ℕ) → all_named es hs ≡ true → (named more hs ≡ named es hs) × (all_named more hs ≡ true)
 named-more es more up [] h = (refl, refl)
 named-more es more up (x ∷ hs) h = step (λ k. named-more es more up hs k) (name_of es x.0) refl h

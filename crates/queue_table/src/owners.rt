@@ -14,7 +14,7 @@ fn add_shared<Q: Queues>(
     tasks: &mut List<TaskId>,
 ) -> Result<(), NoMemory>
     requires { Q.is_live queues.now queue ≡ true }
-    ensures { OnOk result (tasks.new ≡ tasks.old ++ shared_tasks (drop from (list_at nat_eq (Q.held queues.now) queue))) }
+    ensures { OnOk result (tasks.new ≡ tasks.old ++ shared_tasks (drop from (list_at nat_eq (Q.elements queues.now) queue))) }
 {
     for place in from..queues.len(queue) {
         let elem = queues.elem(queue, place);
@@ -34,7 +34,7 @@ fn add_owners<Q: Queues>(
     tasks: &mut List<TaskId>,
 ) -> Result<(), NoMemory>
     requires { Q.is_live queues.now queue ≡ true }
-    ensures { OnOk result (tasks.new ≡ tasks.old ++ owner_tasks (drop from (list_at nat_eq (Q.held queues.now) queue))) }
+    ensures { OnOk result (tasks.new ≡ tasks.old ++ owner_tasks (drop from (list_at nat_eq (Q.elements queues.now) queue))) }
 {
     if queues.len(queue) <= from {
         return Ok(());
@@ -55,8 +55,8 @@ pub(crate) fn owners_behind<Q: Queues>(
     place: usize,
 ) -> Result<List<TaskId>, NoMemory>
     requires live { Q.is_live queues.now queue ≡ true }
-    requires place { place < length (list_at nat_eq (Q.held queues.now) queue) }
-    ensures { IfOk result (λ tasks. tasks ≡ tasks_behind (list_at nat_eq (Q.held queues.now) queue) place) }
+    requires place { place < length (list_at nat_eq (Q.elements queues.now) queue) }
+    ensures { IfOk result (λ tasks. tasks ≡ tasks_behind (list_at nat_eq (Q.elements queues.now) queue) place) }
 {
     let mut tasks = List::new(alloc);
     let len = queues.len(queue);

@@ -33,7 +33,7 @@ fn unranked(answer: Answer, owners: List<TaskId>) -> Outcome
 impl<Q: Queues> Table<Q> {
     /// What a request would be answered, whatever its resource. Nothing changes.
     pub fn answer(&self, alloc: Global, req: &Req) -> Result<Answer, NoMemory>
-        ensures { IfOk result (λ answer. answer ≡ answer_to self.now.held req.now.task req.now.want) }
+        ensures { IfOk result (λ answer. answer ≡ answer_to self.now.elements req.now.task req.now.want) }
     {
         match &req.want {
             Want::Enq {
@@ -56,11 +56,11 @@ impl<Q: Queues> Table<Q> {
     /// it was.
     #[tactic(auto, using(crate::proofs::OwnerLemmas::outcomes))]
     pub fn carry_out(&mut self, alloc: Global, req: &Req) -> Result<Outcome, NoMemory>
-        ensures answer { IfOk result (λ outcome. outcome.answer ≡ answer_to self.old.held req.now.task req.now.want) }
+        ensures answer { IfOk result (λ outcome. outcome.answer ≡ answer_to self.old.elements req.now.task req.now.want) }
         ensures rank { IfOk result (λ outcome. outcome.rank ≡ 0) }
-        ensures owners { IfOk result (λ outcome. outcome.owners ≡ new_owners self.old.held req.now.task req.now.want) }
-        ensures after { OnOk result (self.new.held ≡ after_want self.old.held req.now.task req.now.want) }
-        ensures unchanged { OnErr result (self.new.held ≡ self.old.held) }
+        ensures owners { IfOk result (λ outcome. outcome.owners ≡ new_owners self.old.elements req.now.task req.now.want) }
+        ensures after { OnOk result (self.new.elements ≡ after_want self.old.elements req.now.task req.now.want) }
+        ensures unchanged { OnErr result (self.new.elements ≡ self.old.elements) }
     {
         match &req.want {
             Want::Enq {

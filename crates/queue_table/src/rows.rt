@@ -24,8 +24,8 @@ pub(crate) fn list_in<Q: Queues>(
     queues: &Q,
     res: &Res,
 ) -> Result<List<Elem>, NoMemory>
-    requires table { IsTable numbers.now.entries (Q.held queues.now) (Q.is_live queues.now) }
-    ensures list { IfOk result (λ elems. elems ≡ list_of (named numbers.now.entries (Q.held queues.now)) res.now) }
+    requires table { IsTable numbers.now.entries (Q.elements queues.now) (Q.is_live queues.now) }
+    ensures list { IfOk result (λ elems. elems ≡ list_of (named numbers.now.entries (Q.elements queues.now)) res.now) }
     ensures apart { IfOk result (λ elems. is_apart elems ≡ true) }
 {
     match number(numbers, res, queues) {
@@ -43,7 +43,7 @@ fn add_list<Q: Queues>(
     lists: &mut BTreeMap<Placed, List<Elem>>,
 ) -> Result<(), NoMemory>
     requires { Q.is_live queues.now queue ≡ true }
-    ensures { OnOk result (plain lists.new.entries ≡ with_list res.now (list_at nat_eq (Q.held queues.now) queue) (plain lists.old.entries)) }
+    ensures { OnOk result (plain lists.new.entries ≡ with_list res.now (list_at nat_eq (Q.elements queues.now) queue) (plain lists.old.entries)) }
 {
     let elems = queues.elems(alloc, queue)?;
     if elems.len() == 0 {
@@ -76,7 +76,7 @@ fn add_list_shown<Q: Queues>(
     lists: &mut BTreeMap<Placed, List<Elem>>,
 ) -> Result<(), NoMemory>
     requires { Q.is_live queues.now queue ≡ true }
-    ensures { OnOk result (plain lists.new.entries ≡ cond shown (with_list res.now (list_at nat_eq (Q.held queues.now) queue) (plain lists.old.entries)) (plain lists.old.entries)) }
+    ensures { OnOk result (plain lists.new.entries ≡ cond shown (with_list res.now (list_at nat_eq (Q.elements queues.now) queue) (plain lists.old.entries)) (plain lists.old.entries)) }
 {
     if shown {
         add_list(alloc, queues, res, queue, lists)
@@ -93,8 +93,8 @@ fn lists_in<Q: Queues>(
     place: Option<Place>,
     chosen: &Filter,
 ) -> Result<BTreeMap<Placed, List<Elem>>, NoMemory>
-    requires table { IsTable numbers.now.entries (Q.held queues.now) (Q.is_live queues.now) }
-    ensures { IfOk result (λ lists. plain lists.entries ≡ filter (λ e. may_show place chosen.now e.0) (lists_of (named numbers.now.entries (Q.held queues.now)))) }
+    requires table { IsTable numbers.now.entries (Q.elements queues.now) (Q.is_live queues.now) }
+    ensures { IfOk result (λ lists. plain lists.entries ≡ filter (λ e. may_show place chosen.now e.0) (lists_of (named numbers.now.entries (Q.elements queues.now)))) }
 {
     let mut lists = BTreeMap::new(alloc);
     for i in 0..numbers.len() {
@@ -154,8 +154,8 @@ fn shown_in<Q: Queues>(
     place: Option<Place>,
     chosen: &Filter,
 ) -> Result<List<Row>, NoMemory>
-    requires table { IsTable numbers.now.entries (Q.held queues.now) (Q.is_live queues.now) }
-    ensures { IfOk result (λ rows. rows ≡ filter (shows place chosen.now) (rows_of (named numbers.now.entries (Q.held queues.now)))) }
+    requires table { IsTable numbers.now.entries (Q.elements queues.now) (Q.is_live queues.now) }
+    ensures { IfOk result (λ rows. rows ≡ filter (shows place chosen.now) (rows_of (named numbers.now.entries (Q.elements queues.now)))) }
 {
     let lists = lists_in(alloc, numbers, queues, place, chosen)?;
     rows_from(alloc, lists, chosen)
@@ -168,8 +168,8 @@ pub(crate) fn rows_in<Q: Queues>(
     numbers: &IndexMap<Res, u32>,
     queues: &Q,
 ) -> Result<List<Row>, NoMemory>
-    requires table { IsTable numbers.now.entries (Q.held queues.now) (Q.is_live queues.now) }
-    ensures { IfOk result (λ rows. rows ≡ rows_of (named numbers.now.entries (Q.held queues.now))) }
+    requires table { IsTable numbers.now.entries (Q.elements queues.now) (Q.is_live queues.now) }
+    ensures { IfOk result (λ rows. rows ≡ rows_of (named numbers.now.entries (Q.elements queues.now))) }
 {
     shown_in(alloc, numbers, queues, None, &Filter::All)
 }
@@ -182,8 +182,8 @@ pub(crate) fn look_in<Q: Queues>(
     place: Place,
     chosen: &Filter,
 ) -> Result<List<Row>, NoMemory>
-    requires table { IsTable numbers.now.entries (Q.held queues.now) (Q.is_live queues.now) }
-    ensures { IfOk result (λ rows. rows ≡ look (named numbers.now.entries (Q.held queues.now)) place chosen.now) }
+    requires table { IsTable numbers.now.entries (Q.elements queues.now) (Q.is_live queues.now) }
+    ensures { IfOk result (λ rows. rows ≡ look (named numbers.now.entries (Q.elements queues.now)) place chosen.now) }
 {
     shown_in(alloc, numbers, queues, Some(place), chosen)
 }

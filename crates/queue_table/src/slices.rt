@@ -33,7 +33,7 @@ pub(crate) fn look_slices<Q: Queues>(
     count: u32,
     filter: &Filter,
 ) -> Result<List<Row>, NoMemory>
-    ensures { IfOk result (λ rows. rows ≡ looks table.now.held first count filter.now) }
+    ensures { IfOk result (λ rows. rows ≡ looks table.now.elements first count filter.now) }
 {
     let mut rows = List::new(alloc);
     for slice in first..end_of(first, count) {

@@ -61,7 +61,7 @@ fn process<Q: Queues>(
     tasks: &mut Tasks,
     req: &Req,
 ) -> Result<(), NoMemory>
-    ensures step { OnOk result (side_of tasks.new table.new.held ≡ ring.process (side_of tasks.old table.old.held) req.now) }
+    ensures step { OnOk result (side_of tasks.new table.new.elements ≡ ring.process (side_of tasks.old table.old.elements) req.now) }
     ensures system { tasks.new.system ≡ tasks.old.system }
     ensures count { length tasks.new.tasks ≡ length tasks.old.tasks }
 {
@@ -80,7 +80,7 @@ pub fn on_request<Q: Queues>(
     tasks: &mut Tasks,
     req: &Req,
 ) -> Result<(), NoMemory>
-    ensures step { OnOk result (side_of tasks.new table.new.held ≡ ring.process_entry (side_of tasks.old table.old.held) req.now) }
+    ensures step { OnOk result (side_of tasks.new table.new.elements ≡ ring.process_entry (side_of tasks.old table.old.elements) req.now) }
     ensures system { tasks.new.system ≡ tasks.old.system }
     ensures count { length tasks.new.tasks ≡ length tasks.old.tasks }
 {

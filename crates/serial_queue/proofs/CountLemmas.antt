@@ -10,7 +10,7 @@ use Rattle.grs_base.specs.declared.resource.TaskId.{TaskId}
 use Rattle.grs_base.proofs.SameLaws.{same_task-exact, same_task-itself}
 use Rattle.grs_base.proofs.ListLaws.{same_task-sym}
 use Rattle.grs_base.proofs.StateLaws.{queued_by-exclusive}
-use Rattle.serial_queue.specs.Plain.{Row, entries, held_by, all_good, tagged, tasks_in}
+use Rattle.serial_queue.specs.Plain.{Row, entries, elements_by, all_good, tagged, tasks_in}
 use Rattle.serial_queue.proofs.PlainLemmas.{tasks_in-append, tasks_in-tagged, length-queued}
 
 -- a task has at most one element in each queue
@@ -18,7 +18,7 @@ tasks_in-few : (i n : ℕ) (rs : List Row) (t : TaskId) → all_good n rs ≡ tr
 tasks_in-few i n [] t a = omega arith
 tasks_in-few i n (r ∷ rs) t a = grind (arith, a, tasks_in-append (tagged i r) (entries (suc i) rs) t, tasks_in-tagged i r t, tasks_in-few (suc i) n rs t)
 
-pub queued_by-few : (n : ℕ) (rs : List Row) (t : TaskId) → all_good n rs ≡ true → length (queued_by (held_by n rs) t) ≤ length rs
+pub queued_by-few : (n : ℕ) (rs : List Row) (t : TaskId) → all_good n rs ≡ true → length (queued_by (elements_by n rs) t) ≤ length rs
 queued_by-few n rs t a = omega (arith, length-queued n rs t a, tasks_in-few 0 n rs t a)
 
 pub has_got : (es : List Elem) (p : ℕ) (e : Elem) → slice_get es p ≡ Some e → has_task es e.task ≡ true
@@ -65,16 +65,16 @@ pub ruleset changes = (nat_tests, counted-changed, same_task-exact)
 
 -- what a call leaves of the counts
 pub counted-pushed : (hs new : Held ℕ) (old counts : TaskId → ℕ) (q : ℕ) (e : Elem) → ((t : TaskId) → old t ≡ length (queued_by hs t)) → ((t : TaskId) → counts t ≡ old t + cond (same_task e.task t) 1 0) → new ≡ hs ++ (q, e) ∷ [] → (t : TaskId) → counts t ≡ length (queued_by new t)
-counted-pushed hs new old counts q e is more held t =
-    more t ∙ ap (λ (k : ℕ). k + cond (same_task e.task t) 1 0) (is t) ∙ sym (length-queued_by-push hs q e t) ∙ ap (λ (l : Held ℕ). length (queued_by l t)) (sym held)
+counted-pushed hs new old counts q e is more elements t =
+    more t ∙ ap (λ (k : ℕ). k + cond (same_task e.task t) 1 0) (is t) ∙ sym (length-queued_by-push hs q e t) ∙ ap (λ (l : Held ℕ). length (queued_by l t)) (sym elements)
 
 pub counted-taken : (hs new : Held ℕ) (old counts : TaskId → ℕ) (q : ℕ) (u : TaskId) → ((t : TaskId) → old t ≡ length (queued_by hs t)) → ((t : TaskId) → counts t + cond (same_task u t) 1 0 ≡ old t) → is_apart (list_at nat_eq hs q) ≡ true → has_task (list_at nat_eq hs q) u ≡ true → new ≡ without nat_eq hs q u → (t : TaskId) → counts t ≡ length (queued_by new t)
-counted-taken hs new old counts q u is less apart there held t =
-    omega (arith, less t, is t, length-queued_by-without hs q u t apart there, ap (λ (l : Held ℕ). length (queued_by l t)) held)
+counted-taken hs new old counts q u is less apart there elements t =
+    omega (arith, less t, is t, length-queued_by-without hs q u t apart there, ap (λ (l : Held ℕ). length (queued_by l t)) elements)
 
 pub counted-exclusive : (hs new : Held ℕ) (old : TaskId → ℕ) (q : ℕ) (u : TaskId) → ((t : TaskId) → old t ≡ length (queued_by hs t)) → new ≡ with_exclusive nat_eq hs q u → (t : TaskId) → old t ≡ length (queued_by new t)
-counted-exclusive hs new old q u is held t =
-    is t ∙ ap (λ (l : List ℕ). length l) (sym (queued_by-exclusive nat_eq hs q t u)) ∙ ap (λ (l : Held ℕ). length (queued_by l t)) (sym held)
+counted-exclusive hs new old q u is elements t =
+    is t ∙ ap (λ (l : List ℕ). length l) (sym (queued_by-exclusive nat_eq hs q t u)) ∙ ap (λ (l : Held ℕ). length (queued_by l t)) (sym elements)
 
 -- the element at a place is made exclusive
 not_got : (es : List Elem) (p : ℕ) → slice_get es p ≡ None → length es ≤ p
@@ -86,5 +86,5 @@ pub counted-exclusive_at : (hs new : Held ℕ) (old : TaskId → ℕ) (q p : ℕ
 counted-exclusive_at hs new old q p is h = got (slice_get (list_at nat_eq hs q) p) refl
   where
     got : (o : Option Elem) → slice_get (list_at nat_eq hs q) p ≡ o → IfSome o (λ e. new ≡ with_exclusive nat_eq hs q e.task) → (t : TaskId) → old t ≡ length (queued_by new t)
-    got None e held = absurd (omega (arith, not_got (list_at nat_eq hs q) p e))
-    got (Some x) e held = counted-exclusive hs new old q x.task is held
+    got None e elements = absurd (omega (arith, not_got (list_at nat_eq hs q) p e))
+    got (Some x) e elements = counted-exclusive hs new old q x.task is elements

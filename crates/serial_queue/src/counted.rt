@@ -17,13 +17,13 @@ use std::alloc::Global;
 pub struct CountedQueues {
     queues: PlainQueues,
     counts: IndexMap<TaskId, usize>,
-    ghost counted: { (t : TaskValue) → counted counts.entries t ≡ length (queued_by (⟦<PlainQueues as Queues>⟧.held queues) t) },
+    ghost counted: { (t : TaskValue) → counted counts.entries t ≡ length (queued_by (⟦<PlainQueues as Queues>⟧.elements queues) t) },
 }
 
 impl CountedQueues {
     /// No queues.
     pub fn new(alloc: Global) -> Self
-        ensures held { ⟦<CountedQueues as Queues>⟧.held result ≡ [] }
+        ensures elements { ⟦<CountedQueues as Queues>⟧.elements result ≡ [] }
         ensures live { (q : ℕ) → ⟦<CountedQueues as Queues>⟧.is_live result q ≡ false }
     {
         CountedQueues {
@@ -34,7 +34,7 @@ impl CountedQueues {
 }
 
 impl Queues for CountedQueues {
-    ghost held = { λ s. ⟦<PlainQueues as Queues>⟧.held s.queues };
+    ghost elements = { λ s. ⟦<PlainQueues as Queues>⟧.elements s.queues };
 
     ghost is_live = { λ s q. ⟦<PlainQueues as Queues>⟧.is_live s.queues q };
 

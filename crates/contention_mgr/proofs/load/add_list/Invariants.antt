@@ -7,9 +7,9 @@ use Rattle.contention_mgr.proofs.load.add_list.Given as goal
 
 abbrev pub invariant-elems : goal.invariant-elems
 invariant-elems l = record {
-  marked : AreMarked (mark_in l.marks.names.entries l.marks.marks.entries) l.table.held;
-  apart : is_apart (list_of l.table.held l.res ++ l.rest) ≡ true;
-  items : ranked_all (mark_in l.marks.names.entries l.marks.marks.entries) l.table.held ++ ranked_list l.res l.rest l.numbers ≡ ranked_all (mark_in l.fn.marks.names.entries l.fn.marks.marks.entries) l.fn.table.held ++ ranked_list l.res l.elems l.ranks;
+  marked : AreMarked (mark_in l.marks.names.entries l.marks.marks.entries) l.table.elements;
+  apart : is_apart (list_of l.table.elements l.res ++ l.rest) ≡ true;
+  items : ranked_all (mark_in l.marks.names.entries l.marks.marks.entries) l.table.elements ++ ranked_list l.res l.rest l.numbers ≡ ranked_all (mark_in l.fn.marks.names.entries l.fn.marks.marks.entries) l.fn.table.elements ++ ranked_list l.res l.elems l.ranks;
 }
 
 abbrev pub decreases-elems : goal.decreases-elems

@@ -8,14 +8,14 @@ use Rattle.queue_table.proofs.owners.add_shared.Goals as goal
 
 pub returns-in-E : goal.returns-in-E
 returns-in-E g c =
-    let es = list_at nat_eq (g.Q.Queues.held c.args.queues.now) c.args.queue in
+    let es = list_at nat_eq (g.Q.Queues.elements c.args.queues.now) c.args.queue in
     sym (append-nil c.loop-place.tasks)
     ∙ ap (λ (l : List TaskId). c.loop-place.tasks ++ l) (sym (shared_tasks-stop es c.loop-place.place c.elem-elem.result c.elem-elem.ensures (ap is_shared c.in-E.is)))
     ∙ c.loop-place.invariant
 
 pub loop-place-preserved : goal.loop-place-preserved
 loop-place-preserved g c =
-    let es = list_at nat_eq (g.Q.Queues.held c.args.queues.now) c.args.queue in
+    let es = list_at nat_eq (g.Q.Queues.elements c.args.queues.now) c.args.queue in
     ap (λ (l : List TaskId). l ++ shared_tasks (drop (c.loop-place.place + 1) es)) c.in_ok-push-in-S.ensures.ok
     ∙ append_assoc c.loop-place.tasks (c.elem-elem.result.task ∷ []) (shared_tasks (drop (c.loop-place.place + 1) es))
     ∙ ap (λ (l : List TaskId). c.loop-place.tasks ++ l) (sym (shared_tasks-next es c.loop-place.place c.elem-elem.result c.elem-elem.ensures (ap is_shared c.in-S.is)))

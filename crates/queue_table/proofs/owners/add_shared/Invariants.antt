@@ -5,5 +5,5 @@ use Rattle.queue_table.proofs.owners.add_shared.Given as goal
 
 abbrev pub invariant-loop-place : goal.invariant-loop-place
 invariant-loop-place g l =
-    let es = list_at nat_eq (g.Q.Queues.held l.queues) l.queue in
+    let es = list_at nat_eq (g.Q.Queues.elements l.queues) l.queue in
     l.tasks ++ shared_tasks (drop l.place es) ≡ l.fn.tasks ++ shared_tasks (drop l.from es)

@@ -12,8 +12,8 @@ invariant_of-self-then-not-is_free-clause-empty c = (more c.args.self.now.pushes
 pub invariant_of-self-then-not-is_free-clause-spare : goal.invariant_of-self-then-not-is_free-clause-spare
 invariant_of-self-then-not-is_free-clause-spare c = (more c.args.self.now.pushes c.args.self.now.last c.args.self.now.queues.items c.make_spare.new.queues.items c.add_queue.new.queues.items c.make_spare.ensures.rows c.make_spare.ensures.flags c.in_ok-make_spare.ensures.ok c.in_ok-self.ensures.rows c.in_ok-self.ensures.flags c.in_ok-self.ensures.spares c.args.self.now.good c.args.self.now.empty).spare
 
-pub returns-in_ok-self-clause-held : goal.returns-in_ok-self-clause-held
-returns-in_ok-self-clause-held c = (more c.args.self.now.pushes c.args.self.now.last c.args.self.now.queues.items c.make_spare.new.queues.items c.add_queue.new.queues.items c.make_spare.ensures.rows c.make_spare.ensures.flags c.in_ok-make_spare.ensures.ok c.in_ok-self.ensures.rows c.in_ok-self.ensures.flags c.in_ok-self.ensures.spares c.args.self.now.good c.args.self.now.empty).held
+pub returns-in_ok-self-clause-elements : goal.returns-in_ok-self-clause-elements
+returns-in_ok-self-clause-elements c = (more c.args.self.now.pushes c.args.self.now.last c.args.self.now.queues.items c.make_spare.new.queues.items c.add_queue.new.queues.items c.make_spare.ensures.rows c.make_spare.ensures.flags c.in_ok-make_spare.ensures.ok c.in_ok-self.ensures.rows c.in_ok-self.ensures.flags c.in_ok-self.ensures.spares c.args.self.now.good c.args.self.now.empty).elements
 
 pub returns-in_ok-self-clause-elems : goal.returns-in_ok-self-clause-elems
 returns-in_ok-self-clause-elems c = grind (arith, nat_tests, (more c.args.self.now.pushes c.args.self.now.last c.args.self.now.queues.items c.make_spare.new.queues.items c.add_queue.new.queues.items c.make_spare.ensures.rows c.make_spare.ensures.flags c.in_ok-make_spare.ensures.ok c.in_ok-self.ensures.rows c.in_ok-self.ensures.flags c.in_ok-self.ensures.spares c.args.self.now.good c.args.self.now.empty).room)
