@@ -24,7 +24,7 @@ use std::marker::Model;
 pub const MOST_TEXT_BYTES: usize = 1_048_576;
 
 /// The greatest number of a line. No memory holds the tokens of more, and blank lines are counted no further.
-pub(crate) const MOST_LINES: u32 = u32::MAX - 2;
+pub(crate) const LAST_LINE: u32 = u32::MAX - 2;
 
 /// A place in a text, at the begin of a line.
 #[derive(Clone, Copy)]
@@ -238,7 +238,7 @@ impl<'t> Lines<'t> {
     {
         let mut at = self.at;
         while !at.rest.is_empty() {
-            if MOST_LINES < at.line {
+            if LAST_LINE < at.line {
                 return Err(NoMemory);
             }
             let (row, behind) = take_row(alloc, at)?;

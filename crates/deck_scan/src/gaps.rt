@@ -5,7 +5,7 @@ ghost use Rattle.deck_scan.specs.Bytes.{begins};
 ghost use Rattle.deck_scan.specs.Rows.{coming, first_word, is_at_token, GoesOver};
 
 use crate::bytes::{begins_pair, is_allowed_byte, split_word};
-use crate::cursor::{Cursor, MOST_LINES};
+use crate::cursor::{Cursor, LAST_LINE};
 use crate::row::begins_hexed;
 use crate::token::Part;
 use grs_base::NoMemory;
@@ -102,7 +102,7 @@ pub(crate) fn next_token<'t>(from: Cursor<'t>) -> Result<Cursor<'t>, NoMemory>
 {
     let mut at = from;
     loop {
-        if MOST_LINES < at.line {
+        if LAST_LINE < at.line {
             return Err(NoMemory);
         }
         match pass(at) {

@@ -10,7 +10,7 @@ use grs_wire::{Call, JEntry, Reply};
 use std::alloc::Global;
 
 /// How many entries a journal can have, so that 64 times its length, and who holds the word, fit the word.
-const MOST_ENTRIES: usize = 1 << 57;
+const MOST_JOURNAL_ENTRIES: usize = 1 << 57;
 
 /// A medium, and the journal of its calls. `alloc` makes the copies of calls that are entered.
 #[derive(Drop)]
@@ -49,7 +49,7 @@ impl Slot {
         if !(changes || is_acted_on(&reply)) {
             return Ok((reply, false));
         }
-        if self.journal.len() >= MOST_ENTRIES || self.journal.reserve(1).is_err() {
+        if self.journal.len() >= MOST_JOURNAL_ENTRIES || self.journal.reserve(1).is_err() {
             return Err(NoMemory);
         }
         let asked = call.copy(self.alloc)?;
