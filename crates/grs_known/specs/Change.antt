@@ -74,9 +74,10 @@ abbrev pub has_element : ℕ → State → Bool
 has_element s [] = false
 has_element s (h ∷ hs) = eqb h.1.task.system.0 s || has_element s hs
 
-abbrev pub is_manager : ℕ → Option ℕ → Bool
-is_manager s None = false
-is_manager s (Some u) = eqb u s
+-- whether the manager, if there is one, is this system
+abbrev pub manager_is : ℕ → Option ℕ → Bool
+manager_is s None = false
+manager_is s (Some u) = eqb u s
 
 -- a table makes the least system with an element the manager of a lock entry
 abbrev pub manager_of : (Res → ℕ) → State → ℕ → Option ℕ
@@ -84,7 +85,7 @@ manager_of slot table e = least_system (under slot e table)
 
 -- the part of a table that its manager keeps: a system keeps the elements on resources of the entries that it manages
 abbrev pub is_managed : (Res → ℕ) → ℕ → State → Res → Bool
-is_managed slot s table r = is_systems r && is_manager s (manager_of slot table (slot r))
+is_managed slot s table r = is_systems r && manager_is s (manager_of slot table (slot r))
 
 abbrev pub managed_part : (Res → ℕ) → ℕ → State → State
 managed_part slot s table = filter (λ h. is_managed slot s table h.0) table
@@ -92,7 +93,7 @@ managed_part slot s table = filter (λ h. is_managed slot s table h.0) table
 -- the store to which a table comes at a system
 abbrev pub store_of : (Res → ℕ) → ℕ → State → StarStore
 store_of slot s table = record {
-  manages = λ e. is_manager s (manager_of slot table e);
+  manages = λ e. manager_is s (manager_of slot table e);
   lists = managed_part slot s table;
   interest = λ e. has_element s (under slot e table);
   held = [];
@@ -158,7 +159,7 @@ kept_in_change slot w r = kept_at w r (w.words.manager (slot r))
 pub record AreStores (slot : Res → ℕ) (T : List RunItem) (v : Changed) : Type 0 where
   pub managed : (s : ℕ) (r : Res) → v.live s ≡ true → is_systems r ≡ true → v.words.manager (slot r) ≡ Some s → list_of (v.stores s).lists r ≡ list_of (lists T) r
   pub unmanaged : (r : Res) → is_systems r ≡ true → v.words.manager (slot r) ≡ None → list_of (lists T) r ≡ []
-  pub roles : (s e : ℕ) → v.live s ≡ true → (v.stores s).manages e ≡ is_manager s (v.words.manager e)
+  pub roles : (s e : ℕ) → v.live s ≡ true → (v.stores s).manages e ≡ manager_is s (v.words.manager e)
   pub interests : (s e : ℕ) → v.live s ≡ true → (v.stores s).interest e ≡ v.words.interested e s
 
 -- An event of star mode carries a request out at its system, as far as lists and roles go: each list of the system becomes

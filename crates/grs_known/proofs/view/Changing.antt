@@ -8,14 +8,14 @@ use Rattle.grs_base.specs.State.{State, list_of, is_systems}
 use Rattle.grs_base.specs.declared.resource.Res.{Res}
 use Rattle.grs_base.proofs.SameLaws.{same_res-exact}
 use Rattle.grs_known.specs.Items.{RunItem, lists, lists_from}
-use Rattle.grs_known.specs.Change.{put_at, StarWords, StarStore, Role, Ring, Star, under, least_system, is_manager, manager_of, is_managed, managed_part, store_of, store_shown, view, kept_by, kept_at, systems_part, TurnShowsNothing, TaskShowsNothing, StarShowsItself, SwitchShowsHistory, KeptIsShown}
+use Rattle.grs_known.specs.Change.{put_at, StarWords, StarStore, Role, Ring, Star, under, least_system, manager_is, manager_of, is_managed, managed_part, store_of, store_shown, view, kept_by, kept_at, systems_part, TurnShowsNothing, TaskShowsNothing, StarShowsItself, SwitchShowsHistory, KeptIsShown}
 use Rattle.grs_known.proofs.ring.Parts.{list_of-systems}
 use Rattle.grs_known.proofs.lists.Parts.{list_of-part}
 use Rattle.grs_known.proofs.lists.Placed.{put_both}
 
 -- ---- what a manager keeps of a table
-list_of-managed : (slot : Res → ℕ) (s : ℕ) (table : State) (r : Res) → is_systems r ≡ true → is_manager s (manager_of slot table (slot r)) ≡ true → list_of (managed_part slot s table) r ≡ list_of table r
-list_of-managed slot s table r all own = list_of-part (is_managed slot s table) table r (ap (λ b. b && is_manager s (manager_of slot table (slot r))) all ∙ own)
+list_of-managed : (slot : Res → ℕ) (s : ℕ) (table : State) (r : Res) → is_systems r ≡ true → manager_is s (manager_of slot table (slot r)) ≡ true → list_of (managed_part slot s table) r ≡ list_of table r
+list_of-managed slot s table r all own = list_of-part (is_managed slot s table) table r (ap (λ b. b && manager_is s (manager_of slot table (slot r))) all ∙ own)
 
 -- ---- events
 -- a closed Turn changes nothing in the view
@@ -56,7 +56,7 @@ kept_is_shown slot T w a r all live = go (w.words.manager (slot r)) refl
   where
     go : (o : Option ℕ) → w.words.manager (slot r) ≡ o → kept_at w r o ≡ list_of (lists T) r
     go None e = sym (a.unmanaged r all e)
-    go (Some s) e = kept-store slot s (w.unseen s) r (w.members s).role all (a.roles s (slot r) (live s e) ∙ ap (is_manager s) e ∙ eq-eqb s s refl) ∙ a.managed s r (live s e) all e
+    go (Some s) e = kept-store slot s (w.unseen s) r (w.members s).role all (a.roles s (slot r) (live s e) ∙ ap (manager_is s) e ∙ eq-eqb s s refl) ∙ a.managed s r (live s e) all e
 
 -- ---- the moment of the Switch
 none_under : (slot : Res → ℕ) (s : State) (r : Res) → is_systems r ≡ true → least_system (under slot (slot r) s) ≡ None → list_of s r ≡ []
@@ -87,9 +87,9 @@ switch_shows_history slot T w words all =
     let manager : (e : ℕ) → manager_of slot (systems_part (lists T)) e ≡ w.words.manager e = λ e. ap (λ (x : StarWords). x.manager e) (sym words) in
     record {
       managed = λ s r l h e. ap (λ (x : StarStore). list_of x.lists r) (shows s l)
-          ∙ list_of-managed slot s (systems_part (lists T)) r h (ap (is_manager s) (manager (slot r) ∙ e) ∙ eq-eqb s s refl)
+          ∙ list_of-managed slot s (systems_part (lists T)) r h (ap (manager_is s) (manager (slot r) ∙ e) ∙ eq-eqb s s refl)
           ∙ list_of-systems (lists T) r h;
       unmanaged = λ r h e. sym (list_of-systems (lists T) r h) ∙ none_under slot (systems_part (lists T)) r h (manager (slot r) ∙ e);
-      roles = λ s e l. ap (λ (x : StarStore). x.manages e) (shows s l) ∙ ap (is_manager s) (manager e);
+      roles = λ s e l. ap (λ (x : StarStore). x.manages e) (shows s l) ∙ ap (manager_is s) (manager e);
       interests = λ s e l. ap (λ (x : StarStore). x.interest e) (shows s l) ∙ ap (λ (x : StarWords). x.interested e s) (sym words);
     }

@@ -13,7 +13,7 @@ use Rattle.grs_wire.specs.declared.request.Want.{Want}
 use Rattle.grs_wire.specs.declared.request.Want.TheVariants as wants
 use Rattle.grs_wire.proofs.WantLaws.{by_res, list_of-want_other}
 use Rattle.grs_known.specs.Items.{lists}
-use Rattle.grs_known.specs.Change.{StarStore, is_manager, ManagerFollows}
+use Rattle.grs_known.specs.Change.{StarStore, manager_is, ManagerFollows}
 use Rattle.grs_known.proofs.known.ItemLaws.{lists-push}
 use Rattle.grs_known.proofs.lists.Placed.{put_one}
 
@@ -83,10 +83,10 @@ manager_follows slot T v m act x q r asked wants at c a =
       unmanaged = λ p wide e. ap (λ z. list_of z p) behind
           ∙ edits.1 (lists T) p (other_managed slot v.words.manager p r None m at (sym (manager (slot p)) ∙ e) (λ f. absurd (cc)))
           ∙ a.unmanaged p wide (sym (manager (slot p)) ∙ e);
-      roles = λ s e l. put_one v.stores m s (act v.words (v.stores m)).1 (λ (z : StarStore). z.manages e ≡ is_manager s (v.words.manager e))
-          (λ same. ap (λ (f : ℕ → Bool). f e) c.manages ∙ subst (λ u. (v.stores u).manages e ≡ is_manager s (v.words.manager e)) same (a.roles s e l))
+      roles = λ s e l. put_one v.stores m s (act v.words (v.stores m)).1 (λ (z : StarStore). z.manages e ≡ manager_is s (v.words.manager e))
+          (λ same. ap (λ (f : ℕ → Bool). f e) c.manages ∙ subst (λ u. (v.stores u).manages e ≡ manager_is s (v.words.manager e)) same (a.roles s e l))
           (λ other. a.roles s e l)
-          ∙ ap (is_manager s) (sym (manager e));
+          ∙ ap (manager_is s) (sym (manager e));
       interests = λ s e l. put_one v.stores m s (act v.words (v.stores m)).1 (λ (z : StarStore). z.interest e ≡ v.words.interested e s)
           (λ same. ap (λ (f : ℕ → Bool). f e) c.interest ∙ subst (λ u. (v.stores u).interest e ≡ v.words.interested e s) same (a.interests s e l))
           (λ other. a.interests s e l)
