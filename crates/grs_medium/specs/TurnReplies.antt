@@ -12,11 +12,11 @@ use Rattle.grs_medium.specs.Medium.{MediumState}
 use Rattle.grs_medium.specs.declared.medium.TurnRefusal.{TurnRefusal}
 use Rattle.grs_medium.specs.declared.medium.TurnRefusal.TheVariants.{NotYours, Stale, Removed}
 
--- the same among all replies
-abbrev pub reply_of : TurnRefusal → Reply
-reply_of (NotYours at) = replies.NotYours at
-reply_of (Stale set) = replies.Stale set
-reply_of Removed = replies.Removed
+-- what a Turn is told that is refused, among all replies
+abbrev pub refusal_reply : TurnRefusal → Reply
+refusal_reply (NotYours at) = replies.NotYours at
+refusal_reply (Stale set) = replies.Stale set
+refusal_reply Removed = replies.Removed
 
 -- The reply to a Turn of c that doesn't get to the message, whatever it would put in: c was removed, or doesn't know all
 -- removed systems, or the message isn't at c.

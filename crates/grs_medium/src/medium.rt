@@ -8,7 +8,7 @@ ghost use Rattle.grs_medium.specs.Inboxes.{is_empty};
 ghost use Rattle.grs_medium.specs.Medium.{first_medium, systems_of, awake, inbox, medium_at_end, word};
 ghost use Rattle.grs_medium.specs.Apply.{turn_row, manages, joined, submit_row, switch_ring, switch_row, take_row, mail_row, leave_row, purge_row, rest_row, reply_to, medium_after, changes, row, row_changes, ActFits, MayCall};
 ghost use Rattle.grs_medium.specs.Room.{HasRoomFor, HasRoomOn, request_on};
-ghost use Rattle.grs_medium.specs.TurnReplies.{reply_of, refusal};
+ghost use Rattle.grs_medium.specs.TurnReplies.{refusal_reply, refusal};
 ghost use Rattle.rsa_message.specs.Message.{stands_at, rest_after_turn, unseen, first_number};
 ghost use Rattle.rsa_message.specs.Places.{HasPlaces};
 ghost use Rattle.rsa_message.specs.Room.{HasRoom};
@@ -64,7 +64,7 @@ pub enum TurnRefusal {
 impl TurnRefusal {
     /// The same among all replies.
     pub fn into_reply(self) -> Reply
-        ensures { result ≡ reply_of self }
+        ensures { result ≡ refusal_reply self }
     {
         match self {
             TurnRefusal::NotYours { at } => Reply::NotYours { at },
@@ -198,7 +198,7 @@ impl Medium {
     #[tactic(auto, unfolding(crate::specs::TurnReplies::refusal))]
     pub fn turn_refusal(&self, caller: SysId, known: u32) -> Option<TurnRefusal>
         requires { caller.0 < systems_of self.now.state }
-        ensures { option_map reply_of result ≡ refusal self.now.state caller known }
+        ensures { option_map refusal_reply result ≡ refusal self.now.state caller known }
     {
         if has_system(self.removed, caller) {
             return Some(TurnRefusal::Removed);

@@ -3,7 +3,7 @@ ghost use Rattle.std.specs.Prelude.{◌≡◌, ◌≢◌, ◌<◌, ◌≤◌, []
 ghost use Rattle.grs_base.specs.Limits.{most_systems};
 ghost use Rattle.grs_medium.specs.Apply.{reply_to, medium_after};
 ghost use Rattle.grs_medium.specs.Medium.{systems_of};
-ghost use Rattle.grs_medium.specs.TurnReplies.{reply_of, refusal as refused_with};
+ghost use Rattle.grs_medium.specs.TurnReplies.{refusal_reply, refusal as refused_with};
 ghost use Rattle.grs_node.specs.Addressed.{is_act_addressed};
 ghost use Rattle.grs_node.specs.Finish.{MayFinish};
 ghost use Rattle.grs_node.specs.Node as steps;
@@ -128,7 +128,7 @@ fn refused_turn(
     refusal: TurnRefusal,
 ) -> Result<Done, NoMemory>
     requires prepared { steps.prepare node.old.deck node.old.node Turn ≡ Calls (turn_of node.old.node known) }
-    requires refused { refused_with medium.now.state system known ≡ Some (reply_of refusal) }
+    requires refused { refused_with medium.now.state system known ≡ Some (refusal_reply refusal) }
     ensures medium { OnOk result (medium.now.state ≡ (chosen node.old.deck medium.now.state system node.old.node Turn).medium) }
     ensures node { OnOk result (node.new.node ≡ (chosen node.old.deck medium.now.state system node.old.node Turn).step.node) }
     ensures done { IfOk result (λ done. done ≡ done_by node.old.node (chosen node.old.deck medium.now.state system node.old.node Turn).step) }
