@@ -19,8 +19,8 @@ use Rattle.job_syntax.specs.Spelled.{IsWord, line_word_for}
 use Rattle.job_syntax.proofs.Again.{line_ask_again}
 use Rattle.rnl_syntax.proofs.Again.{rnldef_again}
 use Rattle.deck_form.specs.declared.complex.Setup.{Setup}
-use Rattle.deck_form.specs.declared.event.Act.{Act}
-use Rattle.deck_form.specs.declared.event.Act.TheVariants as acts
+use Rattle.deck_form.specs.declared.event.EventAct.{EventAct}
+use Rattle.deck_form.specs.declared.event.EventAct.TheVariants as acts
 use Rattle.deck_form.specs.declared.form.Stmt.{Stmt}
 use Rattle.deck_form.specs.declared.form.Stmt.TheVariants as stmts
 use Rattle.deck_form.specs.declared.form.Key.TheVariants as keys
@@ -163,11 +163,11 @@ unfolding entry_at
 entry_again entries w e h lt = rw (h, lt-ltb e entries lt) refl
 
 -- the word of an event and what stands behind it
-abbrev acted : ℕ → List Token → Option Act
+abbrev acted : ℕ → List Token → Option EventAct
 acted entries (Word w ∷ ts) = act_at entries (event_word w) ts
 acted entries _ = None
 
-act_again : (entries : ℕ) (ts : List Token) (a : Act) → IsAct entries ts a → acted entries ts ≡ Some a
+act_again : (entries : ℕ) (ts : List Token) (a : EventAct) → IsAct entries ts a → acted entries ts ≡ Some a
 unfolding act_at event_word
 act_again entries ts (acts.Task j t) h = rw (h.0, pair_again j t h.1 h.2) refl
 act_again entries ts acts.Turn h = rw h refl
@@ -180,7 +180,7 @@ act_again entries ts acts.Switch h = rw h refl
 act_again entries ts (acts.Purge n) h = rw (h.0, named_again n h.1) refl
 act_again entries ts acts.Rest h = rw h refl
 
-event_tail : (entries : ℕ) (s : List ℕ) (rest : List Token) (a : Act) → IsName s → acted entries rest ≡ Some a → event_form entries (Word s ∷ rest) ≡ Some (stmts.Event s a)
+event_tail : (entries : ℕ) (s : List ℕ) (rest : List Token) (a : EventAct) → IsName s → acted entries rest ≡ Some a → event_form entries (Word s ∷ rest) ≡ Some (stmts.Event s a)
 unfolding event_form event_at short_at
 event_tail entries s (Word w ∷ rest) a h k = rw (h, k) refl
 event_tail entries s [] a h k = absurd cc

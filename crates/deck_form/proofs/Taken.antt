@@ -20,8 +20,8 @@ use Rattle.rnl_syntax.specs.Lines.{is_rnldef_word}
 use Rattle.rnl_syntax.specs.Operands.{rnldef_at}
 use Rattle.rnl_syntax.proofs.Taken.{rnldef_taken}
 use Rattle.deck_form.specs.declared.complex.Setup.{Setup}
-use Rattle.deck_form.specs.declared.event.Act.{Act}
-use Rattle.deck_form.specs.declared.event.Act.TheVariants as acts
+use Rattle.deck_form.specs.declared.event.EventAct.{EventAct}
+use Rattle.deck_form.specs.declared.event.EventAct.TheVariants as acts
 use Rattle.deck_form.specs.declared.event.EventWord.{EventWord}
 use Rattle.deck_form.specs.declared.event.EventWord.TheVariants as words
 use Rattle.deck_form.specs.declared.form.Stmt.{Stmt}
@@ -209,12 +209,12 @@ says_word w =
     (word_by (SaysWord w) (bytes_eq w (codes "PURGE")) _ _ (same_bytes w _)
     (word_by (SaysWord w) (bytes_eq w (codes "REST")) _ _ (same_bytes w _) tt)))))))))
 
-alone_taken : (entries : ℕ) (w word : List ℕ) (ts : List Token) (a act : Act) → w ≡ word → alone_at a ts ≡ Some act → (Word w ∷ ts ≡ Word word ∷ []) × (a ≡ act)
+alone_taken : (entries : ℕ) (w word : List ℕ) (ts : List Token) (a act : EventAct) → w ≡ word → alone_at a ts ≡ Some act → (Word w ∷ ts ≡ Word word ∷ []) × (a ≡ act)
 alone_taken entries w word ts a act is e =
     let z = bind_some (end_at ts) (λ end. Some a) act e in
     (front w word ts [] is (end_taken ts z.0 z.1), some_is a act z.2)
 
-act_taken : (entries : ℕ) (v : EventWord) (w : List ℕ) (ts : List Token) (act : Act) → SaysWord w v → act_at entries v ts ≡ Some act → IsAct entries (Word w ∷ ts) act
+act_taken : (entries : ℕ) (v : EventWord) (w : List ℕ) (ts : List Token) (act : EventAct) → SaysWord w v → act_at entries v ts ≡ Some act → IsAct entries (Word w ∷ ts) act
 unfolding act_at
 act_taken entries words.Task w ts act is e =
     let p = bind_some (pair_at ts) (λ p. Some (acts.Task p.0 p.1)) act e in
@@ -253,7 +253,7 @@ event_taken entries ts st e =
     let system = short_taken ts s.0 s.1 in
     let act : IsAct entries s.0.1 a.0 = subst (λ (t : List Token). IsAct entries t a.0) (sym (any_word_taken s.0.1 w.0 w.1)) (act_taken entries (event_word w.0.0) w.0.0 w.0.1 a.0 (says_word w.0.0) a.1) in
     let made : IsEvent entries ts (stmts.Event s.0.0 a.0) = (s.0.1, system.0, system.1, act) in
-    let at_x : IsEvent entries ts (stmts.Event x.0.0 x.0.1) = subst (λ (y : List ℕ × Act). IsEvent entries ts (stmts.Event y.0 y.1)) (some_is (s.0.0, a.0) x.0 a.2) made in
+    let at_x : IsEvent entries ts (stmts.Event x.0.0 x.0.1) = subst (λ (y : List ℕ × EventAct). IsEvent entries ts (stmts.Event y.0 y.1)) (some_is (s.0.0, a.0) x.0 a.2) made in
     subst (IsEvent entries ts) (some_is (stmts.Event x.0.0 x.0.1) st x.2) at_x
 
 -- ---- statements

@@ -2,8 +2,8 @@
 use Rattle.std.specs.Prelude.{ℕ, nat_lt, List, codes, Option, Some, None, if◌then◌else◌}
 use Rattle.std.specs.Str.{bytes_eq}
 use Rattle.deck_scan.specs.declared.token.Token.{Token}
-use Rattle.deck_form.specs.declared.event.Act.{Act}
-use Rattle.deck_form.specs.declared.event.Act.TheVariants as acts
+use Rattle.deck_form.specs.declared.event.EventAct.{EventAct}
+use Rattle.deck_form.specs.declared.event.EventAct.TheVariants as acts
 use Rattle.deck_form.specs.declared.event.EventWord.{EventWord}
 use Rattle.deck_form.specs.declared.event.EventWord.TheVariants as words
 use Rattle.deck_scan.specs.Next.{◌>>=◌, end_at, any_word_at}
@@ -39,13 +39,13 @@ entry_at entries ts = do
   if nat_lt n entries then Some n else None
 
 -- Nothing more.
-abbrev pub alone_at : Act → List Token → Option Act
+abbrev pub alone_at : EventAct → List Token → Option EventAct
 alone_at act ts = do
   end ← end_at ts
   Some act
 
 -- What stands behind the word of an event.
-unfoldable pub act_at : ℕ → EventWord → List Token → Option Act
+unfoldable pub act_at : ℕ → EventWord → List Token → Option EventAct
 act_at entries words.Task ts = pair_at ts >>= λ p. Some (acts.Task p.0 p.1)
 act_at entries words.Turn ts = alone_at acts.Turn ts
 act_at entries words.Send ts = pair_at ts >>= λ p. Some (acts.Send p.0 p.1)
@@ -59,7 +59,7 @@ act_at entries words.Rest ts = alone_at acts.Rest ts
 act_at entries words.Unknown ts = None
 
 -- A system and what it does.
-unfoldable pub event_at : ℕ → List Token → Option (List ℕ × Act)
+unfoldable pub event_at : ℕ → List Token → Option (List ℕ × EventAct)
 event_at entries ts = do
   s ← short_at ts
   w ← any_word_at s.1

@@ -10,8 +10,8 @@ use Rattle.deck_scan.specs.declared.token.Token.{Token}
 use Rattle.deck_scan.specs.declared.token.Token.TheVariants.{Word, Open, Close, Unclosed}
 use Rattle.deck_scan.specs.declared.token.TokenLine.{TokenLine}
 use Rattle.deck_form.specs.declared.complex.Setup.{Setup}
-use Rattle.deck_form.specs.declared.event.Act.{Act}
-use Rattle.deck_form.specs.declared.event.Act.TheVariants as acts
+use Rattle.deck_form.specs.declared.event.EventAct.{EventAct}
+use Rattle.deck_form.specs.declared.event.EventAct.TheVariants as acts
 use Rattle.deck_form.specs.declared.form.Stmt.{Stmt}
 use Rattle.deck_form.specs.declared.form.Stmt.TheVariants as stmts
 use Rattle.deck_scan.specs.Next.{Sets}
@@ -81,7 +81,7 @@ abbrev pub IsEntry : List ℕ → ℕ → List Token → ℕ → Type 0
 IsEntry word entries ts e = (w : List ℕ) × (ts ≡ Word word ∷ Word w ∷ []) × (written_number w ≡ Some e) × (e < entries)
 
 -- What stands behind the system of an event line.
-abbrev pub IsAct : ℕ → List Token → Act → Type 0
+abbrev pub IsAct : ℕ → List Token → EventAct → Type 0
 IsAct entries ts (acts.Task j t) = IsPair (codes "TASK") ts j t
 IsAct entries ts acts.Turn = ts ≡ Word (codes "TURN") ∷ []
 IsAct entries ts (acts.Send j t) = IsPair (codes "SEND") ts j t

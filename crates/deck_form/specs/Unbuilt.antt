@@ -1,12 +1,12 @@
 -- The forms that are read and not yet carried out.
 use Rattle.std.specs.Prelude.{Bool, true, false}
-use Rattle.deck_form.specs.declared.event.Act.{Act}
-use Rattle.deck_form.specs.declared.event.Act.TheVariants as acts
+use Rattle.deck_form.specs.declared.event.EventAct.{EventAct}
+use Rattle.deck_form.specs.declared.event.EventAct.TheVariants as acts
 use Rattle.deck_form.specs.declared.form.Stmt.{Stmt}
 use Rattle.deck_form.specs.declared.form.Stmt.TheVariants as stmts
 
 -- The events SWITCH and PURGE.
-abbrev pub is_unbuilt_act : Act → Bool
+abbrev pub is_unbuilt_act : EventAct → Bool
 is_unbuilt_act acts.Switch = true
 is_unbuilt_act (acts.Purge s) = true
 is_unbuilt_act _ = false

@@ -8,7 +8,7 @@ use deck_scan::{GivenName, Miss, Token, any_word_at, end_at};
 
 /// What a system does at an event, with names of any length.
 #[derive(Drop)]
-pub enum Act<'t> {
+pub enum EventAct<'t> {
     /// A task of it goes on.
     Task {
         job: GivenName<'t>,
@@ -107,7 +107,7 @@ fn entry_at(entries: u32, ts: &[Token<'_>]) -> Result<u32, Miss>
     }
 }
 
-fn alone_at<'a>(act: Act<'a>, ts: &[Token<'_>]) -> Result<Act<'a>, Miss>
+fn alone_at<'a>(act: EventAct<'a>, ts: &[Token<'_>]) -> Result<EventAct<'a>, Miss>
     ensures { Reads (λ x. x) result (alone_at act.entry ts.now) }
 {
     end_at(ts)?;
@@ -116,33 +116,40 @@ fn alone_at<'a>(act: Act<'a>, ts: &[Token<'_>]) -> Result<Act<'a>, Miss>
 
 /// What stands behind the word of an event.
 #[tactic(auto, unfolding(crate::specs::Event::act_at))]
-fn act_at<'a, 't>(entries: u32, event_word: EventWord, ts: &'a [Token<'t>]) -> Result<Act<'a>, Miss>
+fn act_at<'a, 't>(
+    entries: u32,
+    event_word: EventWord,
+    ts: &'a [Token<'t>],
+) -> Result<EventAct<'a>, Miss>
     ensures { Reads (λ x. x) result (act_at entries event_word ts.now) }
 {
     match event_word {
         EventWord::Task => {
             let (job, task) = pair_at(ts)?;
-            Ok(Act::Task { job, task })
+            Ok(EventAct::Task { job, task })
         }
-        EventWord::Turn => alone_at(Act::Turn, ts),
+        EventWord::Turn => alone_at(EventAct::Turn, ts),
         EventWord::Send => {
             let (job, task) = pair_at(ts)?;
-            Ok(Act::Send { job, task })
+            Ok(EventAct::Send { job, task })
         }
-        EventWord::Take => alone_at(Act::Take, ts),
-        EventWord::Settle => alone_at(Act::Settle, ts),
-        EventWord::Tell => Ok(Act::Tell(entry_at(entries, ts)?)),
-        EventWord::Leave => Ok(Act::Leave(entry_at(entries, ts)?)),
-        EventWord::Switch => alone_at(Act::Switch, ts),
-        EventWord::Purge => Ok(Act::Purge(named_at(ts)?)),
-        EventWord::Rest => alone_at(Act::Rest, ts),
+        EventWord::Take => alone_at(EventAct::Take, ts),
+        EventWord::Settle => alone_at(EventAct::Settle, ts),
+        EventWord::Tell => Ok(EventAct::Tell(entry_at(entries, ts)?)),
+        EventWord::Leave => Ok(EventAct::Leave(entry_at(entries, ts)?)),
+        EventWord::Switch => alone_at(EventAct::Switch, ts),
+        EventWord::Purge => Ok(EventAct::Purge(named_at(ts)?)),
+        EventWord::Rest => alone_at(EventAct::Rest, ts),
         EventWord::Unknown => Err(Miss),
     }
 }
 
 /// A system and what it does.
 #[tactic(auto, unfolding(crate::specs::Event::event_at))]
-pub fn event_at<'a, 't>(entries: u32, ts: &'a [Token<'t>]) -> Result<(GivenName<'a>, Act<'a>), Miss>
+pub fn event_at<'a, 't>(
+    entries: u32,
+    ts: &'a [Token<'t>],
+) -> Result<(GivenName<'a>, EventAct<'a>), Miss>
     ensures { Reads (λ x. x) result (event_at entries ts.now) }
 {
     let (system, ts) = short_at(ts)?;

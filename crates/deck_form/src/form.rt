@@ -6,7 +6,7 @@ ghost use Rattle.deck_form.specs.Spelled.{Answers};
 ghost use Rattle.deck_form.specs.declared.form.Stmt.{Stmt as StmtValue};
 
 use crate::complex::{Setup, complex_at};
-use crate::event::{Act, event_at};
+use crate::event::{EventAct, event_at};
 use crate::unbuilt::is_unbuilt_word;
 use crate::words::named_at;
 use deck_scan::{GivenName, Miss, Token, TokenLine, end_at};
@@ -35,7 +35,10 @@ pub enum Stmt<'t> {
     /// Every line behind it is an event.
     Schedule,
     /// What a system does next.
-    Event { system: GivenName<'t>, act: Act<'t> },
+    Event {
+        system: GivenName<'t>,
+        act: EventAct<'t>,
+    },
 }
 
 /// The words with which statements begin.

@@ -11,7 +11,7 @@ mod unbuilt;
 mod words;
 
 pub use complex::Setup;
-pub use event::Act;
+pub use event::EventAct;
 pub use form::{Stmt, statement};
 pub use grouping::Statements;
 pub use laws::one_statement;

@@ -3,7 +3,7 @@ ghost use Rattle.std.specs.Prelude.{◌≡◌};
 ghost use Rattle.deck_form.specs.UnbuiltWord.{is_unbuilt_word};
 ghost use Rattle.deck_form.specs.Unbuilt.{is_unbuilt_act, is_unbuilt};
 
-use crate::event::Act;
+use crate::event::EventAct;
 use crate::form::Stmt;
 
 /// Whether a first word is AT, GQSCAN, DISPLAY or D. Of their statements nothing more is read.
@@ -17,20 +17,20 @@ pub fn is_unbuilt_word(w: &[u8]) -> bool
         || w == b"D".as_slice()
 }
 
-fn is_unbuilt_act(act: &Act<'_>) -> bool
+fn is_unbuilt_act(act: &EventAct<'_>) -> bool
     ensures { result ≡ is_unbuilt_act act.now }
 {
     match act {
-        Act::Task { .. } => false,
-        Act::Turn => false,
-        Act::Send { .. } => false,
-        Act::Take => false,
-        Act::Settle => false,
-        Act::Tell(_) => false,
-        Act::Leave(_) => false,
-        Act::Switch => true,
-        Act::Purge(_) => true,
-        Act::Rest => false,
+        EventAct::Task { .. } => false,
+        EventAct::Turn => false,
+        EventAct::Send { .. } => false,
+        EventAct::Take => false,
+        EventAct::Settle => false,
+        EventAct::Tell(_) => false,
+        EventAct::Leave(_) => false,
+        EventAct::Switch => true,
+        EventAct::Purge(_) => true,
+        EventAct::Rest => false,
     }
 }
 

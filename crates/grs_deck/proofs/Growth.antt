@@ -26,11 +26,11 @@ use Rattle.deck_scan.specs.Lengths.{is_bad_rname}
 use Rattle.deck_scan.specs.declared.token.Token.{Token}
 use Rattle.deck_scan.specs.declared.token.TokenLine.{TokenLine}
 use Rattle.deck_scan.specs.declared.token.Token.TheVariants.{Word}
-use Rattle.job_syntax.specs.declared.ask.Ask.{Ask}
+use Rattle.job_syntax.specs.declared.ask.ResAsk.{ResAsk}
 use Rattle.job_syntax.specs.declared.line_ask.LineAsk.{LineAsk}
 use Rattle.job_syntax.specs.declared.line_ask.LineAsk.TheVariants as asks
 use Rattle.job_syntax.specs.Lines.{are_bad_names, has_bad_name as line_has_bad_name, line_of}
-use Rattle.job_syntax.specs.Spelled.{IsAsk, IsLineAsk}
+use Rattle.job_syntax.specs.Spelled.{IsResAsk, IsLineAsk}
 use Rattle.rnl_syntax.specs.declared.operands.Rnldef.{Rnldef}
 use Rattle.rnl_syntax.specs.Operands.{entry_of, has_bad_name as rnldef_has_bad_name}
 use Rattle.rnl_syntax.specs.Spelled.{IsRnldef}
@@ -183,7 +183,7 @@ named q r good bytes =
     let k = not_either (is_qname q) (is_rname r) good in
     record { qname = built q k.0; q_bytes = trim_bytes q bytes.0; rname = k.1; r_bytes = bytes.1 }
 
-asked : (front ts : List Token) (a : Ask) → IsAsk front ts a → list_all says_bytes ts ≡ true → are_bad_names a.q a.r ≡ false → AreNames (trim_blanks a.q) a.r
+asked : (front ts : List Token) (a : ResAsk) → IsResAsk front ts a → list_all says_bytes ts ≡ true → are_bad_names a.q a.r ≡ false → AreNames (trim_blanks a.q) a.r
 asked front ts a h all good = named a.q a.r good (ask_bytes front ts a h all)
 
 line_ask_built : (ts : List Token) (s : LineAsk) (h : IsLineAsk ts s) → is_unbuilt_word h.word ≡ false → list_all says_bytes h.behind ≡ true → line_has_bad_name s ≡ false → IsBuiltLine (line_of s)

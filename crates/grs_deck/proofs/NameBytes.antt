@@ -12,10 +12,10 @@ use Rattle.deck_scan.proofs.Taking.{bind_some, guard_some}
 use Rattle.deck_scan.specs.Bytes.{is_hex, digit}
 use Rattle.deck_scan.proofs.Names.{digit-small}
 use Rattle.job_syntax.specs.declared.options.Opts.{Opts}
-use Rattle.job_syntax.specs.declared.ask.Ask.{Ask}
+use Rattle.job_syntax.specs.declared.ask.ResAsk.{ResAsk}
 use Rattle.job_syntax.specs.Unit.{hex_of, hex_at, unit_of}
 use Rattle.job_syntax.specs.Options.{no_opts}
-use Rattle.job_syntax.specs.Spelled.{Opt, WithRet, WithRnl, WithUcb, IsFree, set, IsAsk}
+use Rattle.job_syntax.specs.Spelled.{Opt, WithRet, WithRnl, WithUcb, IsFree, set, IsResAsk}
 use Rattle.rnl_syntax.specs.declared.operands.Operands.{Operands}
 use Rattle.rnl_syntax.specs.declared.operands.Rnldef.{Rnldef}
 use Rattle.rnl_syntax.specs.Operands.{no_operands}
@@ -41,7 +41,7 @@ trim_bytes (b ∷ bs) h = let k = and_parts (ltb b 256) (are_bytes bs) h in befo
 abbrev pub BothBytes : List ℕ → List ℕ → Type 0
 BothBytes q r = (are_bytes q ≡ true) × (are_bytes r ≡ true)
 
-pub ask_bytes : (front ts : List Token) (a : Ask) → IsAsk front ts a → list_all says_bytes ts ≡ true → BothBytes a.q a.r
+pub ask_bytes : (front ts : List Token) (a : ResAsk) → IsResAsk front ts a → list_all says_bytes ts ≡ true → BothBytes a.q a.r
 ask_bytes front ts a h all =
     let said = subst (λ (x : List Token). list_all says_bytes x ≡ true) h.spelled all in
     let q = and_parts (says_bytes h.q) _ said in
@@ -86,7 +86,7 @@ options_unit : (xs : List Opt) (o p : Opts) → Sets IsFree set o xs p → IsMay
 options_unit [] o p s h = subst (λ (x : Opts). IsMaybeUnit x.unit) (sym s) h
 options_unit (x ∷ xs) o p s h = options_unit xs (set x o) p s.1 (option_unit x o s.0 h)
 
-pub ask_unit : (front ts : List Token) (a : Ask) → IsAsk front ts a → IsMaybeUnit a.opts.unit
+pub ask_unit : (front ts : List Token) (a : ResAsk) → IsResAsk front ts a → IsMaybeUnit a.opts.unit
 ask_unit front ts a h = options_unit h.given no_opts a.opts h.options tt
 
 pub unit_or : (o : Option ℕ) → IsMaybeUnit o → unwrap_or o 0 < 65536

@@ -18,8 +18,8 @@ use Rattle.job_syntax.specs.declared.display.Shown.TheVariants as shown
 use Rattle.job_syntax.specs.declared.line_ask.LineAsk.{LineAsk}
 use Rattle.job_syntax.specs.declared.line_ask.LineAsk.TheVariants as asks
 use Rattle.job_syntax.specs.Lines.{are_bad_names, has_bad_name as line_has_bad_name}
-use Rattle.deck_form.specs.declared.event.Act.{Act}
-use Rattle.deck_form.specs.declared.event.Act.TheVariants as acts
+use Rattle.deck_form.specs.declared.event.EventAct.{EventAct}
+use Rattle.deck_form.specs.declared.event.EventAct.TheVariants as acts
 use Rattle.deck_form.specs.declared.form.Stmt.{Stmt}
 use Rattle.deck_form.specs.declared.form.Stmt.TheVariants as stmts
 use Rattle.deck_form.specs.Spelled.{Spells}
@@ -76,7 +76,7 @@ passed : (b : Bool) → not b ≡ false → b ≡ true
 passed true h = refl
 passed false h = absurd cc
 
-short_act : (a : Act) → has_long_name a ≡ false → IsShortAct a
+short_act : (a : EventAct) → has_long_name a ≡ false → IsShortAct a
 short_act (acts.Task j t) h = let k = or_parts (is_too_long j) (is_too_long t) h in (short_of j k.0, short_of t k.1)
 short_act (acts.Send j t) h = let k = or_parts (is_too_long j) (is_too_long t) h in (short_of j k.0, short_of t k.1)
 short_act (acts.Purge n) h = short_of n h
@@ -88,7 +88,7 @@ short_act (acts.Leave e) h = tt
 short_act acts.Switch h = tt
 short_act acts.Rest h = tt
 
-act_short : (a : Act) → IsShortAct a → has_long_name a ≡ false
+act_short : (a : EventAct) → IsShortAct a → has_long_name a ≡ false
 act_short (acts.Task j t) h = both_false (is_too_long j) (is_too_long t) (of_short j h.0) (of_short t h.1)
 act_short (acts.Send j t) h = both_false (is_too_long j) (is_too_long t) (of_short j h.0) (of_short t h.1)
 act_short (acts.Purge n) h = of_short n h

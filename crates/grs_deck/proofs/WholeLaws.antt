@@ -22,8 +22,8 @@ use Rattle.grs_wire.specs.Decks.{task_count, Fits, IsTaskOf, IsChoiceOf, IsBuilt
 use Rattle.deck_scan.specs.declared.token.Token.{Token}
 use Rattle.deck_scan.specs.declared.token.TokenLine.{TokenLine}
 use Rattle.job_syntax.specs.Lines.{line_of}
-use Rattle.deck_form.specs.declared.event.Act.{Act}
-use Rattle.deck_form.specs.declared.event.Act.TheVariants as acts
+use Rattle.deck_form.specs.declared.event.EventAct.{EventAct}
+use Rattle.deck_form.specs.declared.event.EventAct.TheVariants as acts
 use Rattle.deck_form.specs.declared.complex.Setup.{Setup}
 use Rattle.deck_form.specs.declared.form.Stmt.{Stmt}
 use Rattle.deck_form.specs.declared.form.Stmt.TheVariants as stmts
@@ -119,7 +119,7 @@ own_not systems entries s id other c lt e = go (eqb other.0 id.0) refl e
     go true is k = absurd cc
     go false is k = subst (IsChoiceOf systems entries s id) (some_is (choices.Purge other) c k) (lt, eqb-false other.0 id.0 is)
 
-choice_is : (systems : List SystemDef) (entries : ℕ) (rest : List Token) (s : SystemDef) (id : SysId) (a : Act) (c : Choice) → IsAct entries rest a → choice_of systems id s a ≡ Some c → IsChoiceOf systems entries s id c
+choice_is : (systems : List SystemDef) (entries : ℕ) (rest : List Token) (s : SystemDef) (id : SysId) (a : EventAct) (c : Choice) → IsAct entries rest a → choice_of systems id s a ≡ Some c → IsChoiceOf systems entries s id c
 choice_is systems entries rest s id (acts.Task j t) c act e =
     let k = bind_some (task_in id s j t) (λ k. Some (choices.Task k)) c e in
     subst (IsChoiceOf systems entries s id) (some_is (choices.Task k.0) c k.2) (task_of id s j t k.0 k.1)
@@ -138,7 +138,7 @@ choice_is systems entries rest s id (acts.Purge n) c act e =
 choice_is systems entries rest s id acts.Rest c act e = subst (IsChoiceOf systems entries s id) (some_is choices.Rest c e) tt
 
 -- an event line of a form that is built
-built_is : (systems : List SystemDef) (id : SysId) (s : SystemDef) (a : Act) (c : Choice) → is_unbuilt_act a ≡ false → choice_of systems id s a ≡ Some c → IsBuilt c
+built_is : (systems : List SystemDef) (id : SysId) (s : SystemDef) (a : EventAct) (c : Choice) → is_unbuilt_act a ≡ false → choice_of systems id s a ≡ Some c → IsBuilt c
 built_is systems id s (acts.Task j t) c b e =
     let k = bind_some (task_in id s j t) (λ k. Some (choices.Task k)) c e in
     subst IsBuilt (some_is (choices.Task k.0) c k.2) tt
@@ -154,7 +154,7 @@ built_is systems id s acts.Switch c b e = absurd cc
 built_is systems id s (acts.Purge n) c b e = absurd cc
 built_is systems id s acts.Rest c b e = subst IsBuilt (some_is choices.Rest c e) tt
 
-event_is : (systems : List SystemDef) (entries : ℕ) (rest : List Token) (name : List ℕ) (a : Act) (e : Event) → IsAct entries rest a → is_unbuilt_act a ≡ false → event_of systems name a ≡ Some e → IsEventOf systems entries e
+event_is : (systems : List SystemDef) (entries : ℕ) (rest : List Token) (name : List ℕ) (a : EventAct) (e : Event) → IsAct entries rest a → is_unbuilt_act a ≡ false → event_of systems name a ≡ Some e → IsEventOf systems entries e
 event_is systems entries rest name a e act built h =
     let x = bind_some (system_at systems name) (λ x. choice_of systems x.0 x.1 a >>= λ c. Some (record { system = x.0; choice = c })) e h in
     let c = bind_some (choice_of systems x.0.0 x.0.1 a) (λ c. Some (record { system = x.0.0; choice = c })) e x.2 in
@@ -236,7 +236,7 @@ spelled_first d l stmts.Schedule e h s b fits lists = first_keeps d stmts.Schedu
 spelled_first d l (stmts.Event n a) e h s b fits lists = absurd (let at : Spells false d.deck.entries l (stmts.Event n a) = subst (λ (b : Bool). Spells b d.deck.entries l (stmts.Event n a)) e s in at.1)
 
 -- an event more
-event_more : (d : Draft) (room : ℕ) (n : List ℕ) (a : Act) (rest : List Token) (o : Option Event) → event_of d.deck.systems n a ≡ o → d.scheduled ≡ true → IsAct d.deck.entries rest a → is_unbuilt_act a ≡ false → IsDraft d → IsDraft (record { deck = with_event o d.deck; begun = true; scheduled = true; room = room })
+event_more : (d : Draft) (room : ℕ) (n : List ℕ) (a : EventAct) (rest : List Token) (o : Option Event) → event_of d.deck.systems n a ≡ o → d.scheduled ≡ true → IsAct d.deck.entries rest a → is_unbuilt_act a ≡ false → IsDraft d → IsDraft (record { deck = with_event o d.deck; begun = true; scheduled = true; room = room })
 event_more d room n a rest None is e act b h = record { fits = h.fits; entries = h.entries; limit = h.limit; lists = h.lists; events = h.events; quiet = λ k. absurd cc }
 event_more d room n a rest (Some v) is e act b h = record {
   fits = h.fits;

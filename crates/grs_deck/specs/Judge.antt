@@ -11,8 +11,8 @@ use Rattle.grs_wire.specs.declared.deck.Deck.{Deck}
 use Rattle.grs_wire.specs.Decks.{task_count}
 use Rattle.job_syntax.specs.Lines.{has_bad_name as line_has_bad_name}
 use Rattle.rnl_syntax.specs.Operands.{has_bad_name as rnldef_has_bad_name}
-use Rattle.deck_form.specs.declared.event.Act.{Act}
-use Rattle.deck_form.specs.declared.event.Act.TheVariants as acts
+use Rattle.deck_form.specs.declared.event.EventAct.{EventAct}
+use Rattle.deck_form.specs.declared.event.EventAct.TheVariants as acts
 use Rattle.deck_form.specs.declared.form.Stmt.{Stmt}
 use Rattle.deck_form.specs.declared.form.Stmt.TheVariants as stmts
 use Rattle.deck_form.specs.Unbuilt.{is_unbuilt}
@@ -24,7 +24,7 @@ use Rattle.grs_deck.specs.Places.{jobs_now, tasks_now, system_place, job_place, 
 abbrev pub is_too_long : List ℕ → Bool
 is_too_long name = nat_lt most_name_bytes (length name)
 
-abbrev pub has_long_name : Act → Bool
+abbrev pub has_long_name : EventAct → Bool
 has_long_name (acts.Task j t) = is_too_long j || is_too_long t
 has_long_name (acts.Send j t) = is_too_long j || is_too_long t
 has_long_name (acts.Purge n) = is_too_long n

@@ -10,8 +10,8 @@ use Rattle.grs_wire.specs.declared.deck.SystemDef.{SystemDef}
 use Rattle.grs_wire.specs.declared.deck.Event.{Event}
 use Rattle.grs_wire.specs.declared.deck.Choice.{Choice}
 use Rattle.grs_wire.specs.declared.deck.Choice.TheVariants as choices
-use Rattle.deck_form.specs.declared.event.Act.{Act}
-use Rattle.deck_form.specs.declared.event.Act.TheVariants as acts
+use Rattle.deck_form.specs.declared.event.EventAct.{EventAct}
+use Rattle.deck_form.specs.declared.event.EventAct.TheVariants as acts
 use Rattle.deck_form.specs.declared.form.Stmt.{Stmt}
 use Rattle.deck_form.specs.declared.form.Stmt.TheVariants as stmts
 use Rattle.deck_scan.specs.Next.{◌>>=◌}
@@ -68,7 +68,7 @@ abbrev pub unless_own : SysId → SysId → Option Choice
 unless_own id other = if other.0 == id.0 then None else Some (choices.Purge other)
 
 -- What a system does, where each name that it says is known.
-abbrev pub choice_of : List SystemDef → SysId → SystemDef → Act → Option Choice
+abbrev pub choice_of : List SystemDef → SysId → SystemDef → EventAct → Option Choice
 choice_of systems id s (acts.Task j t) = task_in id s j t >>= λ k. Some (choices.Task k)
 choice_of systems id s acts.Turn = Some choices.Turn
 choice_of systems id s (acts.Send j t) = task_in id s j t >>= λ k. Some (choices.Send k)
@@ -81,7 +81,7 @@ choice_of systems id s (acts.Purge n) = system_at systems n >>= λ x. unless_own
 choice_of systems id s acts.Rest = Some choices.Rest
 
 -- The event of an event line, where each name that it says is known.
-abbrev pub event_of : List SystemDef → List ℕ → Act → Option Event
+abbrev pub event_of : List SystemDef → List ℕ → EventAct → Option Event
 event_of systems name act = do
   x ← system_at systems name
   c ← choice_of systems x.0 x.1 act

@@ -12,8 +12,8 @@ use Rattle.job_syntax.specs.declared.display.Shown.{Shown}
 use Rattle.job_syntax.specs.declared.display.Shown.TheVariants as shown
 use Rattle.job_syntax.specs.declared.line_ask.LineAsk.{LineAsk}
 use Rattle.job_syntax.specs.declared.line_ask.LineAsk.TheVariants as asks
-use Rattle.deck_form.specs.declared.event.Act.{Act}
-use Rattle.deck_form.specs.declared.event.Act.TheVariants as acts
+use Rattle.deck_form.specs.declared.event.EventAct.{EventAct}
+use Rattle.deck_form.specs.declared.event.EventAct.TheVariants as acts
 use Rattle.deck_form.specs.declared.form.Stmt.{Stmt}
 use Rattle.deck_form.specs.declared.form.Stmt.TheVariants as stmts
 use Rattle.deck_form.specs.Spelled.{Spells}
@@ -30,7 +30,7 @@ use Rattle.grs_deck.specs.Reading.{no_draft}
 abbrev pub IsShort : List ℕ → Type 0
 IsShort n = length n ≤ most_name_bytes
 
-abbrev pub IsShortAct : Act → Type 0
+abbrev pub IsShortAct : EventAct → Type 0
 IsShortAct (acts.Task j t) = IsShort j × IsShort t
 IsShortAct (acts.Send j t) = IsShort j × IsShort t
 IsShortAct (acts.Purge n) = IsShort n

@@ -5,7 +5,7 @@ ghost use Rattle.grs_deck.specs.Places.{event_in};
 ghost use Rattle.grs_deck.specs.Judge.{is_too_long, has_long_name, has_bad_name, is_repeated, is_idle, is_misplaced, is_list_full, is_full, is_unknown, verdict};
 
 use crate::places::{job_place, jobs_now, system_place, task_count, task_place, tasks_now};
-use deck_form::{Act, Stmt, is_unbuilt};
+use deck_form::{EventAct, Stmt, is_unbuilt};
 use grs_base::{
     Kind, Lists, MOST_ENTRIES, MOST_JOBS, MOST_NAME_BYTES, MOST_SYSTEMS, MOST_TASKS, Which,
 };
@@ -29,13 +29,13 @@ fn is_too_long(name: &[u8]) -> bool
     name.len() > MOST_NAME_BYTES
 }
 
-fn has_long_name(act: &Act<'_>) -> bool
+fn has_long_name(act: &EventAct<'_>) -> bool
     ensures { result ≡ has_long_name act.now }
 {
     match act {
-        Act::Task { job, task } => is_too_long(job.bytes()) || is_too_long(task.bytes()),
-        Act::Send { job, task } => is_too_long(job.bytes()) || is_too_long(task.bytes()),
-        Act::Purge(name) => is_too_long(name.bytes()),
+        EventAct::Task { job, task } => is_too_long(job.bytes()) || is_too_long(task.bytes()),
+        EventAct::Send { job, task } => is_too_long(job.bytes()) || is_too_long(task.bytes()),
+        EventAct::Purge(name) => is_too_long(name.bytes()),
         _ => false,
     }
 }

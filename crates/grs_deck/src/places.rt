@@ -5,7 +5,7 @@ ghost use Rattle.grs_base.specs.Limits.{most_tasks};
 ghost use Rattle.grs_wire.specs.Decks.{task_count, IsWithin, Fits};
 ghost use Rattle.grs_deck.specs.Places.{system_place, job_place, task_place, jobs_now, tasks_now, system_at, task_in, choice_of, event_of, event_in, seen};
 
-use deck_form::{Act, Stmt};
+use deck_form::{EventAct, Stmt};
 use grs_base::{SysId, TaskId};
 use grs_wire::{Choice, Event, JobDef, SystemDef, TaskDef};
 
@@ -99,31 +99,36 @@ fn task_in(id: SysId, found: &SystemDef, job: &[u8], task: &[u8]) -> Option<Task
 }
 
 /// What a system does, where each name that it says is known.
-fn choice_of(systems: &[SystemDef], id: SysId, found: &SystemDef, act: &Act<'_>) -> Option<Choice>
+fn choice_of(
+    systems: &[SystemDef],
+    id: SysId,
+    found: &SystemDef,
+    act: &EventAct<'_>,
+) -> Option<Choice>
     requires systems { Fits systems.now }
     requires found { IsWithin found.now }
     ensures { result ≡ choice_of systems.now id found.now act.now }
 {
     match act {
-        Act::Task { job, task } => Some(Choice::Task(task_in(
+        EventAct::Task { job, task } => Some(Choice::Task(task_in(
             id,
             found,
             job.bytes(),
             task.bytes(),
         )?)),
-        Act::Turn => Some(Choice::Turn),
-        Act::Send { job, task } => Some(Choice::Send(task_in(
+        EventAct::Turn => Some(Choice::Turn),
+        EventAct::Send { job, task } => Some(Choice::Send(task_in(
             id,
             found,
             job.bytes(),
             task.bytes(),
         )?)),
-        Act::Take => Some(Choice::Take),
-        Act::Settle => Some(Choice::Settle),
-        Act::Tell(entry) => Some(Choice::Tell(*entry)),
-        Act::Leave(entry) => Some(Choice::Leave(*entry)),
-        Act::Switch => Some(Choice::Switch),
-        Act::Purge(name) => {
+        EventAct::Take => Some(Choice::Take),
+        EventAct::Settle => Some(Choice::Settle),
+        EventAct::Tell(entry) => Some(Choice::Tell(*entry)),
+        EventAct::Leave(entry) => Some(Choice::Leave(*entry)),
+        EventAct::Switch => Some(Choice::Switch),
+        EventAct::Purge(name) => {
             let (other, _) = system_at(systems, name.bytes())?;
             if other.0 == id.0 {
                 None
@@ -131,12 +136,12 @@ fn choice_of(systems: &[SystemDef], id: SysId, found: &SystemDef, act: &Act<'_>)
                 Some(Choice::Purge(other))
             }
         }
-        Act::Rest => Some(Choice::Rest),
+        EventAct::Rest => Some(Choice::Rest),
     }
 }
 
 /// The event of an event line, where each name that it says is known.
-fn event_of(systems: &[SystemDef], system: &[u8], act: &Act<'_>) -> Option<Event>
+fn event_of(systems: &[SystemDef], system: &[u8], act: &EventAct<'_>) -> Option<Event>
     requires { Fits systems.now }
     ensures { result ≡ event_of systems.now system.now act.now }
 {

@@ -24,7 +24,7 @@ use Rattle.grs_known.specs.Items.{RunItem, rounds, is_of, removes_system_of, too
 use Rattle.grs_known.specs.Known.{Known, learned, outstanding, Still, IsRight, learns_item, learns_control, Answers, Grants, Coming, after_news}
 use Rattle.grs_known.specs.Reading.{gives_among, Keeps, all_known, all_but, after_read}
 use Rattle.grs_known.specs.Past.{own_told, Fits, after_entry, after_entries, past_of, Speaks}
-use Rattle.grs_known.specs.Change.{Changing, Act, AreStores, NoneChanged, switched, kept_in_change, manager_of, store_shown, view, star_event_of_all, Ring}
+use Rattle.grs_known.specs.Change.{Changing, StoreChange, AreStores, NoneChanged, switched, kept_in_change, manager_of, store_shown, view, star_event_of_all, Ring}
 use Rattle.grs_known.proofs.view.Changing.{kept_is_shown, switch_shows_history}
 use Rattle.grs_known.proofs.view.Managers.{manager_follows}
 
@@ -346,7 +346,7 @@ unfolding view
 not_followed h = let g : list_of (lists (take 3 run)) file ≡ list_of (lists with_next) file = h.managed 1 file refl refl refl in absurd (cc)
 
 -- one that carries it out follows
-abbrev carry_out : Act
+abbrev carry_out : StoreChange
 carry_out words store = (words, record { manages = store.manages; lists = deq_state store.lists file (task_of 1); interest = store.interest; held = store.held })
 
 followed : AreStores one_entry with_next (star_event_of_all (view one_entry behind_one) 1 carry_out)

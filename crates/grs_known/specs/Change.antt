@@ -121,11 +121,11 @@ closed_turn slot w s tasks = record {
 }
 
 -- what an event of star mode does to the words and to the store of its system
-abbrev pub Act : Type 0
-Act = StarWords → StarStore → StarWords × StarStore
+abbrev pub StoreChange : Type 0
+StoreChange = StarWords → StarStore → StarWords × StarStore
 
 -- such an event at a system that has changed, with this store; and the same event where all have changed
-abbrev pub star_event : Changing → ℕ → Act → StarStore → (TaskId → Known) → Changing
+abbrev pub star_event : Changing → ℕ → StoreChange → StarStore → (TaskId → Known) → Changing
 star_event w s act store tasks = record {
   live = w.live;
   words = (act w.words store).0;
@@ -133,7 +133,7 @@ star_event w s act store tasks = record {
   members = put_at w.members s (record { tasks = tasks; role = Star (act w.words store).1 });
 }
 
-abbrev pub star_event_of_all : Changed → ℕ → Act → Changed
+abbrev pub star_event_of_all : Changed → ℕ → StoreChange → Changed
 star_event_of_all v s act = record { live = v.live; words = (act v.words (v.stores s)).0; stores = put_at v.stores s (act v.words (v.stores s)).1 }
 
 -- a Task event at a system that hasn't changed: its outbox and its tasks become others
@@ -205,7 +205,7 @@ TaskShowsNothing = (slot : Res → ℕ) (w : Changing) (s : ℕ) (table : State)
 
 -- An event of star mode at a system that has changed is the same event of the view.
 abbrev pub StarShowsItself : Type 0
-StarShowsItself = (slot : Res → ℕ) (w : Changing) (s : ℕ) (act : Act) (store : StarStore) (tasks : TaskId → Known) → (w.members s).role ≡ Star store →
+StarShowsItself = (slot : Res → ℕ) (w : Changing) (s : ℕ) (act : StoreChange) (store : StarStore) (tasks : TaskId → Known) → (w.members s).role ≡ Star store →
     view slot (star_event w s act store tasks) ≡ star_event_of_all (view slot w) s act
 
 -- At the Switch the view shows the history's lists.
@@ -221,5 +221,5 @@ KeptIsShown = (slot : Res → ℕ) (T : List RunItem) (w : Changing) → AreStor
 -- Where a manager carries out a request for a resource of an entry that it manages, the stores are those of the history
 -- with this request behind it.
 abbrev pub ManagerFollows : Type 0
-ManagerFollows = (slot : Res → ℕ) (T : List RunItem) (v : Changed) (m : ℕ) (act : Act) (x : RunItem) (q : Req) (r : Res) → x.fixed ≡ Asked q → res_wanted q.want ≡ Some r → v.words.manager (slot r) ≡ Some m →
+ManagerFollows = (slot : Res → ℕ) (T : List RunItem) (v : Changed) (m : ℕ) (act : StoreChange) (x : RunItem) (q : Req) (r : Res) → x.fixed ≡ Asked q → res_wanted q.want ≡ Some r → v.words.manager (slot r) ≡ Some m →
     CarriesOut q v.words (act v.words (v.stores m)).0 (v.stores m) (act v.words (v.stores m)).1 → AreStores slot T v → AreStores slot (T ++ x ∷ []) (star_event_of_all v m act)

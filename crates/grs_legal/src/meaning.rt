@@ -3,7 +3,7 @@ ghost use Rattle.std.specs.Prelude.{◌≡◌, IfOk};
 ghost use Rattle.grs_legal.specs.Asks.{named, reserved, meaning_of};
 
 use grs_base::{Ctl, Item, Line, NoMemory, Qname, Res, Ret, Rname, Scope, TaskId};
-use scope_resolve::{Ask, Resolved, Resolver};
+use scope_resolve::{Resolved, Resolver, Unresolved};
 use std::alloc::Global;
 
 /// What a line of a task means.
@@ -56,7 +56,7 @@ fn meaning_of_items(
     let Some((item, _)) = items.split_first() else {
         return Ok(Meaning::Nothing);
     };
-    let ask = Ask {
+    let ask = Unresolved {
         reserve: false,
         q: &item.q,
         r: &item.r,
@@ -84,7 +84,7 @@ fn named(
 ) -> Result<Res, NoMemory>
     ensures { IfOk result (λ res. res ≡ named resolver.now task scope q.now r.now rnl) }
 {
-    let ask = Ask {
+    let ask = Unresolved {
         reserve: false,
         q,
         r,
@@ -116,7 +116,7 @@ pub fn meaning_of(
             ret,
             rnl,
         } => {
-            let ask = Ask {
+            let ask = Unresolved {
                 reserve: true,
                 q,
                 r,

@@ -12,7 +12,7 @@ use Rattle.deck_scan.specs.declared.token.Token.TheVariants.{Word, Open, Close, 
 use Rattle.deck_scan.specs.Next.{up_to, Names, Sets}
 use Rattle.deck_scan.proofs.Again.{name_again, is_free, all_again}
 use Rattle.job_syntax.specs.declared.options.Opts.{Opts}
-use Rattle.job_syntax.specs.declared.ask.Ask.{Ask}
+use Rattle.job_syntax.specs.declared.ask.ResAsk.{ResAsk}
 use Rattle.job_syntax.specs.declared.ask.EnqAsk.{EnqAsk}
 use Rattle.job_syntax.specs.declared.display.Wanted.{Wanted}
 use Rattle.job_syntax.specs.declared.display.ScanAsk.{ScanAsk}
@@ -27,7 +27,7 @@ use Rattle.job_syntax.specs.Ask.{ctl_at, scope_at, names_at, place_at, controlle
 use Rattle.job_syntax.specs.Display.{no_names, reach_of, want_of, want_at, scan_at, resource_at, shown_at, display_at}
 use Rattle.job_syntax.specs.LineAsk.{line_word, line_ask_at}
 use Rattle.grs_base.specs.Printed.{ctl_word}
-use Rattle.job_syntax.specs.Spelled.{scope_word, reach_word, Opt, WithRet, WithRnl, WithUcb, option, IsFree, set, IsAsk, Want, WithQname, WithRname, want, IsFreeWant, set_want, IsScan, IsShown, IsBehind, line_word_for, IsWord}
+use Rattle.job_syntax.specs.Spelled.{scope_word, reach_word, Opt, WithRet, WithRnl, WithUcb, option, IsFree, set, IsResAsk, WantedName, WithQname, WithRname, want, IsFreeWant, set_want, IsScan, IsShown, IsBehind, line_word_for, IsWord}
 
 names_again : (q r : Token) (qname rname : List ℕ) (rest : List Token) → Names q qname → Names r rname → names_at (Open ∷ q ∷ Comma ∷ r ∷ Comma ∷ rest) ≡ Some (qname, rname, rest)
 unfolding names_at
@@ -88,13 +88,13 @@ place_again : (s : Scope) (given : List Opt) (o : Opts) → Sets IsFree set no_o
 unfolding place_at
 place_again s given o h = rw (scope_again s (Close ∷ flat_map option given), options_again given o h) refl
 
-controlled_again : (ts : List Token) (e : EnqAsk) → IsAsk (Word (ctl_word e.ctl) ∷ Comma ∷ []) ts e.ask → controlled_at ts ≡ Some e
+controlled_again : (ts : List Token) (e : EnqAsk) → IsResAsk (Word (ctl_word e.ctl) ∷ Comma ∷ []) ts e.ask → controlled_at ts ≡ Some e
 unfolding controlled_at
 controlled_again ts e h =
     let place = Word (scope_word e.ask.scope) ∷ Close ∷ flat_map option h.given in
     rw (h.spelled, names_again h.q h.r e.ask.q e.ask.r (Word (ctl_word e.ctl) ∷ Comma ∷ place) h.named_q h.named_r, ctl_again e.ctl (Comma ∷ place), place_again e.ask.scope h.given e.ask.opts h.options) refl
 
-uncontrolled_again : (ts : List Token) (a : Ask) → IsAsk [] ts a → uncontrolled_at ts ≡ Some a
+uncontrolled_again : (ts : List Token) (a : ResAsk) → IsResAsk [] ts a → uncontrolled_at ts ≡ Some a
 unfolding uncontrolled_at
 uncontrolled_again ts a h =
     let place = Word (scope_word a.scope) ∷ Close ∷ flat_map option h.given in
@@ -102,24 +102,24 @@ uncontrolled_again ts a h =
 
 -- ---- GQSCAN and DISPLAY
 
-want_again : (x : Want) (o : Wanted) (rest : List Token) → IsFreeWant x o → want_at o (want x ++ rest) ≡ Some (set_want x o, rest)
+want_again : (x : WantedName) (o : Wanted) (rest : List Token) → IsFreeWant x o → want_at o (want x ++ rest) ≡ Some (set_want x o, rest)
 unfolding want_at want_of
 want_again (WithQname t q) o rest h = rw (name_again t q rest h.1, h.0) refl
 want_again (WithRname t r) o rest h = rw (name_again t r rest h.1, h.0) refl
 
-long_want : (x : Want) (rest : List Token) → eqb (length (want x ++ rest)) 0 ≡ false
+long_want : (x : WantedName) (rest : List Token) → eqb (length (want x ++ rest)) 0 ≡ false
 long_want (WithQname t q) rest = ne_eqb _ 0 (λ e. omega (arith, e))
 long_want (WithRname t r) rest = ne_eqb _ 0 (λ e. omega (arith, e))
 
 free_wants : Wanted → ℕ
 free_wants o = is_free o.q + is_free o.r
 
-fewer_wants : (x : Want) (o : Wanted) → IsFreeWant x o → free_wants o ≡ suc (free_wants (set_want x o))
+fewer_wants : (x : WantedName) (o : Wanted) → IsFreeWant x o → free_wants o ≡ suc (free_wants (set_want x o))
 unfolding free_wants
 fewer_wants (WithQname t q) o h = rw h.0 (omega arith)
 fewer_wants (WithRname t r) o h = rw h.0 (omega arith)
 
-wants_again : (given : List Want) (o : Wanted) → Sets IsFreeWant set_want no_names given o → up_to 2 want_at no_names (flat_map want given) ≡ Some o
+wants_again : (given : List WantedName) (o : Wanted) → Sets IsFreeWant set_want no_names given o → up_to 2 want_at no_names (flat_map want given) ≡ Some o
 unfolding free_wants
 wants_again given o h = all_again IsFreeWant set_want want want_at free_wants long_want want_again fewer_wants 2 given no_names o (lit≤ tt) h
 

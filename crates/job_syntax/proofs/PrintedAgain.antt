@@ -36,7 +36,7 @@ use Rattle.job_syntax.specs.declared.line_ask.LineAsk.TheVariants as asks
 use Rattle.job_syntax.specs.Unit.{hex_of, unit_of}
 use Rattle.job_syntax.specs.Options.{no_opts}
 use Rattle.job_syntax.specs.Ask.{is_deq_ret}
-use Rattle.job_syntax.specs.Spelled.{scope_word, reach_word, Opt, WithRet, WithRnl, WithUcb, option, IsFree, set, IsAsk, Want, WithQname, WithRname, IsScan, IsResource, IsBehind, line_word_for, IsWord}
+use Rattle.job_syntax.specs.Spelled.{scope_word, reach_word, Opt, WithRet, WithRnl, WithUcb, option, IsFree, set, IsResAsk, WantedName, WithQname, WithRname, IsScan, IsResource, IsBehind, line_word_for, IsWord}
 use Rattle.job_syntax.specs.Lines.{are_bad_names, has_bad_name, ret_or_none, rnl_or_yes, is_have, filter_of, line_of}
 use Rattle.job_syntax.specs.Printed.{printed_ret, printed_have, printed_rnl, maybe_unit, printed_line}
 use Rattle.job_syntax.specs.Reading.{SpellsLine}
@@ -359,10 +359,10 @@ placed_are q r s rest h o = record {
 more_room : (bs : List Bit) (n m : ℕ) → n ≤ m → AreOptions bs n → AreOptions bs m
 more_room bs n m le h = record { are = h.are; parted = h.parted; few = omega (arith, le, h.few) }
 
-ask_of : (q r : List ℕ) (c : Ctl) (s : Scope) (o : Opts) (rest : List Bit) (given : List Opt) → tokens_of rest ≡ flat_map option given → Sets IsFree set no_opts given o → IsAsk (Word (ctl_word c) ∷ Comma ∷ []) (tokens_of (controlled q r c s rest)) (record { q = q; r = r; scope = s; opts = o })
+ask_of : (q r : List ℕ) (c : Ctl) (s : Scope) (o : Opts) (rest : List Bit) (given : List Opt) → tokens_of rest ≡ flat_map option given → Sets IsFree set no_opts given o → IsResAsk (Word (ctl_word c) ∷ Comma ∷ []) (tokens_of (controlled q r c s rest)) (record { q = q; r = r; scope = s; opts = o })
 ask_of q r c s o rest given tokens options = record { q = name_token q; r = name_token r; given = given; spelled = rw tokens refl; named_q = name_names q; named_r = name_names r; options = options }
 
-place_of : (q r : List ℕ) (s : Scope) (o : Opts) (rest : List Bit) (given : List Opt) → tokens_of rest ≡ flat_map option given → Sets IsFree set no_opts given o → IsAsk [] (tokens_of (placed q r s rest)) (record { q = q; r = r; scope = s; opts = o })
+place_of : (q r : List ℕ) (s : Scope) (o : Opts) (rest : List Bit) (given : List Opt) → tokens_of rest ≡ flat_map option given → Sets IsFree set no_opts given o → IsResAsk [] (tokens_of (placed q r s rest)) (record { q = q; r = r; scope = s; opts = o })
 place_of q r s o rest given tokens options = record { q = name_token q; r = name_token r; given = given; spelled = rw tokens refl; named_q = name_names q; named_r = name_names r; options = options }
 
 line_word_words : (is_piece (Plain (codes "ENQ")) ≡ true) × (is_piece (Plain (codes "RESERVE")) ≡ true) × (is_piece (Plain (codes "DEQ")) ≡ true) × (is_piece (Plain (codes "WAIT")) ≡ true) × (is_piece (Plain (codes "GQSCAN")) ≡ true) × (is_piece (Plain (codes "DISPLAY")) ≡ true)
@@ -462,11 +462,11 @@ q_bits (Some q) rest = Mark Comma ∷ Of (codes "QNAME") ∷ Mark Equals ∷ Cal
 abbrev scan_bits : Bool → Option (List ℕ) → Option (List ℕ) → List Bit
 scan_bits global q r = Of (codes "SCOPE") ∷ Mark Equals ∷ Of (reach_word global) ∷ q_bits q (r_bits r)
 
-r_given : Option (List ℕ) → List Want
+r_given : Option (List ℕ) → List WantedName
 r_given None = []
 r_given (Some r) = WithRname (name_token r) r ∷ []
 
-q_given : Option (List ℕ) → List Want → List Want
+q_given : Option (List ℕ) → List WantedName → List WantedName
 q_given None rest = rest
 q_given (Some q) rest = WithQname (name_token q) q ∷ rest
 

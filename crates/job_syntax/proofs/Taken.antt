@@ -14,7 +14,7 @@ use Rattle.deck_scan.specs.declared.token.Token.TheVariants.{Word, Open, Close, 
 use Rattle.deck_scan.specs.Next.{◌>>=◌, open_at, close_at, comma_at, equals_at, end_at, any_word_at, word_at, value_at, name_at, up_to, Names, Sets}
 use Rattle.deck_scan.proofs.Taking.{bind_some, guard_some, some_is, same_bytes, by_row, IsWordOf, row, once_some, open_taken, close_taken, comma_taken, equals_taken, end_taken, any_word_taken, value_taken, name_taken, TookOne, all_taken}
 use Rattle.job_syntax.specs.declared.options.Opts.{Opts}
-use Rattle.job_syntax.specs.declared.ask.Ask.{Ask}
+use Rattle.job_syntax.specs.declared.ask.ResAsk.{ResAsk}
 use Rattle.job_syntax.specs.declared.ask.EnqAsk.{EnqAsk}
 use Rattle.job_syntax.specs.declared.display.Wanted.{Wanted}
 use Rattle.job_syntax.specs.declared.display.ScanAsk.{ScanAsk}
@@ -30,7 +30,7 @@ use Rattle.job_syntax.specs.Ask.{ctl_at, scope_at, names_at, place_at, enq_may, 
 use Rattle.job_syntax.specs.Display.{no_names, reach_of, with_q, with_r, named_at, want_of, want_at, scan_at, resource_at, shown_at, display_at}
 use Rattle.job_syntax.specs.LineAsk.{line_word, line_ask_at}
 use Rattle.grs_base.specs.Printed.{ctl_word}
-use Rattle.job_syntax.specs.Spelled.{scope_word, rnl_word, reach_word, Opt, WithRet, WithRnl, WithUcb, valued, option, IsFree, set, IsAsk, WithQname, WithRname, want, IsFreeWant, set_want, IsScan, IsShown, IsBehind, line_word_for, IsWord, IsLineAsk}
+use Rattle.job_syntax.specs.Spelled.{scope_word, rnl_word, reach_word, Opt, WithRet, WithRnl, WithUcb, valued, option, IsFree, set, IsResAsk, WithQname, WithRname, want, IsFreeWant, set_want, IsScan, IsShown, IsBehind, line_word_for, IsWord, IsLineAsk}
 
 -- ---- options
 
@@ -203,11 +203,11 @@ place_taken ts x e =
     let made : Placed ts s.0.0 o.0 = record { given = g.0; is = is; options = g.2 } in
     subst (λ (y : Scope × Opts). Placed ts y.0 y.1) (some_is (s.0.0, o.0) x o.2) made
 
-abbrev ask_of : List ℕ × List ℕ × List Token → Scope × Opts → Ask
+abbrev ask_of : List ℕ × List ℕ × List Token → Scope × Opts → ResAsk
 ask_of n p = record { q = n.0; r = n.1; scope = p.0; opts = p.1 }
 
 -- names, what stands before the scope, and the scope with the options
-asked : (front : List Token) (ts place : List Token) (n : List ℕ × List ℕ × List Token) (p : Scope × Opts) → Front ts n.0 n.1 n.2 → n.2 ≡ front ++ place → Placed place p.0 p.1 → IsAsk front ts (ask_of n p)
+asked : (front : List Token) (ts place : List Token) (n : List ℕ × List ℕ × List Token) (p : Scope × Opts) → Front ts n.0 n.1 n.2 → n.2 ≡ front ++ place → Placed place p.0 p.1 → IsResAsk front ts (ask_of n p)
 asked front ts place n p f is_front placed = record {
   q = f.q;
   r = f.r;
@@ -218,7 +218,7 @@ asked front ts place n p f is_front placed = record {
   options = placed.options;
 }
 
-controlled_taken : (ts : List Token) (x : EnqAsk) → controlled_at ts ≡ Some x → IsAsk (Word (ctl_word x.ctl) ∷ Comma ∷ []) ts x.ask
+controlled_taken : (ts : List Token) (x : EnqAsk) → controlled_at ts ≡ Some x → IsResAsk (Word (ctl_word x.ctl) ∷ Comma ∷ []) ts x.ask
 unfolding controlled_at
 controlled_taken ts x e =
     let n = bind_some (names_at ts) (λ n. ctl_at n.2 >>= λ c. comma_at c.1 >>= λ a. place_at a >>= λ p. Some (record { ctl = c.0; ask = ask_of n p })) x e in
@@ -227,14 +227,14 @@ controlled_taken ts x e =
     let p = bind_some (place_at a.0) (λ p. Some (record { ctl = c.0.0; ask = ask_of n.0 p })) x a.2 in
     let front : n.0.2 ≡ Word (ctl_word c.0.0) ∷ Comma ∷ a.0 = ctl_taken n.0.2 c.0 c.1 ∙ ap (λ (t : List Token). Word (ctl_word c.0.0) ∷ t) (comma_taken c.0.1 a.0 a.1) in
     let made = asked (Word (ctl_word c.0.0) ∷ Comma ∷ []) ts a.0 n.0 p.0 (names_taken ts n.0 n.1) front (place_taken a.0 p.0 p.1) in
-    subst (λ (y : EnqAsk). IsAsk (Word (ctl_word y.ctl) ∷ Comma ∷ []) ts y.ask) (some_is (record { ctl = c.0.0; ask = ask_of n.0 p.0 }) x p.2) made
+    subst (λ (y : EnqAsk). IsResAsk (Word (ctl_word y.ctl) ∷ Comma ∷ []) ts y.ask) (some_is (record { ctl = c.0.0; ask = ask_of n.0 p.0 }) x p.2) made
 
-uncontrolled_taken : (ts : List Token) (x : Ask) → uncontrolled_at ts ≡ Some x → IsAsk [] ts x
+uncontrolled_taken : (ts : List Token) (x : ResAsk) → uncontrolled_at ts ≡ Some x → IsResAsk [] ts x
 unfolding uncontrolled_at
 uncontrolled_taken ts x e =
     let n = bind_some (names_at ts) (λ n. place_at n.2 >>= λ p. Some (ask_of n p)) x e in
     let p = bind_some (place_at n.0.2) (λ p. Some (ask_of n.0 p)) x n.2 in
-    subst (IsAsk [] ts) (some_is (ask_of n.0 p.0) x p.2) (asked [] ts n.0.2 n.0 p.0 (names_taken ts n.0 n.1) refl (place_taken n.0.2 p.0 p.1))
+    subst (IsResAsk [] ts) (some_is (ask_of n.0 p.0) x p.2) (asked [] ts n.0.2 n.0 p.0 (names_taken ts n.0 n.1) refl (place_taken n.0.2 p.0 p.1))
 
 -- what is read where a test holds
 tested : {A : Type 0} (o : Option A) (may : A → Bool) (x : A) → (o >>= λ y. cond (may y) (Some y) None) ≡ Some x → (o ≡ Some x) × (may x ≡ true)
@@ -243,19 +243,19 @@ tested o may x e =
     let g = guard_some (may b.0) b.0 x b.2 in
     (b.1 ∙ ap (λ y. Some y) g.1, ap may (sym g.1) ∙ g.0)
 
-enq_taken : (ts : List Token) (x : EnqAsk) → enq_at ts ≡ Some x → IsAsk (Word (ctl_word x.ctl) ∷ Comma ∷ []) ts x.ask × (enq_may x.ask ≡ true)
+enq_taken : (ts : List Token) (x : EnqAsk) → enq_at ts ≡ Some x → IsResAsk (Word (ctl_word x.ctl) ∷ Comma ∷ []) ts x.ask × (enq_may x.ask ≡ true)
 unfolding enq_at
 enq_taken ts x e = let t = tested (controlled_at ts) (λ y. enq_may y.ask) x e in (controlled_taken ts x t.0, t.1)
 
-reserve_taken : (ts : List Token) (x : EnqAsk) → reserve_at ts ≡ Some x → IsAsk (Word (ctl_word x.ctl) ∷ Comma ∷ []) ts x.ask × (reserve_may x.ask ≡ true)
+reserve_taken : (ts : List Token) (x : EnqAsk) → reserve_at ts ≡ Some x → IsResAsk (Word (ctl_word x.ctl) ∷ Comma ∷ []) ts x.ask × (reserve_may x.ask ≡ true)
 unfolding reserve_at
 reserve_taken ts x e = let t = tested (controlled_at ts) (λ y. reserve_may y.ask) x e in (controlled_taken ts x t.0, t.1)
 
-deq_taken : (ts : List Token) (x : Ask) → deq_at ts ≡ Some x → IsAsk [] ts x × (deq_may x ≡ true)
+deq_taken : (ts : List Token) (x : ResAsk) → deq_at ts ≡ Some x → IsResAsk [] ts x × (deq_may x ≡ true)
 unfolding deq_at
 deq_taken ts x e = let t = tested (uncontrolled_at ts) deq_may x e in (uncontrolled_taken ts x t.0, t.1)
 
-wait_taken : (ts : List Token) (x : Ask) → wait_at ts ≡ Some x → IsAsk [] ts x × (wait_may x ≡ true)
+wait_taken : (ts : List Token) (x : ResAsk) → wait_at ts ≡ Some x → IsResAsk [] ts x × (wait_may x ≡ true)
 unfolding wait_at
 wait_taken ts x e = let t = tested (uncontrolled_at ts) wait_may x e in (uncontrolled_taken ts x t.0, t.1)
 

@@ -9,7 +9,7 @@ use Rattle.grs_base.specs.declared.resource.Ret.{Ret}
 use Rattle.grs_base.specs.declared.resource.Ret.TheVariants.{RetNone, RetHave}
 use Rattle.deck_scan.specs.declared.token.Token.{Token}
 use Rattle.job_syntax.specs.declared.options.Opts.{Opts}
-use Rattle.job_syntax.specs.declared.ask.Ask.{Ask}
+use Rattle.job_syntax.specs.declared.ask.ResAsk.{ResAsk}
 use Rattle.job_syntax.specs.declared.ask.EnqAsk.{EnqAsk}
 use Rattle.deck_scan.specs.Next.{◌>>=◌, open_at, close_at, comma_at, any_word_at, name_at}
 use Rattle.job_syntax.specs.Options.{options_at}
@@ -51,11 +51,11 @@ is_wide scopes.System = false
 is_wide scopes.Systems = true
 
 -- ENQ has RET or ECB, and RNL.
-abbrev pub enq_may : Ask → Bool
+abbrev pub enq_may : ResAsk → Bool
 enq_may a = is_none a.opts.unit
 
 -- RESERVE has UCB and the scope SYSTEMS, RET or ECB, and RNL.
-abbrev pub reserve_may : Ask → Bool
+abbrev pub reserve_may : ResAsk → Bool
 reserve_may a = is_wide a.scope && is_some a.opts.unit
 
 abbrev pub is_deq_ret : Option Ret → Bool
@@ -65,11 +65,11 @@ is_deq_ret (Some RetHave) = true
 is_deq_ret (Some _) = false
 
 -- DEQ has RET=NONE or RET=HAVE, UCB and RNL.
-abbrev pub deq_may : Ask → Bool
+abbrev pub deq_may : ResAsk → Bool
 deq_may a = is_deq_ret a.opts.ret
 
 -- WAIT has RNL.
-abbrev pub wait_may : Ask → Bool
+abbrev pub wait_may : ResAsk → Bool
 wait_may a = is_none a.opts.ret && is_none a.opts.unit
 
 -- Names, a control, a scope and options.
@@ -82,7 +82,7 @@ controlled_at ts = do
   Some (record { ctl = c.0; ask = record { q = n.0; r = n.1; scope = p.0; opts = p.1 } })
 
 -- Names, a scope and options.
-unfoldable pub uncontrolled_at : List Token → Option Ask
+unfoldable pub uncontrolled_at : List Token → Option ResAsk
 uncontrolled_at ts = do
   n ← names_at ts
   p ← place_at n.2
@@ -98,12 +98,12 @@ reserve_at ts = do
   e ← controlled_at ts
   if reserve_may e.ask then Some e else None
 
-unfoldable pub deq_at : List Token → Option Ask
+unfoldable pub deq_at : List Token → Option ResAsk
 deq_at ts = do
   a ← uncontrolled_at ts
   if deq_may a then Some a else None
 
-unfoldable pub wait_at : List Token → Option Ask
+unfoldable pub wait_at : List Token → Option ResAsk
 wait_at ts = do
   a ← uncontrolled_at ts
   if wait_may a then Some a else None

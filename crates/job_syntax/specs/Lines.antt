@@ -8,7 +8,7 @@ use Rattle.grs_base.specs.declared.look.Filter.TheVariants as filters
 use Rattle.grs_base.specs.declared.line.Line.{Line}
 use Rattle.grs_base.specs.declared.line.Line.TheVariants as lines
 use Rattle.deck_scan.specs.Lengths.{is_bad_qname, is_bad_rname, trimmed}
-use Rattle.job_syntax.specs.declared.ask.Ask.{Ask}
+use Rattle.job_syntax.specs.declared.ask.ResAsk.{ResAsk}
 use Rattle.job_syntax.specs.declared.ask.EnqAsk.{EnqAsk}
 use Rattle.job_syntax.specs.declared.display.Wanted.{Wanted}
 use Rattle.job_syntax.specs.declared.display.Shown.{Shown}
@@ -56,10 +56,10 @@ enq_line e = lines.Enq (record { q = trim_blanks e.ask.q; r = e.ask.r; ctl = e.c
 abbrev pub reserve_line : EnqAsk → Line
 reserve_line e = lines.Reserve (trim_blanks e.ask.q) e.ask.r e.ctl (unwrap_or e.ask.opts.unit 0) (ret_or_none e.ask.opts.ret) (rnl_or_yes e.ask.opts.rnl)
 
-abbrev pub deq_line : Ask → Line
+abbrev pub deq_line : ResAsk → Line
 deq_line a = lines.Deq (trim_blanks a.q) a.r a.scope (is_have a.opts.ret) a.opts.unit (rnl_or_yes a.opts.rnl)
 
-abbrev pub wait_line : Ask → Line
+abbrev pub wait_line : ResAsk → Line
 wait_line a = lines.Wait (trim_blanks a.q) a.r a.scope (rnl_or_yes a.opts.rnl)
 
 abbrev pub display_line : Shown → Line

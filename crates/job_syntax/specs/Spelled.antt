@@ -11,7 +11,7 @@ use Rattle.deck_scan.specs.declared.token.Token.TheVariants.{Word, Open, Close, 
 use Rattle.deck_scan.specs.declared.miss.Miss.{Miss}
 use Rattle.deck_scan.specs.Next.{Names, Sets}
 use Rattle.job_syntax.specs.declared.options.Opts.{Opts}
-use Rattle.job_syntax.specs.declared.ask.Ask.{Ask}
+use Rattle.job_syntax.specs.declared.ask.ResAsk.{ResAsk}
 use Rattle.job_syntax.specs.declared.display.Wanted.{Wanted}
 use Rattle.job_syntax.specs.declared.display.ScanAsk.{ScanAsk}
 use Rattle.job_syntax.specs.declared.display.Shown.{Shown}
@@ -65,7 +65,7 @@ set (WithRnl b) o = record o { rnl = Some b }
 set (WithUcb w unit) o = record o { unit = Some unit }
 
 -- ( q , r , then what stands before the scope, the scope, ) and the options.
-pub record IsAsk (front : List Token) (ts : List Token) (a : Ask) : Type 0 where
+pub record IsResAsk (front : List Token) (ts : List Token) (a : ResAsk) : Type 0 where
   pub q : Token
   pub r : Token
   pub given : List Opt
@@ -79,25 +79,25 @@ reach_word true = codes "GLOBAL"
 reach_word false = codes "LOCAL"
 
 -- A name that a GQSCAN gives: QNAME and RNAME with the tokens and the bytes that these name.
-pub data Want : Type 0 where
-  WithQname : Token → List ℕ → Want
-  WithRname : Token → List ℕ → Want
+pub data WantedName : Type 0 where
+  WithQname : Token → List ℕ → WantedName
+  WithRname : Token → List ℕ → WantedName
 
-abbrev pub want : Want → List Token
+abbrev pub want : WantedName → List Token
 want (WithQname t q) = Comma ∷ Word (codes "QNAME") ∷ Equals ∷ t ∷ []
 want (WithRname t r) = Comma ∷ Word (codes "RNAME") ∷ Equals ∷ t ∷ []
 
-abbrev pub IsFreeWant : Want → Wanted → Type 0
+abbrev pub IsFreeWant : WantedName → Wanted → Type 0
 IsFreeWant (WithQname t q) o = (o.q ≡ None) × Names t q
 IsFreeWant (WithRname t r) o = (o.r ≡ None) × Names t r
 
-abbrev pub set_want : Want → Wanted → Wanted
+abbrev pub set_want : WantedName → Wanted → Wanted
 set_want (WithQname t q) o = record o { q = Some q }
 set_want (WithRname t r) o = record o { r = Some r }
 
 -- SCOPE = GLOBAL or LOCAL, and the names.
 pub record IsScan (ts : List Token) (s : ScanAsk) : Type 0 where
-  pub given : List Want
+  pub given : List WantedName
   pub spelled : ts ≡ Word (codes "SCOPE") ∷ Equals ∷ Word (reach_word s.global) ∷ flat_map want given
   pub names : Sets IsFreeWant set_want no_names given s.names
 
@@ -115,10 +115,10 @@ IsShown ts (shown.Resource q r) = IsResource ts q r
 
 -- What stands behind the first word.
 abbrev pub IsBehind : List Token → LineAsk → Type 0
-IsBehind ts (asks.Enq e) = IsAsk (Word (ctl_word e.ctl) ∷ Comma ∷ []) ts e.ask × (enq_may e.ask ≡ true)
-IsBehind ts (asks.Reserve e) = IsAsk (Word (ctl_word e.ctl) ∷ Comma ∷ []) ts e.ask × (reserve_may e.ask ≡ true)
-IsBehind ts (asks.Deq a) = IsAsk [] ts a × (deq_may a ≡ true)
-IsBehind ts (asks.Wait a) = IsAsk [] ts a × (wait_may a ≡ true)
+IsBehind ts (asks.Enq e) = IsResAsk (Word (ctl_word e.ctl) ∷ Comma ∷ []) ts e.ask × (enq_may e.ask ≡ true)
+IsBehind ts (asks.Reserve e) = IsResAsk (Word (ctl_word e.ctl) ∷ Comma ∷ []) ts e.ask × (reserve_may e.ask ≡ true)
+IsBehind ts (asks.Deq a) = IsResAsk [] ts a × (deq_may a ≡ true)
+IsBehind ts (asks.Wait a) = IsResAsk [] ts a × (wait_may a ≡ true)
 IsBehind ts (asks.Gqscan s) = IsScan ts s
 IsBehind ts (asks.Display s) = IsShown ts s
 

@@ -9,7 +9,7 @@ use grs_base::{Ctl, Ret, Scope};
 
 /// What a task line names, with names of any length, and the options that stand in it.
 #[derive(Drop)]
-pub struct Ask<'t> {
+pub struct ResAsk<'t> {
     /// The bytes of the qname as they are written, trailing blanks too.
     pub q: GivenName<'t>,
     /// The bytes of the rname.
@@ -22,7 +22,7 @@ pub struct Ask<'t> {
 #[derive(Drop)]
 pub struct EnqAsk<'t> {
     pub ctl: Ctl,
-    pub ask: Ask<'t>,
+    pub ask: ResAsk<'t>,
 }
 
 #[tactic(auto, unfolding(crate::specs::Ask::ctl_at))]
@@ -83,14 +83,14 @@ fn place_at(ts: &[Token<'_>]) -> Result<(Scope, Opts), Miss>
 }
 
 /// An ENQ has no UCB.
-fn enq_may(ask: &Ask<'_>) -> bool
+fn enq_may(ask: &ResAsk<'_>) -> bool
     ensures { result ≡ enq_may ask.now }
 {
     ask.opts.unit.is_none()
 }
 
 /// A RESERVE has UCB, and the scope SYSTEMS.
-fn reserve_may(ask: &Ask<'_>) -> bool
+fn reserve_may(ask: &ResAsk<'_>) -> bool
     ensures { result ≡ reserve_may ask.now }
 {
     match ask.scope {
@@ -101,7 +101,7 @@ fn reserve_may(ask: &Ask<'_>) -> bool
 }
 
 /// A DEQ has RET=NONE or RET=HAVE alone.
-fn deq_may(ask: &Ask<'_>) -> bool
+fn deq_may(ask: &ResAsk<'_>) -> bool
     ensures { result ≡ deq_may ask.now }
 {
     match ask.opts.ret {
@@ -113,7 +113,7 @@ fn deq_may(ask: &Ask<'_>) -> bool
 }
 
 /// A WAIT has neither RET nor UCB.
-fn wait_may(ask: &Ask<'_>) -> bool
+fn wait_may(ask: &ResAsk<'_>) -> bool
     ensures { result ≡ wait_may ask.now }
 {
     ask.opts.ret.is_none() && ask.opts.unit.is_none()
@@ -130,18 +130,18 @@ fn controlled_at<'a, 't>(ts: &'a [Token<'t>]) -> Result<EnqAsk<'a>, Miss>
     let (scope, opts) = place_at(ts)?;
     Ok(EnqAsk {
         ctl,
-        ask: Ask { q, r, scope, opts },
+        ask: ResAsk { q, r, scope, opts },
     })
 }
 
 /// Names, a scope and options.
 #[tactic(auto, unfolding(crate::specs::Ask::uncontrolled_at))]
-fn uncontrolled_at<'a, 't>(ts: &'a [Token<'t>]) -> Result<Ask<'a>, Miss>
+fn uncontrolled_at<'a, 't>(ts: &'a [Token<'t>]) -> Result<ResAsk<'a>, Miss>
     ensures { Reads (λ x. x) result (uncontrolled_at ts.now) }
 {
     let (q, r, ts) = names_at(ts)?;
     let (scope, opts) = place_at(ts)?;
-    Ok(Ask { q, r, scope, opts })
+    Ok(ResAsk { q, r, scope, opts })
 }
 
 /// What stands behind ENQ: no UCB.
@@ -172,7 +172,7 @@ pub fn reserve_at<'a, 't>(ts: &'a [Token<'t>]) -> Result<EnqAsk<'a>, Miss>
 
 /// What stands behind DEQ: of RET only NONE and HAVE, and no ECB.
 #[tactic(auto, unfolding(crate::specs::Ask::deq_at))]
-pub fn deq_at<'a, 't>(ts: &'a [Token<'t>]) -> Result<Ask<'a>, Miss>
+pub fn deq_at<'a, 't>(ts: &'a [Token<'t>]) -> Result<ResAsk<'a>, Miss>
     ensures { Reads (λ x. x) result (deq_at ts.now) }
 {
     let ask = uncontrolled_at(ts)?;
@@ -181,7 +181,7 @@ pub fn deq_at<'a, 't>(ts: &'a [Token<'t>]) -> Result<Ask<'a>, Miss>
 
 /// What stands behind WAIT: no option but RNL.
 #[tactic(auto, unfolding(crate::specs::Ask::wait_at))]
-pub fn wait_at<'a, 't>(ts: &'a [Token<'t>]) -> Result<Ask<'a>, Miss>
+pub fn wait_at<'a, 't>(ts: &'a [Token<'t>]) -> Result<ResAsk<'a>, Miss>
     ensures { Reads (λ x. x) result (wait_at ts.now) }
 {
     let ask = uncontrolled_at(ts)?;

@@ -14,7 +14,7 @@ mod print;
 mod read;
 mod unit;
 
-pub use ask::{Ask, EnqAsk};
+pub use ask::{EnqAsk, ResAsk};
 pub use display::{ScanAsk, Shown, Wanted};
 pub use laws::{one_line, printed_lines, spelled_tokens};
 pub use line::{has_bad_name, line_of};

@@ -4,7 +4,7 @@ ghost use Rattle.grs_base.specs.Names.{trim_blanks};
 ghost use Rattle.deck_scan.specs.Lengths.{is_bad_qname, is_bad_rname};
 ghost use Rattle.job_syntax.specs.Lines.{are_bad_names, is_bad_shown, has_bad_name, ret_or_none, rnl_or_yes, is_have, filter_of, enq_line, reserve_line, deq_line, wait_line, display_line, line_of};
 
-use crate::ask::{Ask, EnqAsk};
+use crate::ask::{EnqAsk, ResAsk};
 use crate::display::{Shown, Wanted};
 use crate::line_ask::LineAsk;
 use deck_scan::{is_bad_qname, is_bad_rname, maybe_qname, maybe_rname, qname_of, rname_of};
@@ -114,7 +114,7 @@ fn reserve_line(alloc: Global, enq: &EnqAsk<'_>) -> Result<Line, NoMemory>
     })
 }
 
-fn deq_line(alloc: Global, ask: &Ask<'_>) -> Result<Line, NoMemory>
+fn deq_line(alloc: Global, ask: &ResAsk<'_>) -> Result<Line, NoMemory>
     requires { are_bad_names ask.now.q ask.now.r ≡ false }
     ensures { IfOk result (λ l. l ≡ deq_line ask.now) }
 {
@@ -129,7 +129,7 @@ fn deq_line(alloc: Global, ask: &Ask<'_>) -> Result<Line, NoMemory>
     })
 }
 
-fn wait_line(alloc: Global, ask: &Ask<'_>) -> Result<Line, NoMemory>
+fn wait_line(alloc: Global, ask: &ResAsk<'_>) -> Result<Line, NoMemory>
     requires { are_bad_names ask.now.q ask.now.r ≡ false }
     ensures { IfOk result (λ l. l ≡ wait_line ask.now) }
 {

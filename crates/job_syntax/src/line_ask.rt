@@ -4,7 +4,7 @@ ghost use Rattle.deck_scan.specs.Next.{Reads};
 ghost use Rattle.job_syntax.specs.LineAsk.{line_word, line_ask_at};
 ghost use Rattle.job_syntax.specs.Spelled.{Answers};
 
-use crate::ask::{Ask, EnqAsk, deq_at, enq_at, reserve_at, wait_at};
+use crate::ask::{EnqAsk, ResAsk, deq_at, enq_at, reserve_at, wait_at};
 use crate::display::{ScanAsk, Shown, display_at, scan_at};
 use deck_scan::{Miss, Token};
 
@@ -15,8 +15,8 @@ pub enum LineAsk<'t> {
     Enq(EnqAsk<'t>),
     /// The scope is SYSTEMS, and a unit stands.
     Reserve(EnqAsk<'t>),
-    Deq(Ask<'t>),
-    Wait(Ask<'t>),
+    Deq(ResAsk<'t>),
+    Wait(ResAsk<'t>),
     Gqscan(ScanAsk<'t>),
     Display(Shown<'t>),
 }

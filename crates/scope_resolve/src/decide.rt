@@ -6,10 +6,10 @@ use super::listed::Listed;
 use grs_base::{Lists, NoMemory, Qname, Res, Rname, Scope, SysId};
 use std::alloc::Global;
 
-/// What a line asks for: names, a scope, and whether the name lists are looked at (`rnl`). A RESERVE is for
-/// the whole complex, whatever the scope says.
+/// What a line asks for, before it is resolved: names, a scope, and whether the name lists are looked at (`rnl`).
+/// A RESERVE is for the whole complex, whatever the scope says.
 #[derive(Clone, Copy)]
-pub struct Ask<'a> {
+pub struct Unresolved<'a> {
     pub reserve: bool,
     pub q: &'a Qname,
     pub r: &'a Rname,
@@ -58,7 +58,7 @@ fn reserve_looked_up<L: Listed>(lists: &L, q: &Qname, r: &Rname) -> (Scope, bool
 }
 
 /// The scope of what is asked for, and whether its device is reserved.
-pub(crate) fn kind_in<L: Listed>(lists: &L, ask: &Ask<'_>) -> (Scope, bool)
+pub(crate) fn kind_in<L: Listed>(lists: &L, ask: &Unresolved<'_>) -> (Scope, bool)
     ensures { result ≡ kind_of (L.lists lists.now) ask.now.reserve ask.now.scope ask.now.rnl ask.now.q.now ask.now.r.now }
 {
     match (ask.reserve, ask.rnl) {
@@ -93,7 +93,7 @@ fn res_in(
 pub(crate) fn resolved_in<L: Listed>(
     alloc: Global,
     lists: &L,
-    ask: &Ask<'_>,
+    ask: &Unresolved<'_>,
     system: SysId,
     job: u16,
 ) -> Result<Resolved, NoMemory>
@@ -110,7 +110,7 @@ pub(crate) fn resolved_in<L: Listed>(
 /// complex that the exclusion list names stays in its system. A RESERVE that the exclusion list names stays
 /// in its system and reserves its device; one that the conversion list names is for the whole complex and
 /// doesn't; any other does both. Requests of a step, and those with RNL=NO, aren't looked up.
-pub fn resolve_kind(lists: &Lists, ask: &Ask<'_>) -> (Scope, bool)
+pub fn resolve_kind(lists: &Lists, ask: &Unresolved<'_>) -> (Scope, bool)
     ensures { result ≡ kind_of lists.now ask.now.reserve ask.now.scope ask.now.rnl ask.now.q.now ask.now.r.now }
 {
     kind_in(lists, ask)
@@ -121,7 +121,7 @@ pub fn resolve_kind(lists: &Lists, ask: &Ask<'_>) -> (Scope, bool)
 pub fn resolve(
     alloc: Global,
     lists: &Lists,
-    ask: &Ask<'_>,
+    ask: &Unresolved<'_>,
     system: SysId,
     job: u16,
 ) -> Result<Resolved, NoMemory>

@@ -8,5 +8,5 @@ mod decide;
 mod listed;
 mod resolver;
 
-pub use decide::{Ask, Resolved, resolve, resolve_kind};
+pub use decide::{Resolved, Unresolved, resolve, resolve_kind};
 pub use resolver::Resolver;

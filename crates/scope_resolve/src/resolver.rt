@@ -2,7 +2,7 @@
 ghost use Rattle.std.specs.Prelude.{◌≡◌, IfOk};
 ghost use Rattle.scope_resolve.specs.Resolve.{kind_of, resolved};
 
-use super::decide::{Ask, Resolved, kind_in, resolved_in};
+use super::decide::{Resolved, Unresolved, kind_in, resolved_in};
 use grs_base::{Lists, NoMemory, Scope, SysId};
 use rnl_match::RnlIndex;
 use std::alloc::Global;
@@ -36,7 +36,7 @@ impl<'l> Resolver<'l> {
     }
 
     /// What `resolve_kind` answers of the lists.
-    pub fn resolve_kind(&self, ask: &Ask<'_>) -> (Scope, bool)
+    pub fn resolve_kind(&self, ask: &Unresolved<'_>) -> (Scope, bool)
         ensures { result ≡ kind_of self.now ask.now.reserve ask.now.scope ask.now.rnl ask.now.q.now ask.now.r.now }
     {
         kind_in(self, ask)
@@ -46,7 +46,7 @@ impl<'l> Resolver<'l> {
     pub fn resolve(
         &self,
         alloc: Global,
-        ask: &Ask<'_>,
+        ask: &Unresolved<'_>,
         system: SysId,
         job: u16,
     ) -> Result<Resolved, NoMemory>
