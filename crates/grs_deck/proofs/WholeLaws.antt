@@ -18,7 +18,7 @@ use Rattle.grs_wire.specs.declared.deck.Event.{Event}
 use Rattle.grs_wire.specs.declared.deck.Choice.{Choice}
 use Rattle.grs_wire.specs.declared.deck.Choice.TheVariants as choices
 use Rattle.grs_wire.specs.declared.deck.Deck.{Deck}
-use Rattle.grs_wire.specs.Decks.{task_count, Fits, IsTaskOf, IsChoiceOf, IsBuilt, IsEventOf, IsOrderOf, AreOrders, all_lines, AreLines, AreNamedOnce, IsDeck}
+use Rattle.grs_wire.specs.Decks.{task_count, Fits, IsTaskOf, IsChoiceOf, is_built, IsEventOf, IsOrderOf, AreOrders, all_lines, AreLines, AreNamedOnce, IsDeck}
 use Rattle.deck_scan.specs.declared.token.Token.{Token}
 use Rattle.deck_scan.specs.declared.token.TokenLine.{TokenLine}
 use Rattle.job_syntax.specs.Lines.{line_of}
@@ -138,21 +138,21 @@ choice_is systems entries rest s id (acts.Purge n) c act e =
 choice_is systems entries rest s id acts.Rest c act e = subst (IsChoiceOf systems entries s id) (some_is choices.Rest c e) tt
 
 -- an event line of a form that is built
-built_is : (systems : List SystemDef) (id : SysId) (s : SystemDef) (a : EventAct) (c : Choice) → is_unbuilt_act a ≡ false → choice_of systems id s a ≡ Some c → IsBuilt c
+built_is : (systems : List SystemDef) (id : SysId) (s : SystemDef) (a : EventAct) (c : Choice) → is_unbuilt_act a ≡ false → choice_of systems id s a ≡ Some c → is_built c ≡ true
 built_is systems id s (acts.Task j t) c b e =
     let k = bind_some (task_in id s j t) (λ k. Some (choices.Task k)) c e in
-    subst IsBuilt (some_is (choices.Task k.0) c k.2) tt
-built_is systems id s acts.Turn c b e = subst IsBuilt (some_is choices.Turn c e) tt
+    subst (λ (z : Choice). is_built z ≡ true) (some_is (choices.Task k.0) c k.2) refl
+built_is systems id s acts.Turn c b e = subst (λ (z : Choice). is_built z ≡ true) (some_is choices.Turn c e) refl
 built_is systems id s (acts.Send j t) c b e =
     let k = bind_some (task_in id s j t) (λ k. Some (choices.Send k)) c e in
-    subst IsBuilt (some_is (choices.Send k.0) c k.2) tt
-built_is systems id s acts.Take c b e = subst IsBuilt (some_is choices.Take c e) tt
-built_is systems id s acts.Settle c b e = subst IsBuilt (some_is choices.Settle c e) tt
-built_is systems id s (acts.Tell n) c b e = subst IsBuilt (some_is (choices.Tell n) c e) tt
-built_is systems id s (acts.Leave n) c b e = subst IsBuilt (some_is (choices.Leave n) c e) tt
+    subst (λ (z : Choice). is_built z ≡ true) (some_is (choices.Send k.0) c k.2) refl
+built_is systems id s acts.Take c b e = subst (λ (z : Choice). is_built z ≡ true) (some_is choices.Take c e) refl
+built_is systems id s acts.Settle c b e = subst (λ (z : Choice). is_built z ≡ true) (some_is choices.Settle c e) refl
+built_is systems id s (acts.Tell n) c b e = subst (λ (z : Choice). is_built z ≡ true) (some_is (choices.Tell n) c e) refl
+built_is systems id s (acts.Leave n) c b e = subst (λ (z : Choice). is_built z ≡ true) (some_is (choices.Leave n) c e) refl
 built_is systems id s acts.Switch c b e = absurd cc
 built_is systems id s (acts.Purge n) c b e = absurd cc
-built_is systems id s acts.Rest c b e = subst IsBuilt (some_is choices.Rest c e) tt
+built_is systems id s acts.Rest c b e = subst (λ (z : Choice). is_built z ≡ true) (some_is choices.Rest c e) refl
 
 event_is : (systems : List SystemDef) (entries : ℕ) (rest : List Token) (name : List ℕ) (a : EventAct) (e : Event) → IsAct entries rest a → is_unbuilt_act a ≡ false → event_of systems name a ≡ Some e → IsEventOf systems entries e
 event_is systems entries rest name a e act built h =

@@ -7,22 +7,24 @@ use Rattle.grs_node.specs.Node.{NodeState, most_additions}
 use Rattle.grs_node.specs.Star.{StarPart}
 use Rattle.grs_node.specs.declared.prepared.Prepared.{Prepared}
 use Rattle.grs_node.specs.declared.prepared.Prepared.TheVariants.{Quiet, Call, Nothing}
+use Rattle.grs_wire.specs.Decks.{is_built}
+use Rattle.grs_wire.specs.declared.deck.Choice.TheVariants as choices
 use Rattle.grs_wire.specs.declared.deck.Deck.{Deck}
 use Rattle.grs_wire.specs.declared.medium.Act.{Act}
 use Rattle.grs_wire.specs.declared.medium.Act.TheVariants as acts
 
 -- Whether an act goes to a system of the deck and speaks of a lock entry that there is, where it does so, and a Turn puts
--- in no more than it may. What else an act carries isn't looked at. A Switch or a Purge isn't addressed to anything: no
--- system changes the mode or removes another yet.
+-- in no more than it may. What else an act carries isn't looked at. A Switch or a Purge isn't addressed to anything
+-- while it isn't built.
 abbrev pub is_act_addressed : Deck → Act → Bool
 is_act_addressed deck (acts.Turn out) = nat_le (length out) most_additions
-is_act_addressed deck (acts.Switch words) = false
+is_act_addressed deck (acts.Switch words) = is_built choices.Switch
 is_act_addressed deck (acts.Submit e q) = nat_lt e deck.entries
 is_act_addressed deck acts.Take = true
 is_act_addressed deck (acts.Settle to mail) = nat_lt to.0 (length deck.systems)
 is_act_addressed deck (acts.Tell to mail) = nat_lt to.0 (length deck.systems)
 is_act_addressed deck (acts.Leave e) = nat_lt e deck.entries
-is_act_addressed deck (acts.Purge target) = false
+is_act_addressed deck (acts.Purge target) = is_built (choices.Purge target)
 is_act_addressed deck acts.Rest = true
 
 -- the same of what was prepared, if it is a call
