@@ -8,7 +8,8 @@ use Rattle.grs_wire.specs.declared.medium.Act.TheVariants.{Turn, Take, Leave, Pu
 use Rattle.grs_wire.specs.declared.medium.Call.{Call}
 use Rattle.grs_wire.specs.declared.medium.JEntry.{JEntry}
 use Rattle.grs_wire.specs.declared.medium.Reply.TheVariants.{Purged, Resting, Stale}
-use Rattle.rsa_message.specs.Message.{first_after, unseen, any_unseen, cleared, stamped, turn_reply, wakes, rest_after_turn, turned, turn_changes, dropped, closed_by}
+use Rattle.rsa_message.specs.Message.{first_after, any_unseen, cleared, stamped, turn_reply, wakes, rest_after_turn, turned, turn_changes, dropped, closed_by}
+use Rattle.grs_wire.specs.Unseen.{unseen}
 use Rattle.grs_medium.specs.Apply.{turn_row, switch_row, submit_row, take_row, mail_row, leave_row, purge_row, rest_row, row, apply, row_changes, changes}
 use Rattle.grs_medium.specs.Medium.{MediumState, first_medium, medium_at_end}
 use Rattle.lock_structure.specs.Words.{route}

@@ -8,7 +8,8 @@ use Rattle.grs_wire.specs.declared.medium.Act.TheVariants.{Turn, Switch, Purge, 
 use Rattle.grs_wire.specs.declared.medium.RingEntry.{RingEntry}
 use Rattle.grs_wire.specs.declared.medium.Reply.{Reply}
 use Rattle.grs_wire.specs.declared.medium.Reply.TheVariants.{Turned, NotYours, Behind, Switched, Already, Purged, NoSuch, InStar, Resting, Over, Stale, Removed}
-use Rattle.rsa_message.specs.Message.{unseen, first_number, turn_reply, stands_at}
+use Rattle.rsa_message.specs.Message.{first_number, turn_reply, stands_at}
+use Rattle.grs_wire.specs.Unseen.{unseen}
 use Rattle.grs_medium.specs.Apply.{turn_row, switch_ring, switch_row, is_live, without_system, purge_row, resting, rest_row, row, apply}
 use Rattle.grs_medium.specs.Medium.{MediumState, all_rest, medium_at_end}
 use Rattle.grs_medium.specs.Causes.{is_removed, turns_elsewhere, switches_in_star, switches_behind, switches, purges_in_star, purges_nobody, rests_last, rests_early, RemovedComes, StaleComes, NotYoursComes, AlreadyComes, BehindComes, SwitchedComes, InStarComes, NoSuchComes, OverComes, RestingComes}

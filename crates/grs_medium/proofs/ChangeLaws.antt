@@ -18,7 +18,8 @@ use Rattle.grs_wire.specs.Masks.{has, only}
 use Rattle.grs_wire.proofs.MaskLaws.{has-without_same, has-with_same}
 use Rattle.lock_structure.specs.Words.{word_at, route_by, route, submitted_words}
 use Rattle.lock_structure.proofs.WordLaws.{submitted-unmanaged, left_word-changed}
-use Rattle.rsa_message.specs.Message.{Message, stands_at, or_else, first_after, is_unseen, unseen, first_number, any_unseen, left_by, cleared, stamped, is_due, moves, turned_open, turned_closed, turned, turn_changes}
+use Rattle.rsa_message.specs.Message.{Message, stands_at, or_else, first_after, first_number, any_unseen, left_by, cleared, stamped, is_due, moves, turned_open, turned_closed, turned, turn_changes}
+use Rattle.grs_wire.specs.Unseen.{is_unseen, unseen}
 use Rattle.grs_medium.specs.Apply.{turn_row, switch_ring, switch_row, joined, submit_on, submit_row, take_from, take_row, mail_row, leave_row, purge_row, rest_row, row, row_changes, apply, changes, is_live, without_system}
 use Rattle.grs_medium.specs.Inboxes.{inbox_of, is_empty, with_mail, without_first}
 use Rattle.grs_medium.specs.Medium.{MediumState, systems_of, awake, inbox, live, word}

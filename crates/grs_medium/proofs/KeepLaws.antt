@@ -16,7 +16,8 @@ use Rattle.grs_wire.specs.LockWords.{manager, is_manager}
 use Rattle.grs_wire.specs.Masks.{has, without, only}
 use Rattle.grs_wire.proofs.MaskLaws.{without-absent, with-present, has-with_same}
 use Rattle.lock_structure.specs.Words.{route_by, route}
-use Rattle.rsa_message.specs.Message.{Message, stands_at, or_else, first_after, is_unseen, unseen, first_number, any_unseen, left_by, cleared, stamped, is_due, moves, wakes, rest_after_turn, turned_open, turned_closed, turned, turn_changes}
+use Rattle.rsa_message.specs.Message.{Message, stands_at, or_else, first_after, first_number, any_unseen, left_by, cleared, stamped, is_due, moves, wakes, rest_after_turn, turned_open, turned_closed, turned, turn_changes}
+use Rattle.grs_wire.specs.Unseen.{is_unseen, unseen}
 use Rattle.rsa_message.proofs.OrderLaws.{stands_at-exact}
 use Rattle.grs_medium.specs.Apply.{turn_row, switch_ring, switch_row, joined, submit_on, submit_row, take_from, take_row, leave_row, purge_row, rest_row, row, row_changes, apply, changes, is_live}
 use Rattle.grs_medium.specs.Inboxes.{is_empty}

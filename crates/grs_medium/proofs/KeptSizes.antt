@@ -17,7 +17,8 @@ use Rattle.grs_wire.specs.declared.request.Req.{Req}
 use Rattle.lock_structure.specs.Words.{route, word_fits}
 use Rattle.lock_structure.specs.declared.word.Route.{Route}
 use Rattle.lock_structure.specs.declared.word.Route.TheVariants as routes
-use Rattle.rsa_message.specs.Message.{unseen, first_number, stands_at, closed_by, turned_closed, turned_open, turned, dropped}
+use Rattle.rsa_message.specs.Message.{first_number, stands_at, closed_by, turned_closed, turned_open, turned, dropped}
+use Rattle.grs_wire.specs.Unseen.{unseen}
 use Rattle.grs_medium.specs.Apply.{turn_row, switch_ring, switch_row, manages, joined, submit_on, submit_row, take_from, take_row, mail_row, leave_row, is_live, without_system, purge_row, rest_row, row, apply, medium_after, ActFits, MayCall}
 use Rattle.grs_medium.specs.Medium.{MediumState, systems_of, live, inbox, word}
 

@@ -15,7 +15,8 @@ use Rattle.grs_wire.specs.LockWords.{is_kept, interest, leave_reply}
 use Rattle.lock_structure.specs.Words.{route}
 use Rattle.lock_structure.specs.declared.word.Route.{Route}
 use Rattle.lock_structure.specs.declared.word.Route.TheVariants as routes
-use Rattle.rsa_message.specs.Message.{unseen, first_number, turn_reply, stands_at}
+use Rattle.rsa_message.specs.Message.{first_number, turn_reply, stands_at}
+use Rattle.grs_wire.specs.Unseen.{unseen}
 use Rattle.grs_medium.specs.Apply.{turn_row, switch_ring, switch_row, submit_on, submit_row, take_from, take_row, mail_row, leave_row, is_live, purge_row, resting, rest_row, row, apply, reply_to}
 use Rattle.grs_medium.specs.Medium.{MediumState, inbox, word, all_rest, medium_at_end}
 use Rattle.grs_medium.specs.Causes.{is_removed, is_heard}

@@ -6,7 +6,8 @@ use Rattle.grs_wire.specs.Masks.{has, without}
 use Rattle.grs_wire.specs.declared.medium.Reply.{Reply}
 use Rattle.grs_wire.specs.declared.medium.Reply.TheVariants.{Turned, NotYours, Stale, Removed}
 use Rattle.grs_wire.specs.declared.request.Req.{Req}
-use Rattle.rsa_message.specs.Message.{stands_at, moves, unseen, turn_reply, turned, turned_open, turned_closed, wakes, rest_after_turn}
+use Rattle.rsa_message.specs.Message.{stands_at, moves, turn_reply, turned, turned_open, turned_closed, wakes, rest_after_turn}
+use Rattle.grs_wire.specs.Unseen.{unseen}
 use Rattle.grs_medium.specs.Apply.{turn_row, row, apply}
 use Rattle.grs_medium.specs.Medium.{MediumState, live}
 use Rattle.grs_medium.specs.TurnReplies.{refusal, TurnIsRefused, TurnIsServed}

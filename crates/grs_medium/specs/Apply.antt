@@ -15,7 +15,8 @@ use Rattle.grs_wire.specs.LockWords.{manager, is_manager, leave_reply, leave_cha
 use Rattle.lock_structure.specs.Words.{route, submitted_words, left_words, word_fits}
 use Rattle.lock_structure.specs.declared.word.Route.{Route}
 use Rattle.lock_structure.specs.declared.word.Route.TheVariants as routes
-use Rattle.rsa_message.specs.Message.{unseen, first_number, turn_reply, turned, rest_after_turn, turn_changes, closed_by, dropped}
+use Rattle.rsa_message.specs.Message.{first_number, turn_reply, turned, rest_after_turn, turn_changes, closed_by, dropped}
+use Rattle.grs_wire.specs.Unseen.{unseen}
 use Rattle.grs_medium.specs.Inboxes.{is_empty, with_mail, without_first}
 use Rattle.grs_medium.specs.Medium.{MediumState, systems_of, live, inbox, medium_at_end, all_rest, awake, word}
 

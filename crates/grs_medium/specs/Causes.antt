@@ -9,7 +9,8 @@ use Rattle.grs_wire.specs.declared.medium.Mail.{Mail}
 use Rattle.grs_wire.specs.declared.medium.Reply.TheVariants as replies
 use Rattle.grs_wire.specs.LockWords.{interest, manager, is_manager}
 use Rattle.lock_structure.specs.Laws.{has_others}
-use Rattle.rsa_message.specs.Message.{stands_at, unseen, first_number}
+use Rattle.rsa_message.specs.Message.{stands_at, first_number}
+use Rattle.grs_wire.specs.Unseen.{unseen}
 use Rattle.grs_medium.specs.Apply.{is_live, resting, reply_to}
 use Rattle.grs_medium.specs.Inboxes.{is_empty, first_mail}
 use Rattle.grs_medium.specs.Medium.{MediumState, all_rest, inbox, medium_at_end, word}

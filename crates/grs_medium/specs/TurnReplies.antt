@@ -6,7 +6,8 @@ use Rattle.grs_wire.specs.declared.medium.Act.TheVariants.{Turn}
 use Rattle.grs_wire.specs.declared.medium.Reply.{Reply}
 use Rattle.grs_wire.specs.declared.medium.Reply.TheVariants as replies
 use Rattle.grs_wire.specs.declared.request.Req.{Req}
-use Rattle.rsa_message.specs.Message.{stands_at, unseen}
+use Rattle.rsa_message.specs.Message.{stands_at}
+use Rattle.grs_wire.specs.Unseen.{unseen}
 use Rattle.grs_medium.specs.Apply.{turn_row, apply}
 use Rattle.grs_medium.specs.Medium.{MediumState}
 use Rattle.grs_medium.specs.declared.medium.TurnRefusal.{TurnRefusal}

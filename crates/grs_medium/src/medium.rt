@@ -9,7 +9,8 @@ ghost use Rattle.grs_medium.specs.Medium.{first_medium, systems_of, awake, inbox
 ghost use Rattle.grs_medium.specs.Apply.{turn_row, manages, joined, submit_row, switch_ring, switch_row, take_row, mail_row, leave_row, purge_row, rest_row, reply_to, medium_after, changes, row, row_changes, ActFits, MayCall};
 ghost use Rattle.grs_medium.specs.Room.{HasRoomFor, HasRoomOn, request_on};
 ghost use Rattle.grs_medium.specs.TurnReplies.{refusal_reply, refusal};
-ghost use Rattle.rsa_message.specs.Message.{stands_at, rest_after_turn, unseen, first_number};
+ghost use Rattle.rsa_message.specs.Message.{stands_at, rest_after_turn, first_number};
+ghost use Rattle.grs_wire.specs.Unseen.{unseen};
 ghost use Rattle.rsa_message.specs.Places.{HasPlaces};
 ghost use Rattle.rsa_message.specs.Room.{HasRoom};
 ghost use Rattle.std.specs.Option.{option_map};

@@ -18,7 +18,7 @@ use Rattle.grs_wire.specs.declared.medium.Act.TheVariants as acts
 use Rattle.grs_wire.specs.declared.medium.Reply.TheVariants as replies
 use Rattle.grs_wire.specs.declared.medium.RingBody.TheVariants as bodies
 use Rattle.grs_wire.specs.declared.medium.RingEntry.{RingEntry}
-use Rattle.grs_node.specs.Entries.{unseen_by}
+use Rattle.grs_wire.specs.Unseen.{unseen}
 use Rattle.grs_node.specs.Finish.{is_listed, may_come, leaves_all}
 use Rattle.grs_node.specs.declared.prepared.Prepared.TheVariants.{Quiet, Call}
 
@@ -62,12 +62,12 @@ given : leaves_all (replies.Turned (removal ∷ []) 0 false) ≡ false
 given = refl
 
 -- systems 0 and 2 have yet to process it, and read it at their Turns
-read : unseen_by (record { 0 = 2 }) (removal ∷ []) ≡ removal ∷ []
-unfolding has
+read : unseen (record { 0 = 2 }) (removal ∷ []) ≡ removal ∷ []
+unfolding unseen has
 read = refl
 
-passed : unseen_by (record { 0 = 1 }) (removal ∷ []) ≡ []
-unfolding has
+passed : unseen (record { 0 = 1 }) (removal ∷ []) ≡ []
+unfolding unseen has
 passed = refl
 
 -- ---- entries of tasks that the deck lacks

@@ -8,7 +8,7 @@ ghost use Rattle.task_state.specs.View.{is_task, state_of};
 ghost use Rattle.grs_node.specs.Node as steps;
 ghost use Rattle.grs_node.specs.Finish.{MayFinish, may_come};
 ghost use Rattle.grs_node.specs.Addressed.{is_addressed};
-ghost use Rattle.grs_node.specs.Entries.{unseen_by};
+ghost use Rattle.grs_wire.specs.Unseen.{unseen};
 ghost use Rattle.grs_node.specs.TurnCalls.{turn_of};
 ghost use Rattle.grs_wire.specs.declared.deck.Choice.TheVariants.{Turn};
 ghost use Rattle.grs_wire.specs.declared.medium.Reply.TheVariants.{Turned};
@@ -209,7 +209,7 @@ impl<'d> Node<'d> {
         taken: u32,
     ) -> Result<List<Fixed>, NoMemory>
         requires { system.0 < most_systems }
-        ensures step { IfOk result (λ fixed. stepped self.new.node fixed ≡ steps.put_in (steps.read_entries self.old.deck self.old.node (unseen_by system entries.now)) taken) }
+        ensures step { IfOk result (λ fixed. stepped self.new.node fixed ≡ steps.put_in (steps.read_entries self.old.deck self.old.node (unseen system entries.now)) taken) }
         ensures log { self.new.log ≡ self.old.log }
         ensures deck { self.new.deck ≡ self.old.deck }
         ensures system { self.new.node.tasks.system ≡ self.old.node.tasks.system }
@@ -263,9 +263,9 @@ impl<'d> Node<'d> {
         taken: u32,
         closed: bool,
     ) -> Result<(), NoMemory>
-        requires turn { MayFinish self.old Turn (Some (Turned (unseen_by system entries.now) taken closed, true)) }
+        requires turn { MayFinish self.old Turn (Some (Turned (unseen system entries.now) taken closed, true)) }
         requires system { system.0 < most_systems }
-        ensures step { OnOk result (self.new ≡ finished self.old Turn (Some (Turned (unseen_by system entries.now) taken closed, true))) }
+        ensures step { OnOk result (self.new ≡ finished self.old Turn (Some (Turned (unseen system entries.now) taken closed, true))) }
         ensures deck { self.new.deck ≡ self.old.deck }
         ensures system { self.new.node.tasks.system ≡ self.old.node.tasks.system }
     {

@@ -3,7 +3,7 @@ ghost use Rattle.std.specs.Prelude.{◌≡◌, ◌<◌, true, take, drop, length
 ghost use Rattle.grs_base.specs.Limits.{most_systems};
 ghost use Rattle.grs_wire.specs.declared.medium.RingBody.TheVariants.{Request};
 ghost use Rattle.grs_wire.specs.declared.request.Fixed.TheVariants as fixes;
-ghost use Rattle.grs_node.specs.Entries.{unseen_by};
+ghost use Rattle.grs_wire.specs.Unseen.{unseen};
 ghost use Rattle.grs_node.specs.Node as steps;
 ghost use Rattle.grs_node.specs.Node.{are_of_system};
 ghost use Rattle.grs_node.specs.Finish.{may_come};
@@ -110,7 +110,7 @@ impl NodeState {
     }
 
     /// The system processes those entries of the message that it hasn't seen, in order, where they lie.
-    #[tactic(auto, unfolding(crate::specs::Node::read_entries))]
+    #[tactic(auto, unfolding(crate::specs::Node::read_entries, grs_wire::specs::Unseen::unseen))]
     fn read_unseen(
         &mut self,
         alloc: Global,
@@ -119,7 +119,7 @@ impl NodeState {
         system: SysId,
     ) -> Result<(), NoMemory>
         requires { system.0 < most_systems }
-        ensures step { OnOk result (self.new ≡ steps.read_entries deck.now self.old (unseen_by system entries.now)) }
+        ensures step { OnOk result (self.new ≡ steps.read_entries deck.now self.old (unseen system entries.now)) }
         ensures system { self.new.tasks.system ≡ self.old.tasks.system }
     {
         let mut rest = entries;
@@ -173,7 +173,7 @@ impl NodeState {
         taken: u32,
     ) -> Result<List<Fixed>, NoMemory>
         requires { system.0 < most_systems }
-        ensures step { IfOk result (λ fixed. stepped self.new fixed ≡ steps.put_in (steps.read_entries deck.now self.old (unseen_by system entries.now)) taken) }
+        ensures step { IfOk result (λ fixed. stepped self.new fixed ≡ steps.put_in (steps.read_entries deck.now self.old (unseen system entries.now)) taken) }
         ensures system { self.new.tasks.system ≡ self.old.tasks.system }
     {
         self.read_unseen(alloc, deck, entries, system)?;

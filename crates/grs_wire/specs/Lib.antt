@@ -1,5 +1,6 @@
 pub mod Decks
 pub mod Masks
+pub mod Unseen
 pub mod LockWords
 pub mod Wants
 pub mod History

@@ -13,7 +13,7 @@ use Rattle.grs_wire.specs.History.{replay}
 use Rattle.grs_wire.specs.declared.deck.Deck.{Deck}
 use Rattle.grs_wire.specs.declared.deck.Event.{Event}
 use Rattle.lock_structure.specs.Laws.{manager_at}
-use Rattle.rsa_message.specs.Message.{unseen}
+use Rattle.grs_wire.specs.Unseen.{unseen}
 use Rattle.grs_world.specs.Running.{is_live}
 use Rattle.grs_world.specs.World.{World, run, hist}
 

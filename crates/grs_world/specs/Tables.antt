@@ -9,7 +9,8 @@ use Rattle.grs_wire.specs.History.{replay, answered}
 use Rattle.grs_wire.specs.declared.deck.Deck.{Deck}
 use Rattle.grs_wire.specs.declared.deck.Event.{Event}
 use Rattle.grs_wire.specs.declared.request.Fixed.{Fixed}
-use Rattle.rsa_message.specs.Message.{Message, unseen, first_number}
+use Rattle.rsa_message.specs.Message.{Message, first_number}
+use Rattle.grs_wire.specs.Unseen.{unseen}
 use Rattle.grs_world.specs.Running.{is_live}
 use Rattle.grs_world.specs.World.{World, run}
 

@@ -8,6 +8,7 @@ use Rattle.grs_wire.specs.declared.medium.RingEntry.{RingEntry}
 use Rattle.grs_wire.specs.declared.medium.Reply.{Reply}
 use Rattle.grs_wire.specs.declared.medium.Reply.TheVariants.{Turned, NotYours}
 use Rattle.grs_wire.specs.Masks.{has, without, only}
+use Rattle.grs_wire.specs.Unseen.{is_unseen, unseen}
 
 -- The message of a number of systems. It stands at one of them, or at none once all have changed to star
 -- mode. `still` is the set of the systems that have yet to change; `next` is the number of the next entry.
@@ -50,14 +51,7 @@ abbrev pub system_number : Option SysId → ℕ
 system_number None = 0
 system_number (Some s) = s.0
 
--- whether s has yet to process an entry: those that have are the entry's mask
-abbrev pub is_unseen : SysId → RingEntry → Bool
-is_unseen s e = has e.mask s.0
-
--- the entries that s has yet to process, in their order
-unfoldable pub unseen : SysId → List RingEntry → List RingEntry
-unseen s es = filter (is_unseen s) es
-
+-- whether s has yet to process one of these entries
 unfoldable pub any_unseen : SysId → List RingEntry → Bool
 any_unseen s es = list_any (is_unseen s) es
 

@@ -2,7 +2,8 @@
 use Rattle.std.specs.Prelude.{◌≡◌, ℕ, ◌≤◌, cond, max, List, [], Option, Some, None}
 use Rattle.grs_base.specs.declared.resource.SysId.{SysId}
 use Rattle.grs_wire.specs.declared.medium.RingEntry.{RingEntry}
-use Rattle.rsa_message.specs.Message.{Message, stands_at, unseen}
+use Rattle.rsa_message.specs.Message.{Message, stands_at}
+use Rattle.grs_wire.specs.Unseen.{unseen}
 
 -- For whose Turn there is room, if for any, and for how many new entries.
 pub record Room : Type 0 where

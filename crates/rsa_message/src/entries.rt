@@ -1,6 +1,7 @@
 //! The entries of the message, in order.
 ghost use Rattle.std.specs.Prelude.{◌≡◌, ◌+◌, ◌<◌, ◌≤◌, ◌^◌, ◌++◌, ◌==◌, length, map, filter, not, IfOk, vec_len, vec_capacity};
-ghost use Rattle.rsa_message.specs.Message.{left_by, unseen, any_unseen, cleared, stamped, first_number};
+ghost use Rattle.rsa_message.specs.Message.{left_by, any_unseen, cleared, stamped, first_number};
+ghost use Rattle.grs_wire.specs.Unseen.{unseen};
 
 use grs_base::{List, NoMemory, SysId};
 use grs_wire::masks::{has_system, with_system, without_system};
@@ -73,7 +74,7 @@ fn count_unseen(entries: &[RingEntry], system: SysId) -> usize
 }
 
 /// Copies of the entries that are unseen by the system.
-#[tactic(auto, unfolding(crate::specs::Message::unseen))]
+#[tactic(auto, unfolding(grs_wire::specs::Unseen::unseen))]
 pub fn copy_unseen(
     alloc: Global,
     entries: &[RingEntry],
@@ -101,7 +102,7 @@ pub fn has_unseen(entries: &[RingEntry], system: SysId) -> bool
 }
 
 /// The number of the first entry that is unseen by the system.
-#[tactic(auto, unfolding(crate::specs::Message::unseen))]
+#[tactic(auto, unfolding(grs_wire::specs::Unseen::unseen))]
 pub fn first_of_unseen(entries: &[RingEntry], system: SysId) -> Option<u64>
     requires { system.0 < 32 }
     ensures { result ≡ first_number (unseen system entries.now) }

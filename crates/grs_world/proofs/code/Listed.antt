@@ -23,7 +23,8 @@ use Rattle.grs_wire.specs.declared.medium.Mail.{Mail}
 use Rattle.grs_wire.specs.declared.medium.Reply.{Reply}
 use Rattle.grs_wire.specs.declared.medium.Reply.TheVariants.{Turned, NotYours, Already, Left, Kept, Purged, NoSuch, InStar, Resting, Over, Stale, Removed}
 use Rattle.grs_wire.specs.declared.request.Req.{Req}
-use Rattle.rsa_message.specs.Message.{unseen, first_number, turn_reply, stands_at}
+use Rattle.rsa_message.specs.Message.{first_number, turn_reply, stands_at}
+use Rattle.grs_wire.specs.Unseen.{unseen}
 
 no_more : (n : ℕ) (closed : Bool) → nat_le (cond closed 0 n) n ≡ true
 no_more n true = grind (arith, nat_tests)

@@ -5,26 +5,19 @@ use Rattle.grs_medium.specs.Apply.{turn_row, apply}
 use Rattle.grs_medium.specs.Medium.{MediumState}
 use Rattle.grs_medium.specs.TurnReplies.{refusal}
 use Rattle.grs_medium.proofs.TurnLaws.{turn_is_refused, turn_is_served, turn_is_here}
-use Rattle.grs_node.specs.Entries.{unseen_by}
+use Rattle.grs_wire.specs.Unseen.{unseen}
 use Rattle.grs_node.specs.Finish.{may_come}
 use Rattle.grs_node.specs.Node.{NodeState, prepare, finish, most_additions}
 use Rattle.grs_node.specs.TurnCalls.{turn_of}
 use Rattle.grs_node.specs.declared.prepared.Prepared.TheVariants.{Call}
 use Rattle.grs_wire.specs.declared.deck.Choice.TheVariants.{Turn}
 use Rattle.grs_wire.specs.declared.deck.Deck.{Deck}
-use Rattle.grs_wire.specs.declared.medium.Act.TheVariants as acts
 use Rattle.grs_wire.specs.declared.medium.Reply.{Reply}
 use Rattle.grs_wire.specs.declared.medium.Reply.TheVariants.{Turned}
 use Rattle.grs_wire.specs.declared.request.Req.{Req}
-use Rattle.rsa_message.specs.Message.{unseen}
 use Rattle.grs_world.specs.World.{chosen}
 use Rattle.grs_world.proofs.code.Calls.{chosen-call}
 use Rattle.grs_world.proofs.code.Listed.{may_come-reply}
-
--- what is given at the message is what the caller hasn't seen
-turn-given : (m : MediumState) (c : SysId) (known : ℕ) (out : List Req) → refusal m c known ≡ None → apply m c (record { known = known; act = acts.Turn out }) ≡ (Turned (unseen_by c m.message.entries) (cond m.message.closed 0 (length out)) m.message.closed, (turn_row m c out).1)
-unfolding unseen
-turn-given m c known out h = turn_is_served m c known out h
 
 -- what a Turn that was prepared leads to, by what the medium makes of it
 module _ (deck : Deck) (m : MediumState) (c : SysId) (n : NodeState) (known : ℕ) (asks : prepare deck n Turn ≡ Call (turn_of n known)) where
@@ -42,13 +35,13 @@ module _ (deck : Deck) (m : MediumState) (c : SysId) (n : NodeState) (known : �
 
   -- the reply of a Turn that gets to the message, which puts these requests in
   abbrev pub reply_here : List Req → Reply
-  reply_here out = Turned (unseen_by c m.message.entries) (cond m.message.closed 0 (length out)) m.message.closed
+  reply_here out = Turned (unseen c m.message.entries) (cond m.message.closed 0 (length out)) m.message.closed
 
   pub chosen-given : refusal m c known ≡ None → chosen deck m c n Turn ≡ record { medium = (turn_row m c (take most_additions n.outbox)).1; step = finish deck n Turn (Some (reply_here (take most_additions n.outbox))) }
-  chosen-given h = by_call (turn-given m c known (take most_additions n.outbox) h)
+  chosen-given h = by_call (turn_is_served m c known (take most_additions n.outbox) h)
 
   pub given-ends : refusal m c known ≡ None → may_come (prepare deck n Turn) (reply_here (take most_additions n.outbox)) ≡ true
-  given-ends h = may_end (turn-given m c known (take most_additions n.outbox) h)
+  given-ends h = may_end (turn_is_served m c known (take most_additions n.outbox) h)
 
 pub ruleset refused = (chosen-refused, refused-ends)
 

@@ -13,7 +13,8 @@ use Rattle.grs_wire.specs.declared.request.Req.{Req}
 use Rattle.grs_wire.specs.Masks.{has, without, with_also, only, others}
 use Rattle.grs_wire.proofs.WantLaws.{by_test}
 use Rattle.grs_wire.proofs.MaskLaws.{has-zero, has-with_other, has-without_same, has-without_other}
-use Rattle.rsa_message.specs.Message.{Message, stands_at, first_after, or_else, is_unseen, unseen, any_unseen, left_by, cleared, stamped, is_due, moves, turned_open, turned_closed, turned}
+use Rattle.rsa_message.specs.Message.{Message, stands_at, first_after, or_else, any_unseen, left_by, cleared, stamped, is_due, moves, turned_open, turned_closed, turned}
+use Rattle.grs_wire.specs.Unseen.{is_unseen, unseen}
 use Rattle.rsa_message.proofs.OrderLaws.{stands_at-exact}
 use Rattle.grs_world.specs.Laps.{OnlyLeft, LastAtHome}
 use Rattle.grs_world.proofs.message.LapsRound.{Ahead, home, inside_round, after_some, first_found, first_inside}

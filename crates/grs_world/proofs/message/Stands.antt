@@ -14,7 +14,8 @@ use Rattle.grs_wire.specs.declared.request.Fixed.TheVariants.{Asked, LocalLook, 
 use Rattle.grs_wire.specs.declared.request.Req.{Req}
 use Rattle.grs_wire.proofs.MaskLaws.{has-without_same, has-without_other, has-zero, has-with_same, has-with_other}
 use Rattle.grs_wire.proofs.WantLaws.{by_test}
-use Rattle.rsa_message.specs.Message.{cleared, left_by, stamped, unseen, first_number}
+use Rattle.rsa_message.specs.Message.{cleared, left_by, stamped, first_number}
+use Rattle.grs_wire.specs.Unseen.{unseen}
 
 -- what was fixed, as an entry of the message
 abbrev pub body_of : Fixed → Option RingBody

@@ -24,7 +24,8 @@ use Rattle.grs_wire.specs.declared.medium.RingBody.TheVariants.{Request, Remove}
 use Rattle.grs_wire.specs.declared.medium.RingEntry.{RingEntry}
 use Rattle.grs_wire.specs.declared.request.Req.{Req}
 use Rattle.grs_wire.proofs.WantLaws.{by_test}
-use Rattle.rsa_message.specs.Message.{Message, stands_at, unseen, opened, never_opened, left_by, cleared, stamped, turn_reply, turned, turned_open, turned_closed, rest_after_turn}
+use Rattle.rsa_message.specs.Message.{Message, stands_at, opened, never_opened, left_by, cleared, stamped, turn_reply, turned, turned_open, turned_closed, rest_after_turn}
+use Rattle.grs_wire.specs.Unseen.{unseen}
 use Rattle.grs_known.proofs.lists.Facts.{all-behind, take-none}
 use Rattle.grs_known.proofs.lists.Truths.{no_truth}
 use Rattle.grs_world.specs.World.{World, Turnout, carry_out, chosen, placed, counted, happens, run, first_world}

@@ -11,7 +11,8 @@ use Rattle.grs_wire.specs.declared.deck.Event.{Event}
 use Rattle.grs_wire.specs.declared.medium.RingEntry.{RingEntry}
 use Rattle.grs_wire.specs.declared.request.Fixed.{Fixed}
 use Rattle.grs_medium.specs.Medium.{live}
-use Rattle.rsa_message.specs.Message.{unseen, first_number}
+use Rattle.rsa_message.specs.Message.{first_number}
+use Rattle.grs_wire.specs.Unseen.{unseen}
 use Rattle.grs_known.specs.Items.{RunItem, goes_round, rounds, lists, AllCount, items_from, items}
 use Rattle.grs_known.specs.Change.{systems_part}
 use Rattle.grs_known.proofs.known.Histories.{items-append, count-front}

@@ -8,7 +8,7 @@ use Rattle.grs_node.specs.Node.{NodeState, read_entries}
 use Rattle.grs_wire.specs.History.{replay}
 use Rattle.grs_wire.specs.declared.deck.Deck.{Deck}
 use Rattle.grs_wire.specs.declared.deck.Event.{Event}
-use Rattle.rsa_message.specs.Message.{unseen}
+use Rattle.grs_wire.specs.Unseen.{unseen}
 use Rattle.grs_known.specs.Items.{rounds, lists, items}
 use Rattle.grs_known.proofs.known.Histories.{replayed}
 use Rattle.grs_known.proofs.known.ItemLaws.{items_are_history}

@@ -24,7 +24,8 @@ use Rattle.grs_wire.specs.declared.request.Req.{Req}
 use Rattle.grs_wire.specs.declared.told.ToldLine.{ToldLine}
 use Rattle.grs_wire.specs.declared.told.ToldLine.TheVariants as lines
 use Rattle.grs_medium.specs.Medium.{live}
-use Rattle.rsa_message.specs.Message.{Message, stands_at, is_unseen, unseen}
+use Rattle.rsa_message.specs.Message.{Message, stands_at}
+use Rattle.grs_wire.specs.Unseen.{is_unseen, unseen}
 use Rattle.rsa_message.proofs.OrderLaws.{stands_at-exact}
 use Rattle.grs_known.specs.Items.{RunItem, items}
 use Rattle.grs_known.proofs.lists.Facts.{filter-cons_kept}

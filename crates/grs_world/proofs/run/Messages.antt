@@ -10,7 +10,8 @@ use Rattle.grs_wire.specs.declared.medium.RingEntry.{RingEntry}
 use Rattle.grs_wire.specs.declared.request.Fixed.{Fixed}
 use Rattle.grs_wire.specs.declared.request.Fixed.TheVariants.{Asked}
 use Rattle.grs_wire.specs.declared.request.Req.{Req}
-use Rattle.rsa_message.specs.Message.{Message, turned_open, cleared, stamped, unseen}
+use Rattle.rsa_message.specs.Message.{Message, turned_open, cleared, stamped}
+use Rattle.grs_wire.specs.Unseen.{unseen}
 use Rattle.grs_world.proofs.run.Runs.{GoodMessage, seen_at, message_log}
 use Rattle.grs_world.proofs.message.Stands.{Stands, none, gone, kept, Bodies, Stands-cleared, Stands-append, Stands-stamped, unseen-drop, waits_for, waits_new, waits_seen, waits_live}
 use Rattle.grs_world.proofs.run.Growing.{fixeds}

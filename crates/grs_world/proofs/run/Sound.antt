@@ -23,7 +23,8 @@ use Rattle.grs_wire.specs.declared.medium.Reply.TheVariants as replies
 use Rattle.grs_wire.specs.declared.request.Fixed.TheVariants.{Asked}
 use Rattle.grs_wire.specs.declared.request.Req.{Req}
 use Rattle.grs_wire.proofs.WantLaws.{by_test}
-use Rattle.rsa_message.specs.Message.{Message, stands_at, unseen, turn_reply, turned, turned_open, turned_closed, rest_after_turn, opened, never_opened}
+use Rattle.rsa_message.specs.Message.{Message, stands_at, turn_reply, turned, turned_open, turned_closed, rest_after_turn, opened, never_opened}
+use Rattle.grs_wire.specs.Unseen.{unseen}
 use Rattle.grs_known.specs.Items.{RunItem, rounds, items}
 use Rattle.grs_known.specs.Change.{put_at}
 use Rattle.grs_known.proofs.known.Histories.{IsHistory}

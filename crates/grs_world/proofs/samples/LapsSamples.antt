@@ -10,7 +10,8 @@ use Rattle.grs_wire.specs.declared.medium.RingEntry.{RingEntry}
 use Rattle.grs_wire.specs.declared.request.Req.{Req}
 use Rattle.grs_wire.specs.declared.request.Want.TheVariants.{Enq}
 use Rattle.grs_wire.specs.Masks.{has, without, with_also}
-use Rattle.rsa_message.specs.Message.{Message, first_after, unseen, any_unseen, cleared, stamped, turn_reply, wakes, rest_after_turn, turned, dropped}
+use Rattle.rsa_message.specs.Message.{Message, first_after, any_unseen, cleared, stamped, turn_reply, wakes, rest_after_turn, turned, dropped}
+use Rattle.grs_wire.specs.Unseen.{unseen}
 use Rattle.grs_medium.specs.Apply.{turn_row, purge_row, row, apply, medium_after}
 use Rattle.grs_medium.specs.Medium.{MediumState, first_medium}
 use Rattle.grs_world.specs.Laps.{LastAtHome}

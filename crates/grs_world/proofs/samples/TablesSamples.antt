@@ -35,7 +35,8 @@ use Rattle.grs_wire.specs.declared.request.Want.TheVariants.{Enq, Look}
 use Rattle.grs_wire.specs.declared.told.ToldLine.TheVariants.{Coded}
 use Rattle.grs_wire.specs.declared.told.Verb.TheVariants as verbs
 use Rattle.ring_mode.specs.Ring.{answer_own, process, process_entry}
-use Rattle.rsa_message.specs.Message.{first_after, unseen, any_unseen, cleared, stamped, turn_reply, wakes, rest_after_turn, turned}
+use Rattle.rsa_message.specs.Message.{first_after, any_unseen, cleared, stamped, turn_reply, wakes, rest_after_turn, turned}
+use Rattle.grs_wire.specs.Unseen.{unseen}
 use Rattle.task_state.specs.Replies.{tell_code, record_enq, after_code, replied, passes_wait, tell_line, tell_untold, tell_control, tell_all, tell_new, recalled, tell_answer, tell_answer_any}
 use Rattle.task_state.specs.View.{state_of, with_state, with_line, with_phase, with_outstanding, with_record, without_record, with_told, with_exclusive, telling}
 use Rattle.grs_world.specs.Kept.{places, kept}

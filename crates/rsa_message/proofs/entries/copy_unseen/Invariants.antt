@@ -1,6 +1,6 @@
 use Rattle.std.proofs.Common.{◌≡◌, take}
 use Rattle.std.specs.Prelude.{filter}
-use Rattle.rsa_message.specs.Message.{is_unseen}
+use Rattle.grs_wire.specs.Unseen.{is_unseen}
 use Rattle.rsa_message.proofs.entries.copy_unseen.Given as goal
 
 abbrev pub invariant-loop-entry : goal.invariant-loop-entry

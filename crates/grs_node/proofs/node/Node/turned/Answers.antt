@@ -1,6 +1,6 @@
 use Rattle.std.proofs.Common.{ap, sym, ◌∙◌}
 use Rattle.grs_legal.specs.Asks.{scripts_of}
-use Rattle.grs_node.specs.Entries.{unseen_by}
+use Rattle.grs_wire.specs.Unseen.{unseen}
 use Rattle.grs_node.proofs.Fits.{turned-fits-after}
 use Rattle.grs_node.proofs.node.Node.turned.Goals as goal
 
@@ -8,5 +8,5 @@ pub invariant_of-self : goal.invariant_of-self
 invariant_of-self c = (
   c.self.invariant.0,
   c.self.invariant.1 ∙ ap (scripts_of c.self.inside.deck.now) (sym c.turned_among.ensures.system),
-  turned-fits-after c.self.inside.deck.now c.self.inside.state c.turned_among.new.self (unseen_by c.args.system c.args.entries.now) c.args.taken c.in-Ok.fixed c.self.invariant.2 c.in-Ok.ensures.system c.in-Ok.ensures.step,
+  turned-fits-after c.self.inside.deck.now c.self.inside.state c.turned_among.new.self (unseen c.args.system c.args.entries.now) c.args.taken c.in-Ok.fixed c.self.invariant.2 c.in-Ok.ensures.system c.in-Ok.ensures.step,
 )
