@@ -7,6 +7,7 @@ use Rattle.grs_wire.specs.declared.medium.Reply.{Reply}
 use Rattle.grs_wire.specs.declared.request.Fixed.{Fixed}
 use Rattle.grs_wire.specs.declared.seen.TaskEnd.{TaskEnd}
 use Rattle.grs_wire.specs.declared.seen.TaskEnd.TheVariants as ends
+use Rattle.grs_wire.specs.declared.told.ToldLine.{ToldLine}
 use Rattle.grs_node.specs.Node.{NodeState, Step, first_node, finish}
 use Rattle.task_state.specs.declared.state.Phase.{Phase}
 use Rattle.task_state.specs.declared.state.Phase.TheVariants as phases
@@ -25,13 +26,17 @@ starting deck s = record { deck = deck; node = first_node deck s; log = [] }
 abbrev pub stepped : NodeState → List Fixed → Step
 stepped n fixed = record { node = n; fixed = fixed }
 
+-- what a system told in a step
+abbrev pub told_in : NodeState → Step → List ToldLine
+told_in n s = drop (length n.tasks.told) s.node.tasks.told
+
 -- an event as its system keeps it
 abbrev pub step_done : NodeState → Choice → Bool → Step → StepDone
 step_done n choice journalled s = record {
   choice = choice;
   journalled = journalled;
   fixed = s.fixed;
-  told = drop (length n.tasks.told) s.node.tasks.told;
+  told = told_in n s;
 }
 
 -- the same with this step behind its events

@@ -4,7 +4,7 @@ use Rattle.grs_wire.specs.declared.log.StepDone.{StepDone}
 use Rattle.grs_wire.specs.declared.medium.Reply.{Reply}
 use Rattle.grs_node.specs.Node.{NodeState, Step}
 use Rattle.grs_world.specs.declared.chosen.Done.{Done}
-use Rattle.grs_world.specs.World.{told_in}
+use Rattle.grs_node.specs.Log.{told_in}
 
 -- what an event that a system kept fixed and told
 abbrev pub done_of : StepDone → Done

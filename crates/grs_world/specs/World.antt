@@ -1,8 +1,9 @@
 -- The run of a list of events: the medium, and the systems that share it. Each event is one system's.
-use Rattle.std.specs.Prelude.{ℕ, ◌+◌, List, [], ◌∷◌, ◌++◌, length, map, drop, cond, slice_get, set, Option, Some, None}
+use Rattle.std.specs.Prelude.{ℕ, ◌+◌, List, [], ◌∷◌, ◌++◌, length, map, cond, slice_get, set, Option, Some, None}
 use Rattle.grs_base.specs.declared.resource.SysId.{SysId}
 use Rattle.grs_medium.specs.Apply.{reply_to, medium_after}
 use Rattle.grs_medium.specs.Medium.{MediumState, first_medium}
+use Rattle.grs_node.specs.Log.{told_in}
 use Rattle.grs_node.specs.Node.{NodeState, Step, first_node, prepare, finish}
 use Rattle.grs_node.specs.declared.prepared.Prepared.{Prepared}
 use Rattle.grs_node.specs.declared.prepared.Prepared.TheVariants.{Quiet, Call, Nothing}
@@ -63,10 +64,6 @@ fixed_by s fs = map (λ f. (s, f)) fs
 
 abbrev pub told_by : ℕ → SysId → List ToldLine → List Told
 told_by e s ls = map (λ l. record { event = e; system = s; line = l }) ls
-
--- what a system told in a step
-abbrev pub told_in : NodeState → Step → List ToldLine
-told_in n step = drop (length n.tasks.told) step.node.tasks.told
 
 -- the world after this came of an event of a system
 unfoldable pub placed : World → SysId → NodeState → Turnout → World

@@ -10,7 +10,8 @@ use Rattle.grs_wire.specs.declared.deck.Event.{Event}
 use Rattle.grs_wire.specs.declared.told.Told.{Told}
 use Rattle.grs_wire.specs.declared.told.ToldLine.{ToldLine}
 use Rattle.grs_world.specs.Agree.{is_event_of, is_of_event}
-use Rattle.grs_world.specs.World.{World, Turnout, told_by, told_in, chosen, counted, placed, happens, run, first_world}
+use Rattle.grs_world.specs.World.{World, Turnout, told_by, chosen, counted, placed, happens, run, first_world}
+use Rattle.grs_node.specs.Log.{told_in}
 use Rattle.grs_known.proofs.lists.Facts.{all-kept, slice_get-append, slice_get-end}
 use Rattle.grs_world.proofs.run.Each.{each_event, each_run}
 
