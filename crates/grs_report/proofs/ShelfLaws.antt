@@ -8,7 +8,8 @@ use Rattle.grs_base.proofs.SameLaws.{same_task-exact}
 use Rattle.grs_wire.specs.declared.told.ToldLine.{ToldLine}
 use Rattle.grs_wire.specs.declared.told.ToldLine.TheVariants.{Coded, Shown, Post, Ended, Desk}
 use Rattle.grs_wire.specs.declared.told.Told.{Told}
-use Rattle.grs_report.specs.Told.{is_told_to, task_at, told_to}
+use Rattle.grs_report.specs.Told.{task_at, told_to}
+use Rattle.grs_wire.specs.ToldTo.{is_told_to}
 use Rattle.grs_report.specs.Shelves.{lines_under, has_number, told_under}
 
 -- a list without lines, put last, is none, as a view f of what is kept shows it

@@ -4,6 +4,7 @@ use Rattle.std.specs.Fmt.{decimal}
 use Rattle.std.specs.List.{flat_map}
 use Rattle.grs_base.specs.Same.{same_task}
 use Rattle.grs_base.specs.declared.resource.TaskId.{TaskId}
+use Rattle.grs_wire.specs.ToldTo.{is_told_to}
 use Rattle.grs_wire.specs.declared.deck.TaskDef.{TaskDef}
 use Rattle.grs_wire.specs.declared.deck.JobDef.{JobDef}
 use Rattle.grs_wire.specs.declared.deck.SystemDef.{SystemDef}
@@ -30,14 +31,6 @@ told_line names e (Desk k said) = line (codes "D" ∷ decimal k ∷ order_word s
 -- told lines in order
 abbrev pub told_lines : Names → List Told → List ℕ
 told_lines names told = flat_map (λ t. told_line names t.event t.line) told
-
--- whether a line is told to this task
-abbrev pub is_told_to : TaskId → ToldLine → Bool
-is_told_to task (Coded t k part verb code) = same_task task t
-is_told_to task (Shown t k verb code rows) = same_task task t
-is_told_to task (Post t k) = same_task task t
-is_told_to task (Ended t code) = same_task task t
-is_told_to task (Desk k said) = false
 
 -- whether a line is told at a system's desk
 abbrev pub is_told_at_desk : ToldLine → Bool

@@ -4,7 +4,8 @@ ghost use Rattle.std.specs.Prelude.{◌≡◌, ◌≤◌, ◌++◌, ◌+◌, ◌
 ghost use Rattle.grs_base.specs.Limits.{most_jobs, most_tasks};
 ghost use Rattle.grs_wire.specs.Decks.{task_count, IsWithin, Fits};
 ghost use Rattle.grs_report.specs.Lines.{line};
-ghost use Rattle.grs_report.specs.Told.{told_lines, is_told_to, is_told_at_desk, told_to, told_at_desk, end_of, task_text, tasks_text, jobs_text, systems_text, told_text};
+ghost use Rattle.grs_report.specs.Told.{told_lines, is_told_at_desk, told_to, told_at_desk, end_of, task_text, tasks_text, jobs_text, systems_text, told_text};
+ghost use Rattle.grs_wire.specs.ToldTo.{is_told_to};
 
 use super::lines::put_line;
 use super::shelves::{SystemLines, sorted_by_system};

@@ -27,7 +27,8 @@ use Rattle.grs_known.specs.Known.{Known, outstanding, Still, learns_control}
 use Rattle.grs_known.specs.Past.{Past, past_of, Speaks}
 use Rattle.grs_known.specs.Told.{tells_control}
 use Rattle.grs_known.proofs.tasks.Invariant.{has_res, IsRec, IsDue, IsTask, with_control, has_ended, is_unsent}
-use Rattle.grs_known.proofs.tasks.Others.{is_told_to, task-told}
+use Rattle.grs_wire.specs.ToldTo.{is_told_to}
+use Rattle.grs_known.proofs.tasks.Others.{task-told}
 use Rattle.grs_known.proofs.lists.Owners.{is_among}
 use Rattle.grs_known.proofs.tasks.Records.{found, found_has}
 use Rattle.grs_known.proofs.tasks.Granted.{latest-on, task-coded, task-posted, task-marked, task-passed}

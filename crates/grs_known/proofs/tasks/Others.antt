@@ -3,11 +3,12 @@ use Rattle.std.proofs.Common.{◌≡◌, ◌-◌, ℕ, Bool, true, false, not, �
 use Rattle.std.proofs.lemmas.Option.{IfSome_then}
 use Rattle.std.proofs.Common.{inl, inr}
 use Rattle.std.proofs.lemmas.Bool.{or_left, or_right}
-use Rattle.grs_base.specs.Same.{same_res, same_task}
+use Rattle.grs_base.specs.Same.{same_res}
 use Rattle.grs_base.specs.declared.resource.Res.{Res}
 use Rattle.grs_base.specs.declared.resource.TaskId.{TaskId}
 use Rattle.grs_legal.specs.declared.meaning.Meaning.{Meaning}
 use Rattle.grs_legal.specs.declared.meaning.Meaning.TheVariants as lines
+use Rattle.grs_wire.specs.ToldTo.{is_told_to}
 use Rattle.grs_wire.specs.declared.history.HistEntry.{HistEntry}
 use Rattle.grs_wire.specs.declared.history.HistEntry.TheVariants.{Enq, Deq, Release, Look, Remove}
 use Rattle.grs_wire.specs.declared.told.ToldLine.{ToldLine}
@@ -84,14 +85,6 @@ task-leaving ls p T leaving t x h = record {
   phase = h.phase;
   emptied = h.emptied;
 }
-
--- whether a line is told to this task
-abbrev pub is_told_to : TaskId → ToldLine → Bool
-is_told_to t (Coded u k part verb code) = same_task t u
-is_told_to t (Shown u k verb code rows) = same_task t u
-is_told_to t (Post u k) = same_task t u
-is_told_to t (Ended u code) = same_task t u
-is_told_to t (Desk k said) = false
 
 -- what a line told to another task is not
 pub other-code_before : (t : TaskId) (k : ℕ) (l : ToldLine) → is_told_to t l ≡ false → is_code_before t k l ≡ true
