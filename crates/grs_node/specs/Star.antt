@@ -2,9 +2,9 @@
 -- the entries in which it has interest; and what each event of star mode comes to by this part.
 use Rattle.std.specs.Prelude.{ℕ, Bool, true, false, not, ◌&&◌, ◌||◌, ◌==◌, List, [], ◌∷◌, ◌++◌, length, drop, replicate, cond, Option, Some, None, is_some, slice_get, slice_index_or, slice_set}
 use Rattle.std.specs.List.{list_any}
-use Rattle.std.specs.Option.{option_map, option_map_or}
+use Rattle.std.specs.Option.{option_map}
 use Rattle.contention_mgr.specs.Manager.{ManagerView, no_elements, plain, first_untold, owner_of, any_untold_at, entry_wanted, managed_at, managed_for, items_of, with_entry, after_request, rank_for, after_telling}
-use Rattle.lock_structure.specs.Entries.{entry_of_res}
+use Rattle.lock_structure.specs.Entries.{entry_of_res, is_entry}
 use Rattle.grs_base.specs.State.{State}
 use Rattle.grs_base.specs.declared.resource.Res.{Res}
 use Rattle.grs_base.specs.declared.resource.SysId.{SysId}
@@ -86,10 +86,6 @@ abbrev pub request_of : TaskId → Asked → Req
 request_of t a = record { task = t; want = a.req.want }
 
 -- ---- which entries a system may leave
-
--- whether an entry is this one
-abbrev pub is_entry : ℕ → Option ℕ → Bool
-is_entry e at = option_map_or (λ n. n == e) at false
 
 -- whether a request that isn't answered yet is of this entry
 abbrev pub asks_in : StarPart → ℕ → Option Asked → Bool

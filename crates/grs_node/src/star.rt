@@ -4,7 +4,7 @@
 ghost use Rattle.std.specs.Prelude.{◌≡◌, ◌≢◌, ◌<◌, ◌&&◌, false, length, replicate, IfOk};
 ghost use Rattle.std.specs.List.{list_any};
 ghost use Rattle.std.specs.Option.{option_copied};
-ghost use Rattle.lock_structure.specs.Entries.{entry_of_res};
+ghost use Rattle.lock_structure.specs.Entries.{entry_of_res, is_entry};
 ghost use Rattle.grs_node.specs.Node.{is_to_send};
 ghost use Rattle.grs_node.specs.Star as star;
 
@@ -59,7 +59,7 @@ fn no_flags(alloc: Global, count: u32) -> Result<Vec<bool>, NoMemory>
 
 /// Whether an entry is this one.
 fn is_entry(entry: u32, at: Option<u32>) -> bool
-    ensures { result ≡ star.is_entry entry at }
+    ensures { result ≡ is_entry entry at }
 {
     match at {
         None => false,
@@ -116,14 +116,14 @@ impl StarPart {
 
     /// Whether a resource is of an entry.
     fn is_of(&self, entry: u32, res: &Res) -> bool
-        ensures { result ≡ star.is_entry entry (entry_of_res (length self.now.manager.entries) res.now) }
+        ensures { result ≡ is_entry entry (entry_of_res (length self.now.manager.entries) res.now) }
     {
         is_entry(entry, self.manager.entry_of(res))
     }
 
     /// Whether a request is of an entry.
     pub(crate) fn is_req_of(&self, entry: u32, req: &Req) -> bool
-        ensures { result ≡ star.is_entry entry (star.entry_for self.now req.now.want) }
+        ensures { result ≡ is_entry entry (star.entry_for self.now req.now.want) }
     {
         is_entry(entry, self.manager.entry_wanted(&req.want))
     }
@@ -140,7 +140,7 @@ impl StarPart {
 
     /// Whether one of these records is of an entry.
     fn any_record_of(&self, entry: u32, records: &Records) -> bool
-        ensures { result ≡ list_any (λ y. star.is_entry entry (entry_of_res (length self.now.manager.entries) y.res)) records.now }
+        ensures { result ≡ list_any (λ y. is_entry entry (entry_of_res (length self.now.manager.entries) y.res)) records.now }
     {
         for rec in records.iter() {
             if self.is_of(entry, &rec.res) {
@@ -166,7 +166,7 @@ impl StarPart {
 
     /// Whether a request of an entry is held.
     fn any_held_of(&self, entry: u32) -> bool
-        ensures { result ≡ list_any (λ q. star.is_entry entry (star.entry_for self.now q.want)) self.now.held }
+        ensures { result ≡ list_any (λ q. is_entry entry (star.entry_for self.now q.want)) self.now.held }
     {
         self.held.iter().any(|req| self.is_req_of(entry, req))
     }

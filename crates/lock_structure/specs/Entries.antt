@@ -10,7 +10,7 @@ entry_of_res entries (Step s j q r) = None
 entry_of_res entries (System s q r) = None
 entry_of_res entries (Systems q r) = Some (entry_of (slice_of q r) entries)
 
--- whether a resource is of this entry
+-- whether the entry of a resource, if it has one, is this one
 abbrev pub is_entry : ℕ → Option ℕ → Bool
 is_entry e None = false
-is_entry e (Some f) = e == f
+is_entry e (Some f) = f == e

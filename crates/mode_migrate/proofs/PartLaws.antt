@@ -193,11 +193,11 @@ rising-numbered n (x ∷ rows) = both _ _ (range-rises n (length x.elems)) (risi
 is-one : (e f : ℕ) (o : Option ℕ) → f ≢ e → is_entry f o ≡ true → is_entry e o ≡ false
 is-one e f None other h = refl
 is-one e f (Some n) other h =
-    let same : f ≡ n = eqb-true f n h in
-    go (e == n) refl same
+    let same : n ≡ f = eqb-true n f h in
+    go (n == e) refl same
   where
-    go : (b : Bool) → (e == n) ≡ b → f ≡ n → b ≡ false
-    go true is same = absurd (other (same ∙ sym (eqb-true e n is)))
+    go : (b : Bool) → (n == e) ≡ b → n ≡ f → b ≡ false
+    go true is same = absurd (other (sym same ∙ eqb-true n e is))
     go false is same = refl
 
 part-same : (entries e : ℕ) (rows : List Row) → part_of entries e (numbered_in entries e rows) ≡ numbered_in entries e rows

@@ -20,7 +20,7 @@ pub(crate) fn is_of(row: &Row, entries: u32, entry: u32) -> bool
     ensures { result ≡ row_is_of entries entry row.now }
 {
     match &row.res {
-        Res::Systems { q, r } => entry == entry_of(slice_of(q, r), entries),
+        Res::Systems { q, r } => entry_of(slice_of(q, r), entries) == entry,
         _ => false,
     }
 }

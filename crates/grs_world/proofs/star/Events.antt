@@ -17,7 +17,8 @@ use Rattle.grs_medium.specs.Apply.{apply, row, submit_row, submit_on, joined, ta
 use Rattle.grs_medium.specs.Inboxes.{with_mail, without_first}
 use Rattle.grs_medium.specs.Medium.{MediumState, inbox, awake, all_rest, medium_at_end}
 use Rattle.grs_node.specs.Node.{NodeState, prepare, prepared_by, star_call, star_need, may_go, may_send, is_pending, finish, finish_quiet, finish_call, finish_star, with_star, send_own, turn_call, is_for_deck}
-use Rattle.grs_node.specs.Star.{StarPart, StarStep, request_of, entry_for, entry_asked, manages, has_interest, with_interest, serves, answer_for, rank_of, to_tell, first_held, may_leave, is_busy_in, is_done_with, is_entry, send_to, send_of, settle_by, tell_by, fixing_none, decide_own, own_step, begun, begin_at, sent_to, with_held, took_mail, settled_first, settled_by, told_by, left_at}
+use Rattle.grs_node.specs.Star.{StarPart, StarStep, request_of, entry_for, entry_asked, manages, has_interest, with_interest, serves, answer_for, rank_of, to_tell, first_held, may_leave, is_busy_in, is_done_with, send_to, send_of, settle_by, tell_by, fixing_none, decide_own, own_step, begun, begin_at, sent_to, with_held, took_mail, settled_first, settled_by, told_by, left_at}
+use Rattle.lock_structure.specs.Entries.{is_entry}
 use Rattle.grs_node.specs.declared.star.Need.{Need}
 use Rattle.grs_node.specs.declared.star.Need.TheVariants.{Alone, Asks, Idle}
 use Rattle.grs_node.specs.declared.prepared.Prepared.TheVariants.{Quiet, Call, Nothing}

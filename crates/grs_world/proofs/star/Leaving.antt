@@ -7,7 +7,7 @@ use Rattle.std.proofs.lemmas.Bool.Decides.{nat_tests}
 use Rattle.std.proofs.lemmas.List.Elements.{filter-append}
 use Rattle.std.proofs.lemmas.List.Folds.{list_any_at}
 use Rattle.contention_mgr.specs.Manager.{entry_wanted}
-use Rattle.lock_structure.specs.Entries.{entry_of_res}
+use Rattle.lock_structure.specs.Entries.{entry_of_res, is_entry}
 use Rattle.grs_base.specs.Same.{same_res, same_task}
 use Rattle.grs_base.specs.Lists.{has_task}
 use Rattle.grs_base.specs.State.{list_of}
@@ -15,7 +15,7 @@ use Rattle.grs_base.specs.declared.resource.Res.{Res}
 use Rattle.grs_base.specs.declared.resource.TaskId.{TaskId}
 use Rattle.grs_base.proofs.SameLaws.{same_res-exact, same_task-itself}
 use Rattle.grs_node.specs.Node.{NodeState}
-use Rattle.grs_node.specs.Star.{StarPart, is_entry, is_busy_in, asks_in, entry_for}
+use Rattle.grs_node.specs.Star.{StarPart, is_busy_in, asks_in, entry_for}
 use Rattle.grs_wire.specs.History.{entries_for}
 use Rattle.grs_wire.specs.Wants.{res_wanted}
 use Rattle.grs_wire.specs.declared.deck.Deck.{Deck}

@@ -8,7 +8,7 @@ use Rattle.std.proofs.lemmas.Nat.{mod_below}
 use Rattle.std.proofs.lemmas.Option.{unwrap_or-slice_get, slice_get_within}
 use Rattle.contention_mgr.specs.Laws.{AreWellKept}
 use Rattle.contention_mgr.specs.Manager.{Managed, ManagerView, plain, items_of, settled, told, entry_wanted, are_of, kept_at, kept_for, managed_at, with_entry, after_request, after_telling}
-use Rattle.lock_structure.specs.Entries.{entry_of_res}
+use Rattle.lock_structure.specs.Entries.{entry_of_res, is_entry}
 use Rattle.contention_mgr.proofs.LawProofs.{lists_follow, telling_keeps_lists}
 use Rattle.contention_mgr.proofs.ManagerLaws.{entries_are_well_kept, requests_keep_well, telling_keeps_well}
 use Rattle.grs_base.specs.Slices.{slice_of, entry_of}
@@ -16,7 +16,7 @@ use Rattle.grs_base.specs.State.{State}
 use Rattle.grs_base.specs.declared.resource.Res.{Res}
 use Rattle.grs_base.specs.declared.resource.Res.TheVariants.{Step, System, Systems}
 use Rattle.grs_base.specs.declared.resource.TaskId.{TaskId}
-use Rattle.grs_node.specs.Star.{StarPart, manages, has_interest, with_interest, left_at, is_entry, told_by}
+use Rattle.grs_node.specs.Star.{StarPart, manages, has_interest, with_interest, left_at, told_by}
 use Rattle.grs_wire.specs.Wants.{after_want}
 use Rattle.grs_wire.specs.declared.deck.Deck.{Deck}
 use Rattle.grs_wire.specs.declared.request.Req.{Req}

@@ -16,7 +16,8 @@ use Rattle.grs_medium.specs.Apply.{row, submit_row, submit_on, joined, manages a
 use Rattle.grs_medium.specs.Inboxes.{with_mail}
 use Rattle.grs_medium.specs.Medium.{MediumState, awake, inbox}
 use Rattle.grs_node.specs.Node.{NodeState, prepare, may_send, is_of_deck, is_to_send, finish, finish_quiet, finish_call, finish_star, with_star, send_own}
-use Rattle.grs_node.specs.Star.{StarPart, request_of, entry_for, entry_asked, is_entry, manages, with_interest, send_to, send_of, decide_own, own_step, begun, begin_at, sent_to, lists_for, answer_for, owners_by, rank_of}
+use Rattle.grs_node.specs.Star.{StarPart, request_of, entry_for, entry_asked, manages, with_interest, send_to, send_of, decide_own, own_step, begun, begin_at, sent_to, lists_for, answer_for, owners_by, rank_of}
+use Rattle.lock_structure.specs.Entries.{is_entry}
 use Rattle.grs_node.specs.declared.star.Need.TheVariants.{Alone, Asks, Idle}
 use Rattle.grs_wire.specs.LockWords.{is_manager}
 use Rattle.grs_wire.specs.Wants.{answer_to, new_owners, res_wanted}

@@ -13,7 +13,8 @@ use Rattle.grs_medium.specs.Apply.{row, take_row, take_from}
 use Rattle.grs_medium.specs.Inboxes.{without_first}
 use Rattle.grs_medium.specs.Medium.{MediumState, inbox, awake}
 use Rattle.grs_node.specs.Node.{NodeState, prepare, finish, finish_call, finish_star, with_star, is_of_deck, is_for_deck, take_mail}
-use Rattle.grs_node.specs.Star.{StarPart, StarStep, entry_for, is_entry, manages, fixing_none, took_mail}
+use Rattle.grs_node.specs.Star.{StarPart, StarStep, entry_for, manages, fixing_none, took_mail}
+use Rattle.lock_structure.specs.Entries.{is_entry}
 use Rattle.grs_wire.specs.declared.deck.Choice.TheVariants as choices
 use Rattle.grs_wire.specs.declared.deck.Deck.{Deck}
 use Rattle.grs_wire.specs.declared.medium.Act.TheVariants as acts

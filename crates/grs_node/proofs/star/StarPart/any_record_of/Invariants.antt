@@ -1,7 +1,6 @@
 use Rattle.std.proofs.Common.{◌≡◌, length}
 use Rattle.std.specs.List.{list_any}
-use Rattle.lock_structure.specs.Entries.{entry_of_res}
-use Rattle.grs_node.specs.Star.{is_entry}
+use Rattle.lock_structure.specs.Entries.{entry_of_res, is_entry}
 use Rattle.grs_node.proofs.star.StarPart.any_record_of.Given as goal
 
 abbrev pub invariant-loop-rec : goal.invariant-loop-rec
