@@ -1,5 +1,5 @@
 -- The calls of the medium, row by row: what each is answered, and what the medium is afterwards.
-use Rattle.std.specs.Prelude.{◌≡◌, ◌≢◌, ◌<◌, ◌≤◌, ℕ, Bool, true, cond, not, ◌==◌, nat_lt, ◌&&◌, List, [], ◌∷◌, length, Option, Some, None, is_none}
+use Rattle.std.specs.Prelude.{◌≡◌, ◌≢◌, ◌<◌, ◌≤◌, ℕ, Bool, true, cond, not, ◌==◌, ◌&&◌, List, [], ◌∷◌, length, Option, Some, None, is_none}
 use Rattle.std.specs.List.{list_all}
 use Rattle.grs_base.specs.declared.resource.SysId.{SysId}
 use Rattle.grs_wire.specs.declared.request.Req.{Req}
@@ -10,7 +10,7 @@ use Rattle.grs_wire.specs.declared.medium.Mail.{Mail}
 use Rattle.grs_wire.specs.declared.medium.Mail.TheVariants as mails
 use Rattle.grs_wire.specs.declared.medium.Reply.{Reply}
 use Rattle.grs_wire.specs.declared.medium.Reply.TheVariants.{Behind, Switched, Already, Sole, Sent, Taken, Empty, Settled, Told, Purged, NoSuch, InStar, Resting, Over, Stale, Removed}
-use Rattle.grs_wire.specs.Masks.{has, with_also}
+use Rattle.grs_wire.specs.Masks.{has, with_also, lives}
 use Rattle.grs_wire.specs.LockWords.{manager, is_manager, leave_reply, leave_changes}
 use Rattle.lock_structure.specs.Words.{route, submitted_words, left_words, word_fits}
 use Rattle.lock_structure.specs.declared.word.Route.{Route}
@@ -71,7 +71,7 @@ leave_row m c entry = (
 
 -- Purge: a live system is removed, in ring mode
 abbrev pub is_live : MediumState → SysId → Bool
-is_live m s = nat_lt s.0 (systems_of m) && not (has m.removed s.0)
+is_live m s = lives (systems_of m) m.removed s.0
 
 abbrev pub without_system : MediumState → SysId → SysId → MediumState
 without_system m c t =

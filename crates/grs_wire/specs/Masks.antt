@@ -1,6 +1,6 @@
 -- Sets of systems as numbers. Everything else knows them by the first three words and their laws, and never by
 -- their bits.
-use Rattle.std.specs.Prelude.{ℕ, zero, suc, ◌^◌, Bool, true, cond, ◌&&◌, ◌||◌, eqb, bit_and, bit_or, bit_xor}
+use Rattle.std.specs.Prelude.{ℕ, zero, suc, ◌^◌, Bool, true, cond, not, ◌&&◌, ◌||◌, eqb, nat_lt, bit_and, bit_or, bit_xor}
 use Rattle.std.specs.Int.{bit_at}
 
 -- whether s is in the set m
@@ -18,6 +18,10 @@ with_also m s = bit_or m (2 ^ s)
 -- the set of s alone
 abbrev pub only : ℕ → ℕ
 only s = with_also 0 s
+
+-- whether s is a live system: one of so many that isn't in the set of the removed
+abbrev pub lives : ℕ → ℕ → ℕ → Bool
+lives systems removed s = nat_lt s systems && not (has removed s)
 
 -- the systems below n that aren't in the set m
 abbrev pub others : ℕ → ℕ → ℕ

@@ -1,12 +1,12 @@
 -- A run as the code keeps it, and what is seen of it.
-use Rattle.std.specs.Prelude.{◌≡◌, ℕ, Bool, true, not, cond, ◌&&◌, ◌||◌, nat_lt, ◌+◌, List, [], ◌∷◌, ◌++◌, length, map, get_or, slice_get, Option, Some, None}
+use Rattle.std.specs.Prelude.{◌≡◌, ℕ, Bool, true, not, cond, ◌&&◌, ◌||◌, ◌+◌, List, [], ◌∷◌, ◌++◌, length, map, get_or, slice_get, Option, Some, None}
 use Rattle.grs_base.specs.declared.resource.SysId.{SysId}
 use Rattle.grs_base.specs.declared.resource.TaskId.{TaskId}
 use Rattle.grs_medium.specs.Medium.{medium_at_end}
 use Rattle.grs_node.specs.Log.{NodeView, end_in}
 use Rattle.grs_node.specs.Node.{NodeState, first_node, is_pending}
 use Rattle.task_state.specs.Units.{units_at}
-use Rattle.grs_wire.specs.Masks.{has}
+use Rattle.grs_wire.specs.Masks.{has, lives}
 use Rattle.grs_wire.specs.declared.deck.Deck.{Deck}
 use Rattle.grs_wire.specs.declared.deck.Event.{Event}
 use Rattle.grs_wire.specs.declared.seen.TaskEnd.{TaskEnd}
@@ -42,7 +42,7 @@ AreOf deck (v ∷ vs) = (v.deck ≡ deck) × AreOf deck vs
 
 -- whether a system is there and wasn't removed
 abbrev pub is_live : World → SysId → Bool
-is_live w s = nat_lt s.0 (length w.nodes) && not (has w.medium.removed s.0)
+is_live w s = lives (length w.nodes) w.medium.removed s.0
 
 -- a system that is there
 abbrev pub node_at : Deck → List NodeState → SysId → NodeState
