@@ -56,3 +56,7 @@ last_number = 2 ^ 57
 -- commands of a system's desk
 abbrev pub most_commands : ℕ
 most_commands = 64
+
+-- requests that a system puts into the message at one Turn
+abbrev pub most_additions : ℕ
+most_additions = 32

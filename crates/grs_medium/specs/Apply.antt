@@ -1,6 +1,7 @@
 -- The calls of the medium, row by row: what each is answered, and what the medium is afterwards.
 use Rattle.std.specs.Prelude.{◌≡◌, ◌≢◌, ◌<◌, ◌≤◌, ℕ, Bool, true, cond, not, ◌==◌, ◌&&◌, List, [], ◌∷◌, length, Option, Some, None, is_none}
 use Rattle.std.specs.List.{list_all}
+use Rattle.grs_base.specs.Limits.{most_additions}
 use Rattle.grs_base.specs.declared.resource.SysId.{SysId}
 use Rattle.grs_wire.specs.declared.request.Req.{Req}
 use Rattle.grs_wire.specs.declared.medium.Act.{Act}
@@ -131,11 +132,11 @@ row_changes m c Rest = not (has m.rest c.0)
 unfoldable pub changes : MediumState → SysId → Call → Bool
 changes m c call = not (has m.removed c.0) && (call.known == m.removed) && row_changes m c call.act
 
--- What a call needs of the medium: its caller is a system, and so is whom a mail goes to; at most 32 requests;
--- lock entries that are there; as many lock words as entries, each 0 or with a manager; and no system that
--- removes itself.
+-- What a call needs of the medium: its caller is a system, and so is whom a mail goes to; no more requests than
+-- a Turn may put in; lock entries that are there; as many lock words as entries, each 0 or with a manager; and no system
+-- that removes itself.
 abbrev pub ActFits : MediumState → SysId → Act → Type 0
-ActFits m c (Turn out) = length out ≤ 32
+ActFits m c (Turn out) = length out ≤ most_additions
 ActFits m c (Switch words) = (length words ≡ length m.words) × (list_all (word_fits (systems_of m)) words ≡ true)
 ActFits m c (Submit entry req) = entry < length m.words
 ActFits m c Take = Unit {0}

@@ -1,6 +1,6 @@
 //! The medium and its calls.
 ghost use Rattle.std.specs.Prelude.{◌≡◌, ◌<◌, ◌≤◌, ◌&&◌, ℕ, true, not, is_none, length, List as ListSpec, None, Some, IfOk, OnOk, OnErr};
-ghost use Rattle.grs_base.specs.Limits.{most_systems};
+ghost use Rattle.grs_base.specs.Limits.{most_additions, most_systems};
 ghost use Rattle.grs_wire.specs.LockWords.{leave_changes};
 ghost use Rattle.grs_wire.specs.declared.request.Req.{Req as ReqSpec};
 ghost use Rattle.lock_structure.specs.Words.{route};
@@ -183,7 +183,7 @@ impl Medium {
     #[tactic(auto, unfolding(crate::specs::Apply::turn_row))]
     fn give(&mut self, caller: SysId, out: List<Req>) -> Reply
         requires caller { caller.0 < systems_of self.old.state }
-        requires few { length out ≤ 32 }
+        requires few { length out ≤ most_additions }
         requires room { HasRoom self.old.room caller (length out) }
         ensures reply { result ≡ (turn_row self.old.state caller out).0 }
         ensures state { self.new.state ≡ (turn_row self.old.state caller out).1 }
@@ -244,7 +244,7 @@ impl Medium {
     pub fn pass_on(&mut self, caller: SysId, out: List<Req>)
         requires caller { caller.0 < systems_of self.old.state }
         requires here { stands_at self.old.state.message.holder caller ≡ true }
-        requires few { length out ≤ 32 }
+        requires few { length out ≤ most_additions }
         requires places { HasPlaces self.old.room (length out) }
         ensures state { self.new.state ≡ (turn_row self.old.state caller out).1 }
         ensures systems { systems_of self.new.state ≡ systems_of self.old.state }

@@ -4,6 +4,7 @@ use Rattle.std.specs.Prelude.{slice_get, ◌&&◌, ◌==◌, nat_lt, nat_le, sli
 use Rattle.std.specs.List.{list_all}
 use Rattle.std.specs.Option.{option_map, option_map_or}
 use Rattle.std.specs.Ordering.{is_lt}
+use Rattle.grs_base.specs.Limits.{most_additions}
 use Rattle.grs_base.specs.ResOrder.{res_order}
 use Rattle.std.proofs.lemmas.Bool.{and_parts, eqb-true}
 use Rattle.std.proofs.lemmas.Bool.Decides.{nat_tests}
@@ -189,7 +190,7 @@ star-call-fits deck home n None choice fits = refl
 star-call-fits deck home n (Some p) choice fits = prepared-fits deck n.known (star_need deck n p choice) (need-choice deck home n p fits choice)
 
 turn-fits : (deck : Deck) (n : NodeState) (o : Option StarPart) → is_addressed deck (turn_call n o) ≡ true
-turn-fits deck n None = let few = length-take 32 n.outbox in grind (arith, nat_tests, few)
+turn-fits deck n None = let few = length-take most_additions n.outbox in grind (arith, nat_tests, few)
 turn-fits deck n (Some p) = refl
 
 quiet-fits : (deck : Deck) (b : Bool) → is_addressed deck (cond b Quiet Nothing) ≡ true

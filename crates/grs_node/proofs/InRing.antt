@@ -1,6 +1,7 @@
 -- A system in a ring: it has no part in star mode, and what its events come to is told without one.
 use Rattle.std.proofs.Common.{◌≡◌, cond, [], ◌∷◌, ◌++◌, take, Option, Some, None, is_some, refl, ap, ◌∙◌}
-use Rattle.grs_node.specs.Node.{NodeState, Step, only, most_additions, outbox_with, prepare, star_call, turn_call, may_go, is_pending, read_entries, put_in, finish_quiet, send_own, finish_star, finish_call, finish}
+use Rattle.grs_node.specs.Node.{NodeState, Step, only, outbox_with, prepare, star_call, turn_call, may_go, is_pending, read_entries, put_in, finish_quiet, send_own, finish_star, finish_call, finish}
+use Rattle.grs_base.specs.Limits.{most_additions}
 use Rattle.grs_node.specs.Star.{StarPart}
 use Rattle.grs_node.specs.declared.prepared.Prepared.{Prepared}
 use Rattle.grs_node.specs.declared.prepared.Prepared.TheVariants.{Quiet, Call, Nothing}

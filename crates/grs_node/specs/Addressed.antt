@@ -3,7 +3,8 @@ use Rattle.std.specs.Prelude.{◌≡◌, ◌<◌, ℕ, Bool, true, false, nat_lt
 use Rattle.std.specs.List.{list_all}
 use Rattle.contention_mgr.specs.Elements.{all_of}
 use Rattle.grs_base.specs.declared.resource.TaskId.{TaskId}
-use Rattle.grs_node.specs.Node.{NodeState, most_additions}
+use Rattle.grs_node.specs.Node.{NodeState}
+use Rattle.grs_base.specs.Limits.{most_additions}
 use Rattle.grs_node.specs.Star.{StarPart}
 use Rattle.grs_node.specs.declared.prepared.Prepared.{Prepared}
 use Rattle.grs_node.specs.declared.prepared.Prepared.TheVariants.{Quiet, Call, Nothing}

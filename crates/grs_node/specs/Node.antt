@@ -2,6 +2,7 @@
 -- makes at most one call of the medium, and is finished with the reply.
 use Rattle.std.specs.Prelude.{ℕ, Bool, true, false, not, cond, ◌&&◌, ◌||◌, ◌==◌, nat_le, nat_lt, List, [], ◌∷◌, ◌++◌, length, map, take, drop, Option, Some, None, slice_get, is_some}
 use Rattle.std.specs.List.{list_any}
+use Rattle.grs_base.specs.Limits.{most_additions}
 use Rattle.grs_base.specs.State.{State}
 use Rattle.grs_base.specs.declared.resource.Res.{Res}
 use Rattle.grs_base.specs.declared.resource.SysId.{SysId}
@@ -79,10 +80,6 @@ are_of_system s tasks (q ∷ qs) = (s == q.task.system.0) && (nat_lt q.task.task
 pub record Step : Type 0 where
   pub node : NodeState
   pub fixed : List Fixed
-
--- how many requests a Turn puts in at most
-abbrev pub most_additions : ℕ
-most_additions = 32
 
 -- nothing fixed
 abbrev pub only : NodeState → Step

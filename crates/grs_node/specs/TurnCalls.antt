@@ -2,7 +2,8 @@
 use Rattle.std.specs.Prelude.{ℕ, take}
 use Rattle.grs_wire.specs.declared.medium.Act.TheVariants as acts
 use Rattle.grs_wire.specs.declared.medium.Call.{Call}
-use Rattle.grs_node.specs.Node.{NodeState, most_additions}
+use Rattle.grs_node.specs.Node.{NodeState}
+use Rattle.grs_base.specs.Limits.{most_additions}
 
 -- the Turn of a system that knows this set of systems to be removed
 abbrev pub turn_of : NodeState → ℕ → Call

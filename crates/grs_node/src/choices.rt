@@ -2,6 +2,7 @@
 ghost use Rattle.std.specs.Prelude.{◌≡◌, ◌&&◌, is_some, take, IfOk};
 ghost use Rattle.std.specs.List.{list_any};
 ghost use Rattle.std.specs.Option.{option_copied};
+ghost use Rattle.grs_base.specs.Limits.{most_additions};
 ghost use Rattle.grs_node.specs.Node as steps;
 ghost use Rattle.grs_legal.specs.Asks.{lines_in, scripts_of};
 ghost use Rattle.task_state.specs.View.{is_task, state_of};
@@ -22,7 +23,7 @@ const MOST_ADDITIONS: usize = 32;
 /// The first requests of an outbox, as many as a Turn puts in.
 #[tactic(auto, using(crate::proofs::Places::first_places))]
 fn first_of(outbox: &[Req]) -> &[Req]
-    ensures { result.now ≡ take steps.most_additions outbox.now }
+    ensures { result.now ≡ take most_additions outbox.now }
 {
     &outbox[..MOST_ADDITIONS.min(outbox.len())]
 }
@@ -87,7 +88,7 @@ impl NodeState {
 
     /// Copies of the requests that a Turn puts in.
     pub(crate) fn additions(&self, alloc: Global) -> Result<List<Req>, NoMemory>
-        ensures { IfOk result (λ out. out ≡ take steps.most_additions self.now.outbox) }
+        ensures { IfOk result (λ out. out ≡ take most_additions self.now.outbox) }
     {
         copy_all(alloc, first_of(self.outbox.as_slice()))
     }

@@ -1,7 +1,7 @@
 //! A system with its deck and what it keeps of its own events. A choice is prepared; it makes at most one call
 //! of the medium, which somebody else carries out; and with the reply it is finished.
 ghost use Rattle.std.specs.Prelude.{◌≡◌, ◌<◌, ◌≤◌, ◌++◌, ◌∷◌, [], Some, true, take, drop, length, IfOk, IfSome, IfNone, OnOk};
-ghost use Rattle.grs_base.specs.Limits.{most_systems};
+ghost use Rattle.grs_base.specs.Limits.{most_additions, most_systems};
 ghost use Rattle.grs_wire.specs.Decks.{IsDeck};
 ghost use Rattle.task_state.specs.Units.{counted, reserved_of};
 ghost use Rattle.task_state.specs.View.{is_task, state_of};
@@ -131,8 +131,8 @@ impl<'d> Node<'d> {
 
     /// Copies of the requests that a Turn puts in.
     pub fn additions(&self) -> Result<List<Req>, NoMemory>
-        ensures first { IfOk result (λ out. out ≡ take steps.most_additions self.now.node.outbox) }
-        ensures few { IfOk result (λ out. length out ≤ steps.most_additions) }
+        ensures first { IfOk result (λ out. out ≡ take most_additions self.now.node.outbox) }
+        ensures few { IfOk result (λ out. length out ≤ most_additions) }
     {
         self.state.additions(self.alloc)
     }

@@ -6,7 +6,8 @@ use Rattle.grs_base.specs.declared.resource.SysId.{SysId}
 use Rattle.grs_medium.specs.Apply.{ActFits, reply_to, medium_after}
 use Rattle.grs_medium.specs.Medium.{MediumState, systems_of}
 use Rattle.grs_node.specs.Addressed.{is_act_addressed}
-use Rattle.grs_node.specs.Node.{NodeState, prepare, finish, most_additions}
+use Rattle.grs_node.specs.Node.{NodeState, prepare, finish}
+use Rattle.grs_base.specs.Limits.{most_additions}
 use Rattle.grs_node.specs.declared.prepared.Prepared.{Prepared}
 use Rattle.grs_node.specs.declared.prepared.Prepared.TheVariants.{Call}
 use Rattle.grs_wire.specs.declared.deck.Choice.{Choice}

@@ -7,7 +7,8 @@ use Rattle.grs_medium.specs.TurnReplies.{refusal}
 use Rattle.grs_medium.proofs.TurnLaws.{turn_is_refused, turn_is_served, turn_is_here}
 use Rattle.grs_wire.specs.Unseen.{unseen}
 use Rattle.grs_node.specs.Finish.{may_come}
-use Rattle.grs_node.specs.Node.{NodeState, prepare, finish, most_additions}
+use Rattle.grs_node.specs.Node.{NodeState, prepare, finish}
+use Rattle.grs_base.specs.Limits.{most_additions}
 use Rattle.grs_node.specs.TurnCalls.{turn_of}
 use Rattle.grs_node.specs.declared.prepared.Prepared.TheVariants.{Call}
 use Rattle.grs_wire.specs.declared.deck.Choice.TheVariants.{Turn}

@@ -7,7 +7,8 @@ use Rattle.grs_base.specs.declared.resource.SysId.{SysId}
 use Rattle.grs_base.specs.declared.resource.TaskId.{TaskId}
 use Rattle.grs_medium.specs.Apply.{reply_to, medium_after, apply, row, turn_row, rest_row, resting}
 use Rattle.grs_medium.specs.Medium.{MediumState, live, all_rest, medium_at_end}
-use Rattle.grs_node.specs.Node.{NodeState, Step, finish, finish_quiet, read_entries, put_in, may_go, most_additions}
+use Rattle.grs_node.specs.Node.{NodeState, Step, finish, finish_quiet, read_entries, put_in, may_go}
+use Rattle.grs_base.specs.Limits.{most_additions}
 use Rattle.grs_node.proofs.InRing.{ring_finish}
 use Rattle.grs_node.specs.declared.prepared.Prepared.TheVariants.{Call}
 use Rattle.grs_wire.specs.Masks.{only}

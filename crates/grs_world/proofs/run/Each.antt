@@ -6,7 +6,8 @@ use Rattle.grs_base.specs.declared.resource.TaskId.{TaskId}
 use Rattle.grs_medium.specs.Apply.{row, apply}
 use Rattle.grs_medium.specs.Medium.{MediumState}
 use Rattle.grs_node.proofs.InRing.{ring_prepare, prepare-ring}
-use Rattle.grs_node.specs.Node.{NodeState, most_additions, may_go, is_pending, prepare}
+use Rattle.grs_node.specs.Node.{NodeState, may_go, is_pending, prepare}
+use Rattle.grs_base.specs.Limits.{most_additions}
 use Rattle.grs_node.specs.declared.prepared.Prepared.{Prepared}
 use Rattle.grs_node.specs.declared.prepared.Prepared.TheVariants.{Quiet, Call, Nothing}
 use Rattle.grs_wire.specs.Masks.{has}

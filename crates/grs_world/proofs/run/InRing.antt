@@ -5,7 +5,8 @@ use Rattle.grs_base.specs.declared.resource.SysId.{SysId}
 use Rattle.grs_medium.specs.Apply.{turn_row, rest_row, row, reply_to, medium_after}
 use Rattle.grs_medium.specs.Medium.{MediumState}
 use Rattle.grs_node.proofs.InRing.{ring_finish, finish-ring, ring-stays}
-use Rattle.grs_node.specs.Node.{NodeState, Step, most_additions, prepare, finish, finish_quiet, first_node}
+use Rattle.grs_node.specs.Node.{NodeState, Step, prepare, finish, finish_quiet, first_node}
+use Rattle.grs_base.specs.Limits.{most_additions}
 use Rattle.grs_node.specs.Star.{StarPart, first_part}
 use Rattle.grs_node.specs.declared.prepared.Prepared.{Prepared}
 use Rattle.grs_node.specs.declared.prepared.Prepared.TheVariants.{Quiet, Call, Nothing}

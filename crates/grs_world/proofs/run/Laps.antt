@@ -19,7 +19,8 @@ use Rattle.grs_wire.specs.Unseen.{unseen}
 use Rattle.rsa_message.proofs.OrderLaws.{stands_at-exact}
 use Rattle.grs_medium.specs.Medium.{MediumState, first_medium, systems_of, live, all_rest, medium_at_end}
 use Rattle.grs_medium.specs.Apply.{turn_row, resting, rest_row, row, reply_to, medium_after}
-use Rattle.grs_node.specs.Node.{NodeState, most_additions, prepare}
+use Rattle.grs_node.specs.Node.{NodeState, prepare}
+use Rattle.grs_base.specs.Limits.{most_additions}
 use Rattle.grs_world.proofs.run.InRing.{AreRing, all_ring}
 use Rattle.grs_world.proofs.run.Each.{each_answer, each_prepared, each_event, each_run}
 use Rattle.grs_world.specs.Laps.{OnlyLeft, ComesBackLast, given_by, given_when, given_at, ProcessedLast}

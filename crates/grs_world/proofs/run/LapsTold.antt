@@ -10,7 +10,8 @@ use Rattle.grs_base.specs.Same.{same_task}
 use Rattle.grs_base.specs.declared.resource.SysId.{SysId}
 use Rattle.grs_base.specs.declared.resource.TaskId.{TaskId}
 use Rattle.grs_base.proofs.SameLaws.{same_task-exact, same_task-itself}
-use Rattle.grs_node.specs.Node.{NodeState, Step, put_in, read_entries, most_additions}
+use Rattle.grs_node.specs.Node.{NodeState, Step, put_in, read_entries}
+use Rattle.grs_base.specs.Limits.{most_additions}
 use Rattle.grs_wire.specs.Masks.{has}
 use Rattle.grs_wire.specs.declared.deck.Deck.{Deck}
 use Rattle.grs_wire.specs.declared.deck.Event.{Event}

@@ -8,7 +8,8 @@ use Rattle.grs_legal.specs.Legal.{Legal}
 use Rattle.grs_medium.specs.Apply.{reply_to, medium_after, apply, row, turn_row, rest_row, resting}
 use Rattle.grs_medium.specs.Medium.{MediumState, live, first_medium, all_rest, medium_at_end}
 use Rattle.grs_node.proofs.InRing.{ring_finish}
-use Rattle.grs_node.specs.Node.{NodeState, Step, finish, finish_quiet, read_entries, put_in, may_go, most_additions, first_node}
+use Rattle.grs_node.specs.Node.{NodeState, Step, finish, finish_quiet, read_entries, put_in, may_go, first_node}
+use Rattle.grs_base.specs.Limits.{most_additions}
 use Rattle.grs_node.specs.declared.prepared.Prepared.TheVariants.{Call}
 use Rattle.grs_wire.specs.Masks.{has, others}
 use Rattle.grs_wire.specs.declared.deck.Deck.{Deck}

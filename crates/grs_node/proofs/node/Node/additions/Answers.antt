@@ -1,4 +1,4 @@
-use Rattle.grs_node.specs.Node.{most_additions}
+use Rattle.grs_base.specs.Limits.{most_additions}
 use Rattle.grs_node.proofs.Places.{few_first}
 use Rattle.grs_node.proofs.node.Node.additions.Goals as goal
 
