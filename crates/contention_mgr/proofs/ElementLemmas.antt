@@ -1,8 +1,7 @@
 -- Whose elements a manager keeps.
 use Rattle.std.proofs.Common.{◌≡◌, ℕ, Bool, true, false, cond, not, List, [], ◌∷◌, ◌++◌, map, filter, Option, Some, None, zero, suc, refl, arith, length}
-use Rattle.std.specs.Prelude.{◌==◌, ◌&&◌, slice_set}
+use Rattle.std.specs.Prelude.{◌==◌, slice_set}
 use Rattle.std.specs.Option.{option_map_or}
-use Rattle.std.specs.List.{list_all}
 use Rattle.grs_base.specs.Lists.{decide_enq, is_owner, standing_of}
 use Rattle.grs_base.specs.State.{list_of}
 use Rattle.grs_base.specs.declared.decision.Effect.{Effect}
@@ -14,7 +13,7 @@ use Rattle.grs_wire.specs.Wants.{new_owners}
 use Rattle.grs_wire.specs.declared.request.Want.{Want}
 use Rattle.grs_wire.specs.declared.request.Want.TheVariants.{Enq, Deq, Release, Look}
 use Rattle.contention_mgr.specs.Elements.{all_of, elements_of, ElementsAreAskers, TellingKeepsElements}
-use Rattle.contention_mgr.specs.Manager.{Ranked, Managed, ManagerView, plain, is_of, exclusive, marked, made_exclusive, taken_out, with_mark, with_control, enqueued, given_up, settled, items_of, kept_at, kept_for, managed_for, managed_of, with_entry, entry_wanted, after_request, after_telling, told}
+use Rattle.contention_mgr.specs.Manager.{Ranked, Managed, ManagerView, plain, is_of, exclusive, marked, taken_out, with_mark, with_control, enqueued, given_up, settled, items_of, kept_at, kept_for, managed_for, managed_of, with_entry, entry_wanted, after_request, after_telling, told}
 use Rattle.lock_structure.specs.Entries.{entry_of_res}
 
 module _ (p : TaskId → Bool) where

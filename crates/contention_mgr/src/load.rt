@@ -1,5 +1,5 @@
 //! An entry made of lists whose elements have ranks already.
-ghost use Rattle.std.specs.Prelude.{◌≡◌, ◌+◌, ◌++◌, ◌∷◌, [], true, false, OnOk, IfOk};
+ghost use Rattle.std.specs.Prelude.{◌≡◌, ◌++◌, ◌∷◌, [], true, false, OnOk};
 ghost use Rattle.grs_base.specs.Lists.{is_apart, has_task};
 ghost use Rattle.grs_base.specs.State.{list_of};
 ghost use Rattle.contention_mgr.specs.Marks.{mark_in, ranked_all, AreMarked};

@@ -1,11 +1,11 @@
 //! The manager of a system: of each lock entry what it keeps, where it manages it.
-ghost use Rattle.std.specs.Prelude.{◌≡◌, ◌≢◌, ◌<◌, ◌≤◌, ◌+◌, ◌==◌, ℕ, true, false, is_some, length, replicate, slice_set, None, Some, option_map, IfOk, IfSome, OnOk, OnErr};
+ghost use Rattle.std.specs.Prelude.{◌≡◌, ◌≢◌, ◌<◌, ◌≤◌, ◌+◌, ◌==◌, true, false, is_some, length, replicate, slice_set, None, Some, option_map, IfOk, IfSome, OnOk, OnErr};
 ghost use Rattle.std.specs.Option.{option_copied};
 ghost use Rattle.grs_base.specs.Limits.{last_number};
 ghost use Rattle.grs_wire.specs.Wants.{answer_to, new_owners};
 ghost use Rattle.contention_mgr.specs.Loads.{loaded};
 ghost use Rattle.lock_structure.specs.RankedRows.{IsLoadable};
-ghost use Rattle.contention_mgr.specs.Manager.{plain, no_elements, settled, rank_given, are_of, entry_of_looks, entry_wanted, kept_at, managed_at, managed_of, managed_for, items_of, with_entry, after_request, rank_for, told, after_telling, any_untold_in, any_untold_at, first_untold, owner_of};
+ghost use Rattle.contention_mgr.specs.Manager.{plain, no_elements, settled, are_of, entry_of_looks, entry_wanted, kept_at, managed_at, managed_of, managed_for, items_of, with_entry, after_request, rank_for, told, after_telling, any_untold_in, any_untold_at, first_untold, owner_of};
 ghost use Rattle.lock_structure.specs.Entries.{entry_of_res};
 
 use crate::entry::Entry;

@@ -7,12 +7,10 @@ use Rattle.std.specs.List.{flat_map}
 use Rattle.grs_base.specs.State.{State}
 use Rattle.grs_base.specs.declared.resource.SysId.{SysId}
 use Rattle.grs_wire.specs.History.{answered_from, after_fixed, fixed_entries}
-use Rattle.grs_wire.specs.declared.deck.Event.{Event}
 use Rattle.grs_wire.specs.declared.history.HistEntry.{HistEntry}
 use Rattle.grs_wire.specs.declared.log.StepDone.{StepDone}
 use Rattle.grs_wire.specs.declared.medium.JEntry.{JEntry}
 use Rattle.grs_wire.specs.declared.request.Fixed.{Fixed}
-use Rattle.grs_wire.specs.declared.told.Told.{Told}
 use Rattle.grs_history.specs.Merge.{Step, steps_by, run_count, rest_of, by_journal, event_of, fixed_in, told_in, told_behind, shown}
 use Rattle.grs_history.specs.Merging.{after_all_fixed, shown_with, Leads}
 use Rattle.grs_history.specs.declared.order.Merged.{Merged}

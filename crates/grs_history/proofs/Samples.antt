@@ -18,7 +18,7 @@ use Rattle.grs_wire.specs.declared.medium.Reply.TheVariants.{Empty}
 use Rattle.grs_wire.specs.declared.request.Fixed.TheVariants.{Asked}
 use Rattle.grs_wire.specs.declared.request.Want.TheVariants as wants
 use Rattle.grs_wire.specs.declared.told.ToldLine.TheVariants.{Ended}
-use Rattle.grs_history.specs.Merge.{Step, in_order, event_of, merged}
+use Rattle.grs_history.specs.Merge.{in_order, event_of, merged}
 
 abbrev sys : ℕ → SysId
 sys s = record { 0 = s }

@@ -1,5 +1,5 @@
 //! The medium and its calls.
-ghost use Rattle.std.specs.Prelude.{◌≡◌, ◌<◌, ◌≤◌, ◌&&◌, ℕ, true, not, is_none, length, List as ListSpec, None, Some, IfOk, OnOk, OnErr};
+ghost use Rattle.std.specs.Prelude.{◌≡◌, ◌<◌, ◌≤◌, ◌&&◌, ℕ, true, not, is_none, length, List as ListSpec, None, Some, IfOk, OnOk};
 ghost use Rattle.grs_base.specs.Limits.{most_additions, most_systems};
 ghost use Rattle.grs_wire.specs.LockWords.{leave_changes};
 ghost use Rattle.grs_wire.specs.declared.request.Req.{Req as ReqSpec};

@@ -1,5 +1,5 @@
 -- To whom the calls of a system go: to systems of the deck, and to lock entries that there are.
-use Rattle.std.specs.Prelude.{◌≡◌, ◌<◌, ℕ, Bool, true, false, nat_lt, nat_le, length, Option, Some, None}
+use Rattle.std.specs.Prelude.{◌≡◌, ◌<◌, ℕ, Bool, true, nat_lt, nat_le, length, Option, Some, None}
 use Rattle.std.specs.List.{list_all}
 use Rattle.contention_mgr.specs.Elements.{all_of}
 use Rattle.grs_base.specs.declared.resource.TaskId.{TaskId}

@@ -9,7 +9,7 @@ ghost use Rattle.grs_node.specs.Node.{is_to_send};
 ghost use Rattle.grs_node.specs.Star as star;
 
 use contention_mgr::Manager;
-use grs_base::{List, NoMemory, Res, SysId, TaskId};
+use grs_base::{NoMemory, Res, SysId, TaskId};
 use grs_wire::{Act, Mail, Req};
 use std::alloc::Global;
 use std::collections::VecDeque;

@@ -1,11 +1,10 @@
 //! The history of a run as lines. Entries are numbered from 1, in order.
-ghost use Rattle.std.specs.Prelude.{◌≡◌, ◌++◌, ◌∷◌, [], length, codes, OnOk};
+ghost use Rattle.std.specs.Prelude.{◌≡◌, ◌++◌, ◌∷◌, [], codes, OnOk};
 ghost use Rattle.std.specs.Fmt.{decimal};
-ghost use Rattle.std.specs.List.{flat_map};
 ghost use Rattle.grs_base.specs.Printed.{ctl_word};
 ghost use Rattle.grs_report.specs.Lines.{spaced, line};
 ghost use Rattle.grs_report.specs.Names.{name_at, task_word};
-ghost use Rattle.grs_report.specs.Rows.{res_word, row_line, place_word, filter_word};
+ghost use Rattle.grs_report.specs.Rows.{res_word, place_word, filter_word};
 ghost use Rattle.grs_report.specs.Spelled.{ret_word, have_word, code_word};
 ghost use Rattle.grs_report.specs.History.{history_line, history_lines, history_text};
 
@@ -13,7 +12,7 @@ use super::lines::{put_count, put_number_word, put_word};
 use super::names::{name_at, put_task};
 use super::rows::{put_filter, put_place, put_res, put_rows};
 use super::spelled::{have_word, put_code, ret_word};
-use grs_base::{Code, Ctl, Filter, List, NoMemory, Place, Res, Ret, Row, SysId, TaskId, ctl_word};
+use grs_base::{Code, Ctl, Filter, List, NoMemory, Place, Res, Ret, SysId, TaskId, ctl_word};
 use grs_wire::{HistEntry, Names};
 use std::alloc::Global;
 

@@ -12,7 +12,7 @@ use super::shelves::{SystemLines, sorted_by_system};
 use super::spelled::end_word;
 use super::told_line::put_told_line;
 use grs_base::{List, NoMemory, SysId, TaskId, is_same_task};
-use grs_wire::{JobDef, Names, SystemDef, TaskDef, TaskEnd, Told, ToldLine};
+use grs_wire::{JobDef, Names, SystemDef, TaskEnd, Told, ToldLine};
 use std::alloc::Global;
 
 /// Whether a line is told to a task.

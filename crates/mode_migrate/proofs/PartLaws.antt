@@ -5,7 +5,6 @@ use Rattle.std.specs.List.{list_all, list_any, range_with_len, flat_map}
 use Rattle.std.specs.declared.cmp.Ordering.{Ordering}
 use Rattle.std.specs.declared.cmp.Ordering.TheVariants.{Less, Equal, Greater}
 use Rattle.std.specs.Ordering.{is_lt, eq_by_cmp}
-use Rattle.std.specs.Cmp.{IsTotalOrder}
 use Rattle.std.specs.FinMap.{put, is_sorted}
 use Rattle.std.specs.FinMap.Entries.{by_order, below_all, is_sorted-put}
 use Rattle.std.proofs.lemmas.Bool.{and_parts, eqb-true}
@@ -23,9 +22,8 @@ use Rattle.grs_base.specs.declared.resource.Res.{Res}
 use Rattle.grs_base.specs.declared.resource.Row.{Row}
 use Rattle.grs_base.proofs.OrderLaws.{res_total, same_res-tie}
 use Rattle.lock_structure.specs.Entries.{entry_of_res, is_entry}
-use Rattle.lock_structure.specs.RankedRows.{RankedRow, ranks_of, rises, differ, rows_apart, all_apart, IsLoadable}
+use Rattle.lock_structure.specs.RankedRows.{RankedRow, ranks_of, rises, differ, rows_apart, IsLoadable}
 use Rattle.mode_migrate.specs.Migrate.{row_is_of, rows_in, numbered_from, numbered_in, ranked_by, part_of, part_by, AreApart}
-use Rattle.mode_migrate.proofs.Ranges.{ranks-append}
 
 abbrev Lists : Type 0
 Lists = List (Res × List Elem)

@@ -1,18 +1,15 @@
 -- The lock words of a table are such as the complex may change by.
-use Rattle.std.proofs.Common.{◌≡◌, ◌≤◌, ◌<◌, ◌+◌, ◌≢◌, ℕ, zero, suc, Bool, true, false, cond, not, ◌&&◌, List, [], ◌∷◌, length, map, refl, ap, sym, ◌∙◌, subst, arith}
+use Rattle.std.proofs.Common.{◌≡◌, ◌≤◌, ◌<◌, ◌+◌, ℕ, zero, suc, Bool, true, false, cond, not, ◌&&◌, List, [], ◌∷◌, length, map, refl, ap, sym, ◌∙◌, arith}
 use Rattle.std.specs.Prelude.{nat_lt, ◌==◌, ◌||◌, Option, Some, None}
 use Rattle.std.specs.List.{list_all, list_any, range_with_len}
 use Rattle.std.proofs.lemmas.Bool.{and_parts, eqb-true}
 use Rattle.std.proofs.lemmas.Bool.Decides.{nat_tests}
 use Rattle.std.proofs.lemmas.List.FromFn.{length-map-range_with_len}
-use Rattle.grs_base.specs.Limits.{most_systems}
 use Rattle.grs_base.specs.Rows.{rows_of}
-use Rattle.grs_base.specs.State.{State, list_of}
+use Rattle.grs_base.specs.State.{State}
 use Rattle.grs_base.specs.declared.resource.Elem.{Elem}
-use Rattle.grs_base.specs.declared.resource.Res.{Res}
 use Rattle.grs_base.specs.declared.resource.Row.{Row}
 use Rattle.grs_base.specs.declared.resource.SysId.{SysId}
-use Rattle.grs_base.specs.Same.{same_res}
 use Rattle.grs_wire.specs.LockWords.{interest, manager, manager_number, lock_word}
 use Rattle.grs_wire.specs.Masks.{has, with_also, all_others}
 use Rattle.grs_wire.proofs.MaskLaws.{has-zero, has-with_same, has-with_other, with_also-lt}

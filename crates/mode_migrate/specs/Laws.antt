@@ -2,7 +2,6 @@
 use Rattle.std.specs.Prelude.{◌≡◌, ◌<◌, ℕ, Bool, true, nat_le, nat_lt, List, length}
 use Rattle.std.specs.List.{list_all}
 use Rattle.grs_base.specs.Limits.{last_number}
-use Rattle.grs_base.specs.Rows.{rows_of}
 use Rattle.grs_base.specs.State.{State}
 use Rattle.grs_base.specs.declared.resource.Row.{Row}
 use Rattle.grs_wire.specs.LockWords.{interest, manager}

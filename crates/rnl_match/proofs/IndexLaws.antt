@@ -1,20 +1,17 @@
 -- Entries by their places, and the first of them that matches.
-use Rattle.std.proofs.Common.{◌≡◌, ◌<◌, ◌≤◌, ◌+◌, ◌||◌, ◌==◌, ℕ, zero, suc, Bool, true, false, not, ◌&&◌, cond, List, [], ◌∷◌, ◌++◌, length, take, drop, get_or, Option, Some, None, refl, ap, sym, subst, ◌∙◌, arith, true≢false}
+use Rattle.std.proofs.Common.{◌≡◌, ◌<◌, ◌≤◌, ◌+◌, ◌||◌, ℕ, suc, Bool, true, false, cond, List, [], ◌∷◌, ◌++◌, length, take, drop, get_or, Option, Some, None, refl, ap, sym, subst, ◌∙◌, arith, true≢false}
 use Rattle.std.specs.Prelude.{All, slice_get, count_by, nat_lt, unwrap_or, position, IfSome, if◌then◌else◌}
 use Rattle.std.specs.List.{AllByRecursion, position_from}
 use Rattle.std.specs.Option.{option_or, option_map_or}
-use Rattle.std.specs.Str.{bytes_eq}
 use Rattle.std.proofs.lemmas.Bool.Decides.{nat_tests}
 use Rattle.std.proofs.lemmas.Iterator.Adapters.{position_from-zero}
 use Rattle.std.proofs.lemmas.List.{drop_more, take_more, length-take-le}
 use Rattle.std.proofs.lemmas.List.Elements.{All-from_recursion}
 use Rattle.std.proofs.lemmas.List.Sums.{sum_by-cons}
 use Rattle.std.proofs.lemmas.Option.{slice_get-get_or}
-use Rattle.grs_base.specs.declared.rnl.Form.{Form}
-use Rattle.grs_base.specs.declared.rnl.Form.TheVariants.{Specific, Generic, Pattern}
 use Rattle.grs_base.specs.declared.rnl.RnlEntry.{RnlEntry}
-use Rattle.rnl_match.specs.Matches.{matches, matches_qname, matches_some_rname}
-use Rattle.rnl_match.specs.Index.{places, first_place, is_under, is_pattern, is_pattern_form}
+use Rattle.rnl_match.specs.Matches.{matches}
+use Rattle.rnl_match.specs.Index.{places, first_place, is_under, is_pattern}
 
 -- one entry more
 pub places-push : (t : RnlEntry → Bool) (n : ℕ) (es : List RnlEntry) (e : RnlEntry) → places t n (es ++ e ∷ []) ≡ (if t e then places t n es ++ (n + length es) ∷ [] else places t n es)

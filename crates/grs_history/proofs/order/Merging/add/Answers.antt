@@ -1,7 +1,4 @@
 use Rattle.std.proofs.Common.{◌∙◌, ap, rules}
-use Rattle.grs_wire.specs.declared.request.Fixed.{Fixed}
-use Rattle.grs_wire.specs.declared.told.ToldLine.{ToldLine}
-use Rattle.grs_wire.specs.History.{answered_from}
 use Rattle.grs_history.specs.Merging.{after_all_fixed}
 use Rattle.grs_history.proofs.MergeLaws.{leads-by}
 use Rattle.grs_history.proofs.order.Merging.add.Goals as goal

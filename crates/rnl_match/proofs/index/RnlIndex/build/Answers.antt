@@ -1,4 +1,4 @@
-use Rattle.std.proofs.Common.{◌≡◌, ◌∙◌, ◌++◌, ◌∷◌, [], List, ◌<◌, length, get_or, ℕ, ap, arith, sym, subst, if◌then◌else◌}
+use Rattle.std.proofs.Common.{◌≡◌, ◌∙◌, ◌++◌, ◌∷◌, [], List, ◌<◌, length, get_or, ℕ, ap, arith, if◌then◌else◌}
 use Rattle.grs_base.specs.declared.rnl.RnlEntry.{RnlEntry}
 use Rattle.rnl_match.specs.Index.{is_under, is_pattern, bucket_at}
 use Rattle.rnl_match.proofs.IndexLaws.{places-more}

@@ -1,6 +1,5 @@
-use Rattle.std.proofs.Common.{◌≡◌, ◌∙◌, ℕ, Option, length, ap}
+use Rattle.std.proofs.Common.{◌≡◌, ◌∙◌, length, ap}
 use Rattle.grs_base.specs.Rnl.{RnlView}
-use Rattle.rnl_match.specs.Matches.{find}
 use Rattle.rnl_match.proofs.IndexLaws.{find_split, found-within}
 use Rattle.rnl_match.proofs.index.RnlIndex.find_counted.Goals as goal
 

@@ -1,4 +1,4 @@
-use Rattle.std.proofs.Common.{◌≡◌, ◌∙◌, ◌+◌, ℕ, List, [], Option, ap, arith, sym, length, count_by, unwrap_or}
+use Rattle.std.proofs.Common.{◌≡◌, ◌∙◌, [], ap, arith, length, count_by, unwrap_or}
 use Rattle.grs_base.specs.Rnl.{RnlView}
 use Rattle.rnl_match.specs.Index.{is_under, places}
 use Rattle.rnl_match.proofs.IndexLaws.{length-places}
