@@ -1,5 +1,5 @@
 -- A printed line as bits: words, names, signs and blanks one behind the other.
-use Rattle.std.proofs.Common.{◌≡◌, ℕ, ◌+◌, ◌*◌, Bool, true, false, eqb, List, [], ◌∷◌, ◌++◌, length, refl, sym, ap, ◌∙◌, arith, append_assoc, append-nil, length-append}
+use Rattle.std.proofs.Common.{◌≡◌, ℕ, Bool, true, false, eqb, List, [], ◌∷◌, ◌++◌, length, refl, sym, ap, ◌∙◌, arith, append_assoc, append-nil, length-append}
 use Rattle.std.specs.Prelude.{◌&&◌}
 use Rattle.std.specs.List.{list_all}
 use Rattle.std.proofs.lemmas.Bool.{and_from, and_parts, ne_eqb}
@@ -211,13 +211,3 @@ bits_line word bs is h =
 
     ended : (next_line (at (Word word ∷ tokens_of bs))).lines ≡ line_of_bits word bs ∷ []
     ended = rw some refl
-
--- ---- how long they are
-
--- at most so many bytes
-abbrev pub size : List Bit → ℕ
-size [] = 0
-size (Of w ∷ bs) = length w + size bs
-size (Called n ∷ bs) = 2 * length n + 3 + size bs
-size (Mark t ∷ bs) = 1 + size bs
-size (Gap ∷ bs) = 1 + size bs

@@ -1,19 +1,15 @@
 -- A text of allowed bytes spells just the lines that are read.
-use Rattle.std.proofs.Common.{◌≡◌, ℕ, ◌+◌, Bool, true, false, cond, not, eqb, ltb, List, [], ◌∷◌, length, ◌≤◌, Option, Some, None, Result, Ok, Err, refl, sym, ap, subst, ◌∙◌}
+use Rattle.std.proofs.Common.{◌≡◌, ℕ, ◌+◌, Bool, true, false, cond, not, eqb, ltb, List, [], ◌∷◌, length, ◌≤◌, Option, Some, None, Ok, refl, sym, ap, subst, ◌∙◌}
 use Rattle.std.specs.Prelude.{◌&&◌, ◌||◌}
 use Rattle.std.specs.List.{list_all}
 use Rattle.std.proofs.lemmas.Bool.{and_from, le-ltb}
 use Rattle.grs_base.specs.Printed.{is_printable}
-use Rattle.grs_base.specs.declared.fault.DeckFault.{DeckFault}
 use Rattle.grs_base.specs.declared.fault.Kind.TheVariants.{TooLong}
-use Rattle.grs_base.specs.declared.fault.ReadError.{ReadError}
-use Rattle.grs_base.specs.declared.fault.ReadError.TheVariants as read_errors
 use Rattle.deck_scan.specs.declared.token.TokenLine.{TokenLine}
 use Rattle.deck_scan.specs.Bytes.{begins, is_allowed, bad_line}
 use Rattle.deck_scan.specs.Scan.{Scan, step, scan_from, start, lines_of}
 use Rattle.deck_scan.specs.Pieces.{Blank, is_in_comment, followed_by, spelled, without_cr, SpellsLines}
-use Rattle.deck_scan.specs.Gives.{Gives}
-use Rattle.deck_scan.specs.Reading.{most_text_bytes, bad_byte, byte_fault, Answers, unless_fault, lines_or_fault}
+use Rattle.deck_scan.specs.Reading.{most_text_bytes, bad_byte, byte_fault, lines_or_fault}
 use Rattle.deck_scan.proofs.Said.{at_end, all_run}
 use Rattle.deck_scan.proofs.Found.{found_pieces}
 
@@ -79,21 +75,6 @@ no_bad text e = go (ltb most_text_bytes (length text)) (bad_line 1 text) e
     go true o k = absurd cc
     go false None k = refl
     go false (Some n) k = absurd cc
-
--- What is read is what a reader answers.
-pub answers : (result : Result (List TokenLine) ReadError) (text : List ℕ) → Gives result (lines_or_fault text) → Answers result text
-unfolding lines_or_fault
-answers (Ok lines) text h = go (byte_fault text) refl h
-  where
-    go : (f : Option DeckFault) → byte_fault text ≡ f → unless_fault f (lines_of text) ≡ Ok lines → (byte_fault text ≡ None) × SpellsLines text lines
-    go None e k = (e, (let same : lines_of text ≡ lines = cc in subst (SpellsLines text) same (spelled_found text (no_bad text e))))
-    go (Some f) e k = absurd cc
-answers (Err read_errors.NoMemory) text h = tt
-answers (Err (read_errors.Fault f)) text h = go (byte_fault text) h
-  where
-    go : (g : Option DeckFault) → unless_fault g (lines_of text) ≡ Err f → g ≡ Some f
-    go None k = absurd cc
-    go (Some g) k = cc
 
 -- ---- the lines of a deck
 

@@ -1,8 +1,8 @@
 -- A printed line is read again.
-use Rattle.std.proofs.Common.{◌≡◌, ℕ, ◌+◌, ◌/◌, ◌%◌, ◌<◌, ◌≤◌, Bool, true, false, List, [], ◌∷◌, ◌++◌, length, Option, Some, None, refl, sym, ap, subst, arith, append_assoc, append-nil, inl}
+use Rattle.std.proofs.Common.{◌≡◌, ℕ, ◌/◌, ◌%◌, ◌<◌, Bool, true, false, List, [], ◌∷◌, ◌++◌, Option, Some, None, refl, sym, ap, subst, arith, append_assoc, append-nil, inl}
 use Rattle.std.specs.Prelude.{codes, ◌&&◌, ◌||◌, is_none}
 use Rattle.std.specs.List.{flat_map}
-use Rattle.std.proofs.lemmas.Bool.{and_from, and_parts, leb-true}
+use Rattle.std.proofs.lemmas.Bool.{and_from}
 use Rattle.std.proofs.lemmas.Bool.Decides.{nat_tests}
 use Rattle.grs_base.specs.Names.{is_rname, IsQname, IsMaybeQname, IsMaybeRname, are_bytes, AreNames}
 use Rattle.grs_base.specs.Printed.{hex_digit, ctl_word, unit_digits}
@@ -28,7 +28,7 @@ use Rattle.deck_scan.specs.AnyBytes.{readable}
 use Rattle.deck_scan.proofs.AnyLemmas.{any_text}
 use Rattle.deck_scan.proofs.Names.{digit-hex, digit-hex_digit, qname_nonempty, rname_nonempty}
 use Rattle.deck_scan.proofs.Print.{name_names}
-use Rattle.deck_scan.proofs.Bits.{Bit, Of, Called, Mark, text_of, tokens_of, is_bit, starts_apart, are_bits, line_of_bits, bits_line, size}
+use Rattle.deck_scan.proofs.Bits.{Bit, Of, Called, Mark, text_of, tokens_of, is_bit, starts_apart, are_bits, line_of_bits, bits_line}
 use Rattle.job_syntax.specs.declared.options.Opts.{Opts}
 use Rattle.job_syntax.specs.declared.display.Shown.TheVariants as shown
 use Rattle.job_syntax.specs.declared.line_ask.LineAsk.{LineAsk}
@@ -82,42 +82,41 @@ maybe_bits : Option ℕ → List Bit → List Bit
 maybe_bits None rest = rest
 maybe_bits (Some unit) rest = unit_bits unit rest
 
--- bits of options: they are bits, they may stand behind a word, and they are short
-record AreOptions (bs : List Bit) (most : ℕ) : Type 0 where
+-- bits of options: they are bits, and they may stand behind a word
+record AreOptions (bs : List Bit) : Type 0 where
   are : are_bits bs ≡ true
   parted : starts_apart bs ≡ true
-  few : size bs ≤ most
 
-rnl_are : (b : Bool) → AreOptions (rnl_bits b) 7
+rnl_are : (b : Bool) → AreOptions (rnl_bits b)
 unfolding rnl_bits is_word
-rnl_are true = record { are = refl; parted = refl; few = omega arith }
-rnl_are false = record { are = refl; parted = refl; few = omega arith }
+rnl_are true = record { are = refl; parted = refl }
+rnl_are false = record { are = refl; parted = refl }
 
-ret_are : (r : Ret) (rest : List Bit) (n : ℕ) → AreOptions rest n → AreOptions (ret_bits r rest) (n + 9)
+ret_are : (r : Ret) (rest : List Bit) → AreOptions rest → AreOptions (ret_bits r rest)
 unfolding ret_bits is_word
-ret_are RetNone rest n h = record { are = h.are; parted = h.parted; few = omega (arith, h.few) }
-ret_are RetUse rest n h = record { are = rw (h.are, h.parted) refl; parted = refl; few = omega (arith, h.few) }
-ret_are RetHave rest n h = record { are = rw (h.are, h.parted) refl; parted = refl; few = omega (arith, h.few) }
-ret_are RetTest rest n h = record { are = rw (h.are, h.parted) refl; parted = refl; few = omega (arith, h.few) }
-ret_are RetChng rest n h = record { are = rw (h.are, h.parted) refl; parted = refl; few = omega (arith, h.few) }
-ret_are RetEcb rest n h = record { are = rw (h.are, h.parted) refl; parted = refl; few = omega (arith, h.few) }
+ret_are RetNone rest h = h
+ret_are RetUse rest h = record { are = rw (h.are, h.parted) refl; parted = refl }
+ret_are RetHave rest h = record { are = rw (h.are, h.parted) refl; parted = refl }
+ret_are RetTest rest h = record { are = rw (h.are, h.parted) refl; parted = refl }
+ret_are RetChng rest h = record { are = rw (h.are, h.parted) refl; parted = refl }
+ret_are RetEcb rest h = record { are = rw (h.are, h.parted) refl; parted = refl }
 
-have_are : (b : Bool) (rest : List Bit) (n : ℕ) → AreOptions rest n → AreOptions (have_bits b rest) (n + 9)
+have_are : (b : Bool) (rest : List Bit) → AreOptions rest → AreOptions (have_bits b rest)
 unfolding have_bits is_word
-have_are true rest n h = record { are = rw (h.are, h.parted) refl; parted = refl; few = omega (arith, h.few) }
-have_are false rest n h = record { are = h.are; parted = h.parted; few = omega (arith, h.few) }
+have_are true rest h = record { are = rw (h.are, h.parted) refl; parted = refl }
+have_are false rest h = h
 
 ucb_word : is_piece (Plain (codes "UCB")) ≡ true
 unfolding is_word
 ucb_word = refl
 
-unit_are : (unit : ℕ) (rest : List Bit) (n : ℕ) → AreOptions rest n → AreOptions (unit_bits unit rest) (n + 9)
-unit_are unit rest n h = record { are = rw (ucb_word, unit_word unit, h.are, h.parted) refl; parted = refl; few = omega (arith, h.few) }
+unit_are : (unit : ℕ) (rest : List Bit) → AreOptions rest → AreOptions (unit_bits unit rest)
+unit_are unit rest h = record { are = rw (ucb_word, unit_word unit, h.are, h.parted) refl; parted = refl }
 
-maybe_are : (o : Option ℕ) (rest : List Bit) (n : ℕ) → AreOptions rest n → AreOptions (maybe_bits o rest) (n + 9)
+maybe_are : (o : Option ℕ) (rest : List Bit) → AreOptions rest → AreOptions (maybe_bits o rest)
 unfolding maybe_bits
-maybe_are None rest n h = record { are = h.are; parted = h.parted; few = omega (arith, h.few) }
-maybe_are (Some unit) rest n h = unit_are unit rest n h
+maybe_are None rest h = h
+maybe_are (Some unit) rest h = unit_are unit rest h
 
 -- ---- their texts
 
@@ -272,28 +271,24 @@ have_back false = refl
 
 -- ---- names
 
--- names as bits, and how long they are
+-- names as bits
 record NamesAre (q r : List ℕ) : Type 0 where
   q_bit : is_bit (Called q) ≡ true
   r_bit : is_bit (Called r) ≡ true
-  q_few : length q ≤ 8
-  r_few : length r ≤ 255
   good : are_bad_names q r ≡ false
 
 names_are : (q r : List ℕ) → AreNames q r → NamesAre q r
 names_are q r h = record {
   q_bit = and_from (is_nonempty q) (are_bytes q) (qname_nonempty q h.qname.made) h.q_bytes;
   r_bit = and_from (is_nonempty r) (are_bytes r) (rname_nonempty r h.rname) h.r_bytes;
-  q_few = leb-true (length q) 8 (and_parts _ _ h.qname.made).0;
-  r_few = leb-true (length r) 255 (and_parts _ _ h.rname).1;
   good = rw (h.qname.made, h.rname) refl;
 }
 
 -- ---- lines
 
 -- A line that is spelled by a word and bits.
-spells_so : (l : Line) (word : List ℕ) (bs : List Bit) (s : LineAsk) → is_piece (Plain word) ≡ true → are_bits bs ≡ true → length word + size bs ≤ 2000 → word ++ 32 ∷ text_of bs ≡ printed_line l → IsWord (line_word_for s) word → IsBehind (tokens_of bs) s → has_bad_name s ≡ false → line_of s ≡ l → SpellsLine (printed_line l) l
-spells_so l word bs s is are few text of behind names makes = record {
+spells_so : (l : Line) (word : List ℕ) (bs : List Bit) (s : LineAsk) → is_piece (Plain word) ≡ true → are_bits bs ≡ true → word ++ 32 ∷ text_of bs ≡ printed_line l → IsWord (line_word_for s) word → IsBehind (tokens_of bs) s → has_bad_name s ≡ false → line_of s ≡ l → SpellsLine (printed_line l) l
+spells_so l word bs s is are text of behind names makes = record {
   tokens = line_of_bits word bs;
   spelled = subst (λ (t : List ℕ). SpellsLines (readable t) (line_of_bits word bs ∷ [])) text (any_text (word ++ 32 ∷ text_of bs) (line_of_bits word bs ∷ []) (bits_line word bs is are));
   apart = refl;
@@ -319,19 +314,6 @@ unfolding is_word
 reach_bit true = refl
 reach_bit false = refl
 
-ctl_few : (c : Ctl) → length (ctl_word c) ≤ 8
-ctl_few E = omega arith
-ctl_few S = omega arith
-
-scope_few : (s : Scope) → length (scope_word s) ≤ 8
-scope_few scopes.Step = omega arith
-scope_few scopes.System = omega arith
-scope_few scopes.Systems = omega arith
-
-reach_few : (b : Bool) → length (reach_word b) ≤ 8
-reach_few true = omega arith
-reach_few false = omega arith
-
 -- ( q , r , control , scope ) and options
 abbrev controlled : List ℕ → List ℕ → Ctl → Scope → List Bit → List Bit
 controlled q r c s rest = Mark Open ∷ Called q ∷ Mark Comma ∷ Called r ∷ Mark Comma ∷ Of (ctl_word c) ∷ Mark Comma ∷ Of (scope_word s) ∷ Mark Close ∷ rest
@@ -340,24 +322,11 @@ controlled q r c s rest = Mark Open ∷ Called q ∷ Mark Comma ∷ Called r ∷
 abbrev placed : List ℕ → List ℕ → Scope → List Bit → List Bit
 placed q r s rest = Mark Open ∷ Called q ∷ Mark Comma ∷ Called r ∷ Mark Comma ∷ Of (scope_word s) ∷ Mark Close ∷ rest
 
-record AreBits (bs : List Bit) : Type 0 where
-  are : are_bits bs ≡ true
-  few : size bs ≤ 1900
+controlled_are : (q r : List ℕ) (c : Ctl) (s : Scope) (rest : List Bit) → NamesAre q r → AreOptions rest → are_bits (controlled q r c s rest) ≡ true
+controlled_are q r c s rest h o = rw (h.q_bit, h.r_bit, ctl_bit c, scope_bit s, o.are) refl
 
-controlled_are : (q r : List ℕ) (c : Ctl) (s : Scope) (rest : List Bit) → NamesAre q r → AreOptions rest 100 → AreBits (controlled q r c s rest)
-controlled_are q r c s rest h o = record {
-  are = rw (h.q_bit, h.r_bit, ctl_bit c, scope_bit s, o.are) refl;
-  few = omega (arith, h.q_few, h.r_few, ctl_few c, scope_few s, o.few);
-}
-
-placed_are : (q r : List ℕ) (s : Scope) (rest : List Bit) → NamesAre q r → AreOptions rest 100 → AreBits (placed q r s rest)
-placed_are q r s rest h o = record {
-  are = rw (h.q_bit, h.r_bit, scope_bit s, o.are) refl;
-  few = omega (arith, h.q_few, h.r_few, scope_few s, o.few);
-}
-
-more_room : (bs : List Bit) (n m : ℕ) → n ≤ m → AreOptions bs n → AreOptions bs m
-more_room bs n m le h = record { are = h.are; parted = h.parted; few = omega (arith, le, h.few) }
+placed_are : (q r : List ℕ) (s : Scope) (rest : List Bit) → NamesAre q r → AreOptions rest → are_bits (placed q r s rest) ≡ true
+placed_are q r s rest h o = rw (h.q_bit, h.r_bit, scope_bit s, o.are) refl
 
 ask_of : (q r : List ℕ) (c : Ctl) (s : Scope) (o : Opts) (rest : List Bit) (given : List Opt) → tokens_of rest ≡ flat_map option given → Sets IsFree set no_opts given o → IsResAsk (Word (ctl_word c) ∷ Comma ∷ []) (tokens_of (controlled q r c s rest)) (record { q = q; r = r; scope = s; opts = o })
 ask_of q r c s o rest given tokens options = record { q = name_token q; r = name_token r; given = given; spelled = rw tokens refl; named_q = name_names q; named_r = name_names r; options = options }
@@ -374,8 +343,8 @@ line_word_words = (refl, refl, refl, refl, refl, refl)
 abbrev enq_rest : Ret → Bool → List Bit
 enq_rest ret rnl = ret_bits ret (rnl_bits rnl)
 
-enq_options : (ret : Ret) (rnl : Bool) → AreOptions (enq_rest ret rnl) 100
-enq_options ret rnl = more_room (enq_rest ret rnl) 16 100 (omega arith) (ret_are ret (rnl_bits rnl) 7 (rnl_are rnl))
+enq_options : (ret : Ret) (rnl : Bool) → AreOptions (enq_rest ret rnl)
+enq_options ret rnl = ret_are ret (rnl_bits rnl) (rnl_are rnl)
 
 abbrev enq_line_ask : Item → Ret → Bool → LineAsk
 enq_line_ask i ret rnl = asks.Enq (record { ctl = i.ctl; ask = record { q = i.q; r = i.r; scope = i.scope; opts = record { ret = ret_option ret; rnl = rnl_option rnl; unit = None } } })
@@ -389,13 +358,13 @@ enq_again i ret rnl h =
     let rest = enq_rest ret rnl in
     let bits = controlled_are i.q i.r i.ctl i.scope rest n (enq_options ret rnl) in
     let ask = ask_of i.q i.r i.ctl i.scope (record { ret = ret_option ret; rnl = rnl_option rnl; unit = None }) rest (ret_given ret (rnl_given rnl)) (ret_tokens ret (rnl_bits rnl) (rnl_given rnl) (rnl_tokens rnl)) (enq_set ret rnl) in
-    spells_so (lines.Enq (i ∷ []) ret rnl) (codes "ENQ") (controlled i.q i.r i.ctl i.scope rest) (enq_line_ask i ret rnl) line_word_words.0 bits.are (omega (arith, bits.few)) (enq_text i ret rnl) refl (ask, refl) n.good
+    spells_so (lines.Enq (i ∷ []) ret rnl) (codes "ENQ") (controlled i.q i.r i.ctl i.scope rest) (enq_line_ask i ret rnl) line_word_words.0 bits (enq_text i ret rnl) refl (ask, refl) n.good
     (rw (h.qname.trimmed, ret_back ret, rnl_back rnl) refl)
 
 -- ---- RESERVE
 
-reserve_options : (unit : ℕ) (ret : Ret) (rnl : Bool) → AreOptions (unit_bits unit (enq_rest ret rnl)) 100
-reserve_options unit ret rnl = more_room (unit_bits unit (enq_rest ret rnl)) 25 100 (omega arith) (unit_are unit (enq_rest ret rnl) 16 (ret_are ret (rnl_bits rnl) 7 (rnl_are rnl)))
+reserve_options : (unit : ℕ) (ret : Ret) (rnl : Bool) → AreOptions (unit_bits unit (enq_rest ret rnl))
+reserve_options unit ret rnl = unit_are unit (enq_rest ret rnl) (enq_options ret rnl)
 
 reserve_text : (q r : List ℕ) (ctl : Ctl) (unit : ℕ) (ret : Ret) (rnl : Bool) → codes "RESERVE" ++ 32 ∷ text_of (controlled q r ctl scopes.Systems (unit_bits unit (enq_rest ret rnl))) ≡ printed_line (lines.Reserve q r ctl unit ret rnl)
 reserve_text q r ctl unit ret rnl = rw (ret_text ret (rnl_bits rnl), rnl_text rnl) (simp append_assoc)
@@ -408,7 +377,7 @@ reserve_again q r ctl unit ret rnl h lt =
     let opts : Opts = record { ret = ret_option ret; rnl = rnl_option rnl; unit = Some unit } in
     let tokens : tokens_of rest ≡ flat_map option (WithUcb (unit_digits unit) unit ∷ ret_given ret (rnl_given rnl)) = rw (ret_tokens ret (rnl_bits rnl) (rnl_given rnl) (rnl_tokens rnl)) refl in
     let ask = ask_of q r ctl scopes.Systems opts rest (WithUcb (unit_digits unit) unit ∷ ret_given ret (rnl_given rnl)) tokens (reserve_set ret rnl unit lt) in
-    spells_so (lines.Reserve q r ctl unit ret rnl) (codes "RESERVE") (controlled q r ctl scopes.Systems rest) (asks.Reserve (record { ctl = ctl; ask = record { q = q; r = r; scope = scopes.Systems; opts = opts } })) line_word_words.1 bits.are (omega (arith, bits.few)) (reserve_text q r ctl unit ret rnl) refl (ask, refl) n.good
+    spells_so (lines.Reserve q r ctl unit ret rnl) (codes "RESERVE") (controlled q r ctl scopes.Systems rest) (asks.Reserve (record { ctl = ctl; ask = record { q = q; r = r; scope = scopes.Systems; opts = opts } })) line_word_words.1 bits (reserve_text q r ctl unit ret rnl) refl (ask, refl) n.good
     (rw (h.qname.trimmed, ret_back ret, rnl_back rnl) refl)
 
 -- ---- DEQ and WAIT
@@ -416,8 +385,8 @@ reserve_again q r ctl unit ret rnl h lt =
 abbrev deq_rest : Bool → Option ℕ → Bool → List Bit
 deq_rest have unit rnl = maybe_bits unit (have_bits have (rnl_bits rnl))
 
-deq_options : (have : Bool) (unit : Option ℕ) (rnl : Bool) → AreOptions (deq_rest have unit rnl) 100
-deq_options have unit rnl = more_room (deq_rest have unit rnl) 25 100 (omega arith) (maybe_are unit (have_bits have (rnl_bits rnl)) 16 (have_are have (rnl_bits rnl) 7 (rnl_are rnl)))
+deq_options : (have : Bool) (unit : Option ℕ) (rnl : Bool) → AreOptions (deq_rest have unit rnl)
+deq_options have unit rnl = maybe_are unit (have_bits have (rnl_bits rnl)) (have_are have (rnl_bits rnl) (rnl_are rnl))
 
 deq_text : (q r : List ℕ) (s : Scope) (have : Bool) (unit : Option ℕ) (rnl : Bool) → codes "DEQ" ++ 32 ∷ text_of (placed q r s (deq_rest have unit rnl)) ≡ printed_line (lines.Deq q r s have unit rnl)
 deq_text q r s have unit rnl = rw (maybe_text unit (have_bits have (rnl_bits rnl)), have_text have (rnl_bits rnl), rnl_text rnl) (simp append_assoc)
@@ -434,7 +403,7 @@ deq_again q r s have unit rnl h lt =
     let opts : Opts = record { ret = have_option have; rnl = rnl_option rnl; unit = unit } in
     let tokens = maybe_tokens unit (have_bits have (rnl_bits rnl)) (have_given have (rnl_given rnl)) (have_tokens have (rnl_bits rnl) (rnl_given rnl) (rnl_tokens rnl)) in
     let ask = place_of q r s opts rest (maybe_given unit (have_given have (rnl_given rnl))) tokens (deq_set unit have rnl lt) in
-    spells_so (lines.Deq q r s have unit rnl) (codes "DEQ") (placed q r s rest) (asks.Deq (record { q = q; r = r; scope = s; opts = opts })) line_word_words.2 bits.are (omega (arith, bits.few)) (deq_text q r s have unit rnl) refl (ask, deq_good have) n.good
+    spells_so (lines.Deq q r s have unit rnl) (codes "DEQ") (placed q r s rest) (asks.Deq (record { q = q; r = r; scope = s; opts = opts })) line_word_words.2 bits (deq_text q r s have unit rnl) refl (ask, deq_good have) n.good
     (rw (h.qname.trimmed, have_back have, rnl_back rnl) refl)
 
 wait_text : (q r : List ℕ) (s : Scope) (rnl : Bool) → codes "WAIT" ++ 32 ∷ text_of (placed q r s (rnl_bits rnl)) ≡ printed_line (lines.Wait q r s rnl)
@@ -443,10 +412,10 @@ wait_text q r s rnl = rw (rnl_text rnl) (simp append_assoc)
 wait_again : (q r : List ℕ) (s : Scope) (rnl : Bool) → AreNames q r → SpellsLine (printed_line (lines.Wait q r s rnl)) (lines.Wait q r s rnl)
 wait_again q r s rnl h =
     let n = names_are q r h in
-    let bits = placed_are q r s (rnl_bits rnl) n (more_room (rnl_bits rnl) 7 100 (omega arith) (rnl_are rnl)) in
+    let bits = placed_are q r s (rnl_bits rnl) n (rnl_are rnl) in
     let opts : Opts = record { ret = None; rnl = rnl_option rnl; unit = None } in
     let ask = place_of q r s opts (rnl_bits rnl) (rnl_given rnl) (rnl_tokens rnl) (wait_set rnl) in
-    spells_so (lines.Wait q r s rnl) (codes "WAIT") (placed q r s (rnl_bits rnl)) (asks.Wait (record { q = q; r = r; scope = s; opts = opts })) line_word_words.3 bits.are (omega (arith, bits.few)) (wait_text q r s rnl) refl (ask, refl) n.good
+    spells_so (lines.Wait q r s rnl) (codes "WAIT") (placed q r s (rnl_bits rnl)) (asks.Wait (record { q = q; r = r; scope = s; opts = opts })) line_word_words.3 bits (wait_text q r s rnl) refl (ask, refl) n.good
     (rw (h.qname.trimmed, rnl_back rnl) refl)
 
 -- ---- GQSCAN and DISPLAY
@@ -474,20 +443,17 @@ scan_words : (is_piece (Plain (codes "SCOPE")) ≡ true) × (is_piece (Plain (co
 unfolding is_word
 scan_words = (refl, refl, refl, refl, refl, refl)
 
-q_is : (q : List ℕ) → IsQname q × (are_bytes q ≡ true) → (is_bit (Called q) ≡ true) × (length q ≤ 8)
-q_is q h = (and_from (is_nonempty q) (are_bytes q) (qname_nonempty q h.0.made) h.1, leb-true (length q) 8 (and_parts _ _ h.0.made).0)
+q_is : (q : List ℕ) → IsQname q × (are_bytes q ≡ true) → is_bit (Called q) ≡ true
+q_is q h = and_from (is_nonempty q) (are_bytes q) (qname_nonempty q h.0.made) h.1
 
-r_is : (r : List ℕ) → (is_rname r ≡ true) × (are_bytes r ≡ true) → (is_bit (Called r) ≡ true) × (length r ≤ 255)
-r_is r h = (and_from (is_nonempty r) (are_bytes r) (rname_nonempty r h.0) h.1, leb-true (length r) 255 (and_parts _ _ h.0).1)
+r_is : (r : List ℕ) → (is_rname r ≡ true) × (are_bytes r ≡ true) → is_bit (Called r) ≡ true
+r_is r h = and_from (is_nonempty r) (are_bytes r) (rname_nonempty r h.0) h.1
 
-scan_are : (global : Bool) (q r : Option (List ℕ)) → IsMaybeQname q → IsMaybeRname r → AreBits (scan_bits global q r)
-scan_are global None None hq hr = record { are = rw (scan_words.0, reach_bit global) refl; few = omega (arith, reach_few global) }
-scan_are global None (Some r) hq hr = let b = r_is r hr in record { are = rw (scan_words.0, scan_words.2, reach_bit global, b.0) refl; few = omega (arith, reach_few global, b.1) }
-scan_are global (Some q) None hq hr = let a = q_is q hq in record { are = rw (scan_words.0, scan_words.1, reach_bit global, a.0) refl; few = omega (arith, reach_few global, a.1) }
-scan_are global (Some q) (Some r) hq hr =
-    let a = q_is q hq in
-    let b = r_is r hr in
-    record { are = rw (scan_words.0, scan_words.1, scan_words.2, reach_bit global, a.0, b.0) refl; few = omega (arith, reach_few global, a.1, b.1) }
+scan_are : (global : Bool) (q r : Option (List ℕ)) → IsMaybeQname q → IsMaybeRname r → are_bits (scan_bits global q r) ≡ true
+scan_are global None None hq hr = rw (scan_words.0, reach_bit global) refl
+scan_are global None (Some r) hq hr = rw (scan_words.0, scan_words.2, reach_bit global, r_is r hr) refl
+scan_are global (Some q) None hq hr = rw (scan_words.0, scan_words.1, reach_bit global, q_is q hq) refl
+scan_are global (Some q) (Some r) hq hr = rw (scan_words.0, scan_words.1, scan_words.2, reach_bit global, q_is q hq, r_is r hr) refl
 
 scan_says : (global : Bool) (q r : Option (List ℕ)) → IsScan (tokens_of (scan_bits global q r)) (record { global = global; names = record { q = q; r = r } })
 unfolding q_given r_given
@@ -521,14 +487,14 @@ named_back (Some q) r h some = rw h.0.trimmed refl
 scan_again : (global : Bool) (filter : Filter) → IsFilter filter → SpellsLine (printed_line (lines.Gqscan global filter)) (lines.Gqscan global filter)
 scan_again global filters.All h =
     let bits = scan_are global None None tt tt in
-    spells_so (lines.Gqscan global filters.All) (codes "GQSCAN") (scan_bits global None None) (asks.Gqscan (record { global = global; names = record { q = None; r = None } })) line_word_words.4 bits.are (omega (arith, bits.few)) (all_text global) refl (scan_says global None None) refl refl
+    spells_so (lines.Gqscan global filters.All) (codes "GQSCAN") (scan_bits global None None) (asks.Gqscan (record { global = global; names = record { q = None; r = None } })) line_word_words.4 bits (all_text global) refl (scan_says global None None) refl refl
 scan_again global filters.Contended h = absurd h
 scan_again global (filters.Named q r) h =
     let bits = scan_are global q r h.0 h.1 in
-    spells_so (lines.Gqscan global (filters.Named q r)) (codes "GQSCAN") (scan_bits global q r) (asks.Gqscan (record { global = global; names = record { q = q; r = r } })) line_word_words.4 bits.are (omega (arith, bits.few)) (named_text global q r) refl (scan_says global q r) (scan_good q r h.0 h.1) (ap (lines.Gqscan global) (named_back q r h.0 h.2))
+    spells_so (lines.Gqscan global (filters.Named q r)) (codes "GQSCAN") (scan_bits global q r) (asks.Gqscan (record { global = global; names = record { q = q; r = r } })) line_word_words.4 bits (named_text global q r) refl (scan_says global q r) (scan_good q r h.0 h.1) (ap (lines.Gqscan global) (named_back q r h.0 h.2))
 
 contended_again : SpellsLine (printed_line lines.DisplayC) lines.DisplayC
-contended_again = spells_so lines.DisplayC (codes "DISPLAY") (Of (codes "GRS") ∷ Mark Comma ∷ Of (codes "C") ∷ []) (asks.Display shown.Contended) line_word_words.5 (rw (scan_words.3, scan_words.4) refl) (omega arith) refl (inl refl) refl refl refl
+contended_again = spells_so lines.DisplayC (codes "DISPLAY") (Of (codes "GRS") ∷ Mark Comma ∷ Of (codes "C") ∷ []) (asks.Display shown.Contended) line_word_words.5 (rw (scan_words.3, scan_words.4) refl) refl (inl refl) refl refl refl
 
 abbrev resource_bits : List ℕ → List ℕ → List Bit
 resource_bits q r = Of (codes "GRS") ∷ Mark Comma ∷ Of (codes "RES") ∷ Mark Equals ∷ Mark Open ∷ Called q ∷ Mark Comma ∷ Called r ∷ Mark Close ∷ []
@@ -540,7 +506,7 @@ resource_again : (q r : List ℕ) → AreNames q r → SpellsLine (printed_line 
 resource_again q r h =
     let n = names_are q r h in
     let says : IsResource (tokens_of (resource_bits q r)) q r = record { q = name_token q; r = name_token r; spelled = refl; named_q = name_names q; named_r = name_names r } in
-    spells_so (lines.DisplayRes q r) (codes "DISPLAY") (resource_bits q r) (asks.Display (shown.Resource q r)) line_word_words.5 (rw (scan_words.3, scan_words.5, n.q_bit, n.r_bit) refl) (omega (arith, n.q_few, n.r_few)) (resource_text q r) (inl refl) says n.good
+    spells_so (lines.DisplayRes q r) (codes "DISPLAY") (resource_bits q r) (asks.Display (shown.Resource q r)) line_word_words.5 (rw (scan_words.3, scan_words.5, n.q_bit, n.r_bit) refl) (resource_text q r) (inl refl) says n.good
     (ap (λ (x : List ℕ). lines.DisplayRes x r) h.qname.trimmed)
 
 -- What is printed of a line is read as that line.

@@ -1,5 +1,5 @@
 -- Lists in the order in which they are shown.
-use Rattle.std.proofs.Common.{◌≡◌, ◌≢◌, ◌≤◌, ◌+◌, ℕ, zero, suc, Bool, true, false, cond, T, List, [], ◌∷◌, ◌++◌, ◌&&◌, map, length, drop, Option, Some, None, refl, ap, sym, ◌∙◌, arith, nat_eq, append_assoc}
+use Rattle.std.proofs.Common.{◌≡◌, ◌≢◌, ◌≤◌, ◌+◌, ℕ, zero, suc, Bool, true, false, cond, T, List, [], ◌∷◌, ◌&&◌, map, length, drop, Option, Some, None, refl, ap, sym, ◌∙◌, arith, nat_eq}
 use Rattle.std.proofs.Math.ListN.{drop_of_length-le}
 use Rattle.std.specs.Prelude.{slice_get, filter}
 use Rattle.std.specs.declared.cmp.Ordering.{Ordering}
@@ -210,13 +210,5 @@ rows-shown o f (e ∷ ls) = step (may_show o f e.0) refl (rows-shown o f ls)
 pub rows-all : (rows : List Row) → filter (shows None All) rows ≡ rows
 rows-all [] = refl
 rows-all (x ∷ rows) = ap (λ (l : List Row). x ∷ l) (rows-all rows)
-
--- one row more, if it passes
-pub rows-more : (f : Filter) (so_far more rest all : List Row) (x : Row) → so_far ++ filter (passes f) (x ∷ rest) ≡ all → more ≡ so_far ++ filter (passes f) (x ∷ []) → more ++ filter (passes f) rest ≡ all
-rows-more f so_far more rest all x h is = rw is (append_assoc so_far (filter (passes f) (x ∷ [])) (filter (passes f) rest) ∙ ap (λ (l : List Row). so_far ++ l) (one (passes f x)) ∙ h)
-  where
-    one : (b : Bool) → cond b (x ∷ []) [] ++ filter (passes f) rest ≡ cond b (x ∷ filter (passes f) rest) (filter (passes f) rest)
-    one true = refl
-    one false = refl
 
 pub ruleset all_shown = (rows-all)
