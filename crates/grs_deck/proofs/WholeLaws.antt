@@ -218,22 +218,22 @@ no_events : (systems : List SystemDef) (entries : ℕ) (events : List Event) →
 no_events systems entries events e = rw e (All-nil (IsEventOf systems entries))
 
 -- a statement before SCHEDULE that leaves the events
-first_keeps : (d : Draft) (st : Stmt) → IsDraft d → Fits (grow d st).deck.systems → AreLists (grow d st).deck.lists → is_entries (grow d st).deck.entries ≡ true → is_limit (grow d st).deck.limit ≡ true → (grow d st).deck.events ≡ [] → IsDraft (grow d st)
-first_keeps d st h fits lists entries limit none = record { fits = fits; entries = entries; limit = limit; lists = lists; events = no_events (grow d st).deck.systems (grow d st).deck.entries (grow d st).deck.events none; quiet = λ e. none }
+first_keeps : (d : Draft) (st : Stmt) → Fits (grow d st).deck.systems → AreLists (grow d st).deck.lists → is_entries (grow d st).deck.entries ≡ true → is_limit (grow d st).deck.limit ≡ true → (grow d st).deck.events ≡ [] → IsDraft (grow d st)
+first_keeps d st fits lists entries limit none = record { fits = fits; entries = entries; limit = limit; lists = lists; events = no_events (grow d st).deck.systems (grow d st).deck.entries (grow d st).deck.events none; quiet = λ e. none }
 
-spelled_first : (d : Draft) (l : TokenLine) (st : Stmt) → d.scheduled ≡ false → IsDraft d → Spells d.scheduled d.deck.entries l st → is_unbuilt st ≡ false → Fits (grow d st).deck.systems → AreLists (grow d st).deck.lists → IsDraft (grow d st)
-spelled_first d l stmts.Unbuilt e h s b fits lists = first_keeps d stmts.Unbuilt h fits lists h.entries h.limit (h.quiet e)
-spelled_first d l (stmts.Complex c) e h s b fits lists =
+spelled_first : (d : Draft) (l : TokenLine) (st : Stmt) → d.scheduled ≡ false → IsDraft d → Spells d.scheduled d.deck.entries l st → Fits (grow d st).deck.systems → AreLists (grow d st).deck.lists → IsDraft (grow d st)
+spelled_first d l stmts.Unbuilt e h s fits lists = first_keeps d stmts.Unbuilt fits lists h.entries h.limit (h.quiet e)
+spelled_first d l (stmts.Complex c) e h s fits lists =
     let at : Spells false d.deck.entries l (stmts.Complex c) = subst (λ (b : Bool). Spells b d.deck.entries l (stmts.Complex c)) e s in
     let g = setup_of at.1.0 c at.1.2 in
-    first_keeps d (stmts.Complex c) h fits lists (given_or is_entries c.entries 64 refl g.entries) (given_or is_limit c.limit 4096 refl g.limit) (h.quiet e)
-spelled_first d l (stmts.System n) e h s b fits lists = first_keeps d (stmts.System n) h fits lists h.entries h.limit (h.quiet e)
-spelled_first d l (stmts.Job n) e h s b fits lists = first_keeps d (stmts.Job n) h fits lists h.entries h.limit (h.quiet e)
-spelled_first d l (stmts.Task n) e h s b fits lists = first_keeps d (stmts.Task n) h fits lists h.entries h.limit (h.quiet e)
-spelled_first d l (stmts.Rnldef r) e h s b fits lists = first_keeps d (stmts.Rnldef r) h fits lists h.entries h.limit (h.quiet e)
-spelled_first d l (stmts.Line a) e h s b fits lists = first_keeps d (stmts.Line a) h fits lists h.entries h.limit (h.quiet e)
-spelled_first d l stmts.Schedule e h s b fits lists = first_keeps d stmts.Schedule h fits lists h.entries h.limit (h.quiet e)
-spelled_first d l (stmts.Event n a) e h s b fits lists = absurd (let at : Spells false d.deck.entries l (stmts.Event n a) = subst (λ (b : Bool). Spells b d.deck.entries l (stmts.Event n a)) e s in at.1)
+    first_keeps d (stmts.Complex c) fits lists (given_or is_entries c.entries 64 refl g.entries) (given_or is_limit c.limit 4096 refl g.limit) (h.quiet e)
+spelled_first d l (stmts.System n) e h s fits lists = first_keeps d (stmts.System n) fits lists h.entries h.limit (h.quiet e)
+spelled_first d l (stmts.Job n) e h s fits lists = first_keeps d (stmts.Job n) fits lists h.entries h.limit (h.quiet e)
+spelled_first d l (stmts.Task n) e h s fits lists = first_keeps d (stmts.Task n) fits lists h.entries h.limit (h.quiet e)
+spelled_first d l (stmts.Rnldef r) e h s fits lists = first_keeps d (stmts.Rnldef r) fits lists h.entries h.limit (h.quiet e)
+spelled_first d l (stmts.Line a) e h s fits lists = first_keeps d (stmts.Line a) fits lists h.entries h.limit (h.quiet e)
+spelled_first d l stmts.Schedule e h s fits lists = first_keeps d stmts.Schedule fits lists h.entries h.limit (h.quiet e)
+spelled_first d l (stmts.Event n a) e h s fits lists = absurd (let at : Spells false d.deck.entries l (stmts.Event n a) = subst (λ (b : Bool). Spells b d.deck.entries l (stmts.Event n a)) e s in at.1)
 
 -- an event more
 event_more : (d : Draft) (room : ℕ) (n : List ℕ) (a : EventAct) (rest : List Token) (o : Option Event) → event_of d.deck.systems n a ≡ o → d.scheduled ≡ true → IsAct d.deck.entries rest a → is_unbuilt_act a ≡ false → IsDraft d → IsDraft (record { deck = with_event o d.deck; begun = true; scheduled = true; room = room })
@@ -256,7 +256,7 @@ step_keeps d l st h s right = go d.scheduled refl
   where
     go : (b : Bool) → d.scheduled ≡ b → IsDraft (grow d st)
     go true e = spelled_event d l st e h (subst (λ (b : Bool). Spells b d.deck.entries l st) e s) right.1
-    go false e = let full = (no_test d st right).full in spelled_first d l st e h s right.1 (fits_grow d st full h.fits) (lists_grow d st full h.lists)
+    go false e = let full = (no_test d st right).full in spelled_first d l st e h s (fits_grow d st full h.fits) (lists_grow d st full h.lists)
 
 says_keeps : (ls : List TokenLine) (d e : Draft) → Says d ls e → IsDraft d → IsDraft e
 says_keeps [] d e s h = subst IsDraft s h

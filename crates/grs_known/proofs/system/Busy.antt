@@ -103,9 +103,9 @@ module _ (deck : Deck) (os : Opens) (T : List RunItem) (right : IsHistory deck T
   busy-idle none h = recorded (sym (has-known deck T right t (past_of t k.known T) (speaks-known deck T t k.known right k.knows.right none) r) ∙ h)
 
   -- one that is, with this request
-  pub busy-behind : (a : Asked) → x.outstanding ≡ Some a → (y : RunItem) (S : State) → outstanding t k.known T ≡ Some y → y.entries ≡ entries_for S t a.req.want → (q : Res) → res_wanted a.req.want ≡ Some q → has_task (list_of (lists T) r) t ≡ true →
+  pub busy-behind : (a : Asked) (y : RunItem) (S : State) → outstanding t k.known T ≡ Some y → y.entries ≡ entries_for S t a.req.want → (q : Res) → res_wanted a.req.want ≡ Some q → has_task (list_of (lists T) r) t ≡ true →
       (has_res r x.records ≡ true) ⊎ (q ≡ r)
-  busy-behind a is y S out made q wanted h = go (by_item y S a.req.want out made q wanted h)
+  busy-behind a y S out made q wanted h = go (by_item y S a.req.want out made q wanted h)
     where
       go : (has_own r (past_of t k.known T).own ≡ true) ⊎ (q ≡ r) → (has_res r x.records ≡ true) ⊎ (q ≡ r)
       go (inl z) = inl (recorded z)

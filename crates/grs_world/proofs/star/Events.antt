@@ -211,10 +211,10 @@ module _ (deck : Deck) (some : 0 < deck.entries) (w : World) (c : SysId) (few : 
           (length-set w.medium.inboxes q.task.system.0 _) (decides s.0 q s.1 mine) (part-settled deck words L c.0 p q.task q.want s.0 (drop 1 p.held) me.fits s.1 s.2))))
 
   -- ---- Tell
-  good_tell : (e : ℕ) (o : Option (TaskId × Res)) → to_tell me.part e ≡ o → Needs (choices.Tell e) (tell_by o)
+  good_tell : (e : ℕ) (o : Option (TaskId × Res)) → Needs (choices.Tell e) (tell_by o)
   unfolding row mail_row finish finish_call finish_star
-  good_tell e None f = good_none (choices.Tell e)
-  good_tell e (Some x) f = called (choices.Tell e) _ tells
+  good_tell e None = good_none (choices.Tell e)
+  good_tell e (Some x) = called (choices.Tell e) _ tells
     where
       tells : LeadsBy (choices.Tell e) (row w.medium c (acts.Tell x.0.system (mails.Granted x.0 x.1)))
       tells =
@@ -518,7 +518,7 @@ module _ (deck : Deck) (some : 0 < deck.entries) (w : World) (c : SysId) (few : 
   good_choice (choices.Send t) = by_need (choices.Send t) (by_test (Needs (choices.Send t)) (may_send deck n t) (send_of p t (state_of n.tasks t).outstanding) Idle (λ h. good_send t (state_of n.tasks t).outstanding refl) (λ h. good_none (choices.Send t)))
   good_choice choices.Take = by_need choices.Take (called choices.Take acts.Take good_take)
   good_choice choices.Settle = by_need choices.Settle (good_settle (first_held p) refl)
-  good_choice (choices.Tell e) = by_need (choices.Tell e) (good_tell e (to_tell p e) refl)
+  good_choice (choices.Tell e) = by_need (choices.Tell e) (good_tell e (to_tell p e))
   good_choice (choices.Leave e) = by_need (choices.Leave e) (by_test (Needs (choices.Leave e)) (may_leave p n.tasks e) (Asks (acts.Leave e)) Idle (λ h. called (choices.Leave e) (acts.Leave e) (good_leave e h)) (λ h. good_none (choices.Leave e)))
   good_choice choices.Switch = by_need choices.Switch (good_none choices.Switch)
   good_choice (choices.Purge t) = by_need (choices.Purge t) (good_none (choices.Purge t))

@@ -163,7 +163,7 @@ module _ (deck : Deck) (words words' : List ℕ) (T : List RunItem) (right : IsH
               let req : i.req ≡ (rq.0).req = cc in
               let asker : (rq.0).req.task ≡ t = (subst (λ o. IsOpenBy deck.limit (home-task deck s (opens_of later out (ghosted n)) T n.tasks t h.at.good home).0 t (state_of n.tasks t) o) rq.1 k.opened).0 in
               let made : y.entries ≡ entries_for i.lists t (rq.0).req.want = i.made ∙ (ap (λ (q : Req). entries_for i.lists q.task q.want) req ∙ ap (λ z. entries_for i.lists z (rq.0).req.want) asker) in
-              decide rq.0 rq.1 some.0 some.2 (busy-behind deck (opens_of later out (ghosted n)) T right n.tasks.told t (home-task deck s (opens_of later out (ghosted n)) T n.tasks t h.at.good home).0 (state_of n.tasks t) k r rq.0 rq.1 y i.lists e made some.0 some.1 has)
+              decide rq.0 rq.1 some.0 some.2 (busy-behind deck (opens_of later out (ghosted n)) T right n.tasks.told t (home-task deck s (opens_of later out (ghosted n)) T n.tasks t h.at.good home).0 (state_of n.tasks t) k r rq.0 y i.lists e made some.0 some.1 has)
             where
               decide : (a : Asked) → (state_of n.tasks t).outstanding ≡ Some a → (q : Res) → entry_wanted deck.entries a.req.want ≡ entry_of_res deck.entries q → (has_res r (state_of n.tasks t).records ≡ true) ⊎ (q ≡ r) → ⊥
               decide a is q at (inl z) = by_record z
