@@ -105,3 +105,7 @@ no_job = refl
 
 no_task : read_entry deck node (entry_of 1 0 1) ≡ node
 no_task = refl
+
+-- A removal leaves the system as it is until removals are built: the elements of the system that goes stay in the table.
+unmoved : read_entry deck (record node { shared = asked_first }) (bodies.Remove (record { 0 = 1 })) ≡ record node { shared = asked_first }
+unmoved = refl
