@@ -1,6 +1,6 @@
 -- What the definitions say of some small texts.
 use Rattle.std.proofs.Common.{◌≡◌, ◌≤◌, ◌<◌, arith, ℕ, List, [], ◌∷◌, ◌++◌, Option, Some, None, Ok, true, false, refl}
-use Rattle.std.specs.Prelude.{codes}
+use Rattle.std.specs.Prelude.{codes, replicate}
 use Rattle.std.proofs.lemmas.List.Elements.{All-nil, All-push}
 use Rattle.grs_base.specs.declared.fault.DeckFault.{DeckFault}
 use Rattle.grs_base.specs.declared.fault.Kind.{Kind}
@@ -309,3 +309,15 @@ removes_another = (All-push of_first [] (record { at = 0; order = Vary (record {
 -- nor two systems of one name
 one_name : IsDeck (record no_deck { systems = record { name = codes "SYA"; desk = []; jobs = [] } ∷ record { name = codes "SYA"; desk = []; jobs = [] } ∷ [] }) → ⊥
 one_name h = h.once.names 0 1 [] (omega arith) (omega arith) refl
+
+-- nor a system with 65 commands at its desk
+many_commands : IsDeck (record no_deck { systems = record { name = codes "SYA"; desk = replicate 65 (record { at = 0; order = Star }); jobs = [] } ∷ [] }) → ⊥
+many_commands h = let k : 65 ≤ 64 = (h.fits.each 0 (record { name = []; desk = []; jobs = [] }) (omega arith)).desk in omega (arith, k)
+
+-- nor 257 task lines that show something
+many_displays : IsDeck (of_lines (codes "SYA") (replicate 257 lines.DisplayC)) → ⊥
+many_displays h = let k : 257 ≤ 256 = h.lines.displays in omega (arith, k)
+
+-- nor 16,385 task lines
+many_lines : IsDeck (of_lines (codes "SYA") (replicate 16385 (lines.Wait (codes "A") (codes "B") scopes.Systems true))) → ⊥
+many_lines h = let k : 16385 ≤ 16384 = h.lines.few in omega (arith, k)
