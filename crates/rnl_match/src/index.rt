@@ -146,7 +146,8 @@ fn add_entry(
 }
 
 impl<'l> RnlIndex<'l> {
-    /// An index over a list.
+    /// An index over a list. A place has 32 bits; a list that is longer than that, for which there is hardly memory, is
+    /// answered NoMemory.
     pub fn build(alloc: Global, list: &'l RnlList) -> Result<RnlIndex<'l>, NoMemory>
         ensures { IfOk result (λ index. index ≡ list.now) }
     {

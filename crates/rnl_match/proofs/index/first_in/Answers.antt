@@ -1,4 +1,4 @@
-use Rattle.std.proofs.Common.{◌≡◌, ◌<◌, ◌∙◌, List, ◌∷◌, All, Bool, length, ℕ, ap, arith, sym, subst}
+use Rattle.std.proofs.Common.{◌<◌, ◌∙◌, List, ◌∷◌, All, Bool, length, ℕ, ap, arith, sym, subst}
 use Rattle.std.proofs.lemmas.List.Elements.{All-tail}
 use Rattle.grs_base.specs.declared.rnl.RnlEntry.{RnlEntry}
 use Rattle.rnl_match.specs.Index.{first_place}
