@@ -1,7 +1,8 @@
 //! An index over a name list: the specific and the generic entries by their qname, and the patterns apart, each by its
 //! place in the list. So whoever looks a name up compares the entries of its qname and the patterns, however many
 //! others there are.
-ghost use Rattle.std.specs.Prelude.{◌≡◌, ◌≤◌, ◌<◌, ◌+◌, ◌++◌, ◌∷◌, [], List, ℕ, All, false, count_by, length, if◌then◌else◌, IfOk, IfSome, IfNone, OnOk};
+ghost use Rattle.std.specs.Prelude.{◌≡◌, ◌≤◌, ◌<◌, ◌+◌, ◌++◌, ◌∷◌, [], List, ℕ, All, false, count_by, length, option_copied, if◌then◌else◌, IfOk, IfSome, IfNone, OnOk};
+ghost use Rattle.std.specs.Map.{lookup};
 ghost use Rattle.std.specs.Str.{bytes_eq};
 ghost use Rattle.rnl_match.specs.Matches.{matches, find};
 ghost use Rattle.rnl_match.specs.Index.{most_compared, places, is_under, is_pattern, bucket_at, first_place};
@@ -75,6 +76,17 @@ fn add_place(
             Ok(())
         }
         Err(_) => Err(NoMemory),
+    }
+}
+
+/// The bucket of a qname. Where there is none at all, the qname needn't be hashed.
+fn bucket_of<'b>(buckets: &'b IndexMap<Qname, Bucket>, q: &Qname) -> Option<&'b Bucket>
+    ensures { option_copied result ≡ lookup (bytes_eq q.now) buckets.now.entries }
+{
+    if buckets.is_empty() {
+        None
+    } else {
+        buckets.get(q)
     }
 }
 
@@ -175,7 +187,7 @@ impl<'l> RnlIndex<'l> {
         ensures found { IfSome result (λ _. steps.old < steps.new) }
         ensures none { IfNone result (steps.new ≡ steps.old + count_by (is_under q.now) self.now.entries) }
     {
-        match self.buckets.get(q) {
+        match bucket_of(&self.buckets, q) {
             None => None,
             Some(bucket) => first_in(self.list.as_slice(), bucket, q, r, steps),
         }
