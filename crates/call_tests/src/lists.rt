@@ -148,26 +148,37 @@ fn kind_of(found: Resolved) -> (Scope, bool) {
     (scope_of(&found.res), found.hardware)
 }
 
-/// What lists make of what is asked: the decision and the resource, by the lists and by their indices.
-fn kinds(alloc: Global, lists: &Lists, ask: &Ask<'_>) -> Result<[(Scope, bool); 4], NoMemory> {
-    let resolver = Resolver::build(alloc, lists)?;
-    let system = SysId(0);
-    Ok([
-        resolve_kind(lists, ask),
-        kind_of(resolve(alloc, lists, ask, system, 0)?),
-        resolver.resolve_kind(ask),
-        kind_of(resolver.resolve(alloc, ask, system, 0)?),
-    ])
+/// What lists make of what is asked: the decision, and the resource.
+fn by_lists(alloc: Global, lists: &Lists, ask: &Ask<'_>) -> Result<[(Scope, bool); 2], NoMemory> {
+    let found = resolve(alloc, lists, ask, SysId(0), 0)?;
+    Ok([resolve_kind(lists, ask), kind_of(found)])
 }
 
-/// The same of a request of this scope, or of a RESERVE where there is none, for these names.
+/// The same by indices that are there.
+fn by_resolver(
+    alloc: Global,
+    resolver: &Resolver<'_>,
+    ask: &Ask<'_>,
+) -> Result<[(Scope, bool); 2], NoMemory> {
+    let found = resolver.resolve(alloc, ask, SysId(0), 0)?;
+    Ok([resolver.resolve_kind(ask), kind_of(found)])
+}
+
+/// The same by indices that are made for it.
+fn by_indices(alloc: Global, lists: &Lists, ask: &Ask<'_>) -> Result<[(Scope, bool); 2], NoMemory> {
+    let resolver = Resolver::build(alloc, lists)?;
+    by_resolver(alloc, &resolver, ask)
+}
+
+/// The same by the lists and by indices, of a request of this scope, or of a RESERVE where there is none, for these
+/// names.
 fn kinds_of(
     alloc: Global,
     lists: &Lists,
     scope: Option<Scope>,
     names: (&[u8], &[u8]),
     rnl: bool,
-) -> Result<[(Scope, bool); 4], NameFault> {
+) -> Result<[[(Scope, bool); 2]; 2], NameFault> {
     let q = Qname::new(alloc, names.0)?;
     let r = Rname::new(alloc, names.1)?;
     let ask = Ask {
@@ -177,13 +188,28 @@ fn kinds_of(
         scope: scope.unwrap_or(Scope::Systems),
         rnl,
     };
-    Ok(kinds(alloc, lists, &ask)?)
+    Ok([
+        by_lists(alloc, lists, &ask)?,
+        by_indices(alloc, lists, &ask)?,
+    ])
+}
+
+/// The same by the lists of the deck.
+fn kinds_in_deck(
+    alloc: Global,
+    scope: Option<Scope>,
+    names: (&[u8], &[u8]),
+    rnl: bool,
+) -> Result<[[(Scope, bool); 2]; 2], NameFault> {
+    match read_deck(alloc, TEXT) {
+        Ok(deck) => kinds_of(alloc, &deck.lists, scope, names, rnl),
+        Err(_) => Err(NameFault::NoMemory),
+    }
 }
 
 #[test]
 fn resolves_by_lists_and_by_indices(rt: HostRuntime) -> Result<(), Fail> {
     let alloc = rt.alloc();
-    let deck = read_deck(alloc, TEXT)?;
     let (temp, data): ((&[u8], &[u8]), (&[u8], &[u8])) = ((b"APPL", b"TEMP"), (b"APPL", b"DATA"));
     let (first, second, third): ((&[u8], &[u8]), (&[u8], &[u8]), (&[u8], &[u8])) = (
         (b"SYSVTOC", b"VOL001"),
@@ -202,7 +228,7 @@ fn resolves_by_lists_and_by_indices(rt: HostRuntime) -> Result<(), Fail> {
         (None, third, true, (Scope::Systems, true)),
         (None, second, false, (Scope::Systems, true)),
     ] {
-        assert_eq!(rt; kinds_of(alloc, &deck.lists, scope, names, rnl)?, [want; 4]);
+        assert_eq!(rt; kinds_in_deck(alloc, scope, names, rnl)?, [[want; 2]; 2]);
     }
     Ok(())
 }
