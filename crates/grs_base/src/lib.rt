@@ -16,6 +16,7 @@ mod resource;
 mod rnl;
 mod slice;
 mod steps;
+pub mod threads;
 
 pub use decision::{Code, Decision, Effect, Standing};
 pub use fault::{DeckFault, Kind, NameFault, NoMemory, ReadError};

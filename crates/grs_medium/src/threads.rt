@@ -1,8 +1,6 @@
 //! What may be handed to another thread, or lent to several. There is nothing to run.
 use super::medium::{Medium, TurnRefusal};
-
-/// A value that other threads may be handed and lent.
-fn crosses<T: Send + Sync>(_value: &T) {}
+use grs_base::threads::crosses;
 
 /// A medium, with the message in it, may be handed to another thread, and lent to several.
 pub fn media_cross(medium: &Medium) {

@@ -1,9 +1,7 @@
 //! What may be handed to another thread, or lent to several. There is nothing to run.
 use super::node::Node;
 use super::prepared::Prepared;
-
-/// A value that other threads may be handed and lent.
-fn crosses<T: Send + Sync>(_value: &T) {}
+use grs_base::threads::crosses;
 
 /// A system may be handed to another thread, and lent to several.
 pub fn nodes_cross(node: &Node<'_>) {

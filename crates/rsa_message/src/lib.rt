@@ -6,5 +6,6 @@
 mod entries;
 mod order;
 mod rsa;
+pub mod threads;
 
 pub use rsa::Rsa;
