@@ -1,80 +1,49 @@
--- The derived `==` of what is asked for is the test of the definitions.
-use Rattle.std.proofs.Common.{◌≡◌, Bool, true, false, ◌&&◌, Some, None, refl, ap, ◌∙◌}
-use Rattle.grs_base.proofs.SameLaws.{derived-same as res-same}
-use Rattle.grs_base.specs.contracts.look.FilterPartialEq.TheImpl.{eq-value as filter_eq}
-use Rattle.grs_base.specs.contracts.resource.CtlPartialEq.TheImpl.{eq-value as ctl_eq}
-use Rattle.grs_base.specs.contracts.resource.RetPartialEq.TheImpl.{eq-value as ret_eq}
+-- What a task asks for is the same as itself, so that a system finds its own request again.
+use Rattle.std.proofs.Common.{◌≡◌, ℕ, true, false, Some, None, refl, ◌∙◌, arith}
+use Rattle.std.proofs.lemmas.Bool.{eq-eqb}
+use Rattle.std.specs.Prelude.{◌==◌}
+use Rattle.std.proofs.lemmas.Slice.Eq.{bytes_eq-Decides}
+use Rattle.grs_base.proofs.SameLaws.{derived-same, same_res-itself}
+use Rattle.grs_base.specs.contracts.look.FilterPartialEq.TheImpl.{eq-value as same_filter}
+use Rattle.grs_base.specs.contracts.resource.CtlPartialEq.TheImpl.{eq-value as same_ctl}
+use Rattle.grs_base.specs.contracts.resource.RetPartialEq.TheImpl.{eq-value as same_ret}
 use Rattle.grs_base.specs.declared.look.Filter.{Filter}
 use Rattle.grs_base.specs.declared.look.Filter.TheVariants.{All, Contended, Named}
 use Rattle.grs_base.specs.declared.resource.Ctl.{Ctl}
 use Rattle.grs_base.specs.declared.resource.Ctl.TheVariants.{E, S}
 use Rattle.grs_base.specs.declared.resource.Ret.{Ret}
 use Rattle.grs_base.specs.declared.resource.Ret.TheVariants.{RetNone, RetUse, RetHave, RetTest, RetChng, RetEcb}
-use Rattle.grs_wire.specs.contracts.request.WantPartialEq.TheImpl.{eq-value}
+use Rattle.grs_wire.specs.contracts.request.WantPartialEq.TheImpl.{eq-value as same_want}
 use Rattle.grs_wire.specs.declared.request.Want.{Want}
 use Rattle.grs_wire.specs.declared.request.Want.TheVariants.{Enq, Deq, Release, Look}
-use Rattle.ring_mode.specs.Ring.{same_ctl, same_ret, same_filter, same_want}
 
-both : (a b c d : Bool) → a ≡ b → c ≡ d → (a && c) ≡ (b && d)
-both a b c d p q = ap (λ x. x && c) p ∙ ap (λ x. b && x) q
+ctl-itself : (c : Ctl) → same_ctl.it c c ≡ true
+ctl-itself E = refl
+ctl-itself S = refl
 
-ctl-same : (c d : Ctl) → ctl_eq.it c d ≡ same_ctl c d
-ctl-same E E = refl
-ctl-same S S = refl
-ctl-same _ _ = refl
+ret-itself : (x : Ret) → same_ret.it x x ≡ true
+ret-itself RetNone = refl
+ret-itself RetUse = refl
+ret-itself RetHave = refl
+ret-itself RetTest = refl
+ret-itself RetChng = refl
+ret-itself RetEcb = refl
 
-ret-same : (a b : Ret) → ret_eq.it a b ≡ same_ret a b
-ret-same RetNone RetNone = refl
-ret-same RetUse RetUse = refl
-ret-same RetHave RetHave = refl
-ret-same RetTest RetTest = refl
-ret-same RetChng RetChng = refl
-ret-same RetEcb RetEcb = refl
-ret-same _ _ = refl
+filter-itself : (f : Filter) → same_filter.it f f ≡ true
+filter-itself All = refl
+filter-itself Contended = refl
+filter-itself (Named None None) = refl
+filter-itself (Named None (Some r)) = (bytes_eq-Decides r r).1 refl
+filter-itself (Named (Some q) None) = rw ((bytes_eq-Decides q q).1 refl) refl
+filter-itself (Named (Some q) (Some r)) = rw ((bytes_eq-Decides q q).1 refl) ((bytes_eq-Decides r r).1 refl)
 
-filter-same : (f g : Filter) → filter_eq.it f g ≡ same_filter f g
-filter-same All All = refl
-filter-same Contended Contended = refl
-filter-same (Named None None) (Named None None) = refl
-filter-same (Named None None) (Named None (Some s)) = refl
-filter-same (Named None None) (Named (Some p) None) = refl
-filter-same (Named None None) (Named (Some p) (Some s)) = refl
-filter-same (Named None (Some r)) (Named None None) = refl
-filter-same (Named None (Some r)) (Named None (Some s)) = refl
-filter-same (Named None (Some r)) (Named (Some p) None) = refl
-filter-same (Named None (Some r)) (Named (Some p) (Some s)) = refl
-filter-same (Named (Some q) None) (Named None None) = refl
-filter-same (Named (Some q) None) (Named None (Some s)) = refl
-filter-same (Named (Some q) None) (Named (Some p) None) = refl
-filter-same (Named (Some q) None) (Named (Some p) (Some s)) = refl
-filter-same (Named (Some q) (Some r)) (Named None None) = refl
-filter-same (Named (Some q) (Some r)) (Named None (Some s)) = refl
-filter-same (Named (Some q) (Some r)) (Named (Some p) None) = refl
-filter-same (Named (Some q) (Some r)) (Named (Some p) (Some s)) = refl
-filter-same _ _ = refl
+number-itself : (n : ℕ) → (n == n) ≡ true
+number-itself n = grind (arith, eq-eqb)
 
-pub want-same : (a b : Want) → eq-value.it a b ≡ same_want a b
-want-same (Enq r c ret true) (Enq q d rat true) = both _ _ _ _ (res-same r q) (both _ _ _ _ (ctl-same c d) (both _ _ _ _ (ret-same ret rat) refl))
-want-same (Enq r c ret true) (Enq q d rat false) = both _ _ _ _ (res-same r q) (both _ _ _ _ (ctl-same c d) (both _ _ _ _ (ret-same ret rat) refl))
-want-same (Enq r c ret false) (Enq q d rat true) = both _ _ _ _ (res-same r q) (both _ _ _ _ (ctl-same c d) (both _ _ _ _ (ret-same ret rat) refl))
-want-same (Enq r c ret false) (Enq q d rat false) = both _ _ _ _ (res-same r q) (both _ _ _ _ (ctl-same c d) (both _ _ _ _ (ret-same ret rat) refl))
-want-same (Deq r true) (Deq q true) = both _ _ _ _ (res-same r q) refl
-want-same (Deq r true) (Deq q false) = both _ _ _ _ (res-same r q) refl
-want-same (Deq r false) (Deq q true) = both _ _ _ _ (res-same r q) refl
-want-same (Deq r false) (Deq q false) = both _ _ _ _ (res-same r q) refl
-want-same (Release r) (Release q) = res-same r q
-want-same (Look a n f) (Look b m g) = both _ _ _ _ refl (both _ _ _ _ refl (filter-same f g))
-want-same (Enq r c ret full) (Deq q had) = refl
-want-same (Enq r c ret full) (Release q) = refl
-want-same (Enq r c ret full) (Look b m g) = refl
-want-same (Deq r have) (Enq q d rat most) = refl
-want-same (Deq r have) (Release q) = refl
-want-same (Deq r have) (Look b m g) = refl
-want-same (Release r) (Enq q d rat most) = refl
-want-same (Release r) (Deq q had) = refl
-want-same (Release r) (Look b m g) = refl
-want-same (Look a n f) (Enq q d rat most) = refl
-want-same (Look a n f) (Deq q had) = refl
-want-same (Look a n f) (Release q) = refl
-
-pub ruleset same = (want-same)
+pub want-itself : (w : Want) → same_want.it w w ≡ true
+want-itself (Enq r c ret true) = rw (derived-same r r, same_res-itself r, ctl-itself c, ret-itself ret) refl
+want-itself (Enq r c ret false) = rw (derived-same r r, same_res-itself r, ctl-itself c, ret-itself ret) refl
+want-itself (Deq r true) = rw (derived-same r r, same_res-itself r) refl
+want-itself (Deq r false) = rw (derived-same r r, same_res-itself r) refl
+want-itself (Release r) = derived-same r r ∙ same_res-itself r
+want-itself (Look a n f) = rw (number-itself a, number-itself n) (filter-itself f)

@@ -7,7 +7,6 @@ use grs_wire::Want;
 use task_state::Asked;
 
 /// Whether a task's request that isn't answered yet is this one.
-#[tactic(auto, using(crate::proofs::WantLaws::same))]
 pub(crate) fn is_asked(want: &Want, asked: Option<&Asked>) -> bool
     ensures { result ≡ ring.is_asked want.now (option_copied asked.entry) }
 {
