@@ -16,7 +16,7 @@ use Rattle.grs_base.specs.declared.resource.TaskId.{TaskId}
 use Rattle.grs_wire.specs.Wants.{new_owners}
 use Rattle.grs_wire.specs.declared.request.Want.TheVariants.{Enq, Deq, Release, Look}
 use Rattle.contention_mgr.specs.Manager.{Ranked, Managed, plain, is_of, exclusive, marked, made_exclusive, taken_out, with_mark, with_control, enqueued, given_up, settled, kept_at, managed_at, managed_for, with_entry, entry_wanted}
-use Rattle.contention_mgr.specs.Loads.{ranked_list, ranked_rows, greatest}
+use Rattle.contention_mgr.specs.Loads.{ranked_list, ranked_rows, greatest, loaded}
 use Rattle.lock_structure.specs.RankedRows.{RankedRow, ranks_of, rises, rows_apart}
 use Rattle.contention_mgr.specs.Laws.{ListsFollow, TellingKeepsLists, by_rank, IsRanked, RanksBegin, LoadedRanksRise, RanksRise, TellingKeepsRanks, FirstIsAny, FirstIsUntold, OthersStay}
 use Rattle.contention_mgr.proofs.UntoldLemmas.{first-any, first-untold}
@@ -219,11 +219,14 @@ below-greatest k top (n ∷ ns) h =
     let small : n < top = omega (arith, h, from) in
     grind (arith, nat_tests, small, below-greatest (max k n) top ns h)
 
-pub loaded_ranks_rise : LoadedRanksRise
-loaded_ranks_rise entries e xs h = record {
-  rising = by_rank-rows xs h.once h.rising;
+pub loaded-ranked : (xs : List RankedRow) → rows_apart xs ≡ true → list_all (λ x. rises x.1) xs ≡ true → IsRanked (loaded xs)
+loaded-ranked xs once rising = record {
+  rising = by_rank-rows xs once rising;
   below = below-rows (greatest 0 (ranks_of xs) + 1) xs (below-greatest 0 (greatest 0 (ranks_of xs) + 1) (ranks_of xs) (omega arith));
 }
+
+pub loaded_ranks_rise : LoadedRanksRise
+loaded_ranks_rise entries e xs h = loaded-ranked xs h.once h.rising
 
 -- ---- who is told first
 pub first_is_any : FirstIsAny

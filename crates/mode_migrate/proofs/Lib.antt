@@ -1,4 +1,6 @@
 pub mod Ranges
-pub mod Samples
+pub mod Rows
 pub mod PartLaws
 pub mod WordLaws
+pub mod TableWords
+pub mod Samples

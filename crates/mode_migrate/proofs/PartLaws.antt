@@ -186,6 +186,13 @@ rising-numbered : (n : ℕ) (rows : List Row) → list_all (λ x. rises x.1) (nu
 rising-numbered n [] = refl
 rising-numbered n (x ∷ rows) = both _ _ (range-rises n (length x.elems)) (rising-numbered (n + length x.elems) rows)
 
+-- the rows of an entry: each resource has one, and ranks rise in it
+pub part-apart : (entries : ℕ) (t : State) (e : ℕ) → rows_apart (part_by entries t e) ≡ true
+part-apart entries t e = apart-numbered res_order same_res-tie (row_is_of entries e) 1 (lists_of t) (lists-sorted t t)
+
+pub part-rises : (entries : ℕ) (t : State) (e : ℕ) → list_all (λ x. rises x.1) (part_by entries t e) ≡ true
+part-rises entries t e = rising-numbered 1 (rows_in entries e (rows_of t))
+
 -- ---- the part of an entry among those of all
 
 is-one : (e f : ℕ) (o : Option ℕ) → f ≢ e → is_entry f o ≡ true → is_entry e o ≡ false

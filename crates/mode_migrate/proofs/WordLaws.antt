@@ -22,7 +22,7 @@ use Rattle.mode_migrate.proofs.PartLaws.{both, all-rows, all-list}
 -- ---- sets and their least
 
 -- the set has nobody else
-has-past : (n : ℕ) (test : ℕ → Bool) (s : ℕ) → n ≤ s → has (set_below n test) s ≡ false
+pub has-past : (n : ℕ) (test : ℕ → Bool) (s : ℕ) → n ≤ s → has (set_below n test) s ≡ false
 has-past zero test s l = has-zero s
 has-past (suc n) test s l = go (test n) (has-past n test s (omega (arith, l)))
   where
@@ -63,7 +63,7 @@ least-passes (suc n) test s h = go (least_below n test) refl (test n) refl h (le
     go None is true at k rest = let e : n ≡ s.0 = ap (number n) k in (omega (arith, e), ap test (sym e) ∙ at)
     go None is false at k rest = absurd cc
 
-none-passes : (n : ℕ) (test : ℕ → Bool) → least_below n test ≡ None → (s : ℕ) → s < n → test s ≡ false
+pub none-passes : (n : ℕ) (test : ℕ → Bool) → least_below n test ≡ None → (s : ℕ) → s < n → test s ≡ false
 none-passes zero test h s l = absurd (omega (arith, l))
 none-passes (suc n) test h s l = go (least_below n test) refl (test n) refl h (s == n) refl (λ is. none-passes n test is s)
   where
@@ -80,7 +80,7 @@ least-none n test = go (least_below n test) refl
     go (Some u) is k = absurd cc
     go None is k = is
 
-set-none : (n : ℕ) (test : ℕ → Bool) → least_below n test ≡ None → set_below n test ≡ 0
+pub set-none : (n : ℕ) (test : ℕ → Bool) → least_below n test ≡ None → set_below n test ≡ 0
 set-none zero test h = refl
 set-none (suc n) test h = ap (λ (b : Bool). cond b (with_also (set_below n test) n) (set_below n test)) (none-passes (suc n) test h n (omega arith)) ∙ set-none n test (least-none n test h)
 

@@ -1,13 +1,15 @@
 -- Laws of the words and the parts to which a table leads.
 use Rattle.std.specs.Prelude.{◌≡◌, ◌<◌, ℕ, Bool, true, nat_le, nat_lt, List, length}
 use Rattle.std.specs.List.{list_all}
-use Rattle.grs_base.specs.Limits.{last_number}
+use Rattle.grs_base.specs.Limits.{last_number, most_systems}
+use Rattle.grs_base.specs.Rows.{rows_of}
 use Rattle.grs_base.specs.State.{State}
 use Rattle.grs_base.specs.declared.resource.Row.{Row}
 use Rattle.grs_wire.specs.LockWords.{interest, manager}
+use Rattle.lock_structure.specs.Laws.{is_interested}
 use Rattle.lock_structure.specs.RankedRows.{ranks_of}
 use Rattle.lock_structure.specs.Words.{word_fits}
-use Rattle.mode_migrate.specs.Migrate.{interest_by, manager_by, word_by, table_words, ranked_by, part_of, part_by, AreApart, AreLoadable}
+use Rattle.mode_migrate.specs.Migrate.{has_elements, interest_by, manager_by, word_by, table_words, ranked_by, part_of, part_by, AreApart, AreLoadable}
 
 -- whether all elements of a table are of systems below n
 abbrev pub are_within : ℕ → State → Bool
@@ -16,6 +18,11 @@ are_within n t = list_all (λ h. nat_lt h.1.task.system.0 n) t
 -- A word says who has interest in its entry by the table, and who manages it.
 abbrev pub WordsSay : Type 0
 WordsSay = (entries e : ℕ) (rows : List Row) → (interest (word_by entries e rows) ≡ interest_by entries e rows) × (manager (word_by entries e rows) ≡ manager_by entries e rows)
+
+-- By the words of a table a system has interest in an entry exactly where the rows of the table have an element of the
+-- system there, owner or waiter.
+abbrev pub InterestIsByElements : Type 0
+InterestIsByElements = (entries : ℕ) (t : State) → 0 < entries → are_within most_systems t ≡ true → (e s : ℕ) → is_interested (table_words entries t) e s ≡ has_elements entries e (rows_of t) s
 
 -- The words of a table with elements of so many systems are such as the complex may change by: one for each entry, each 0
 -- or with a manager that has interest, and they name these systems alone.
