@@ -1,12 +1,12 @@
 -- A reply that says nothing new leaves the system, and so does a call without an entry in the journal.
-use Rattle.std.proofs.Common.{◌≡◌, ℕ, [], ◌∷◌, Option, Some, None, refl, ap, sym, ◌∙◌}
-use Rattle.std.specs.Prelude.{◌==◌, not}
+use Rattle.std.proofs.Common.{◌≡◌, ℕ, true, false, [], ◌∷◌, Option, Some, None, refl, ap, sym, ◌∙◌}
+use Rattle.std.specs.Prelude.{◌==◌}
 use Rattle.std.proofs.lemmas.Bool.{and_parts, eqb-true}
 use Rattle.grs_wire.specs.declared.medium.Reply.TheVariants as replies
 use Rattle.grs_node.specs.Finish.{UnjournalledLeaves, RepliesLeave}
 use Rattle.grs_node.specs.Log.{finished}
 use Rattle.grs_base.specs.declared.resource.TaskId.{TaskId}
-use Rattle.grs_node.specs.Node.{NodeState, only, with_star, take_step, star_step, read_entries, all_sent, put_in, finish_star, finish_call, finish}
+use Rattle.grs_node.specs.Node.{NodeState, only, with_star, take_step, star_step, read_entries, all_sent, put_in, turned, finish_star, finish_call, finish}
 use Rattle.grs_node.specs.Star.{StarPart, fixing_none, send_step, settle_step, tell_step, leave_step}
 use Rattle.grs_wire.specs.declared.deck.Choice.{Choice}
 use Rattle.grs_wire.specs.declared.deck.Choice.TheVariants as choices
@@ -40,7 +40,7 @@ still deck n choice reply same = go n.star refl
     go (Some p) is = ap (with_star n) (same p) ∙ restored n p is
 
 pub replies_leave : RepliesLeave
-unfolding finish finish_call put_in all_sent read_entries
+unfolding finish finish_call turned put_in all_sent read_entries
 replies_leave deck n choice (replies.NotYours holder) h = still deck n choice (replies.NotYours holder) (λ p. by-choice deck n.tasks p (replies.NotYours holder) (λ t. refl) refl refl (λ e. refl) (λ e. refl) choice)
 replies_leave deck n choice (replies.Behind first) h = still deck n choice (replies.Behind first) (λ p. by-choice deck n.tasks p (replies.Behind first) (λ t. refl) refl refl (λ e. refl) (λ e. refl) choice)
 replies_leave deck n choice replies.Empty h = still deck n choice replies.Empty (λ p. by-choice deck n.tasks p replies.Empty (λ t. refl) refl refl (λ e. refl) (λ e. refl) choice)
@@ -48,9 +48,10 @@ replies_leave deck n choice (replies.Kept mask) h = still deck n choice (replies
 replies_leave deck n choice replies.Resting h = still deck n choice replies.Resting (λ p. by-choice deck n.tasks p replies.Resting (λ t. refl) refl refl (λ e. refl) (λ e. refl) choice)
 replies_leave deck n choice replies.Over h = still deck n choice replies.Over (λ p. by-choice deck n.tasks p replies.Over (λ t. refl) refl refl (λ e. refl) (λ e. refl) choice)
 replies_leave deck n choice replies.Removed h = still deck n choice replies.Removed (λ p. by-choice deck n.tasks p replies.Removed (λ t. refl) refl refl (λ e. refl) (λ e. refl) choice)
-replies_leave deck n choice (replies.Turned [] taken closed) h =
-    let none : taken ≡ 0 = eqb-true taken 0 (and_parts (taken == 0) (not closed) h).0 in
-    ap (λ k. finish deck n choice (Some (replies.Turned [] k closed))) none
+replies_leave deck n choice (replies.Turned [] taken true) h = absurd (cc (and_parts (taken == 0) false h).1)
+replies_leave deck n choice (replies.Turned [] taken false) h =
+    let none : taken ≡ 0 = eqb-true taken 0 (and_parts (taken == 0) true h).0 in
+    ap (λ k. finish deck n choice (Some (replies.Turned [] k false))) none
 replies_leave deck n choice (replies.Turned (e ∷ es) taken closed) h = absurd (cc)
 replies_leave deck n choice (replies.Stale set) h = absurd (cc)
 replies_leave deck n choice replies.Switched h = absurd (cc)

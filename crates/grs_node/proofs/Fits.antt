@@ -1,6 +1,6 @@
 -- A system's part in star mode goes on to fit the deck, and so its calls go to systems and lock entries that there are.
-use Rattle.std.proofs.Common.{◌≡◌, ◌<◌, ◌+◌, ℕ, zero, suc, Bool, true, false, cond, List, [], ◌∷◌, ◌++◌, length, replicate, drop, Option, Some, None, is_some, refl, ap, sym, ◌∙◌, subst, arith}
-use Rattle.std.specs.Prelude.{slice_get, ◌&&◌, ◌==◌, nat_lt, nat_le, slice_set, slice_index_or}
+use Rattle.std.proofs.Common.{◌≡◌, ◌≢◌, ◌<◌, ◌≤◌, ◌+◌, ℕ, zero, suc, Bool, true, false, cond, List, [], ◌∷◌, ◌++◌, length, replicate, drop, Option, Some, None, is_some, refl, ap, sym, ◌∙◌, subst, arith}
+use Rattle.std.specs.Prelude.{slice_get, is_none, ◌&&◌, ◌==◌, nat_lt, nat_le, slice_set, slice_index_or}
 use Rattle.std.specs.List.{list_all}
 use Rattle.std.specs.Option.{option_map, option_map_or}
 use Rattle.std.specs.Ordering.{is_lt}
@@ -21,20 +21,29 @@ use Rattle.grs_base.specs.declared.resource.SysId.{SysId}
 use Rattle.grs_base.specs.declared.resource.TaskId.{TaskId}
 use Rattle.grs_node.specs.Addressed.{is_act_addressed, is_addressed, is_within, PartFits, AnyPartFits, NodeFits}
 use Rattle.grs_node.specs.Log.{stepped}
-use Rattle.grs_node.specs.Node.{NodeState, Step, first_node, prepare, star_call, prepared_by, star_need, turn_call, may_go, may_send, is_pending, finish_quiet, finish_call, finish_star, star_step, take_step, take_mail, is_of_deck, send_own, read_entries, put_in}
+use Rattle.grs_node.specs.Node.{NodeState, Step, part_at_first, prepare, star_call, prepared_by, star_need, turn_call, may_go, may_send, is_pending, finish_quiet, finish_call, finish_star, star_step, take_step, take_mail, is_of_deck, send_own, read_entries, put_in, desk_count, next_order, change_to_star, changed_if, turned, desk_told, switched}
 use Rattle.grs_node.specs.Star.{StarPart, first_part, entry_asked, to_tell, send_of, send_to, first_held, answer_for, rank_of, settle_by, tell_by, leave_by, may_leave, has_interest, manages, serves, entry_for, fixing_none, own_step, decide_own, begun, begin_at, sent_to, with_held, took_mail, settled_by, settled_first, told_by, not_managing, left_at, send_step, settle_step, tell_step, leave_step}
+use Rattle.grs_node.specs.Change.{part_by_table}
+use Rattle.task_state.proofs.Stays.{system-telling}
+use Rattle.grs_wire.specs.declared.told.ToldLine.TheVariants as lines
 use Rattle.grs_node.specs.declared.prepared.Prepared.TheVariants.{Quiet, Call, Nothing}
 use Rattle.grs_node.specs.declared.star.Need.{Need}
 use Rattle.grs_node.specs.declared.star.Need.TheVariants.{Alone, Asks, Idle}
 use Rattle.grs_node.proofs.Calls.{quiet-send, call-send}
-use Rattle.grs_node.proofs.Keeping.{star-task, star-turned}
+use Rattle.grs_node.proofs.ChangeFits.{part-fits, star-changed, system-changed, switch-fits, desk_few}
+use Rattle.grs_node.proofs.Keeping.{star-task, shared-task, star-turned}
+use Rattle.grs_node.proofs.Tables.{apart-entries, all-entries}
+use Rattle.mode_migrate.specs.Migrate.{AreApart}
 use Rattle.grs_node.specs.Finish.{may_come}
 use Rattle.grs_legal.specs.Asks.{scripts_at, lines_in, lines_of, meanings}
 use Rattle.grs_wire.specs.declared.deck.SystemDef.{SystemDef}
 use Rattle.grs_wire.specs.declared.request.Fixed.{Fixed}
 use Rattle.std.proofs.lemmas.Option.{slice_get_within}
 use Rattle.grs_wire.specs.Decks.{IsDeck}
+use Rattle.grs_base.specs.Limits.{most_commands}
+use Rattle.grs_base.specs.State.{State}
 use Rattle.grs_wire.proofs.DeckLaws.{entries_some}
+use Rattle.grs_wire.specs.declared.told.Said.TheVariants as saids
 use Rattle.grs_wire.specs.declared.deck.Choice.{Choice}
 use Rattle.grs_wire.specs.declared.deck.Choice.TheVariants as choices
 use Rattle.grs_wire.specs.declared.deck.Deck.{Deck}
@@ -102,9 +111,16 @@ length-replicate : {X : Type 0} (n : ℕ) (x : X) → length (replicate n x) ≡
 length-replicate zero x = refl
 length-replicate (suc n) x = ap suc (length-replicate n x)
 
-pub first-fits : (deck : Deck) (s : ℕ) → IsDeck deck → s < length deck.systems → NodeFits deck (first_node deck s)
-unfolding first_node
-first-fits deck s h within = record { system = within; part = go deck.star }
+-- a system at the start fits the deck
+pub started-fits : (deck : Deck) (n : NodeState) (s : ℕ) → IsDeck deck → s < length deck.systems → n.tasks.system ≡ s → n.shared ≡ [] → n.star ≡ part_at_first deck s → NodeFits deck n
+started-fits deck n s h within own none begins = record {
+  system = subst (λ (k : ℕ). k < length deck.systems) (sym own) within;
+  some = entries_some deck.entries h.entries;
+  desk = desk_few deck n.tasks.system h;
+  shared = subst (λ (t : State). list_all (λ x. is_within deck x.1.task) t ≡ true) (sym none) refl;
+  apart = subst AreApart (sym none) (λ r. refl);
+  part = subst (λ (k : ℕ). AnyPartFits deck k n.star) (sym own) (subst (AnyPartFits deck s) (sym begins) (go deck.star));
+}
   where
     go : (b : Bool) → AnyPartFits deck s (cond b (Some (first_part (record { 0 = s }) deck.entries)) None)
     go false = tt
@@ -211,7 +227,7 @@ prepare-addressed deck n choices.Take fits = star-call-fits deck n.tasks.system 
 prepare-addressed deck n choices.Settle fits = star-call-fits deck n.tasks.system n n.star choices.Settle fits.part
 prepare-addressed deck n (choices.Tell e) fits = star-call-fits deck n.tasks.system n n.star (choices.Tell e) fits.part
 prepare-addressed deck n (choices.Leave e) fits = star-call-fits deck n.tasks.system n n.star (choices.Leave e) fits.part
-prepare-addressed deck n choices.Switch fits = star-call-fits deck n.tasks.system n n.star choices.Switch fits.part
+prepare-addressed deck n choices.Switch fits = switch-fits deck n (next_order deck n) fits.shared
 prepare-addressed deck n (choices.Purge s) fits = star-call-fits deck n.tasks.system n n.star (choices.Purge s) fits.part
 
 -- ---- what a step leaves
@@ -300,7 +316,7 @@ module _ (deck : Deck) (home : ℕ) where
       go false = h
 
 -- a task of the deck is of a system of the deck
-deck-task : (deck : Deck) (t : TaskId) → is_of_deck deck t ≡ true → is_within deck t ≡ true
+pub deck-task : (deck : Deck) (t : TaskId) → is_of_deck deck t ≡ true → is_within deck t ≡ true
 deck-task deck t h = go (slice_get deck.systems t.system.0) refl h
   where
     go : (o : Option SystemDef) → slice_get deck.systems t.system.0 ≡ o → is_some (meanings deck.lists t (lines_in (scripts_at o) t)) ≡ true → is_within deck t ≡ true
@@ -398,28 +414,51 @@ unfolding finish_star
 finish-star-fits deck home n None choice reply is h own = subst (AnyPartFits deck home) (sym is) h
 finish-star-fits deck home n (Some p) choice reply is h own = star-step-fits deck home n.tasks p choice reply h own
 
-call-part : (deck : Deck) (n : NodeState) (choice : Choice) (reply : Reply) → NodeFits deck n → Sends deck choice → AnyPartFits deck n.tasks.system (finish_call deck n choice reply).node.star
-unfolding finish_call
-call-part deck n choice (replies.Turned entries taken closed) fits own = subst (AnyPartFits deck n.tasks.system) (sym (star-turned deck n entries taken)) fits.part
-call-part deck n choice (replies.NotYours holder) fits own = finish-star-fits deck n.tasks.system n n.star choice (replies.NotYours holder) refl fits.part own
-call-part deck n choice (replies.Behind first) fits own = finish-star-fits deck n.tasks.system n n.star choice (replies.Behind first) refl fits.part own
-call-part deck n choice replies.Switched fits own = finish-star-fits deck n.tasks.system n n.star choice replies.Switched refl fits.part own
-call-part deck n choice replies.Already fits own = finish-star-fits deck n.tasks.system n n.star choice replies.Already refl fits.part own
-call-part deck n choice replies.Sole fits own = finish-star-fits deck n.tasks.system n n.star choice replies.Sole refl fits.part own
-call-part deck n choice replies.Sent fits own = finish-star-fits deck n.tasks.system n n.star choice replies.Sent refl fits.part own
-call-part deck n choice (replies.Taken mail) fits own = finish-star-fits deck n.tasks.system n n.star choice (replies.Taken mail) refl fits.part own
-call-part deck n choice replies.Empty fits own = finish-star-fits deck n.tasks.system n n.star choice replies.Empty refl fits.part own
-call-part deck n choice replies.Settled fits own = finish-star-fits deck n.tasks.system n n.star choice replies.Settled refl fits.part own
-call-part deck n choice replies.Told fits own = finish-star-fits deck n.tasks.system n n.star choice replies.Told refl fits.part own
-call-part deck n choice replies.Left fits own = finish-star-fits deck n.tasks.system n n.star choice replies.Left refl fits.part own
-call-part deck n choice (replies.Kept mask) fits own = finish-star-fits deck n.tasks.system n n.star choice (replies.Kept mask) refl fits.part own
-call-part deck n choice replies.Purged fits own = finish-star-fits deck n.tasks.system n n.star choice replies.Purged refl fits.part own
-call-part deck n choice replies.NoSuch fits own = finish-star-fits deck n.tasks.system n n.star choice replies.NoSuch refl fits.part own
-call-part deck n choice replies.InStar fits own = finish-star-fits deck n.tasks.system n n.star choice replies.InStar refl fits.part own
-call-part deck n choice replies.Resting fits own = finish-star-fits deck n.tasks.system n n.star choice replies.Resting refl fits.part own
-call-part deck n choice replies.Over fits own = finish-star-fits deck n.tasks.system n n.star choice replies.Over refl fits.part own
-call-part deck n choice (replies.Stale set) fits own = fits.part
-call-part deck n choice replies.Removed fits own = finish-star-fits deck n.tasks.system n n.star choice replies.Removed refl fits.part own
+-- a system that changes has the part of its table
+changed-part : (deck : Deck) (n : NodeState) (closed : Bool) (s : Step) → 0 < deck.entries → (changed_if deck closed s).node.tasks.system ≡ n.tasks.system → list_all (λ h. is_within deck h.1.task) s.node.shared ≡ true → AnyPartFits deck n.tasks.system s.node.star → AnyPartFits deck n.tasks.system (changed_if deck closed s).node.star
+changed-part deck n closed s some same within h = go (closed && is_none s.node.star) same
+  where
+    go : (b : Bool) → (cond b (record { node = change_to_star deck s.node; fixed = s.fixed }) s).node.tasks.system ≡ n.tasks.system → AnyPartFits deck n.tasks.system (cond b (record { node = change_to_star deck s.node; fixed = s.fixed }) s).node.star
+    go true k = subst (λ (o : Option StarPart). AnyPartFits deck n.tasks.system o) (sym (star-changed deck s.node))
+        (subst (λ (m : ℕ). PartFits deck m (part_by_table deck.entries (record { 0 = s.node.tasks.system }) s.node.shared)) (sym (system-changed deck s.node) ∙ k) (part-fits deck (record { 0 = s.node.tasks.system }) s.node.shared some within))
+    go false k = h
+
+turned-part : (deck : Deck) (n : NodeState) (es : List RingEntry) (taken : ℕ) (closed : Bool) → NodeFits deck n → (turned deck n es taken closed).node.tasks.system ≡ n.tasks.system → AnyPartFits deck n.tasks.system (turned deck n es taken closed).node.star
+unfolding turned put_in
+turned-part deck n es taken closed fits same = changed-part deck n closed (put_in (read_entries deck n es) taken) fits.some same
+    (all-entries (is_within deck) deck n es (deck-task deck) fits.shared)
+    (subst (AnyPartFits deck n.tasks.system) (sym (star-turned deck n es taken)) fits.part)
+
+switched-part : (deck : Deck) (n : NodeState) → NodeFits deck n → AnyPartFits deck n.tasks.system (switched deck n).star
+unfolding switched desk_told change_to_star
+switched-part deck n fits = go (is_none n.star)
+  where
+    go : (b : Bool) → AnyPartFits deck n.tasks.system (cond b (change_to_star deck (desk_told n saids.StarDone)) n).star
+    go true = subst (λ (i : ℕ). PartFits deck n.tasks.system (part_by_table deck.entries (record { 0 = i }) n.shared)) (sym (system-telling n.tasks (lines.Desk (n.done + 1) saids.StarDone))) (part-fits deck (record { 0 = n.tasks.system }) n.shared fits.some fits.shared)
+    go false = fits.part
+
+call-part : (deck : Deck) (n : NodeState) (choice : Choice) (reply : Reply) → NodeFits deck n → Sends deck choice → (finish_call deck n choice reply).node.tasks.system ≡ n.tasks.system → AnyPartFits deck n.tasks.system (finish_call deck n choice reply).node.star
+unfolding finish_call desk_told
+call-part deck n choice (replies.Turned entries taken closed) fits own same = turned-part deck n entries taken closed fits same
+call-part deck n choice (replies.NotYours holder) fits own same = finish-star-fits deck n.tasks.system n n.star choice (replies.NotYours holder) refl fits.part own
+call-part deck n choice (replies.Behind first) fits own same = finish-star-fits deck n.tasks.system n n.star choice (replies.Behind first) refl fits.part own
+call-part deck n choice replies.Switched fits own same = switched-part deck n fits
+call-part deck n choice replies.Already fits own same = fits.part
+call-part deck n choice replies.Sole fits own same = finish-star-fits deck n.tasks.system n n.star choice replies.Sole refl fits.part own
+call-part deck n choice replies.Sent fits own same = finish-star-fits deck n.tasks.system n n.star choice replies.Sent refl fits.part own
+call-part deck n choice (replies.Taken mail) fits own same = finish-star-fits deck n.tasks.system n n.star choice (replies.Taken mail) refl fits.part own
+call-part deck n choice replies.Empty fits own same = finish-star-fits deck n.tasks.system n n.star choice replies.Empty refl fits.part own
+call-part deck n choice replies.Settled fits own same = finish-star-fits deck n.tasks.system n n.star choice replies.Settled refl fits.part own
+call-part deck n choice replies.Told fits own same = finish-star-fits deck n.tasks.system n n.star choice replies.Told refl fits.part own
+call-part deck n choice replies.Left fits own same = finish-star-fits deck n.tasks.system n n.star choice replies.Left refl fits.part own
+call-part deck n choice (replies.Kept mask) fits own same = finish-star-fits deck n.tasks.system n n.star choice (replies.Kept mask) refl fits.part own
+call-part deck n choice replies.Purged fits own same = finish-star-fits deck n.tasks.system n n.star choice replies.Purged refl fits.part own
+call-part deck n choice replies.NoSuch fits own same = finish-star-fits deck n.tasks.system n n.star choice replies.NoSuch refl fits.part own
+call-part deck n choice replies.InStar fits own same = finish-star-fits deck n.tasks.system n n.star choice replies.InStar refl fits.part own
+call-part deck n choice replies.Resting fits own same = finish-star-fits deck n.tasks.system n n.star choice replies.Resting refl fits.part own
+call-part deck n choice replies.Over fits own same = finish-star-fits deck n.tasks.system n n.star choice replies.Over refl fits.part own
+call-part deck n choice (replies.Stale set) fits own same = fits.part
+call-part deck n choice replies.Removed fits own same = finish-star-fits deck n.tasks.system n n.star choice replies.Removed refl fits.part own
 
 quiet-part : (deck : Deck) (n : NodeState) (choice : Choice) → NodeFits deck n → Sends deck choice → AnyPartFits deck n.tasks.system (finish_quiet deck n choice).node.star
 unfolding finish_quiet
@@ -463,25 +502,106 @@ sends-call deck n choices.Switch reply fits h = tt
 sends-call deck n (choices.Purge s) reply fits h = tt
 sends-call deck n choices.Rest reply fits h = tt
 
--- the system afterwards
-fits-of : (deck : Deck) (n : NodeState) (m : NodeState) (s : Step) (fixed : List Fixed) → NodeFits deck n → m.tasks.system ≡ n.tasks.system → stepped m fixed ≡ s → AnyPartFits deck n.tasks.system s.node.star → NodeFits deck m
-fits-of deck n m s fixed fits same is h = record { system = subst (λ (k : ℕ). k < length deck.systems) (sym same) fits.system; part = subst (λ (k : ℕ). AnyPartFits deck k m.star) (sym same) (subst (λ (x : Step). AnyPartFits deck n.tasks.system x.node.star) (sym is) h) }
+-- ---- the table afterwards
+-- a table with elements of systems of the deck alone, and no task twice in a list
+abbrev TableFits : Deck → State → Type 0
+TableFits deck t = (list_all (λ h. is_within deck h.1.task) t ≡ true) × AreApart t
+
+own-table : (deck : Deck) (n : NodeState) → NodeFits deck n → TableFits deck n.shared
+own-table deck n fits = (fits.shared, fits.apart)
+
+no-table : (deck : Deck) → TableFits deck []
+no-table deck = (refl, λ r. refl)
+
+changed-table : (deck : Deck) (closed : Bool) (s : Step) → TableFits deck s.node.shared → TableFits deck (changed_if deck closed s).node.shared
+unfolding change_to_star
+changed-table deck closed s h = go (closed && is_none s.node.star)
+  where
+    go : (b : Bool) → TableFits deck (cond b (record { node = change_to_star deck s.node; fixed = s.fixed }) s).node.shared
+    go true = no-table deck
+    go false = h
+
+turned-table : (deck : Deck) (n : NodeState) (es : List RingEntry) (taken : ℕ) (closed : Bool) → NodeFits deck n → TableFits deck (turned deck n es taken closed).node.shared
+unfolding turned put_in
+turned-table deck n es taken closed fits = changed-table deck closed (put_in (read_entries deck n es) taken) (all-entries (is_within deck) deck n es (deck-task deck) fits.shared, apart-entries deck n es fits.apart)
+
+switched-table : (deck : Deck) (n : NodeState) → NodeFits deck n → TableFits deck (switched deck n).shared
+unfolding switched change_to_star
+switched-table deck n fits = go (is_none n.star)
+  where
+    go : (b : Bool) → TableFits deck (cond b (change_to_star deck (desk_told n saids.StarDone)) n).shared
+    go true = no-table deck
+    go false = own-table deck n fits
+
+finish-star-shared : (deck : Deck) (n : NodeState) (o : Option StarPart) (choice : Choice) (reply : Reply) → (finish_star deck n o choice reply).node.shared ≡ n.shared
+unfolding finish_star
+finish-star-shared deck n None choice reply = refl
+finish-star-shared deck n (Some p) choice reply = refl
+
+call-table : (deck : Deck) (n : NodeState) (choice : Choice) (reply : Reply) → NodeFits deck n → TableFits deck (finish_call deck n choice reply).node.shared
+unfolding finish_call desk_told
+call-table deck n choice reply fits = by-reply (λ r. TableFits deck (finish_call deck n choice r).node.shared) (λ es k b. turned-table deck n es k b fits) (λ h. same (replies.NotYours h)) (λ f. same (replies.Behind f)) (switched-table deck n fits) (own-table deck n fits)
+    (same replies.Sole) (same replies.Sent) (λ m. same (replies.Taken m)) (same replies.Empty) (same replies.Settled) (same replies.Told) (same replies.Left) (λ m. same (replies.Kept m)) (same replies.Purged) (same replies.NoSuch) (same replies.InStar) (same replies.Resting) (same replies.Over) (λ k. own-table deck n fits) (same replies.Removed) reply
+  where
+    same : (r : Reply) → TableFits deck (finish_star deck n n.star choice r).node.shared
+    same r = subst (TableFits deck) (sym (finish-star-shared deck n n.star choice r)) (own-table deck n fits)
+
+quiet-table : (deck : Deck) (n : NodeState) (choice : Choice) → NodeFits deck n → TableFits deck (finish_quiet deck n choice).node.shared
+unfolding finish_quiet
+quiet-table deck n (choices.Task t) fits = subst (TableFits deck) (sym (shared-task deck.limit n t (lines_of deck t))) (own-table deck n fits)
+quiet-table deck n (choices.Send t) fits = go n.star
+  where
+    go : (o : Option StarPart) → TableFits deck (send_own n t o).node.shared
+    go None = own-table deck n fits
+    go (Some p) = own-table deck n fits
+quiet-table deck n choices.Turn fits = own-table deck n fits
+quiet-table deck n choices.Take fits = own-table deck n fits
+quiet-table deck n choices.Settle fits = own-table deck n fits
+quiet-table deck n (choices.Tell e) fits = own-table deck n fits
+quiet-table deck n (choices.Leave e) fits = own-table deck n fits
+quiet-table deck n choices.Switch fits = own-table deck n fits
+quiet-table deck n (choices.Purge s) fits = own-table deck n fits
+quiet-table deck n choices.Rest fits = own-table deck n fits
+
+-- ---- the system afterwards
+fits-of : (deck : Deck) (n : NodeState) (m : NodeState) (s : Step) (fixed : List Fixed) → NodeFits deck n → m.tasks.system ≡ n.tasks.system → stepped m fixed ≡ s → TableFits deck s.node.shared → AnyPartFits deck n.tasks.system s.node.star → NodeFits deck m
+fits-of deck n m s fixed fits same is table h =
+    let kept : TableFits deck m.shared = subst (λ (x : Step). TableFits deck x.node.shared) (sym is) table in
+    record {
+      system = subst (λ (k : ℕ). k < length deck.systems) (sym same) fits.system;
+      some = fits.some;
+      desk = subst (λ (k : ℕ). desk_count (slice_get deck.systems k) ≤ most_commands) (sym same) fits.desk;
+      shared = kept.0;
+      apart = kept.1;
+      part = subst (λ (k : ℕ). AnyPartFits deck k m.star) (sym same) (subst (λ (x : Step). AnyPartFits deck n.tasks.system x.node.star) (sym is) h);
+    }
 
 pub quiet-fits-after : (deck : Deck) (n m : NodeState) (choice : Choice) (fixed : List Fixed) → NodeFits deck n → prepare deck n choice ≡ Quiet → m.tasks.system ≡ n.tasks.system → stepped m fixed ≡ finish_quiet deck n choice → NodeFits deck m
-quiet-fits-after deck n m choice fixed fits h same is = fits-of deck n m (finish_quiet deck n choice) fixed fits same is (quiet-part deck n choice fits (sends-quiet deck n choice fits h))
+quiet-fits-after deck n m choice fixed fits h same is = fits-of deck n m (finish_quiet deck n choice) fixed fits same is (quiet-table deck n choice fits) (quiet-part deck n choice fits (sends-quiet deck n choice fits h))
 
 pub call-fits-after : (deck : Deck) (n m : NodeState) (choice : Choice) (reply : Reply) (fixed : List Fixed) → NodeFits deck n → may_come (prepare deck n choice) reply ≡ true → m.tasks.system ≡ n.tasks.system → stepped m fixed ≡ finish_call deck n choice reply → NodeFits deck m
-call-fits-after deck n m choice reply fixed fits h same is = fits-of deck n m (finish_call deck n choice reply) fixed fits same is (call-part deck n choice reply fits (sends-call deck n choice reply fits h))
+call-fits-after deck n m choice reply fixed fits h same is = fits-of deck n m (finish_call deck n choice reply) fixed fits same is (call-table deck n choice reply fits) (call-part deck n choice reply fits (sends-call deck n choice reply fits h) (ap (λ (x : Step). x.node.tasks.system) (sym is) ∙ same))
 
-pub turned-fits-after : (deck : Deck) (n m : NodeState) (es : List RingEntry) (taken : ℕ) (fixed : List Fixed) → NodeFits deck n → m.tasks.system ≡ n.tasks.system → stepped m fixed ≡ put_in (read_entries deck n es) taken → NodeFits deck m
-turned-fits-after deck n m es taken fixed fits same is = fits-of deck n m (put_in (read_entries deck n es) taken) fixed fits same is (subst (AnyPartFits deck n.tasks.system) (sym (star-turned deck n es taken)) fits.part)
+pub turned-fits-after : (deck : Deck) (n m : NodeState) (es : List RingEntry) (taken : ℕ) (closed : Bool) (fixed : List Fixed) → NodeFits deck n → m.tasks.system ≡ n.tasks.system → stepped m fixed ≡ turned deck n es taken closed → NodeFits deck m
+turned-fits-after deck n m es taken closed fixed fits same is = fits-of deck n m (turned deck n es taken closed) fixed fits same is (turned-table deck n es taken closed fits) (turned-part deck n es taken closed fits (ap (λ (x : Step). x.node.tasks.system) (sym is) ∙ same))
 
--- a system that is given up has no part
-pub gone-fits : (deck : Deck) (n m : NodeState) → NodeFits deck n → m.tasks.system ≡ n.tasks.system → m.star ≡ None → NodeFits deck m
-gone-fits deck n m fits same is = record { system = subst (λ (k : ℕ). k < length deck.systems) (sym same) fits.system; part = subst (AnyPartFits deck m.tasks.system) (sym is) tt }
-
-pub ruleset first = (first-fits)
+-- a system that is given up has no table and no part
+pub gone-fits : (deck : Deck) (n m : NodeState) → NodeFits deck n → m.tasks.system ≡ n.tasks.system → m.shared ≡ [] → m.star ≡ None → NodeFits deck m
+gone-fits deck n m fits same none is =
+    let empty : TableFits deck m.shared = subst (TableFits deck) (sym none) (no-table deck) in
+    record {
+      system = subst (λ (k : ℕ). k < length deck.systems) (sym same) fits.system;
+      some = fits.some;
+      desk = subst (λ (k : ℕ). desk_count (slice_get deck.systems k) ≤ most_commands) (sym same) fits.desk;
+      shared = empty.0;
+      apart = empty.1;
+      part = subst (AnyPartFits deck m.tasks.system) (sym is) tt;
+    }
 
 pub ruleset prepares = (prepare-addressed)
+
+-- what a deck of so many entries has
+pub entries-there : (deck : Deck) (n : NodeState) → NodeFits deck n → deck.entries ≢ 0
+entries-there deck n fits = λ is. absurd (omega (arith, fits.some, is))
 
 pub ruleset finishes = (quiet-fits-after, call-fits-after, turned-fits-after, gone-fits)

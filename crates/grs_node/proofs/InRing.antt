@@ -1,11 +1,12 @@
 -- A system in a ring: it has no part in star mode, and what its events come to is told without one.
-use Rattle.std.proofs.Common.{◌≡◌, cond, [], ◌∷◌, ◌++◌, take, Option, Some, None, is_some, refl, ap, ◌∙◌}
-use Rattle.grs_node.specs.Node.{NodeState, Step, only, outbox_with, prepare, star_call, turn_call, may_go, is_pending, read_entries, put_in, finish_quiet, send_own, finish_star, finish_call, finish}
+use Rattle.std.proofs.Common.{◌≡◌, ℕ, true, false, cond, List, [], ◌∷◌, ◌++◌, take, Option, None, is_some, refl, ap, ◌∙◌}
+use Rattle.grs_node.specs.Node.{NodeState, Step, only, outbox_with, prepare, star_call, turn_call, may_go, is_pending, read_entries, put_in, finish_star, finish_call, next_order, switch_call, turned, switched, desk_told, all_sent, change_to_star}
 use Rattle.grs_base.specs.Limits.{most_additions}
+use Rattle.std.specs.Prelude.{is_none}
 use Rattle.grs_node.specs.Star.{StarPart}
 use Rattle.grs_node.specs.declared.prepared.Prepared.{Prepared}
 use Rattle.grs_node.specs.declared.prepared.Prepared.TheVariants.{Quiet, Call, Nothing}
-use Rattle.grs_node.proofs.Keeping.{star-task, star-turned}
+use Rattle.grs_node.proofs.Keeping.{stays-entries}
 use Rattle.grs_wire.specs.declared.deck.Choice.{Choice}
 use Rattle.grs_wire.specs.declared.deck.Choice.TheVariants as choices
 use Rattle.grs_wire.specs.declared.deck.Deck.{Deck}
@@ -13,13 +14,15 @@ use Rattle.grs_wire.specs.declared.medium.Act.TheVariants as acts
 use Rattle.grs_wire.specs.declared.medium.Reply.{Reply}
 use Rattle.grs_wire.specs.declared.medium.Reply.TheVariants as replies
 use Rattle.grs_wire.specs.declared.request.Req.{Req}
-use Rattle.grs_legal.specs.Asks.{lines_of}
+use Rattle.grs_wire.specs.declared.told.Said.TheVariants as saids
+use Rattle.grs_wire.specs.declared.medium.RingEntry.{RingEntry}
 
 -- what a choice comes to
 abbrev pub ring_prepare : Deck → NodeState → Choice → Prepared
 ring_prepare deck n (choices.Task t) = cond (may_go deck n t) Quiet Nothing
 ring_prepare deck n choices.Turn = Call (record { known = n.known; act = acts.Turn (take most_additions n.outbox) })
 ring_prepare deck n choices.Rest = cond (is_pending deck n) Nothing (Call (record { known = n.known; act = acts.Rest }))
+ring_prepare deck n choices.Switch = switch_call deck n (next_order deck n)
 ring_prepare deck n choice = Nothing
 
 no_call : (deck : Deck) (n : NodeState) (choice : Choice) → n.star ≡ None → star_call deck n n.star choice ≡ Nothing
@@ -36,13 +39,15 @@ prepare-ring deck n choices.Take h = no_call deck n choices.Take h
 prepare-ring deck n choices.Settle h = no_call deck n choices.Settle h
 prepare-ring deck n (choices.Tell e) h = no_call deck n (choices.Tell e) h
 prepare-ring deck n (choices.Leave e) h = no_call deck n (choices.Leave e) h
-prepare-ring deck n choices.Switch h = no_call deck n choices.Switch h
+prepare-ring deck n choices.Switch h = refl
 prepare-ring deck n (choices.Purge s) h = no_call deck n (choices.Purge s) h
 
 -- what a reply comes to
 abbrev pub ring_finish : Deck → NodeState → Reply → Step
-ring_finish deck n (replies.Turned entries taken closed) = put_in (read_entries deck n entries) taken
+ring_finish deck n (replies.Turned entries taken closed) = turned deck n entries taken closed
 ring_finish deck n (replies.Stale set) = only (record n { known = set })
+ring_finish deck n replies.Switched = only (switched deck n)
+ring_finish deck n replies.Already = only (desk_told n saids.StarAlready)
 ring_finish deck n reply = only n
 
 no_step : (deck : Deck) (n : NodeState) (choice : Choice) (reply : Reply) → n.star ≡ None → finish_star deck n n.star choice reply ≡ only n
@@ -55,8 +60,8 @@ finish-ring deck n choice (replies.Turned entries taken closed) h = refl
 finish-ring deck n choice (replies.Stale set) h = refl
 finish-ring deck n choice (replies.NotYours holder) h = no_step deck n choice (replies.NotYours holder) h
 finish-ring deck n choice (replies.Behind first) h = no_step deck n choice (replies.Behind first) h
-finish-ring deck n choice replies.Switched h = no_step deck n choice replies.Switched h
-finish-ring deck n choice replies.Already h = no_step deck n choice replies.Already h
+finish-ring deck n choice replies.Switched h = refl
+finish-ring deck n choice replies.Already h = refl
 finish-ring deck n choice replies.Sole h = no_step deck n choice replies.Sole h
 finish-ring deck n choice replies.Sent h = no_step deck n choice replies.Sent h
 finish-ring deck n choice (replies.Taken mail) h = no_step deck n choice (replies.Taken mail) h
@@ -76,43 +81,21 @@ finish-ring deck n choice replies.Removed h = no_step deck n choice replies.Remo
 pub outbox-ring : (n : NodeState) (q : Req) → n.star ≡ None → outbox_with n q ≡ n.outbox ++ q ∷ []
 outbox-ring n q h = ap (λ (o : Option StarPart). cond (is_some o) n.outbox (n.outbox ++ q ∷ [])) h
 
--- ---- it stays in the ring
-ring-finished : (deck : Deck) (n : NodeState) (reply : Reply) → (ring_finish deck n reply).node.star ≡ n.star
-ring-finished deck n (replies.Turned entries taken closed) = star-turned deck n entries taken
-ring-finished deck n (replies.Stale set) = refl
-ring-finished deck n (replies.NotYours holder) = refl
-ring-finished deck n (replies.Behind first) = refl
-ring-finished deck n replies.Switched = refl
-ring-finished deck n replies.Already = refl
-ring-finished deck n replies.Sole = refl
-ring-finished deck n replies.Sent = refl
-ring-finished deck n (replies.Taken mail) = refl
-ring-finished deck n replies.Empty = refl
-ring-finished deck n replies.Settled = refl
-ring-finished deck n replies.Told = refl
-ring-finished deck n replies.Left = refl
-ring-finished deck n (replies.Kept mask) = refl
-ring-finished deck n replies.Purged = refl
-ring-finished deck n replies.NoSuch = refl
-ring-finished deck n replies.InStar = refl
-ring-finished deck n replies.Resting = refl
-ring-finished deck n replies.Over = refl
-ring-finished deck n replies.Removed = refl
+-- ---- a Turn
+-- the open message leaves it in the ring
+pub open-turned : (deck : Deck) (n : NodeState) (entries : List RingEntry) (taken : ℕ) → turned deck n entries taken false ≡ put_in (read_entries deck n entries) taken
+unfolding turned
+open-turned deck n entries taken = refl
 
-ring-quiet : (deck : Deck) (n : NodeState) (choice : Choice) → n.star ≡ None → (finish_quiet deck n choice).node.star ≡ None
-unfolding finish_quiet
-ring-quiet deck n (choices.Task t) h = star-task deck.limit n t (lines_of deck t) ∙ h
-ring-quiet deck n (choices.Send t) h = ap (λ (o : Option StarPart). (send_own n t o).node.star) h ∙ h
-ring-quiet deck n choices.Turn h = h
-ring-quiet deck n choices.Take h = h
-ring-quiet deck n choices.Settle h = h
-ring-quiet deck n (choices.Tell e) h = h
-ring-quiet deck n (choices.Leave e) h = h
-ring-quiet deck n choices.Switch h = h
-ring-quiet deck n (choices.Purge s) h = h
-ring-quiet deck n choices.Rest h = h
+-- at the closed message it processes what it was given, and changes to star mode
+pub closed-turned : (deck : Deck) (n : NodeState) (entries : List RingEntry) → n.star ≡ None → turned deck n entries 0 true ≡ only (change_to_star deck (read_entries deck n entries))
+unfolding turned put_in all_sent
+closed-turned deck n entries h = go (read_entries deck n entries) ((stays-entries deck n entries).star ∙ h)
+  where
+    go : (k : NodeState) → k.star ≡ None → cond (is_none k.star) (only (change_to_star deck k)) (only k) ≡ only (change_to_star deck k)
+    go k none = ap (λ (o : Option StarPart). cond (is_none o) (only (change_to_star deck k)) (only k)) none
 
-pub ring-stays : (deck : Deck) (n : NodeState) (choice : Choice) (reply : Option Reply) → n.star ≡ None → (finish deck n choice reply).node.star ≡ None
-unfolding finish
-ring-stays deck n choice None h = ring-quiet deck n choice h
-ring-stays deck n choice (Some reply) h = ap (λ (s : Step). s.node.star) (finish-ring deck n choice reply h) ∙ (ring-finished deck n reply ∙ h)
+-- it changes by its own desk's command
+pub switched-ring : (deck : Deck) (n : NodeState) → n.star ≡ None → switched deck n ≡ change_to_star deck (desk_told n saids.StarDone)
+unfolding switched
+switched-ring deck n h = ap (λ (o : Option StarPart). cond (is_none o) (change_to_star deck (desk_told n saids.StarDone)) n) h

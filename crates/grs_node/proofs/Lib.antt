@@ -6,8 +6,14 @@ pub mod Finish
 pub mod Flags
 pub mod Calls
 pub mod Keeping
+pub mod Tables
+pub mod ChangeFits
+pub mod Loading
 pub mod Settled
+pub mod Decided
 pub mod Fits
 pub mod InRing
 pub mod Samples
 pub mod StarSamples
+pub mod TableParts
+pub mod ChangeSamples

@@ -1,9 +1,10 @@
 -- To whom the calls of a system go: to systems of the deck, and to lock entries that there are.
-use Rattle.std.specs.Prelude.{◌≡◌, ◌<◌, ℕ, Bool, true, nat_lt, nat_le, length, Option, Some, None}
+use Rattle.std.specs.Prelude.{◌≡◌, ◌<◌, ℕ, Bool, true, nat_lt, nat_le, length, Option, Some, None, ◌≤◌, ◌&&◌, ◌==◌, slice_get}
 use Rattle.std.specs.List.{list_all}
 use Rattle.contention_mgr.specs.Elements.{all_of}
+use Rattle.grs_base.specs.Limits.{most_commands}
 use Rattle.grs_base.specs.declared.resource.TaskId.{TaskId}
-use Rattle.grs_node.specs.Node.{NodeState}
+use Rattle.grs_node.specs.Node.{NodeState, desk_count}
 use Rattle.grs_base.specs.Limits.{most_additions}
 use Rattle.grs_node.specs.Star.{StarPart}
 use Rattle.grs_node.specs.declared.prepared.Prepared.{Prepared}
@@ -13,13 +14,15 @@ use Rattle.grs_wire.specs.declared.deck.Choice.TheVariants as choices
 use Rattle.grs_wire.specs.declared.deck.Deck.{Deck}
 use Rattle.grs_wire.specs.declared.medium.Act.{Act}
 use Rattle.grs_wire.specs.declared.medium.Act.TheVariants as acts
+use Rattle.lock_structure.specs.Words.{word_fits}
+use Rattle.mode_migrate.specs.Migrate.{AreApart}
 
--- Whether an act goes to a system of the deck and speaks of a lock entry that there is, where it does so, and a Turn puts
--- in no more than it may. What else an act carries isn't looked at. A Switch or a Purge isn't addressed to anything
--- while it isn't built.
+-- Whether an act goes to a system of the deck and speaks of a lock entry that there is, where it does so, a Turn puts in no
+-- more than it may, and a Switch has a word for each lock entry, which names systems of the deck alone. What else an act
+-- carries isn't looked at. A Purge isn't addressed to anything: no system removes another yet.
 abbrev pub is_act_addressed : Deck → Act → Bool
 is_act_addressed deck (acts.Turn out) = nat_le (length out) most_additions
-is_act_addressed deck (acts.Switch words) = is_built choices.Switch
+is_act_addressed deck (acts.Switch words) = (length words == deck.entries) && list_all (word_fits (length deck.systems)) words
 is_act_addressed deck (acts.Submit e q) = nat_lt e deck.entries
 is_act_addressed deck acts.Take = true
 is_act_addressed deck (acts.Settle to mail) = nat_lt to.0 (length deck.systems)
@@ -52,7 +55,12 @@ abbrev pub AnyPartFits : Deck → ℕ → Option StarPart → Type 0
 AnyPartFits deck home None = Unit {0}
 AnyPartFits deck home (Some p) = PartFits deck home p
 
--- a system of the deck, whose part in star mode fits
+-- A system of the deck, which has as many lock entries and as many commands at the system's desk as a deck may have. The
+-- elements of its table are of systems of the deck, and no task stands twice in a list; and its part in star mode fits.
 pub record NodeFits (deck : Deck) (n : NodeState) : Type 0 where
   pub system : n.tasks.system < length deck.systems
+  pub some : 0 < deck.entries
+  pub desk : desk_count (slice_get deck.systems n.tasks.system) ≤ most_commands
+  pub shared : list_all (λ h. is_within deck h.1.task) n.shared ≡ true
+  pub apart : AreApart n.shared
   pub part : AnyPartFits deck n.tasks.system n.star

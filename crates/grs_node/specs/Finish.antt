@@ -11,9 +11,7 @@ use Rattle.grs_node.specs.Node.{NodeState, only, prepare, finish}
 use Rattle.grs_node.specs.declared.prepared.Prepared.{Prepared}
 use Rattle.grs_node.specs.declared.prepared.Prepared.TheVariants.{Quiet, Call, Nothing}
 
--- Whether a reply is of a kind that the medium gives to an act. A Turn has taken at most what it was to put in. One at a
--- closed message, which no run has yet, is such a reply too: its entries are processed like any others, and the system
--- doesn't change to star mode by it yet.
+-- Whether a reply is of a kind that the medium gives to an act. A Turn has taken at most what it was to put in.
 abbrev pub is_listed : Act → Reply → Bool
 is_listed act replies.Removed = true
 is_listed act (replies.Stale set) = true

@@ -1,8 +1,9 @@
 -- A system, event by event: what each choice comes to, and what the system is afterwards. An event is prepared,
 -- makes at most one call of the medium, and is finished with the reply.
-use Rattle.std.specs.Prelude.{ℕ, Bool, true, false, not, cond, ◌&&◌, ◌||◌, ◌==◌, nat_le, nat_lt, List, [], ◌∷◌, ◌++◌, length, map, take, drop, Option, Some, None, slice_get, is_some}
+use Rattle.std.specs.Prelude.{ℕ, ◌+◌, Bool, true, false, not, cond, ◌&&◌, ◌||◌, ◌==◌, nat_le, nat_lt, List, [], ◌∷◌, ◌++◌, length, map, take, drop, replicate, Option, Some, None, slice_get, is_some, is_none}
 use Rattle.std.specs.List.{list_any}
 use Rattle.grs_base.specs.Limits.{most_additions}
+use Rattle.std.specs.Option.{option_map}
 use Rattle.grs_base.specs.State.{State}
 use Rattle.grs_base.specs.declared.resource.Res.{Res}
 use Rattle.grs_base.specs.declared.resource.SysId.{SysId}
@@ -15,6 +16,9 @@ use Rattle.grs_wire.specs.Wants.{answer_to, after_want, res_wanted, new_owners}
 use Rattle.grs_wire.specs.declared.deck.Choice.{Choice}
 use Rattle.grs_wire.specs.declared.deck.Choice.TheVariants as choices
 use Rattle.grs_wire.specs.declared.deck.Deck.{Deck}
+use Rattle.grs_wire.specs.declared.deck.Desk.{Desk}
+use Rattle.grs_wire.specs.declared.deck.Order.{Order}
+use Rattle.grs_wire.specs.declared.deck.Order.TheVariants as orders
 use Rattle.grs_wire.specs.declared.deck.SystemDef.{SystemDef}
 use Rattle.grs_wire.specs.declared.medium.Act.TheVariants as acts
 use Rattle.grs_wire.specs.declared.medium.Mail.{Mail}
@@ -29,8 +33,12 @@ use Rattle.grs_wire.specs.declared.request.Fixed.TheVariants as fixes
 use Rattle.grs_wire.specs.declared.request.Req.{Req}
 use Rattle.grs_wire.specs.declared.request.Want.{Want}
 use Rattle.grs_wire.specs.declared.request.Want.TheVariants.{Enq, Deq, Release}
+use Rattle.grs_wire.specs.declared.told.Said.{Said}
+use Rattle.grs_wire.specs.declared.told.Said.TheVariants as saids
 use Rattle.grs_wire.specs.declared.told.Verb.TheVariants as verbs
 use Rattle.grs_wire.specs.declared.told.ToldLine.TheVariants as told
+use Rattle.mode_migrate.specs.Migrate.{table_words, ranked_by}
+use Rattle.grs_node.specs.Change.{part_by_table, with_ranks, one_by_one}
 use Rattle.grs_node.specs.Star.{StarPart, StarStep, first_part, to_tell, first_held, is_part_pending, send_of, settle_by, tell_by, leave_by, fixing_none, own_step, took_mail, send_step, settle_step, tell_step, leave_step}
 use Rattle.grs_node.specs.declared.star.Need.{Need}
 use Rattle.grs_node.specs.declared.star.Need.TheVariants.{Alone, Asks, Idle}
@@ -161,10 +169,17 @@ goes_on phases.Ready = true
 goes_on (phases.Ending c) = true
 goes_on _ = false
 
--- the desk lines of a system
+-- the desk lines of a system, and how many they are
+abbrev pub desk_of : Option SystemDef → List Desk
+desk_of None = []
+desk_of (Some s) = s.desk
+
 abbrev pub desk_count : Option SystemDef → ℕ
-desk_count None = 0
-desk_count (Some s) = length s.desk
+desk_count s = length (desk_of s)
+
+-- what the next desk line orders, if there is one that isn't done
+abbrev pub next_order : Deck → NodeState → Option Order
+next_order deck n = option_map (λ c. c.order) (slice_get (desk_of (slice_get deck.systems n.tasks.system)) n.done)
 
 -- whether a task in this phase has a request that waits to be put in or sent
 abbrev pub is_to_send : Phase → Bool
@@ -221,10 +236,24 @@ unfoldable pub star_call : Deck → NodeState → Option StarPart → Choice →
 star_call deck n None choice = Nothing
 star_call deck n (Some p) choice = prepared_by n.known (star_need deck n p choice)
 
+-- the lock words to which the system's table leads; in star mode it has none
+abbrev pub words_by : ℕ → State → Option StarPart → List ℕ
+words_by entries table None = table_words entries table
+words_by entries table (Some p) = replicate entries 0
+
+abbrev pub own_words : Deck → NodeState → List ℕ
+own_words deck n = words_by deck.entries n.shared n.star
+
+-- the change to star mode, where the next desk line orders it
+abbrev pub switch_call : Deck → NodeState → Option Order → Prepared
+switch_call deck n (Some orders.Star) = Call (record { known = n.known; act = acts.Switch (own_words deck n) })
+switch_call deck n order = Nothing
+
 -- What a choice comes to.
 unfoldable pub prepare : Deck → NodeState → Choice → Prepared
 prepare deck n (choices.Task t) = cond (may_go deck n t) Quiet Nothing
 prepare deck n choices.Turn = turn_call n n.star
+prepare deck n choices.Switch = switch_call deck n (next_order deck n)
 prepare deck n choices.Rest = cond (is_pending deck n) Nothing (Call (record { known = n.known; act = acts.Rest }))
 prepare deck n choice = star_call deck n n.star choice
 
@@ -273,6 +302,33 @@ put_in n taken = record {
   fixed = map fixes.Asked (take taken n.outbox);
 }
 
+-- The system changes to star mode, by its table: it gets its part there, and its tasks' records get ranks. The requests
+-- of the outbox stay with their tasks, which wait to send them.
+unfoldable pub change_to_star : Deck → NodeState → NodeState
+change_to_star deck n = record n {
+  tasks = with_ranks (one_by_one n.tasks n.outbox) (ranked_by deck.entries n.shared);
+  shared = [];
+  outbox = [];
+  star = Some (part_by_table deck.entries (record { 0 = n.tasks.system }) n.shared);
+}
+
+-- a step, behind which the system changes to star mode where it is to, unless it has
+abbrev pub changed_if : Deck → Bool → Step → Step
+changed_if deck closed s = cond (closed && is_none s.node.star) (record { node = change_to_star deck s.node; fixed = s.fixed }) s
+
+-- A Turn at the message: the entries that were given are processed, and the first requests of the outbox are put in. Where
+-- the message is closed the system then changes to star mode.
+unfoldable pub turned : Deck → NodeState → List RingEntry → ℕ → Bool → Step
+turned deck n entries taken closed = changed_if deck closed (put_in (read_entries deck n entries) taken)
+
+-- the next desk line is done, and told like this
+unfoldable pub desk_told : NodeState → Said → NodeState
+desk_told n said = record n { tasks = telling n.tasks (told.Desk (n.done + 1) said); done = n.done + 1 }
+
+-- The complex changed to star mode by the system's desk line, and the system with it. One that is in star mode did so before.
+unfoldable pub switched : Deck → NodeState → NodeState
+switched deck n = cond (is_none n.star) (change_to_star deck (desk_told n saids.StarDone)) n
+
 -- whether the tasks and systems that a mail names are of the deck
 abbrev pub is_for_deck : Deck → Mail → Bool
 is_for_deck deck (mails.Request e from q) = nat_lt from.0 (length deck.systems) && is_of_deck deck q.task
@@ -302,8 +358,10 @@ finish_star deck n (Some p) choice reply = with_star n (star_step deck n.tasks p
 
 -- The reply to a call. Those that say nothing new change nothing.
 unfoldable pub finish_call : Deck → NodeState → Choice → Reply → Step
-finish_call deck n choice (replies.Turned entries taken closed) = put_in (read_entries deck n entries) taken
+finish_call deck n choice (replies.Turned entries taken closed) = turned deck n entries taken closed
 finish_call deck n choice (replies.Stale set) = only (record n { known = set })
+finish_call deck n choice replies.Switched = only (switched deck n)
+finish_call deck n choice replies.Already = only (desk_told n saids.StarAlready)
 finish_call deck n choice reply = finish_star deck n n.star choice reply
 
 -- What a system is after a choice, with the reply if a call was made.

@@ -1,5 +1,5 @@
 //! What a choice of a system comes to. Nothing here changes anything.
-ghost use Rattle.std.specs.Prelude.{◌≡◌, ◌&&◌, is_some, take, IfOk};
+ghost use Rattle.std.specs.Prelude.{◌≡◌, ◌≢◌, ◌&&◌, is_some, take, IfOk};
 ghost use Rattle.std.specs.List.{list_any};
 ghost use Rattle.std.specs.Option.{option_copied};
 ghost use Rattle.grs_base.specs.Limits.{most_additions};
@@ -162,12 +162,14 @@ impl NodeState {
         scripts: &[Script<'_>],
         choice: Choice,
     ) -> Result<Prepared, NoMemory>
-        requires { scripts.now ≡ scripts_of deck.now self.now.tasks.system }
+        requires scripts { scripts.now ≡ scripts_of deck.now self.now.tasks.system }
+        requires entries { deck.now.entries ≢ 0 }
         ensures { IfOk result (λ prepared. prepared ≡ steps.prepare deck.now self.now choice) }
     {
         match choice {
             Choice::Task(task) if self.may_go(scripts, task) => Ok(Prepared::Quiet),
             Choice::Turn => self.prepare_turn(alloc),
+            Choice::Switch => self.prepare_switch(alloc, deck),
             Choice::Rest if !self.is_pending(deck) => Ok(Prepared::Call(Call {
                 known: self.known,
                 act: Act::Rest,
@@ -178,7 +180,6 @@ impl NodeState {
             | Choice::Settle
             | Choice::Tell(_)
             | Choice::Leave(_)
-            | Choice::Switch
             | Choice::Purge(_) => self.prepare_star(alloc, deck, choice),
         }
     }

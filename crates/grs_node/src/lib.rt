@@ -2,7 +2,9 @@
 //! at most one call of the medium, and is finished with the reply.
 #![tactic(auto)]
 
+mod change;
 mod choices;
+mod desk;
 pub mod laws;
 mod lines;
 mod node;

@@ -82,7 +82,7 @@ fn step_of(
 
 impl<'d> Node<'d> {
     /// A system of a deck before its first event.
-    #[tactic(auto, using(crate::proofs::Fits::first, grs_wire::proofs::DeckLaws::parts), unfolding(crate::specs::Node::first_node))]
+    #[tactic(auto, using(grs_wire::proofs::DeckLaws::parts), unfolding(crate::specs::Node::first_node))]
     pub fn new(alloc: Global, deck: &'d Deck, system: SysId) -> Result<Node<'d>, NoMemory>
         requires deck { IsDeck deck.now }
         requires system { system.0 < length deck.now.systems }
@@ -174,7 +174,7 @@ impl<'d> Node<'d> {
         ) {
             Ok(fixed) => Ok(fixed),
             Err(refused) => {
-                self.state.give_up();
+                self.state.give_up(alloc);
                 Err(refused)
             }
         }
@@ -194,7 +194,7 @@ impl<'d> Node<'d> {
         match self.state.finish_call(alloc, deck, choice, reply) {
             Ok(fixed) => Ok(fixed),
             Err(refused) => {
-                self.state.give_up();
+                self.state.give_up(alloc);
                 Err(refused)
             }
         }
@@ -207,19 +207,23 @@ impl<'d> Node<'d> {
         entries: &[RingEntry],
         system: SysId,
         taken: u32,
+        closed: bool,
     ) -> Result<List<Fixed>, NoMemory>
         requires { system.0 < most_systems }
-        ensures step { IfOk result (λ fixed. stepped self.new.node fixed ≡ steps.put_in (steps.read_entries self.old.deck self.old.node (unseen system entries.now)) taken) }
+        ensures step { IfOk result (λ fixed. stepped self.new.node fixed ≡ steps.turned self.old.deck self.old.node (unseen system entries.now) taken closed) }
         ensures log { self.new.log ≡ self.old.log }
         ensures deck { self.new.deck ≡ self.old.deck }
         ensures system { self.new.node.tasks.system ≡ self.old.node.tasks.system }
     {
         let alloc = self.alloc;
         let deck = self.deck;
-        match self.state.turned_among(alloc, deck, entries, system, taken) {
+        match self
+            .state
+            .turned_among(alloc, deck, entries, system, taken, closed)
+        {
             Ok(fixed) => Ok(fixed),
             Err(refused) => {
-                self.state.give_up();
+                self.state.give_up(alloc);
                 Err(refused)
             }
         }
@@ -270,7 +274,7 @@ impl<'d> Node<'d> {
         ensures system { self.new.node.tasks.system ≡ self.old.node.tasks.system }
     {
         let place = self.state.tasks.told().len();
-        let fixed = self.turned(entries, system, taken)?;
+        let fixed = self.turned(entries, system, taken, closed)?;
         self.keep(Choice::Turn, true, fixed, place)
     }
 

@@ -2,12 +2,15 @@
 //! tasks and its part.
 ghost use Rattle.std.specs.Prelude.{◌≡◌, ◌≢◌, ◌<◌, ◌==◌, [], Some, true, false, length, drop, IfOk, IfSome, IfNone, OnOk};
 ghost use Rattle.std.specs.Option.{option_copied};
-ghost use Rattle.contention_mgr.specs.Manager.{items_of, managed_at};
+ghost use Rattle.contention_mgr.specs.Manager.{after_request, items_of, managed_at};
 ghost use Rattle.grs_node.specs.Node as steps;
 ghost use Rattle.grs_node.specs.Star as star;
 ghost use Rattle.grs_node.specs.Star.{starred};
 ghost use Rattle.grs_wire.specs.declared.deck.Choice.TheVariants.{Send, Take};
 ghost use Rattle.grs_wire.specs.declared.deck.Deck.{Deck as DeckValue};
+ghost use Rattle.grs_wire.specs.Wants.{res_wanted};
+ghost use Rattle.star_client.specs.Client as client;
+ghost use Rattle.task_state.specs.Replies as replies;
 ghost use Rattle.task_state.specs.View.{is_task, state_of};
 
 use super::scripts::is_of_deck;
@@ -16,6 +19,7 @@ use super::state::asked_alone;
 use contention_mgr::Manager;
 use grs_base::{List, NoMemory, TaskId};
 use grs_wire::{Choice, Deck, Fixed, Mail, Reply, Req};
+use queue_table::Outcome;
 use ring_mode::res_of;
 use star_client::{on_mail, tell_answer_ranked};
 use std::alloc::Global;
@@ -31,6 +35,24 @@ fn is_for_deck(deck: &Deck, mail: &Mail) -> bool
         }
         Mail::Answered { task, .. } | Mail::Granted { task, .. } => is_of_deck(deck, *task),
     }
+}
+
+/// What the system decided on a request of its own task as the manager of its entry is told: the asker's answer first, then
+/// control for the own tasks that became owners.
+#[tactic(auto, using(crate::proofs::Kept::kept))]
+fn tell_ranked(
+    alloc: Global,
+    tasks: &mut Tasks,
+    req: &Req,
+    outcome: &Outcome,
+) -> Result<(), NoMemory>
+    requires { is_task tasks.old req.now.task ≡ true }
+    ensures step { OnOk result (tasks.new ≡ replies.tell_new (client.tell_answer_any_ranked tasks.old req.now.task outcome.now.answer outcome.now.rank (state_of tasks.old req.now.task).outstanding) (res_wanted req.now.want) outcome.now.owners) }
+    ensures system { tasks.new.system ≡ tasks.old.system }
+    ensures count { length tasks.new.tasks ≡ length tasks.old.tasks }
+{
+    tell_answer_ranked(alloc, tasks, req.task, &outcome.answer, outcome.rank)?;
+    tell_new(tasks, res_of(&req.want), outcome.owners.as_slice())
 }
 
 /// The system manages an entry no longer.
@@ -76,6 +98,20 @@ impl StarPart {
         Ok(())
     }
 
+    /// The system decides a request of a task of its own as the manager of its entry, and it is told.
+    #[tactic(auto, using(crate::proofs::Kept::kept))]
+    fn decide_req(&mut self, alloc: Global, tasks: &mut Tasks, req: &Req) -> Result<(), NoMemory>
+        requires task { is_task tasks.old req.now.task ≡ true }
+        requires serves { star.serves self.old req.now ≡ true }
+        ensures tasks { OnOk result (tasks.new ≡ replies.tell_new (client.tell_answer_any_ranked tasks.old req.now.task (star.answer_for self.old req.now) (star.rank_of self.old req.now) (state_of tasks.old req.now.task).outstanding) (res_wanted req.now.want) (star.owners_by self.old req.now)) }
+        ensures part { OnOk result (self.new ≡ record self.old { manager = after_request self.old.manager req.now.task req.now.want }) }
+        ensures system { tasks.new.system ≡ tasks.old.system }
+        ensures count { length tasks.new.tasks ≡ length tasks.old.tasks }
+    {
+        let outcome = self.manager.own_request(req)?;
+        tell_ranked(alloc, tasks, req, &outcome)
+    }
+
     /// The system decides the request of a task of its own, if it has one, as the manager of its entry: the asker's answer
     /// first, then control for the own tasks that became owners.
     #[tactic(auto, using(crate::proofs::Kept::kept), unfolding(crate::specs::Star::decide_own))]
@@ -95,9 +131,7 @@ impl StarPart {
             return Ok(List::new(alloc));
         };
         let req = request_of(alloc, task, asked)?;
-        let outcome = self.manager.own_request(&req)?;
-        tell_answer_ranked(alloc, tasks, task, &outcome.answer, outcome.rank)?;
-        tell_new(tasks, res_of(&req.want), outcome.owners.as_slice())?;
+        self.decide_req(alloc, tasks, &req)?;
         asked_alone(alloc, req)
     }
 
@@ -340,7 +374,12 @@ impl StarPart {
                 self.finish_leave(tasks, entry, reply);
                 Ok(List::new(alloc))
             }
-            _ => Ok(List::new(alloc)),
+            Choice::Task(_)
+            | Choice::Turn
+            | Choice::Take
+            | Choice::Switch
+            | Choice::Purge(_)
+            | Choice::Rest => Ok(List::new(alloc)),
         }
     }
 

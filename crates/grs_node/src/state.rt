@@ -5,11 +5,13 @@ ghost use Rattle.grs_base.specs.Limits.{most_lines};
 ghost use Rattle.task_state.specs.View.{new_tasks, is_task, state_of, record_of};
 ghost use Rattle.grs_legal.specs.Asks.{meaning_of, meanings, scripts_of};
 ghost use Rattle.grs_node.specs.declared.prepared.Prepared.TheVariants.{Quiet};
+ghost use Rattle.grs_wire.specs.Wants.{res_wanted};
 ghost use Rattle.grs_wire.specs.declared.request.Fixed.TheVariants as fixes;
 ghost use Rattle.grs_node.specs.Node as steps;
 ghost use Rattle.grs_node.specs.Node.{are_of_system};
 ghost use Rattle.grs_node.specs.Log.{stepped};
 ghost use Rattle.grs_node.specs.Star.{manages_if_asked};
+ghost use Rattle.task_state.specs.Replies as replies;
 
 use super::lines::meaning_at;
 use super::scripts::{Script, lines_among};
@@ -18,7 +20,7 @@ use grs_base::{Code, Line, List, NoMemory, Res, SysId, TaskId};
 use grs_legal::Meaning;
 use grs_wire::{Choice, Deck, Fixed, Req, ToldLine, Verb, Want};
 use local_queue::Local;
-use queue_table::Table;
+use queue_table::{Outcome, Table};
 use ring_mode::{is_for_all, res_of};
 use scope_resolve::Resolver;
 use serial_queue::PlainQueues;
@@ -57,6 +59,25 @@ pub(crate) fn asked_alone(alloc: Global, req: Req) -> Result<List<Fixed>, NoMemo
     let mut fixed = List::with_room(alloc, 1)?;
     fixed.push(Fixed::Asked(req))?;
     Ok(fixed)
+}
+
+/// What the system's own lists decided on a request is told: the asker's answer first, then control for the tasks that
+/// became owners.
+#[tactic(auto, using(crate::proofs::Kept::kept))]
+fn tell_decided(
+    alloc: Global,
+    tasks: &mut Tasks,
+    req: &Req,
+    unit: Option<u16>,
+    outcome: &Outcome,
+) -> Result<(), NoMemory>
+    requires { is_task tasks.old req.now.task ≡ true }
+    ensures step { OnOk result (tasks.new ≡ replies.tell_new (replies.replied tasks.old req.now.task req.now.want unit outcome.now.answer) (res_wanted req.now.want) outcome.now.owners) }
+    ensures system { tasks.new.system ≡ tasks.old.system }
+    ensures count { length tasks.new.tasks ≡ length tasks.old.tasks }
+{
+    replied(alloc, tasks, req.task, &req.want, unit, &outcome.answer)?;
+    tell_new(tasks, res_of(&req.want), outcome.owners.as_slice())
 }
 
 /// A WAIT line: 00 where control was told, 08 where there is no request on record, else the task is held.
@@ -104,16 +125,28 @@ impl NodeState {
         })
     }
 
-    /// A system that is to be given up, since memory was wanting in a step, keeps no part in star mode.
-    pub(crate) fn give_up(&mut self)
-        ensures { self.new ≡ record self.old { star = None } }
+    /// A system that is to be given up, since memory was wanting in a step, keeps no table and no part in star mode.
+    pub(crate) fn give_up(&mut self, alloc: Global)
+        ensures { self.new ≡ record self.old { shared = []; star = None } }
     {
+        self.shared = Table::new(alloc, PlainQueues::new(alloc));
         self.star = None;
+    }
+
+    /// The system's own lists decide a request and change by it, and it is told.
+    #[tactic(auto, using(crate::proofs::Kept::kept), unfolding(crate::specs::Node::decide))]
+    fn decide_req(&mut self, alloc: Global, req: &Req, unit: Option<u16>) -> Result<(), NoMemory>
+        requires { is_task self.old.tasks req.now.task ≡ true }
+        ensures step { OnOk result (self.new ≡ (steps.decide self.old req.now.task req.now.want unit).node) }
+        ensures system { self.new.tasks.system ≡ self.old.tasks.system }
+    {
+        let outcome = self.local.request(req)?;
+        tell_decided(alloc, &mut self.tasks, req, unit, &outcome)
     }
 
     /// A request that the system's own lists decide: the asker's answer first, then control for the tasks that
     /// became owners.
-    #[tactic(auto, using(crate::proofs::Kept::kept), unfolding(crate::specs::Node::decide))]
+    #[tactic(auto, unfolding(crate::specs::Node::decide))]
     fn decide(
         &mut self,
         alloc: Global,
@@ -126,21 +159,23 @@ impl NodeState {
         ensures system { self.new.tasks.system ≡ self.old.tasks.system }
     {
         let req = Req { task, want };
-        let outcome = self.local.request(&req)?;
-        replied(
-            alloc,
-            &mut self.tasks,
-            task,
-            &req.want,
-            unit,
-            &outcome.answer,
-        )?;
-        tell_new(
-            &mut self.tasks,
-            res_of(&req.want),
-            outcome.owners.as_slice(),
-        )?;
+        self.decide_req(alloc, &req, unit)?;
         asked_alone(alloc, req)
+    }
+
+    /// A request waits to be put into the message; in star mode none does.
+    #[tactic(auto, using(crate::proofs::Kept::kept))]
+    fn put_out(&mut self, alloc: Global, req: &Req) -> Result<(), NoMemory>
+        requires { is_task self.old.tasks req.now.task ≡ true }
+        ensures step { OnOk result (self.new ≡ record self.old { outbox = steps.outbox_with self.old req.now }) }
+        ensures tasks { self.new.tasks ≡ self.old.tasks }
+    {
+        if self.star.is_none() {
+            let copy = req.copy(alloc)?;
+            self.outbox.push(copy)
+        } else {
+            Ok(())
+        }
     }
 
     /// A request that waits to be put into the message, or, in star mode, to be sent.
@@ -157,9 +192,7 @@ impl NodeState {
         ensures system { self.new.tasks.system ≡ self.old.tasks.system }
     {
         let req = Req { task, want };
-        if self.star.is_none() {
-            self.outbox.push(req.copy(alloc)?)?;
-        }
+        self.put_out(alloc, &req)?;
         self.tasks.set_phase(task, Phase::ToSend);
         self.tasks.set_outstanding(task, Some(Asked { req, unit }));
         Ok(List::new(alloc))

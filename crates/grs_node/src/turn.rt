@@ -1,6 +1,6 @@
 //! A system's part of a turn: it reads the entries that it hasn't seen, and its requests are put in.
-ghost use Rattle.std.specs.Prelude.{◌≡◌, ◌<◌, true, take, drop, length, map, IfOk, IfSome, OnOk};
-ghost use Rattle.grs_base.specs.Limits.{most_systems};
+ghost use Rattle.std.specs.Prelude.{◌≡◌, ◌≢◌, ◌<◌, ◌≤◌, true, take, drop, length, map, slice_get, IfOk, IfSome, OnOk};
+ghost use Rattle.grs_base.specs.Limits.{most_systems, most_commands};
 ghost use Rattle.grs_wire.specs.declared.medium.RingBody.TheVariants.{Request};
 ghost use Rattle.grs_wire.specs.declared.request.Fixed.TheVariants as fixes;
 ghost use Rattle.grs_wire.specs.Unseen.{unseen};
@@ -9,12 +9,13 @@ ghost use Rattle.grs_node.specs.Node.{are_of_system};
 ghost use Rattle.grs_node.specs.Finish.{may_come};
 ghost use Rattle.grs_node.specs.Log.{stepped};
 ghost use Rattle.grs_node.specs.Star.{was_prepared};
+ghost use Rattle.mode_migrate.specs.Migrate.{AreApart};
 
 use super::scripts::is_of_deck;
 use super::state::NodeState;
 use grs_base::{List, NoMemory, SysId};
 use grs_wire::masks::has_system;
-use grs_wire::{Choice, Deck, Fixed, Reply, Req, RingBody, RingEntry};
+use grs_wire::{Choice, Deck, Fixed, Reply, Req, RingBody, RingEntry, Said};
 use ring_mode::on_request;
 use std::alloc::Global;
 use task_state::{Phase, Tasks};
@@ -148,22 +149,30 @@ impl NodeState {
         all_asked(alloc, first)
     }
 
-    /// What a Turn at the message comes to, of which these entries were given.
+    /// What a Turn at the message comes to, of which these entries were given. Where the message is closed the system
+    /// changes to star mode.
+    #[tactic(auto, unfolding(crate::specs::Node::turned))]
     fn turned(
         &mut self,
         alloc: Global,
         deck: &Deck,
         entries: &[RingEntry],
         taken: u32,
+        closed: bool,
     ) -> Result<List<Fixed>, NoMemory>
-        ensures step { IfOk result (λ fixed. stepped self.new fixed ≡ steps.put_in (steps.read_entries deck.now self.old entries.now) taken) }
+        requires entries { deck.now.entries ≢ 0 }
+        requires apart { AreApart self.old.shared }
+        ensures step { IfOk result (λ fixed. stepped self.new fixed ≡ steps.turned deck.now self.old entries.now taken closed) }
         ensures system { self.new.tasks.system ≡ self.old.tasks.system }
     {
         self.read_entries(alloc, deck, entries)?;
-        self.put_in(alloc, taken)
+        let fixed = self.put_in(alloc, taken)?;
+        self.change_if(alloc, deck, closed)?;
+        Ok(fixed)
     }
 
     /// What a Turn at the message comes to, which has these entries.
+    #[tactic(auto, unfolding(crate::specs::Node::turned))]
     pub(crate) fn turned_among(
         &mut self,
         alloc: Global,
@@ -171,13 +180,18 @@ impl NodeState {
         entries: &[RingEntry],
         system: SysId,
         taken: u32,
+        closed: bool,
     ) -> Result<List<Fixed>, NoMemory>
-        requires { system.0 < most_systems }
-        ensures step { IfOk result (λ fixed. stepped self.new fixed ≡ steps.put_in (steps.read_entries deck.now self.old (unseen system entries.now)) taken) }
+        requires system { system.0 < most_systems }
+        requires entries { deck.now.entries ≢ 0 }
+        requires apart { AreApart self.old.shared }
+        ensures step { IfOk result (λ fixed. stepped self.new fixed ≡ steps.turned deck.now self.old (unseen system entries.now) taken closed) }
         ensures system { self.new.tasks.system ≡ self.old.tasks.system }
     {
         self.read_unseen(alloc, deck, entries, system)?;
-        self.put_in(alloc, taken)
+        let fixed = self.put_in(alloc, taken)?;
+        self.change_if(alloc, deck, closed)?;
+        Ok(fixed)
     }
 
     /// What the reply to a call of star mode comes to.
@@ -200,7 +214,7 @@ impl NodeState {
     }
 
     /// What the reply to a call comes to. Those that say nothing new change nothing.
-    #[tactic(auto, using(crate::proofs::Calls::came), unfolding(crate::specs::Node::finish_call))]
+    #[tactic(auto, using(crate::proofs::Calls::came, crate::proofs::Calls::ordered_desk), unfolding(crate::specs::Node::finish_call))]
     pub(crate) fn finish_call(
         &mut self,
         alloc: Global,
@@ -208,16 +222,29 @@ impl NodeState {
         choice: Choice,
         reply: Reply,
     ) -> Result<List<Fixed>, NoMemory>
-        requires { may_come (steps.prepare deck.now self.old choice) reply ≡ true }
+        requires come { may_come (steps.prepare deck.now self.old choice) reply ≡ true }
+        requires entries { deck.now.entries ≢ 0 }
+        requires desk { steps.desk_count (slice_get deck.now.systems self.old.tasks.system) ≤ most_commands }
+        requires apart { AreApart self.old.shared }
         ensures step { IfOk result (λ fixed. stepped self.new fixed ≡ steps.finish_call deck.now self.old choice reply) }
         ensures system { self.new.tasks.system ≡ self.old.tasks.system }
     {
         match reply {
-            Reply::Turned { entries, taken, .. } => {
-                self.turned(alloc, deck, entries.as_slice(), taken)
-            }
+            Reply::Turned {
+                entries,
+                taken,
+                closed,
+            } => self.turned(alloc, deck, entries.as_slice(), taken, closed),
             Reply::Stale { set } => {
                 self.known = set;
+                Ok(List::new(alloc))
+            }
+            Reply::Switched => {
+                self.switched(alloc, deck)?;
+                Ok(List::new(alloc))
+            }
+            Reply::Already => {
+                self.desk_told(Said::StarAlready)?;
                 Ok(List::new(alloc))
             }
             reply => self.finish_star(alloc, deck, choice, reply),

@@ -1,6 +1,6 @@
 use Rattle.std.proofs.Common.{◌≡◌, true, ap, sym, ◌∙◌, subst}
 use Rattle.grs_legal.specs.Asks.{scripts_of}
-use Rattle.grs_node.proofs.Fits.{call-fits-after}
+use Rattle.grs_node.proofs.Fits.{call-fits-after, entries-there}
 use Rattle.grs_node.specs.Finish.{may_come}
 use Rattle.grs_node.specs.Log.{NodeView}
 use Rattle.grs_node.specs.Node.{prepare}
@@ -13,3 +13,12 @@ invariant_of-self c =
       c.self.invariant.1 ∙ ap (scripts_of c.self.inside.deck.now) (sym c.finish_call.ensures.system),
       call-fits-after c.self.inside.deck.now c.self.inside.state c.finish_call.new.self c.args.choice c.args.reply c.in-Ok.fixed c.self.invariant.2 comes c.in-Ok.ensures.system c.in-Ok.ensures.step,
     )
+
+pub finish_call-requires-clause-entries : goal.finish_call-requires-clause-entries
+finish_call-requires-clause-entries c = entries-there c.self.inside.deck.now c.self.inside.state c.self.invariant.2
+
+pub finish_call-requires-clause-desk : goal.finish_call-requires-clause-desk
+finish_call-requires-clause-desk c = c.self.invariant.2.desk
+
+pub finish_call-requires-clause-apart : goal.finish_call-requires-clause-apart
+finish_call-requires-clause-apart c = c.self.invariant.2.apart

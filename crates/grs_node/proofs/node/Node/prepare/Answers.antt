@@ -1,5 +1,5 @@
 use Rattle.std.proofs.Common.{◌≡◌, true, ap, ◌∙◌, subst, Result, Ok, Err, IfOk}
-use Rattle.grs_node.proofs.Fits.{prepare-addressed}
+use Rattle.grs_node.proofs.Fits.{entries-there, prepare-addressed}
 use Rattle.grs_node.specs.Addressed.{is_addressed, NodeFits}
 use Rattle.grs_node.specs.Log.{NodeView}
 use Rattle.grs_node.specs.Node.{NodeState, prepare}
@@ -17,3 +17,6 @@ pub returns-clause-addressed : goal.returns-clause-addressed
 returns-clause-addressed c =
     subst (λ (v : NodeView). IfOk c.prepare.result (λ p. is_addressed v.deck p ≡ true)) c.self.view_is
     (addressed c.self.inside.deck.now c.self.inside.state c.args.choice.now c.prepare.result c.self.invariant.2 c.prepare.ensures)
+
+pub prepare-requires-clause-entries : goal.prepare-requires-clause-entries
+prepare-requires-clause-entries c = entries-there c.self.inside.deck.now c.self.inside.state c.self.invariant.2

@@ -1,0 +1,13 @@
+use Rattle.std.proofs.Common.{ap, sym, ◌∙◌}
+use Rattle.grs_legal.specs.Asks.{scripts_of}
+use Rattle.grs_node.proofs.Fits.{started-fits}
+use Rattle.grs_node.specs.Node.{NodeState}
+use Rattle.grs_node.proofs.node.Node.new.Goals as goal
+
+pub invariant_of-result : goal.invariant_of-result
+invariant_of-result c =
+    let own = ap (λ (n : NodeState). n.tasks.system) c.in_ok-state.ensures in (
+      c.in_ok-resolver.ensures,
+      c.in_ok-scripts.ensures ∙ ap (scripts_of c.args.deck.now) (sym own),
+      started-fits c.args.deck.now c.in_ok-state.state c.args.system.0 c.requires.deck c.requires.system own (ap (λ (n : NodeState). n.shared) c.in_ok-state.ensures) (ap (λ (n : NodeState). n.star) c.in_ok-state.ensures),
+    )

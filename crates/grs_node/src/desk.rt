@@ -1,0 +1,81 @@
+//! The commands of a system's desk: which one is next, what it asks of the medium, and that it is done.
+ghost use Rattle.std.specs.Prelude.{◌≡◌, ◌≢◌, ◌<◌, false, replicate, slice_get, IfOk, OnOk};
+ghost use Rattle.std.specs.Option.{option_map};
+ghost use Rattle.grs_base.specs.Limits.{most_commands};
+ghost use Rattle.grs_node.specs.Node as steps;
+
+use super::prepared::Prepared;
+use super::scripts::system_at;
+use super::state::NodeState;
+use grs_base::{List, NoMemory, SysId};
+use grs_wire::{Act, Call, Deck, Order, Said, ToldLine};
+use mode_migrate::words_of;
+use std::alloc::Global;
+
+/// What the desk of a system orders behind so many commands that are done, if anything.
+fn next_order(deck: &Deck, system: SysId, done: u32) -> Option<Order>
+    ensures { result ≡ option_map (λ c. c.order) (slice_get (steps.desk_of (slice_get deck.now.systems system.0)) done) }
+{
+    match system_at(deck, system) {
+        None => None,
+        Some(system) => match system.desk.as_slice().get(done as usize) {
+            None => None,
+            Some(command) => Some(command.order),
+        },
+    }
+}
+
+/// So many lock words in which nobody has interest.
+fn no_words(alloc: Global, entries: u32) -> Result<List<u32>, NoMemory>
+    ensures { IfOk result (λ words. words ≡ replicate entries 0) }
+{
+    let mut words = List::new(alloc);
+    for _ in 0..entries {
+        words.push(0)?;
+    }
+    Ok(words)
+}
+
+impl NodeState {
+    /// The lock words to which the system's table leads; in star mode it has none.
+    fn own_words(&self, alloc: Global, entries: u32) -> Result<List<u32>, NoMemory>
+        requires { entries ≢ 0 }
+        ensures { IfOk result (λ words. words ≡ steps.words_by entries self.now.shared self.now.star) }
+    {
+        if self.star.is_some() {
+            no_words(alloc, entries)
+        } else {
+            words_of(alloc, &self.shared, entries)
+        }
+    }
+
+    /// The change to star mode, where the next command orders it.
+    pub(crate) fn prepare_switch(&self, alloc: Global, deck: &Deck) -> Result<Prepared, NoMemory>
+        requires { deck.now.entries ≢ 0 }
+        ensures { IfOk result (λ prepared. prepared ≡ steps.switch_call deck.now self.now (steps.next_order deck.now self.now)) }
+    {
+        match next_order(deck, self.tasks.system(), self.done) {
+            Some(Order::Star) => {
+                let words = self.own_words(alloc, deck.entries)?;
+                Ok(Prepared::Call(Call {
+                    known: self.known,
+                    act: Act::Switch { words },
+                }))
+            }
+            Some(Order::Vary(_)) | None => Ok(Prepared::Nothing),
+        }
+    }
+
+    /// The next command is done, and told like this.
+    #[tactic(auto, using(crate::proofs::Kept::kept), unfolding(crate::specs::Node::desk_told))]
+    pub(crate) fn desk_told(&mut self, said: Said) -> Result<(), NoMemory>
+        requires { self.old.done < most_commands }
+        ensures step { OnOk result (self.new ≡ steps.desk_told self.old said) }
+        ensures system { self.new.tasks.system ≡ self.old.tasks.system }
+    {
+        let k = self.done + 1;
+        self.tasks.tell(ToldLine::Desk { k, said })?;
+        self.done = k;
+        Ok(())
+    }
+}
