@@ -1,8 +1,8 @@
--- Worked items, what is known by them, and the words of a table: what the definitions accept and what they refuse.
-use Rattle.std.proofs.Common.{◌≡◌, ◌∙◌, ℕ, zero, suc, Bool, true, false, List, [], ◌∷◌, ◌++◌, take, Some, None, refl, ap, sym, subst}
+-- Worked items, and what is known by them: what the definitions accept and what they refuse.
+use Rattle.std.proofs.Common.{◌≡◌, ◌∙◌, ℕ, Bool, true, false, List, [], ◌∷◌, ◌++◌, take, Some, None, refl, ap, sym, subst}
 use Rattle.grs_base.specs.Same.{same_res}
 use Rattle.grs_base.specs.Lists.{owns}
-use Rattle.grs_base.specs.State.{State, list_of, deq_state}
+use Rattle.grs_base.specs.State.{list_of}
 use Rattle.grs_base.specs.declared.look.Filter.{Filter}
 use Rattle.grs_base.specs.declared.look.Place.TheVariants.{Slice}
 use Rattle.grs_base.specs.declared.resource.Ctl.TheVariants.{E, S}
@@ -24,9 +24,6 @@ use Rattle.grs_known.specs.Items.{RunItem, rounds, is_of, removes_system_of, too
 use Rattle.grs_known.specs.Known.{Known, learned, outstanding, Still, IsRight, learns_item, learns_control, Answers, Grants, Coming, after_news}
 use Rattle.grs_known.specs.Reading.{gives_among, Keeps, all_known, all_but, after_read}
 use Rattle.grs_known.specs.Past.{own_told, Fits, after_entry, after_entries, past_of, Speaks}
-use Rattle.grs_known.specs.Change.{Changing, StoreChange, AreStores, NoneChanged, switched, kept_in_change, manager_of, store_shown, view, star_event_of_all, Ring}
-use Rattle.grs_known.proofs.view.Changing.{kept_is_shown, switch_shows_history}
-use Rattle.grs_known.proofs.view.Managers.{manager_follows}
 
 abbrev system : ℕ → SysId
 system s = record { 0 = s }
@@ -38,16 +35,13 @@ task_of s = record { system = system s; job = 0; task = 0 }
 abbrev file : Res
 file = kinds.Systems (65 ∷ []) (1 ∷ [])
 
--- what a system's task asks; all lock entries are one
+-- what a system's task asks
 abbrev enq : ℕ → Ret → SysId × Fixed
 enq s ret = (system s, Asked (record { task = task_of s; want = wants.Enq file E ret false }))
 
 -- a DEQ that system 0 fixes, whoever asked
 abbrev deq : ℕ → SysId × Fixed
 deq s = (system 0, Asked (record { task = task_of s; want = wants.Deq file false }))
-
-abbrev one_entry : Res → ℕ
-one_entry r = 0
 
 -- The task of system 0 has the file, that of system 1 waits by ECB, and gets it by the other's DEQ; then system 0
 -- fixes the DEQ of the task of system 1.
@@ -251,112 +245,10 @@ read_all = refl
 owns_no_more : (learns_item (learns_control (has_none true) file) (at 3 (deq 1))).owns file ≡ false
 owns_no_more = refl
 
--- ---- the words of a table
-least_manages : manager_of one_entry (lists (take 2 run)) 0 ≡ Some 0
-least_manages = refl
-
-none_manages : manager_of one_entry (lists run) 0 ≡ None
-none_manages = refl
-
--- The system that manages the file behind the DEQ shows the list behind it, though it has still to see the DEQ; the
--- other, who has seen as much, isn't the manager, and keeps nothing of it.
-shown_behind : list_of (store_shown one_entry 1 (at 2 (deq 0) ∷ []) (Ring (lists (take 2 run)) [])).lists file ≡ list_of (lists (take 3 run)) file
-shown_behind = refl
-
-shown_other : (store_shown one_entry 0 (at 2 (deq 0) ∷ []) (Ring (lists (take 2 run)) [])).lists ≡ []
-shown_other = refl
-
-shown_manager : (store_shown one_entry 0 (at 2 (deq 0) ∷ []) (Ring (lists (take 2 run)) [])).manages 0 ≡ false
-shown_manager = refl
-
-shown_interest : (store_shown one_entry 1 (at 2 (deq 0) ∷ []) (Ring (lists (take 2 run)) [])).interest 0 ≡ true
-shown_interest = refl
-
--- what the message carried alone; and a world in which each system has still to see the DEQ
+-- ---- the message
+-- what the message carried alone
 own_lists_stay : rounds (record { by = system 0; fixed = Asked (record { task = task_of 0; want = wants.Release (kinds.System (system 0) (65 ∷ []) (1 ∷ [])) }); entries = [] } ∷ run) ≡ run
 own_lists_stay = refl
-
-abbrev behind_one : Changing
-behind_one = record {
-  live = λ s. true;
-  words = switched one_entry (take 3 run);
-  unseen = λ s. at 2 (deq 0) ∷ [];
-  members = λ s. record { tasks = λ t. has_none false; role = Ring (lists (take 2 run)) [] };
-}
-
-none_changed : NoneChanged (take 3 run) behind_one
-none_changed s l = (lists (take 2 run), [], refl, refl)
-
--- the manager of the file is the system of its only owner, though its own table still has both
-managed : behind_one.words.manager 0 ≡ Some 1
-managed = refl
-
-kept_list : kept_in_change one_entry behind_one file ≡ list_of (lists (take 3 run)) file
-kept_list = refl
-
--- System 1 was removed, and keeps a table from before: of it nothing is asked, while of a live one in its place it
--- would be.
-abbrev run_removed : List RunItem
-run_removed = items (enq 0 RetNone ∷ enq 1 RetEcb ∷ (system 0, Purged (system 1)) ∷ [])
-
--- the table of a system: that of system 1 is older
-abbrev table_then : ℕ → State
-table_then zero = lists run_removed
-table_then (suc zero) = lists (take 2 run)
-table_then (suc (suc s)) = lists run_removed
-
-abbrev stays : ℕ → Bool
-stays zero = true
-stays (suc zero) = false
-stays (suc (suc s)) = true
-
-abbrev one_removed : (ℕ → Bool) → Changing
-one_removed live = record {
-  live = live;
-  words = switched one_entry run_removed;
-  unseen = λ s. [];
-  members = λ s. record { tasks = λ t. has_none false; role = Ring (table_then s) [] };
-}
-
-removed_apart : NoneChanged run_removed (one_removed stays)
-removed_apart zero l = (lists run_removed, [], refl, refl)
-removed_apart (suc zero) l = absurd (cc)
-removed_apart (suc (suc s)) l = (lists run_removed, [], refl, refl)
-
--- so the stores of the others are the history's, and so is the list that is kept
-removed_shown : AreStores one_entry run_removed (view one_entry (one_removed stays))
-removed_shown = switch_shows_history one_entry run_removed (one_removed stays) refl removed_apart
-
-removed_kept : kept_in_change one_entry (one_removed stays) file ≡ list_of (lists run_removed) file
-removed_kept = kept_is_shown one_entry run_removed (one_removed stays) removed_shown file refl (λ s e. let same : 0 ≡ s = cc in subst (λ u. stays u ≡ true) same refl)
-
-still_live : NoneChanged run_removed (one_removed (λ s. true)) → ⊥
-still_live h = let a = h 1 refl in let same : Ring (lists (take 2 run)) [] ≡ Ring a.0 a.1 = a.2 in let table : lists (take 2 run) ≡ a.0 = cc in let g : lists (take 2 run) ≡ lists run_removed = table ∙ a.3 in absurd (cc)
-
--- ---- a manager's list
-abbrev with_next : List RunItem
-with_next = take 3 run ++ at 3 (deq 1) ∷ []
-
--- at the Switch the stores are the history's; a manager that hasn't carried the next DEQ out is behind
-stores_shown : AreStores one_entry (take 3 run) (view one_entry behind_one)
-stores_shown = switch_shows_history one_entry (take 3 run) behind_one refl none_changed
-
-not_followed : AreStores one_entry with_next (view one_entry behind_one) → ⊥
-unfolding view
-not_followed h = let g : list_of (lists (take 3 run)) file ≡ list_of (lists with_next) file = h.managed 1 file refl refl refl in absurd (cc)
-
--- one that carries it out follows
-abbrev carry_out : StoreChange
-carry_out words store = (words, record { manages = store.manages; lists = deq_state store.lists file (task_of 1); interest = store.interest; held = store.held })
-
-followed : AreStores one_entry with_next (star_event_of_all (view one_entry behind_one) 1 carry_out)
-unfolding view
-followed = manager_follows one_entry (take 3 run) (view one_entry behind_one) 1 carry_out (at 3 (deq 1)) (record { task = task_of 1; want = wants.Deq file false }) file refl refl refl
-    (record { manager = refl; interested = refl; manages = refl; interest = refl; lists = λ r. refl }) stores_shown
-
-followed_by : list_of ((star_event_of_all (view one_entry behind_one) 1 carry_out).stores 1).lists file ≡ []
-unfolding view
-followed_by = refl
 
 -- ---- a look at two slices
 looks_last : (f : Filter) → (after_entries (Look (task_of 1) (Slice 0) f [] ∷ Look (task_of 1) (Slice 1) f [] ∷ []) (past_of (task_of 1) (has_none true) run)).last ≡ Some (Look (task_of 1) (Slice 1) f [])

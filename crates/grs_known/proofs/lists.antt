@@ -10,3 +10,4 @@ pub mod Requests
 pub mod Parts
 pub mod All
 pub mod Placed
+pub mod Alike

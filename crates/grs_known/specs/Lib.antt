@@ -2,6 +2,6 @@ pub mod Items
 pub mod Known
 pub mod Past
 pub mod Laws
-pub mod Change
+pub mod Parts
 pub mod Told
 pub mod Reading

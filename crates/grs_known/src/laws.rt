@@ -1,5 +1,5 @@
 //! Each function's contract is one law, and there is nothing to run.
-ghost use Rattle.grs_known.specs.Change.{TableIsPart, TurnShowsNothing, TaskShowsNothing, StarShowsItself, SwitchShowsHistory, KeptIsShown, ManagerFollows};
+ghost use Rattle.grs_known.specs.Parts.{TableIsPart};
 ghost use Rattle.grs_known.specs.Past.{ElementsAreOfItems, PastGrows, PastSpeaks, PastSpeaksOf, ReplyFits};
 ghost use Rattle.grs_known.specs.Reading.{TableAnswers, OwnersStayOn, ReadingIsRight};
 ghost use Rattle.grs_known.specs.Laws.{ItemsAreHistory, RepliesAreAnswers, ListsAreReplayed, EntriesAreOfItems, OthersKeep, DecidedAtOnce, AnswerIsSent, AnswerIsLearned, ControlIsLearned, ControlIsSent, ReadInOrder, AllIsKnown, FrontOwnersStay};
@@ -97,37 +97,6 @@ pub fn past_speaks_of()
 /// The items that went with the message lead to the history's part on resources of the whole complex.
 pub fn table_is_part()
     ensures { TableIsPart }
-{}
-
-/// A closed Turn is nothing in the view.
-pub fn turn_shows_nothing()
-    ensures { TurnShowsNothing }
-{}
-
-/// A Task event at a system that hasn't changed is nothing in the view.
-pub fn task_shows_nothing()
-    ensures { TaskShowsNothing }
-{}
-
-/// An event of star mode at a system that has changed is the same event of the view.
-pub fn star_shows_itself()
-    ensures { StarShowsItself }
-{}
-
-/// At the Switch the view shows the history's lists.
-pub fn switch_shows_history()
-    ensures { SwitchShowsHistory }
-{}
-
-/// Where the view shows the history's lists, what is kept of a resource with a live manager, or none, is the
-/// history's list.
-pub fn kept_is_shown()
-    ensures { KeptIsShown }
-{}
-
-/// Where a manager carries out a request for a resource of its own, the stores follow the history.
-pub fn manager_follows()
-    ensures { ManagerFollows }
 {}
 
 /// The table of a system in the ring answers a request as the history does.

@@ -133,7 +133,7 @@ replayed deck T g = lists_are_replayed deck.limit T g.made g.count
 abbrev pub may_have : Deck → Res → TaskId → Bool
 may_have deck r t = is_some (lines_of deck t) && (is_systems r || is_res_of t.system.0 r)
 
-elements-ask : (deck : Deck) (s : State) (xs : List RunItem) → AllAsk deck xs → list_all (λ h. may_have deck h.0 h.1.task) s ≡ true → list_all (λ h. may_have deck h.0 h.1.task) (lists_from s xs) ≡ true
+pub elements-ask : (deck : Deck) (s : State) (xs : List RunItem) → AllAsk deck xs → list_all (λ h. may_have deck h.0 h.1.task) s ≡ true → list_all (λ h. may_have deck h.0 h.1.task) (lists_from s xs) ≡ true
 elements-ask deck s [] a h = h
 elements-ask deck s (x ∷ xs) a h = elements-ask deck (after_fixed s x.fixed) xs a.1 (by_ask a.0)
   where

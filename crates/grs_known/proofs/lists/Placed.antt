@@ -2,7 +2,7 @@
 use Rattle.std.proofs.Common.{◌≡◌, ◌≢◌, ℕ, Bool, true, false, cond, refl, sym, subst}
 use Rattle.std.specs.Prelude.{eqb}
 use Rattle.std.proofs.lemmas.Bool.{eqb-true, eqb-false}
-use Rattle.grs_known.specs.Change.{put_at}
+use Rattle.grs_known.specs.Parts.{put_at}
 
 -- what holds of the new value there, and of the others as they were, holds of two such functions
 pub put_both : {A B : Type 0} (f : ℕ → A) (g : ℕ → B) (s u : ℕ) (x : A) (y : B) (P : A → B → Type 0) → (u ≡ s → P x y) → (u ≢ s → P (f u) (g u)) → P (put_at f s x u) (put_at g s y u)

@@ -21,7 +21,7 @@ use Rattle.grs_wire.specs.declared.request.Want.{Want}
 use Rattle.grs_wire.specs.declared.request.Want.TheVariants as wants
 use Rattle.task_state.specs.Replies.{gives_up}
 use Rattle.grs_known.specs.Items.{RunItem, is_of, gives_back, goes_round, wants_round, mine, rounds, lists, AllMade}
-use Rattle.grs_known.specs.Change.{systems_part}
+use Rattle.grs_known.specs.Parts.{systems_part}
 use Rattle.grs_known.specs.Known.{Known, all_but_last, last_of, outstanding, Still, IsRight}
 use Rattle.grs_known.specs.Reading.{gives_among, Keeps, all_known, all_but}
 use Rattle.grs_known.proofs.lists.Facts.{filter-cons_kept, filter-cons_left}

@@ -10,7 +10,7 @@ use Rattle.grs_wire.specs.declared.request.Fixed.TheVariants.{Asked, LocalLook, 
 use Rattle.grs_wire.specs.declared.request.Want.{Want}
 use Rattle.grs_wire.specs.declared.request.Want.TheVariants as wants
 use Rattle.grs_known.specs.Items.{RunItem, wants_round, goes_round, rounds, lists_from, lists}
-use Rattle.grs_known.specs.Change.{systems_part, TableIsPart}
+use Rattle.grs_known.specs.Parts.{systems_part, TableIsPart}
 use Rattle.grs_known.proofs.lists.Parts.{list_of-part, after_want-part, part-want_other}
 use Rattle.grs_known.proofs.known.ItemLaws.{lists_from-append}
 

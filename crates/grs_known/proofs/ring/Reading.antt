@@ -14,7 +14,7 @@ use Rattle.grs_wire.specs.declared.request.Fixed.TheVariants.{Asked}
 use Rattle.grs_wire.specs.declared.request.Req.{Req}
 use Rattle.grs_known.specs.Items.{RunItem, is_of, removes_system_of, gives_back, mine, rounds, reply_in, lists, AllMade}
 use Rattle.grs_known.specs.Known.{Known, last_of, outstanding, Still, IsRight, learns_item}
-use Rattle.grs_known.specs.Change.{systems_part}
+use Rattle.grs_known.specs.Parts.{systems_part}
 use Rattle.grs_known.specs.Reading.{gives_among, all_known, all_but, learns_mine, gained, learns_gained, TableAnswers, OwnersStayOn, ReadingIsRight}
 use Rattle.grs_known.proofs.lists.Facts.{filter-cons_kept}
 use Rattle.grs_known.proofs.lists.Owners.{is_among, is_among-any, new-owns}

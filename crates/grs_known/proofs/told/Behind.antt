@@ -71,19 +71,19 @@ all-filter : {X : Type 0} (test p : X → Bool) → ((x : X) → p x ≡ false �
 all-filter test p away [] = refl
 all-filter test p away (x ∷ xs) = grind (arith, away x, all-filter test p away xs)
 
--- the lines told before have the lines of a system's tasks, as the system told them
+-- the lines told before have the lines of a system's tasks, as the system told them beside those of its desk
 record Lines (n : ℕ) (before after : List ToldLine) : Type 0 where
-  theirs : before ≡ filter (is_line_of n) after
+  theirs : filter (is_line_of n) before ≡ filter (is_line_of n) after
 
 any-told : (n : ℕ) (before after : List ToldLine) (test : ToldLine → Bool) → Lines n before after → ((l : ToldLine) → test l ≡ true → is_line_of n l ≡ true) → list_any test after ≡ list_any test before
-any-told n before after test lines home = sym (ap (list_any test) lines.theirs ∙ any-filter_same test (is_line_of n) true home after)
+any-told n before after test lines home = sym (any-filter_same test (is_line_of n) true home after) ∙ (ap (list_any test) (sym lines.theirs) ∙ any-filter_same test (is_line_of n) true home before)
 
 ended-told : (n : ℕ) (before after : List ToldLine) (t : TaskId) → Lines n before after → t.system.0 ≡ n → list_any (is_end_of t) before ≡ false → list_any (is_end_of t) after ≡ false
 ended-told n before after t lines home h = any-told n before after (is_end_of t) lines (is_end_of-home n t home) ∙ h
 
 codes-told : (n : ℕ) (before after : List ToldLine) (t : TaskId) (k : ℕ) → Lines n before after → t.system.0 ≡ n → list_all (is_code_before t k) before ≡ true → list_all (is_code_before t k) after ≡ true
 codes-told n before after t k lines home h =
-    sym (ap (list_all (is_code_before t k)) lines.theirs ∙ all-filter (is_code_before t k) (is_line_of n) (is_code_before-away n t k home) after) ∙ h
+    sym (all-filter (is_code_before t k) (is_line_of n) (is_code_before-away n t k home) after) ∙ (ap (list_all (is_code_before t k)) (sym lines.theirs) ∙ (all-filter (is_code_before t k) (is_line_of n) (is_code_before-away n t k home) before ∙ h))
 
 -- what a WAIT line tells
 tells_wait-behind : (n : ℕ) (s : State) (before after : List ToldLine) (t : TaskId) (ls : List Meaning) (entries : List HistEntry) (code : Code) (m : Option Meaning) → Lines n before after → t.system.0 ≡ n → TellsWait t ls entries before s code m → TellsWait t ls entries after s code m
@@ -120,7 +120,7 @@ agrees-behind limit n P before after (Some ls) (Ended t code) lines home a = (a.
 agrees-behind limit n P before after (Some ls) (Shown t k verb code rows) lines home a = a
 agrees-behind limit n P before after (Some ls) (Desk k said) lines home a = a
 
-pub line-behind : (deck : Deck) (n : ℕ) (P : List HistEntry) (before after : List ToldLine) (l : ToldLine) → is_line_of n l ≡ true → before ≡ filter (is_line_of n) after → AgreesBehind deck P before l → AgreesBehind deck P after l
+pub line-behind : (deck : Deck) (n : ℕ) (P : List HistEntry) (before after : List ToldLine) (l : ToldLine) → is_line_of n l ≡ true → filter (is_line_of n) before ≡ filter (is_line_of n) after → AgreesBehind deck P before l → AgreesBehind deck P after l
 line-behind deck n P before after (Coded t k part verb code) home theirs a = (a.0, agrees-behind deck.limit n P before after (lines_of deck t) (Coded t k part verb code) (record { theirs = theirs }) home a.1)
 line-behind deck n P before after (Shown t k verb code rows) home theirs a = a
 line-behind deck n P before after (Post t k) home theirs a = agrees-behind deck.limit n P before after (lines_of deck t) (Post t k) (record { theirs = theirs }) home a

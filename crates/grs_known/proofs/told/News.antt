@@ -10,7 +10,6 @@ use Rattle.grs_wire.specs.declared.history.HistEntry.{HistEntry}
 use Rattle.grs_wire.specs.declared.request.Req.{Req}
 use Rattle.grs_wire.specs.declared.told.ToldLine.{ToldLine}
 use Rattle.grs_wire.specs.declared.told.ToldLine.TheVariants.{Coded, Shown, Post, Ended, Desk}
-use Rattle.grs_known.proofs.lists.Facts.{filter-cons_kept}
 use Rattle.grs_known.proofs.lists.Owners.{is_among}
 use Rattle.grs_known.proofs.told.Behind.{line-behind}
 use Rattle.grs_known.proofs.system.Says.{askers, AgreesBehind, Clears, is_line_of, ToldBy, none, more}
@@ -45,17 +44,13 @@ pub all-append : (s : ℕ) (ls ms : List ToldLine) → list_all (is_line_of s) l
 all-append s [] ms a b = b
 all-append s (l ∷ ls) ms a b = and_from (is_line_of s l) _ (and_parts _ _ a).0 (all-append s ls ms (and_parts _ _ a).1 b)
 
-pub filter-ours : (s : ℕ) (ls : List ToldLine) → list_all (is_line_of s) ls ≡ true → filter (is_line_of s) ls ≡ ls
-filter-ours s [] a = refl
-filter-ours s (l ∷ ls) a = filter-cons_kept (is_line_of s) l ls (and_parts _ _ a).0 ∙ ap (λ z. l ∷ z) (filter-ours s ls (and_parts _ _ a).1)
-
 -- The lines that a system is told on the way from T0 to T are of its tasks, and agree with the history P behind
 -- all that was told before to any system.
 pub record ToldNews (deck : Deck) (s : ℕ) (P : List HistEntry) (T0 T : List ToldLine) : Type 0 where
   pub lines : List ToldLine
   pub is : T ≡ T0 ++ lines
   pub ours : list_all (is_line_of s) lines ≡ true
-  pub agree : (before : List ToldLine) → T0 ≡ filter (is_line_of s) before → LinesAgree deck P before lines
+  pub agree : (before : List ToldLine) → filter (is_line_of s) T0 ≡ filter (is_line_of s) before → LinesAgree deck P before lines
 
 -- nothing is told
 pub still-told : {deck : Deck} {s : ℕ} {P : List HistEntry} {T0 T : List ToldLine} → T ≡ T0 → ToldNews deck s P T0 T
@@ -71,5 +66,5 @@ told-news {deck = deck} {s = s} {P = P} {T0 = T0} (more U l by_now ours agrees c
       ours = all-append s m.lines (l ∷ []) m.ours (and_from (is_line_of s l) true ours refl);
       agree = λ before e. lines-push deck P before m.lines l (m.agree before e)
           (line-behind deck s P U (before ++ m.lines) l ours
-          (m.is ∙ (ap (λ z. z ++ m.lines) e ∙ (ap (λ z. filter (is_line_of s) before ++ z) (sym (filter-ours s m.lines m.ours)) ∙ sym (filter-append (is_line_of s) before m.lines)))) agrees);
+          (ap (filter (is_line_of s)) m.is ∙ (filter-append (is_line_of s) T0 m.lines ∙ (ap (λ z. z ++ filter (is_line_of s) m.lines) e ∙ sym (filter-append (is_line_of s) before m.lines)))) agrees);
     }
