@@ -11,7 +11,7 @@ use grs_base::{
 };
 use grs_deck::read_deck;
 use rnl_match::{RnlIndex, find};
-use scope_resolve::{Ask, Resolved, Resolver, resolve, resolve_kind};
+use scope_resolve::{Resolved, Resolver, Unresolved, resolve, resolve_kind};
 use std::alloc::Global;
 use std::marker::Brand;
 use std::sync::ledger::{Blank, Ledger};
@@ -149,7 +149,11 @@ fn kind_of(found: Resolved) -> (Scope, bool) {
 }
 
 /// What lists make of what is asked: the decision, and the resource.
-fn by_lists(alloc: Global, lists: &Lists, ask: &Ask<'_>) -> Result<[(Scope, bool); 2], NoMemory> {
+fn by_lists(
+    alloc: Global,
+    lists: &Lists,
+    ask: &Unresolved<'_>,
+) -> Result<[(Scope, bool); 2], NoMemory> {
     let found = resolve(alloc, lists, ask, SysId(0), 0)?;
     Ok([resolve_kind(lists, ask), kind_of(found)])
 }
@@ -158,14 +162,18 @@ fn by_lists(alloc: Global, lists: &Lists, ask: &Ask<'_>) -> Result<[(Scope, bool
 fn by_resolver(
     alloc: Global,
     resolver: &Resolver<'_>,
-    ask: &Ask<'_>,
+    ask: &Unresolved<'_>,
 ) -> Result<[(Scope, bool); 2], NoMemory> {
     let found = resolver.resolve(alloc, ask, SysId(0), 0)?;
     Ok([resolver.resolve_kind(ask), kind_of(found)])
 }
 
 /// The same by indices that are made for it.
-fn by_indices(alloc: Global, lists: &Lists, ask: &Ask<'_>) -> Result<[(Scope, bool); 2], NoMemory> {
+fn by_indices(
+    alloc: Global,
+    lists: &Lists,
+    ask: &Unresolved<'_>,
+) -> Result<[(Scope, bool); 2], NoMemory> {
     let resolver = Resolver::build(alloc, lists)?;
     by_resolver(alloc, &resolver, ask)
 }
@@ -181,7 +189,7 @@ fn kinds_of(
 ) -> Result<[[(Scope, bool); 2]; 2], NameFault> {
     let q = Qname::new(alloc, names.0)?;
     let r = Rname::new(alloc, names.1)?;
-    let ask = Ask {
+    let ask = Unresolved {
         reserve: scope.is_none(),
         q: &q,
         r: &r,

@@ -4,3 +4,4 @@ pub mod run
 pub mod code
 pub mod samples
 pub mod star
+pub mod move

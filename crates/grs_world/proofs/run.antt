@@ -2,7 +2,7 @@
 pub mod Each
 pub mod Laps
 pub mod LapsTold
-pub mod Came
+pub mod Home
 pub mod KeptPlaces
 pub mod Answered
 pub mod OfEvents
@@ -11,7 +11,9 @@ pub mod Reading
 pub mod Putting
 pub mod Outcomes
 pub mod Runs
+pub mod Desks
 pub mod InRing
+pub mod Changing
 pub mod Removals
 pub mod Sound
 pub mod Fronts

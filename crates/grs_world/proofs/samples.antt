@@ -4,3 +4,4 @@ pub mod TablesSamples
 pub mod Samples
 pub mod AgreeSamples
 pub mod StarSamples
+pub mod SwitchSamples

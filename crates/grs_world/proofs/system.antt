@@ -6,3 +6,4 @@ pub mod Puts
 pub mod Quiet
 pub mod Begun
 pub mod First
+pub mod Desks

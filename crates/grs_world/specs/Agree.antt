@@ -8,7 +8,6 @@ use Rattle.grs_wire.specs.declared.deck.Desk.{Desk as DeskLine}
 use Rattle.grs_wire.specs.declared.deck.Event.{Event}
 use Rattle.grs_wire.specs.declared.deck.Order.{Order}
 use Rattle.grs_wire.specs.declared.deck.Order.TheVariants.{Star, Vary}
-use Rattle.grs_wire.specs.declared.deck.SystemDef.{SystemDef}
 use Rattle.grs_wire.specs.declared.history.HistEntry.{HistEntry}
 use Rattle.grs_wire.specs.declared.history.HistEntry.TheVariants.{Remove}
 use Rattle.grs_wire.specs.declared.request.Fixed.{Fixed}
@@ -22,6 +21,7 @@ use Rattle.grs_legal.specs.Asks.{lines_of}
 use Rattle.grs_legal.specs.Legal.{Legal}
 use Rattle.grs_world.specs.World.{run, hist, told}
 use Rattle.grs_known.specs.Told.{AgreesOf}
+use Rattle.grs_node.specs.Node.{desk_of}
 
 -- The moment at which a line is told: the history up to its event, what that very event fixed, each with the
 -- system that fixed it, and all that was told before.
@@ -33,11 +33,6 @@ pub record Moment : Type 0 where
 -- lines that were told, without their systems and events
 abbrev pub lines_of_told : List Told → List ToldLine
 lines_of_told xs = map (λ x. x.line) xs
-
--- the lines of a system's desk
-abbrev pub desk_of : Option SystemDef → List DeskLine
-desk_of None = []
-desk_of (Some d) = d.desk
 
 -- the command of a desk line that may not be there
 abbrev pub order_in : Option DeskLine → Option Order

@@ -7,32 +7,32 @@ use Rattle.grs_wire.specs.declared.deck.Deck.{Deck}
 use Rattle.grs_wire.specs.declared.deck.Event.{Event}
 use Rattle.lock_structure.specs.Laws.{IsManaged, is_interested, manager_at}
 use Rattle.lock_structure.specs.Words.{word_at}
-use Rattle.grs_world.specs.World.{run}
+use Rattle.grs_world.specs.World.{run, World}
+use Rattle.grs_base.specs.declared.resource.SysId.{SysId}
+use Rattle.grs_node.specs.Change.{part_by_table}
+use Rattle.grs_world.specs.Kept.{table_behind}
 
--- whether a system has interest in a lock entry by its own part; one that isn't in star mode has none, nor has one that
--- isn't there
-abbrev pub interest_by : Option StarPart → ℕ → Bool
-interest_by None e = false
-interest_by (Some p) e = has_interest p e
+-- A system's part in star mode. One that hasn't changed has yet to become what its table leads to, once it has processed what
+-- it hasn't seen.
+abbrev pub part_at : Deck → World → SysId → NodeState → Option StarPart → StarPart
+part_at deck w s n None = part_by_table deck.entries s (table_behind deck w s n)
+part_at deck w s n (Some p) = p
 
-abbrev pub interest_at : Option NodeState → ℕ → Bool
-interest_at None e = false
-interest_at (Some n) e = interest_by n.star e
+-- whether a system has interest in a lock entry by its part; one that isn't there has none
+abbrev pub interest_at : Deck → World → SysId → Option NodeState → ℕ → Bool
+interest_at deck w s None e = false
+interest_at deck w s (Some n) e = has_interest (part_at deck w s n n.star) e
 
 -- so whether it manages the entry
-abbrev pub manages_by : Option StarPart → ℕ → Bool
-manages_by None e = false
-manages_by (Some p) e = manages p e
-
-abbrev pub manages_at : Option NodeState → ℕ → Bool
-manages_at None e = false
-manages_at (Some n) e = manages_by n.star e
+abbrev pub manages_at : Deck → World → SysId → Option NodeState → ℕ → Bool
+manages_at deck w s None e = false
+manages_at deck w s (Some n) e = manages (part_at deck w s n n.star) e
 
 -- After these events each word goes with the systems.
 pub record WordsGoWithSystems (deck : Deck) (es : List Event) : Type 0 where
   -- its set holds a system exactly where that system has interest in the entry
-  pub interest : (e s : ℕ) → is_interested (run deck es).medium.words e s ≡ interest_at (slice_get (run deck es).nodes s) e
+  pub interest : (e : ℕ) (s : SysId) → is_interested (run deck es).medium.words e s.0 ≡ interest_at deck (run deck es) s (slice_get (run deck es).nodes s.0) e
   -- a system manages the entry exactly where the word names it,
-  pub manages : (e s : ℕ) → manages_at (slice_get (run deck es).nodes s) e ≡ is_manager (manager_at (run deck es).medium.words e) (record { 0 = s })
+  pub manages : (e : ℕ) (s : SysId) → manages_at deck (run deck es) s (slice_get (run deck es).nodes s.0) e ≡ is_manager (manager_at (run deck es).medium.words e) s
   -- and the word names one exactly where its set isn't empty, who is in it
   pub managed : (e : ℕ) → IsManaged (word_at (run deck es).medium.words e)

@@ -3,7 +3,7 @@ use Rattle.std.specs.Prelude.{◌≡◌, ℕ, Bool, true, false, List, [], lengt
 use Rattle.contention_mgr.specs.Laws.{AreWellKept}
 use Rattle.contention_mgr.specs.Manager.{plain, items_of, managed_of}
 use Rattle.lock_structure.specs.Entries.{entry_of_res}
-use Rattle.grs_base.specs.State.{is_systems, list_of}
+use Rattle.grs_base.specs.State.{is_systems, list_of, State}
 use Rattle.grs_base.specs.declared.resource.Elem.{Elem}
 use Rattle.grs_base.specs.declared.resource.Res.{Res}
 use Rattle.grs_base.specs.declared.resource.SysId.{SysId}
@@ -21,11 +21,14 @@ use Rattle.grs_world.specs.World.{World, run, hist}
 abbrev pub places : Deck → List Event → Res → List Elem
 places deck es r = list_of (replay deck.limit (hist deck es)) r
 
--- A system's table has this list once the system has processed, in order, the entries of the message that it hasn't
--- seen.
+-- the table of a system once the system has processed, in order, the entries of the message that it hasn't seen
+abbrev pub table_behind : Deck → World → SysId → NodeState → State
+table_behind deck w s n = (read_entries deck n (unseen s w.medium.message.entries)).shared
+
+-- then the table has this list
 abbrev pub in_table : Deck → World → SysId → Option NodeState → Res → List Elem
 in_table deck w s None r = []
-in_table deck w s (Some n) r = list_of (read_entries deck n (unseen s w.medium.message.entries)).shared r
+in_table deck w s (Some n) r = list_of (table_behind deck w s n) r
 
 -- A manager m keeps this list of a resource. Once it has changed to star mode that is the list of its elements, in the
 -- order in which they stand, which in every run is that of their ranks (`ManagersKeepWell`). Before that it is the list of

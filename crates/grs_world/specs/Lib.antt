@@ -7,3 +7,4 @@ pub mod Kept
 pub mod Running
 pub mod Done
 pub mod Interest
+pub mod Changing

@@ -1,8 +1,8 @@
 -- Each system's table of the Systems resources is that of a front of the history. The front is counted by what was
 -- fixed, since one entry of the message is one request or one removal, whatever lines of the history it makes.
-use Rattle.std.specs.Prelude.{◌≡◌, ℕ, Bool, true, ◌-◌, ◌==◌, cond, List, [], ◌∷◌, Some, slice_get, unwrap_or}
+use Rattle.std.specs.Prelude.{◌≡◌, ℕ, Bool, true, ◌-◌, ◌==◌, cond, List, [], ◌∷◌, Some, slice_get, unwrap_or, ◌&&◌, is_none}
 use Rattle.grs_base.specs.declared.resource.SysId.{SysId}
-use Rattle.grs_known.specs.Change.{systems_part}
+use Rattle.grs_known.specs.Parts.{systems_part}
 use Rattle.grs_known.specs.Items.{goes_round}
 use Rattle.grs_node.specs.Node.{NodeState}
 use Rattle.grs_wire.specs.History.{replay, answered}
@@ -29,14 +29,13 @@ first_unseen s m = unwrap_or (first_number (unseen s m.entries)) m.next
 abbrev pub processed : World → SysId → List (SysId × Fixed)
 processed w s = before_number (first_unseen s w.medium.message) w.fixed
 
--- A system keeps a table where it is live and hasn't changed to star mode. No system changes yet; the mode of the
--- system comes in here.
-abbrev pub keeps_table : World → SysId → Bool
-keeps_table w s = is_live w s
+-- A system keeps a table where it is live and hasn't changed to star mode.
+abbrev pub keeps_table : World → SysId → NodeState → Bool
+keeps_table w s n = is_live w s && is_none n.star
 
 -- After these events the table of each system that keeps one holds what the plain lists hold of the Systems resources
 -- behind the front that the system has processed.
 abbrev pub TablesAreFronts : Deck → List Event → Type 0
 TablesAreFronts deck es =
-    (s : SysId) (n : NodeState) → slice_get (run deck es).nodes s.0 ≡ Some n → keeps_table (run deck es) s ≡ true
+    (s : SysId) (n : NodeState) → slice_get (run deck es).nodes s.0 ≡ Some n → keeps_table (run deck es) s n ≡ true
     → n.shared ≡ systems_part (replay deck.limit (answered (processed (run deck es) s)))

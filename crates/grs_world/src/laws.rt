@@ -3,46 +3,59 @@ ghost use Rattle.std.specs.Prelude.{◌≡◌, true, false, List};
 ghost use Rattle.grs_wire.specs.declared.deck.Deck.{Deck};
 ghost use Rattle.grs_wire.specs.declared.deck.Event.{Event};
 ghost use Rattle.grs_world.specs.Agree.{Sound};
-ghost use Rattle.grs_world.specs.Decks.{IsStarDeck};
+ghost use Rattle.grs_world.specs.Changing.{ChangesFixNothing};
 ghost use Rattle.grs_world.specs.Interest.{WordsGoWithSystems};
 ghost use Rattle.grs_world.specs.Kept.{KeptArePlaces, ManagersKeepWell};
 ghost use Rattle.grs_world.specs.Laps.{ComesBackLast, ProcessedLast, AnsweredLast};
 ghost use Rattle.grs_world.specs.Tables.{TablesAreFronts};
+ghost use Rattle.grs_world.specs.Decks.{FitsStar, may_be_star};
+ghost use Rattle.grs_world.specs.World.{run};
 
-/// Every run is sound, in ring mode and in star mode: its history is legal, and what is told agrees with it. Of a deck that
-/// begins in star mode it needs the bounds of systems and lock entries; of one in ring mode it needs nothing.
+/// Every run is sound, in ring mode and in star mode and where it changes from the one to the other, at whatever event: its
+/// history is legal, and what is told agrees with it. Of a deck whose runs may be in star mode it needs the bounds of systems
+/// and lock entries; of any other it needs nothing.
 pub fn runs_are_sound()
-    ensures { (deck : Deck) → (deck.star ≡ true → IsStarDeck deck) → (events : List Event) → Sound deck events }
+    ensures { (deck : Deck) → (may_be_star deck ≡ true → FitsStar deck) → (events : List Event) → Sound deck events }
 {}
 
 /// In every run of such a deck what is kept of each Systems resource is the list that the history leads to. In ring mode each
 /// live system keeps it: its table has that list once the entries that it hasn't seen are processed. In star mode the manager
-/// of the resource's lock entry does; where there is none, the history has nothing on the resource.
+/// of the resource's lock entry does, in its table as long as it hasn't changed; where there is none, the history has nothing
+/// on the resource.
 pub fn kept_are_places()
-    ensures { (deck : Deck) → (deck.star ≡ true → IsStarDeck deck) → (events : List Event) → KeptArePlaces deck events }
+    ensures { (deck : Deck) → (may_be_star deck ≡ true → FitsStar deck) → (events : List Event) → KeptArePlaces deck events }
 {}
 
-/// In every run of a deck in ring mode the table that each live system keeps of the Systems resources is that of a front of
-/// the history: of what was fixed before the first entry of the message that the system has still to process.
+/// The change to star mode fixes nothing: neither does a Switch, nor an event by which its system changes. So no owner's and no
+/// waiter's place changes by it.
+pub fn changes_fix_nothing()
+    ensures { (deck : Deck) → (events : List Event) → (next : Event) → ChangesFixNothing deck events next }
+{}
+
+/// In every run of such a deck the table that each live system keeps of the Systems resources, as long as it hasn't changed to
+/// star mode, is that of a front of the history: of what was fixed before the first entry of the message that the system has
+/// still to process.
 pub fn tables_are_fronts()
-    ensures { (deck : Deck) → deck.star ≡ false → (events : List Event) → TablesAreFronts deck events }
+    ensures { (deck : Deck) → (may_be_star deck ≡ true → FitsStar deck) → (events : List Event) → TablesAreFronts deck events }
 {}
 
-/// In every run of a deck in star mode the lock words go with the systems: the set of an entry's word holds a system exactly
-/// where that system has interest in the entry, it names a system as the manager exactly where that system manages the entry,
-/// and it names one exactly where its set isn't empty, who is in it.
+/// Wherever a run is in star mode, the lock words go with the systems: the set of an entry's word holds a system exactly where
+/// that system has interest in the entry, it names a system as the manager exactly where that system manages the entry, and it
+/// names one exactly where its set isn't empty, who is in it. A system that hasn't changed has interest in what its table leads
+/// to, and manages that, once it has processed what it hasn't seen.
 pub fn words_go_with_systems()
-    ensures { (deck : Deck) → IsStarDeck deck → (events : List Event) → WordsGoWithSystems deck events }
+    ensures { (deck : Deck) → (may_be_star deck ≡ true → FitsStar deck) → (events : List Event) → (run deck events).medium.star ≡ true → WordsGoWithSystems deck events }
 {}
 
-/// In every run of a deck in star mode each system keeps well what it manages: ranks rise along the list of each resource, so
-/// that what is kept of it is in the order of ranks; and each owner that is still to be told owns and is of another system.
+/// In every run of such a deck each system that is in star mode keeps well what it manages: ranks rise along the list of each
+/// resource, so that what is kept of it is in the order of ranks; and each owner that is still to be told owns and is of
+/// another system.
 pub fn managers_keep_well()
-    ensures { (deck : Deck) → IsStarDeck deck → (events : List Event) → ManagersKeepWell deck events }
+    ensures { (deck : Deck) → (may_be_star deck ≡ true → FitsStar deck) → (events : List Event) → ManagersKeepWell deck events }
 {}
 
-/// In every run of a deck in ring mode a request of the message comes back last: where the message stands at the system that
-/// put it in, no other system has still to process it.
+/// In every run of a deck that begins in ring mode a request of the message comes back last: where the message stands at the
+/// system that put it in, no other system has still to process it.
 pub fn requests_come_back_last()
     ensures { ComesBackLast }
 {}
@@ -52,5 +65,5 @@ pub fn requests_come_back_last()
 /// every other system has processed each request of that task that stands in the message before that event or behind it.
 pub fn answers_come_last()
     ensures given { (deck : Deck) → deck.star ≡ false → (events : List Event) (next : Event) → ProcessedLast deck events next }
-    ensures told { (deck : Deck) → deck.star ≡ false → (events : List Event) (next : Event) → AnsweredLast deck events next }
+    ensures told { (deck : Deck) → deck.star ≡ false → (may_be_star deck ≡ true → FitsStar deck) → (events : List Event) (next : Event) → AnsweredLast deck events next }
 {}

@@ -1,7 +1,9 @@
 -- What a system prepares fits the medium.
-use Rattle.std.proofs.Common.{◌≡◌, ◌<◌, ◌≤◌, ℕ, true, length, Some, ap, arith}
+use Rattle.std.proofs.Common.{◌≡◌, ◌<◌, ◌≤◌, ℕ, true, length, Some, ap, sym, ◌∙◌, subst, arith}
+use Rattle.std.proofs.lemmas.Bool.{and_parts, eqb-true}
 use Rattle.std.proofs.lemmas.Bool.Decides.{nat_tests}
-use Rattle.std.specs.Prelude.{nat_lt, nat_le}
+use Rattle.std.specs.List.{list_all}
+use Rattle.std.specs.Prelude.{◌==◌, nat_lt, nat_le}
 use Rattle.grs_base.specs.declared.resource.SysId.{SysId}
 use Rattle.grs_medium.specs.Apply.{ActFits, reply_to, medium_after}
 use Rattle.grs_medium.specs.Medium.{MediumState, systems_of}
@@ -15,6 +17,7 @@ use Rattle.grs_wire.specs.declared.deck.Deck.{Deck}
 use Rattle.grs_wire.specs.declared.medium.Act.{Act}
 use Rattle.grs_wire.specs.declared.medium.Act.TheVariants as acts
 use Rattle.grs_wire.specs.declared.medium.Call.{Call as CallOfMedium}
+use Rattle.lock_structure.specs.Words.{word_fits}
 use Rattle.grs_world.specs.World.{chosen, carry_out}
 
 below : (a b c : ℕ) → nat_lt a b ≡ true → c ≡ b → a < c
@@ -25,7 +28,9 @@ within a b h = grind (arith, nat_tests, h)
 
 pub act-fits : (m : MediumState) (c : SysId) (deck : Deck) (act : Act) → is_act_addressed deck act ≡ true → systems_of m ≡ length deck.systems → length m.words ≡ deck.entries → ActFits m c act
 act-fits m c deck (acts.Turn out) a s w = within (length out) most_additions a
-act-fits m c deck (acts.Switch words) a s w = absurd (cc)
+act-fits m c deck (acts.Switch words) a s w =
+    let parts = and_parts (length words == deck.entries) (list_all (word_fits (length deck.systems)) words) a in
+    (eqb-true (length words) deck.entries parts.0 ∙ sym w, subst (λ n. list_all (word_fits n) words ≡ true) (sym s) parts.1)
 act-fits m c deck (acts.Submit e q) a s w = below e deck.entries (length m.words) a w
 act-fits m c deck acts.Take a s w = tt
 act-fits m c deck (acts.Settle to mail) a s w = below to.0 (length deck.systems) (systems_of m) a s

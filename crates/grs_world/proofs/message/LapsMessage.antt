@@ -1,10 +1,10 @@
 -- The message as it goes round: it passes over no system that has still to process an entry.
-use Rattle.std.proofs.Common.{ℕ, zero, suc, ◌≡◌, ◌≢◌, ◌+◌, ◌-◌, ◌%◌, ◌<◌, ◌≤◌, Bool, true, false, cond, not, List, [], ◌∷◌, ◌++◌, length, map, Option, Some, None, refl, sym, ap, ◌∙◌, subst, arith, add-zero}
+use Rattle.std.proofs.Common.{ℕ, zero, suc, ◌≡◌, ◌≢◌, ◌+◌, ◌-◌, ◌%◌, ◌<◌, ◌≤◌, Bool, true, false, cond, not, List, [], ◌∷◌, ◌++◌, length, map, Option, Some, None, refl, sym, ap, ◌∙◌, subst, arith, add-zero, ◌||◌}
 use Rattle.std.specs.Prelude.{filter, ◌==◌}
 use Rattle.std.specs.List.{list_any}
 use Rattle.std.proofs.lemmas.List.Folds.{list_any-append}
 use Rattle.std.proofs.Math.Nat.{mod-eq_of_lt, mod-add-mod}
-use Rattle.std.proofs.lemmas.Bool.{or_left, or_right}
+use Rattle.std.proofs.lemmas.Bool.{or_left, or_right, or_parts}
 use native.Mathlib.Decide.{ℕ_discrete}
 use Rattle.grs_base.specs.declared.resource.SysId.{SysId}
 use Rattle.grs_wire.specs.declared.medium.RingEntry.{RingEntry}
@@ -13,12 +13,13 @@ use Rattle.grs_wire.specs.declared.request.Req.{Req}
 use Rattle.grs_wire.specs.Masks.{has, without, with_also, only, others}
 use Rattle.grs_wire.proofs.WantLaws.{by_test}
 use Rattle.grs_wire.proofs.MaskLaws.{has-zero, has-with_other, has-without_same, has-without_other}
-use Rattle.rsa_message.specs.Message.{Message, stands_at, first_after, or_else, any_unseen, left_by, cleared, stamped, is_due, moves, turned_open, turned_closed, turned}
+use Rattle.rsa_message.specs.Message.{Message, first_after, or_else, any_unseen, left_by, cleared, stamped, is_due, moves, turned_open, turned_closed, closed_by, moved_on, first_number}
 use Rattle.grs_wire.specs.Unseen.{is_unseen, unseen}
 use Rattle.rsa_message.proofs.OrderLaws.{stands_at-exact}
 use Rattle.grs_world.specs.Laps.{OnlyLeft, LastAtHome}
 use Rattle.grs_world.proofs.message.LapsRound.{Ahead, home, inside_round, after_some, first_found, first_inside}
 use Rattle.grs_world.proofs.message.Stands.{has-others}
+use Rattle.grs_known.proofs.lists.Truths.{false_by}
 
 -- Whoever has still to process an entry: the message comes to it before it has gone once round from the system that
 -- put the entry in.
@@ -37,10 +38,14 @@ abbrev pub AllEndAtHome : List RingEntry → Type 0
 AllEndAtHome [] = Unit {0}
 AllEndAtHome (e ∷ es) = EndsAtHome e × AllEndAtHome es
 
+-- A system that has still to process one of these passes the test.
+abbrev pub Passes : ℕ → (SysId → Bool) → List RingEntry → Type 0
+Passes n test es = (u : ℕ) → u < n → any_unseen (record { 0 = u }) es ≡ true → test (record { 0 = u }) ≡ true
+
 -- What holds of the message in a run.
 pub record Round (m : Message) : Type 0 where
-  -- Closed, as it is in star mode, it stands nowhere.
-  pub shut : m.closed ≡ true → m.holder ≡ None
+  -- Once it is closed, whoever has still to process an entry has yet to change.
+  pub shut : m.closed ≡ true → Passes m.systems (λ s. has m.still s.0) m.entries
   -- It stands at one of the systems, if there is any.
   pub inside : (h : SysId) → m.holder ≡ Some h → 0 < m.systems → h.0 < m.systems
   -- Whoever has still to process an entry is not passed over.
@@ -155,10 +160,6 @@ ends_joined [] ys a b = b
 ends_joined (x ∷ xs) ys a b = (a.0, ends_joined xs ys a.1 b)
 
 -- ---- all entries
--- A system that has still to process one of these passes the test.
-abbrev Passes : ℕ → (SysId → Bool) → List RingEntry → Type 0
-Passes n test es = (u : ℕ) → u < n → any_unseen (record { 0 = u }) es ≡ true → test (record { 0 = u }) ≡ true
-
 passes_head : (n : ℕ) (test : SysId → Bool) (e : RingEntry) (es : List RingEntry) → Passes n test (e ∷ es) → (u : ℕ) → u < n → has e.mask u ≡ true → test (record { 0 = u }) ≡ true
 unfolding any_unseen
 passes_head n test e es due u low here = due u low (or_left _ (list_any (is_unseen (record { 0 = u })) es) here)
@@ -210,7 +211,8 @@ moved_inside : (n : ℕ) (c : SysId) (first : Option SysId) (h : SysId) → c.0 
 moved_inside n c None h low each e = subst (λ (x : SysId). x.0 < n) e low
 moved_inside n c (Some x) h low each e = subst (λ (y : SysId). y.0 < n) e (each x refl)
 
-open_round : (m : Message) (c : SysId) (out : List Req) (live rest : ℕ) → Round m → live ≡ others m.systems 0 → m.holder ≡ Some c → m.closed ≡ false → Round (turned_open m c out live rest)
+-- It is open.
+pub open_round : (m : Message) (c : SysId) (out : List Req) (live rest : ℕ) → Round m → live ≡ others m.systems 0 → m.holder ≡ Some c → m.closed ≡ false → Round (turned_open m c out live rest)
 open_round m c out live rest laws all here opened =
     let n : ℕ = m.systems in
     let flags : ℕ = cond (moves m c (length out)) (without rest c.0) rest in
@@ -229,14 +231,107 @@ open_round m c out live rest laws all here opened =
       ends = ends_joined old new (cleared_ends n c m.entries (laws.awaited c here) laws.ends) (stamped_ends n c (laws.inside c here) m.next live all out);
     }
 
-pub turned_round : (m : Message) (c : SysId) (out : List Req) (live rest : ℕ) → Round m → live ≡ others m.systems 0 → Round (turned m c out live rest)
-unfolding turned
-turned_round m c out live rest laws all = go (stands_at m.holder c) m.closed refl refl
+-- It is closed: the caller changes, and has processed all.
+cleared_unseen : (c : SysId) (es : List RingEntry) (u : ℕ) → any_unseen (record { 0 = u }) (cleared c es) ≡ true → (u ≢ c.0) × (any_unseen (record { 0 = u }) es ≡ true)
+unfolding cleared any_unseen
+cleared_unseen c [] u h = absurd (cc)
+cleared_unseen c (e ∷ es) u h = go (not (e.mask == only c.0)) (cleared_unseen c es u) h
   where
-    go : (here closed : Bool) → stands_at m.holder c ≡ here → m.closed ≡ closed → Round (cond here (cond closed (turned_closed m c) (turned_open m c out live rest)) m)
-    go false closed at shut = laws
-    go true false at shut = open_round m c out live rest laws all (stands_at-exact m.holder c at) shut
-    go true true at shut = let none : m.holder ≡ None = laws.shut shut in let some : m.holder ≡ Some c = stands_at-exact m.holder c at in absurd cc
+    Both : Type 0
+    Both = (u ≢ c.0) × (list_any (is_unseen (record { 0 = u })) (e ∷ es) ≡ true)
+
+    behind : (list_any (is_unseen (record { 0 = u })) (cleared c es) ≡ true → (u ≢ c.0) × (list_any (is_unseen (record { 0 = u })) es ≡ true)) → list_any (is_unseen (record { 0 = u })) (cleared c es) ≡ true → Both
+    behind more k = let r = more k in (r.0, or_right (has e.mask u) (list_any (is_unseen (record { 0 = u })) es) r.1)
+
+    here : (b : Bool) → has (without e.mask c.0) u ≡ b → (list_any (is_unseen (record { 0 = u })) (cleared c es) ≡ true → (u ≢ c.0) × (list_any (is_unseen (record { 0 = u })) es ≡ true)) → (b || list_any (is_unseen (record { 0 = u })) (cleared c es)) ≡ true → Both
+    here true is more k =
+        let ne : u ≢ c.0 = λ same. let no : true ≡ false = sym is ∙ (ap (has (without e.mask c.0)) same ∙ has-without_same e.mask c.0) in absurd (cc) in
+        (ne, or_left (has e.mask u) (list_any (is_unseen (record { 0 = u })) es) (sym (has-without_other e.mask c.0 u ne) ∙ is))
+    here false is more k = behind more k
+
+    go : (b : Bool) → (list_any (is_unseen (record { 0 = u })) (cleared c es) ≡ true → (u ≢ c.0) × (list_any (is_unseen (record { 0 = u })) es ≡ true)) →
+        list_any (is_unseen (record { 0 = u })) (map (left_by c) (cond b (e ∷ filter (λ x. not (x.mask == only c.0)) es) (filter (λ x. not (x.mask == only c.0)) es))) ≡ true → Both
+    go true more k = here (has (without e.mask c.0) u) refl more k
+    go false more k = behind more k
+
+pub closed_turn : (m : Message) (c : SysId) → Round m → m.holder ≡ Some c → m.closed ≡ true → Round (turned_closed m c)
+closed_turn m c laws here shut =
+    let n : ℕ = m.systems in
+    let test : SysId → Bool = λ s. has (without m.still c.0) s.0 in
+    let due : Passes n test (cleared c m.entries) = λ u low k. let r = cleared_unseen c m.entries u k in has-without_other m.still c.0 u r.0 ∙ laws.shut shut u low r.1 in
+    record {
+      shut = λ z. due;
+      inside = λ h at some. first_inside test n c h some at;
+      awaited = λ h at. cleared_onward n c h test (ap (λ o. or_else o c) at) m.entries due (laws.awaited c here);
+      ends = cleared_ends n c m.entries (laws.awaited c here) laws.ends;
+    }
+
+-- ---- it is closed by a system that has processed all
+pub none_unseen : (c : SysId) (es : List RingEntry) → first_number (unseen c es) ≡ None → any_unseen c es ≡ false
+unfolding unseen any_unseen
+none_unseen c [] h = refl
+none_unseen c (e ∷ es) h = go (has e.mask c.0) (none_unseen c es) h
+  where
+    go : (b : Bool) → (first_number (filter (is_unseen c) es) ≡ None → list_any (is_unseen c) es ≡ false) → first_number (cond b (e ∷ filter (is_unseen c) es) (filter (is_unseen c) es)) ≡ None → (b || list_any (is_unseen c) es) ≡ false
+    go true more k = absurd (cc)
+    go false more k = more k
+
+-- the message moves on from a system that has processed all
+passed_onward : (n : ℕ) (s h : SysId) (test : SysId → Bool) → or_else (first_after n s test) s ≡ h → (es : List RingEntry) → any_unseen s es ≡ false → Passes n test es → AllAwaited n s es → AllAwaited n h es
+unfolding any_unseen
+passed_onward n s h test moved [] idle due all = tt
+passed_onward n s h test moved (e ∷ es) idle due all =
+    let parts = or_parts (has e.mask s.0) (list_any (is_unseen s) es) idle in
+    (head parts.0, passed_onward n s h test moved es parts.1 (passes_tail n test e es due) all.1)
+  where
+    away : has e.mask s.0 ≡ false → (u : ℕ) → has e.mask u ≡ true → u ≢ s.0
+    away none u k same = let no : true ≡ false = sym k ∙ (ap (has e.mask) same ∙ none) in absurd (cc)
+
+    back : (u : ℕ) → has (without e.mask s.0) u ≡ true → has e.mask u ≡ true
+    back u k =
+        let ne : u ≢ s.0 = λ same. let no : true ≡ false = sym k ∙ (ap (has (without e.mask s.0)) same ∙ has-without_same e.mask s.0) in absurd (cc) in
+        sym (has-without_other e.mask s.0 u ne) ∙ k
+
+    head : has e.mask s.0 ≡ false → Awaited n h e
+    head none u k = entry_onward n s h test moved e (λ v low z. passes_head n test e es due v low (back v z)) all.0 u (has-without_other e.mask s.0 u (away none u k) ∙ k)
+
+pub closed_round : (m : Message) (c : SysId) (live : ℕ) → Round m → live ≡ others m.systems 0 → any_unseen c m.entries ≡ false → Round (closed_by m c live)
+unfolding closed_by first_after
+closed_round m c live laws all idle = record {
+  shut = λ z. due;
+  inside = λ h at some. (stands m.holder refl h at).0 some;
+  awaited = λ h at. (stands m.holder refl h at).1;
+  ends = laws.ends;
+}
+  where
+    test : SysId → Bool
+    test s = has (without live c.0) s.0
+
+    due : Passes m.systems (λ s. has (without live c.0) s.0) m.entries
+    due u low k =
+        let ne : u ≢ c.0 = λ same. let no : true ≡ false = sym k ∙ (ap (λ (i : ℕ). any_unseen (record { 0 = i }) m.entries) same ∙ idle) in absurd (cc) in
+        has-without_other live c.0 u ne ∙ (ap (λ l. has l u) all ∙ has-others m.systems u low)
+
+    no_place : (s h : SysId) (k : ℕ) → k ≡ 0 → first_after k s (λ t. has (without live c.0) t.0) ≡ Some h → ⊥
+    no_place s h k none at = let z : None ≡ Some h = subst (λ i. first_after i s (λ t. has (without live c.0) t.0) ≡ Some h) none at in absurd (cc)
+
+    passes : (s : SysId) → m.holder ≡ Some s → has (without live c.0) s.0 ≡ false → (h : SysId) → first_after m.systems s (λ t. has (without live c.0) t.0) ≡ Some h → any_unseen s m.entries ≡ false
+    passes s is out h at = false_by (any_unseen s m.entries) (λ k. by_count (ℕ_discrete m.systems 0) k)
+      where
+        by_count : Dec (m.systems ≡ 0) → any_unseen s m.entries ≡ true → any_unseen s m.entries ≡ false
+        by_count (yes none) k = absurd (no_place s h m.systems none at)
+        by_count (no some) k = absurd (let low : s.0 < m.systems = laws.inside s is (omega (arith, some)) in let no : true ≡ false = sym (due s.0 low k) ∙ out in cc)
+
+    stands : (o : Option SysId) → m.holder ≡ o → (h : SysId) → moved_on m.systems o (without live c.0) ≡ Some h → (0 < m.systems → h.0 < m.systems) × AllAwaited m.systems h m.entries
+    stands None is h at = absurd (cc)
+    stands (Some s) is h at = go (has (without live c.0) s.0) refl at
+      where
+        go : (b : Bool) → has (without live c.0) s.0 ≡ b → cond b (Some s) (first_after m.systems s (λ t. has (without live c.0) t.0)) ≡ Some h → (0 < m.systems → h.0 < m.systems) × AllAwaited m.systems h m.entries
+        go true f k = let same : m.holder ≡ Some h = is ∙ k in (laws.inside h same, laws.awaited h same)
+        go false f k = (
+          λ some. first_inside (λ t. has (without live c.0) t.0) m.systems s h some k,
+          passed_onward m.systems s h (λ t. has (without live c.0) t.0) (ap (λ o. or_else o s) k) m.entries (passes s is f h k) due (laws.awaited s is),
+        )
 
 -- ---- where it has come home
 awaited_of : (n : ℕ) (h : SysId) (before behind : List RingEntry) (e : RingEntry) → AllAwaited n h (before ++ e ∷ behind) → Awaited n h e

@@ -115,3 +115,7 @@ left_turned t c number mask k outbox es left none =
     let some : is_among t (askers (take k outbox)) ≡ false = among-front t (take k outbox) (drop k outbox) (subst (λ qs. is_among t (askers qs) ≡ false) (sym (take-append-drop k outbox)) none) in
     left_home t (cleared c es ++ stamped number c mask (take k outbox))
     (left_append t (cleared c es) (stamped number c mask (take k outbox)) (left_cleared t c es (each_left t es left)) (left_stamped t c number mask (take k outbox) some))
+
+-- So it is behind a Turn at the closed message.
+pub left_behind : (t : TaskId) (c : SysId) (es : List RingEntry) → LeftHome t es → LeftHome t (cleared c es)
+left_behind t c es left = left_home t (cleared c es) (left_cleared t c es (each_left t es left))

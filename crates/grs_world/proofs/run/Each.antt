@@ -6,7 +6,7 @@ use Rattle.grs_base.specs.declared.resource.TaskId.{TaskId}
 use Rattle.grs_medium.specs.Apply.{row, apply}
 use Rattle.grs_medium.specs.Medium.{MediumState}
 use Rattle.grs_node.proofs.InRing.{ring_prepare, prepare-ring}
-use Rattle.grs_node.specs.Node.{NodeState, may_go, is_pending, prepare}
+use Rattle.grs_node.specs.Node.{NodeState, may_go, is_pending, prepare, next_order, own_words, switch_call}
 use Rattle.grs_base.specs.Limits.{most_additions}
 use Rattle.grs_node.specs.declared.prepared.Prepared.{Prepared}
 use Rattle.grs_node.specs.declared.prepared.Prepared.TheVariants.{Quiet, Call, Nothing}
@@ -21,6 +21,8 @@ use Rattle.grs_wire.specs.declared.medium.Reply.{Reply}
 use Rattle.grs_wire.specs.declared.medium.Reply.TheVariants as replies
 use Rattle.grs_wire.proofs.WantLaws.{by_test}
 use Rattle.grs_world.specs.World.{World, first_world, chosen, placed, counted, happens_at, happens, run_from, run}
+use Rattle.grs_wire.specs.declared.deck.Order.{Order}
+use Rattle.grs_wire.specs.declared.deck.Order.TheVariants as orders
 
 -- What holds of each answer to a call, with the medium that it leaves, holds of the call.
 pub each_answer : (m : MediumState) (c : SysId) (call : CallOfMedium) (P : Reply × MediumState → Type 0) → P (replies.Removed, m) → P (replies.Stale m.removed, m) → P (row m c call.act) → P (apply m c call)
@@ -34,10 +36,16 @@ pub each_prepared : (deck : Deck) (n : NodeState) (P : Choice → Prepared → T
     ((t : TaskId) → may_go deck n t ≡ true → P (choices.Task t) Quiet) →
     P choices.Turn (Call (record { known = n.known; act = acts.Turn (take most_additions n.outbox) })) →
     P choices.Rest (Call (record { known = n.known; act = acts.Rest })) →
+    (next_order deck n ≡ Some orders.Star → P choices.Switch (Call (record { known = n.known; act = acts.Switch (own_words deck n) }))) →
     ((choice : Choice) → P choice Nothing) →
     (choice : Choice) → P choice (prepare deck n choice)
-each_prepared deck n P alone task turn rest nothing choice = subst (P choice) (sym (prepare-ring deck n choice alone)) (go choice)
+each_prepared deck n P alone task turn rest switch nothing choice = subst (P choice) (sym (prepare-ring deck n choice alone)) (go choice)
   where
+    by_order : (o : Option Order) → next_order deck n ≡ o → P choices.Switch (switch_call deck n o)
+    by_order None e = nothing choices.Switch
+    by_order (Some orders.Star) e = switch e
+    by_order (Some (orders.Vary t)) e = nothing choices.Switch
+
     go : (c : Choice) → P c (ring_prepare deck n c)
     go (choices.Task t) = by_test (P (choices.Task t)) (may_go deck n t) Quiet Nothing (λ m. task t m) (λ m. nothing (choices.Task t))
     go choices.Turn = turn
@@ -47,7 +55,7 @@ each_prepared deck n P alone task turn rest nothing choice = subst (P choice) (s
     go choices.Settle = nothing choices.Settle
     go (choices.Tell e) = nothing (choices.Tell e)
     go (choices.Leave e) = nothing (choices.Leave e)
-    go choices.Switch = nothing choices.Switch
+    go choices.Switch = by_order (next_order deck n) refl
     go (choices.Purge t) = nothing (choices.Purge t)
 
 -- What holds where an event is only counted, and where a system made its choice, holds behind the event.

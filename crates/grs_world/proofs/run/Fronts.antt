@@ -1,7 +1,7 @@
 -- Each system's table is that of a front of the history, as it is counted by what was fixed.
-use Rattle.std.proofs.Common.{◌≡◌, ◌-◌, cond, Bool, true, false, ℕ, zero, suc, List, [], ◌∷◌, ◌++◌, length, take, Option, Some, None, refl, ap, sym, ◌∙◌, subst, arith, append-nil, ne_eqb}
-use Rattle.std.specs.Prelude.{slice_get, unwrap_or, ◌==◌}
-use Rattle.std.proofs.Math.Seq.{take-append_seam, take-length}
+use Rattle.std.proofs.Common.{◌≡◌, ◌-◌, cond, Bool, true, false, ℕ, zero, suc, List, [], ◌∷◌, ◌++◌, length, take, Option, Some, None, refl, ap, sym, ◌∙◌, subst, arith, append-nil, ne_eqb, append_assoc}
+use Rattle.std.specs.Prelude.{slice_get, unwrap_or, ◌==◌, is_none}
+use Rattle.std.proofs.Math.Seq.{take-append_seam}
 use Rattle.grs_base.specs.State.{State}
 use Rattle.grs_base.specs.declared.resource.SysId.{SysId}
 use Rattle.grs_node.specs.Node.{NodeState}
@@ -14,17 +14,24 @@ use Rattle.grs_medium.specs.Medium.{live}
 use Rattle.rsa_message.specs.Message.{first_number}
 use Rattle.grs_wire.specs.Unseen.{unseen}
 use Rattle.grs_known.specs.Items.{RunItem, goes_round, rounds, lists, AllCount, items_from, items}
-use Rattle.grs_known.specs.Change.{systems_part}
-use Rattle.grs_known.proofs.known.Histories.{items-append, count-front}
+use Rattle.grs_known.specs.Parts.{systems_part}
+use Rattle.grs_known.proofs.known.Histories.{items-append, count-front, IsHistory}
 use Rattle.grs_known.proofs.known.ItemLaws.{items_are_history, lists_are_replayed}
 use Rattle.grs_known.proofs.ring.Reading.{table-is}
 use Rattle.grs_world.specs.Tables.{before_number, processed, TablesAreFronts}
 use Rattle.grs_world.specs.World.{World, run}
 use Rattle.grs_world.proofs.message.Stands.{Bodies, waits_live, first_number-seen}
 use Rattle.grs_world.proofs.run.Growing.{fixeds}
-use Rattle.grs_world.proofs.run.Messages.{given-later, length-fixeds}
-use Rattle.grs_world.proofs.run.Runs.{GoodWorld, seen_at}
-use Rattle.grs_world.proofs.run.Sound.{good_run}
+use Rattle.grs_world.proofs.run.Messages.{length-fixeds, given-due}
+use Rattle.grs_world.proofs.run.Runs.{seen_at, GoodMessage}
+use Rattle.grs_world.proofs.move.Changing.{IsChanging, Shown, has_changed, waits_yet}
+use Rattle.grs_world.proofs.move.Moved.{alive}
+use Rattle.grs_world.proofs.move.Sound.{GoodRun, every_run, in_ring, in_star}
+use Rattle.grs_world.specs.Decks.{FitsStar, may_be_star}
+use Rattle.grs_world.specs.Running.{is_live}
+use Rattle.grs_node.specs.Star.{StarPart}
+use Rattle.grs_wire.specs.Masks.{has}
+use Rattle.std.proofs.lemmas.Bool.{and_parts}
 
 -- ---- fronts by number
 -- The items that went with the message before this number are so many first ones.
@@ -67,40 +74,62 @@ none_due [] es f b = refl
 none_due (x ∷ xs) [] f b = elim b [ ]
 none_due (x ∷ xs) (e ∷ es) f b = absurd (cc)
 
-module _ (deck : Deck) (es : List Event) where
-  abbrev w : World
-  w = run deck es
-
-  -- What a system has processed ends where its first unseen entry stands, and that is behind so many others.
-  record Stops (g : GoodWorld deck es w) (s : SysId) (number : ℕ) : Type 0 where
+-- What a system has processed of all that went with the message: it ends where its first unseen entry stands, and that is
+-- behind so many others.
+module _ (deck : Deck) (w : World) (right : IsHistory deck (items w.fixed)) (before : ℕ → List RunItem) (log since due : List RunItem) (s : SysId) (n : NodeState) (rounds_are : rounds (items w.fixed) ≡ log ++ since) (parts : log ≡ before s.0 ++ due)
+    (alive : has (live w.medium) s.0 ≡ true) (message : GoodMessage w.medium (fixeds log) (seen_at before)) (shared : n.shared ≡ lists (before s.0)) where
+  record Stops (number : ℕ) : Type 0 where
     count : ℕ
     is : number ≡ suc count
-    front : g.before s.0 ≡ take count (rounds (items w.fixed))
+    front : before s.0 ≡ take count (rounds (items w.fixed))
 
-  stops : (s : SysId) (n : NodeState) (g : GoodWorld deck es w) → slice_get w.nodes s.0 ≡ Some n → (o : Option ℕ) → first_number (unseen s w.medium.message.entries) ≡ o → Stops g s (unwrap_or o w.medium.message.next)
-  stops s n g at None f =
-      let given = given-later w.medium s g.before (g.later s.0) (items w.fixed) (g.whole s.0) (g.systems s.0 n at).0 g.message in
-      let none : g.later s.0 ≡ [] = none_due (g.later s.0) (unseen s w.medium.message.entries) f given in
-      let all : rounds (items w.fixed) ≡ g.before s.0 = g.whole s.0 ∙ ap (λ zs. g.before s.0 ++ zs) none ∙ append-nil (g.before s.0) in
-      record { count = length (rounds (items w.fixed)); is = g.message.next ∙ ap suc (length-fixeds (rounds (items w.fixed))); front = sym all ∙ sym (take-length (rounds (items w.fixed))) }
-  stops s n g at (Some number) f = record {
-    count = seen_at g.before s.0;
-    is = first_number-seen s (seen_at g.before s.0) (waits_live (live w.medium) (seen_at g.before) s.0 (g.systems s.0 n at).0) (omega arith) g.message.stands number f;
-    front = sym (take-append_seam (g.before s.0) (g.later s.0)) ∙ ap (take (seen_at g.before s.0)) (sym (g.whole s.0));
+  all_rounds : rounds (items w.fixed) ≡ before s.0 ++ (due ++ since)
+  all_rounds = rounds_are ∙ (ap (λ zs. zs ++ since) parts ∙ append_assoc (before s.0) due since)
+
+  front_is : before s.0 ≡ take (length (before s.0)) (rounds (items w.fixed))
+  front_is = sym (take-append_seam (before s.0) (due ++ since)) ∙ ap (take (length (before s.0))) (sym all_rounds)
+
+  stops : (o : Option ℕ) → first_number (unseen s w.medium.message.entries) ≡ o → Stops (unwrap_or o w.medium.message.next)
+  stops None f =
+      let none : due ≡ [] = none_due due (unseen s w.medium.message.entries) f (given-due w.medium s before due log parts alive message) in
+      let all : log ≡ before s.0 = parts ∙ (ap (λ zs. before s.0 ++ zs) none ∙ append-nil (before s.0)) in
+      record { count = length (before s.0); is = message.next ∙ ap suc (length-fixeds log ∙ ap (λ (zs : List RunItem). length zs) all); front = front_is }
+  stops (Some number) f = record {
+    count = length (before s.0);
+    is = first_number-seen s (seen_at before s.0) (waits_live (live w.medium) (seen_at before) s.0 alive) (omega arith) message.stands number f;
+    front = front_is;
   }
 
-  table_is : (s : SysId) (n : NodeState) (g : GoodWorld deck es w) → slice_get w.nodes s.0 ≡ Some n → n.shared ≡ systems_part (replay deck.limit (answered (processed w s)))
-  table_is s n g at =
-      let stop = stops s n g at (first_number (unseen s w.medium.message.entries)) refl in
+  pub table_is : n.shared ≡ systems_part (replay deck.limit (answered (processed w s)))
+  table_is =
+      let stop = stops (first_number (unseen s w.medium.message.entries)) refl in
       let front : List (SysId × Fixed) = before_number (suc stop.count) w.fixed in
       let is : processed w s ≡ front = ap (λ k. before_number k w.fixed) stop.is in
       let more = before-front (suc stop.count) w.fixed in
-      let count : AllCount deck.limit [] (items front) = count-front deck.limit [] (items front) _ (subst (AllCount deck.limit []) (ap items (sym more.1) ∙ items-append front more.0) g.history.count) in
+      let count : AllCount deck.limit [] (items front) = count-front deck.limit [] (items front) _ (subst (AllCount deck.limit []) (ap items (sym more.1) ∙ items-append front more.0) right.count) in
       let replayed : lists (items front) ≡ replay deck.limit (answered front) = lists_are_replayed deck.limit (items front) (items_are_history front).1 count ∙ ap (replay deck.limit) (items_are_history front).0 in
-      (g.systems s.0 n at).1.shared
+      shared
       ∙ ap lists (stop.front ∙ sym (front-rounds [] stop.count w.fixed))
       ∙ table-is (items front)
       ∙ ap systems_part (replayed ∙ ap (λ fs. replay deck.limit (answered fs)) (sym is))
 
-pub tables_fronts : (deck : Deck) → deck.star ≡ false → (es : List Event) → TablesAreFronts deck es
-tables_fronts deck h es s n at keeps = table_is deck es s n (good_run deck h es) at
+pub tables_fronts : (deck : Deck) → (may_be_star deck ≡ true → FitsStar deck) → (es : List Event) → TablesAreFronts deck es
+tables_fronts deck fits es s n at keeps = by_run (every_run deck fits es)
+  where
+    w : World
+    w = run deck es
+
+    alone : n.star ≡ None
+    alone = none_is n.star (and_parts (is_live w s) (is_none n.star) keeps).1
+      where
+        none_is : (o : Option StarPart) → is_none o ≡ true → o ≡ None
+        none_is None h = refl
+        none_is (Some p) h = absurd (cc)
+
+    by_shown : (g : IsChanging deck (run deck es)) (k m : NodeState) → slice_get (run deck es).nodes s.0 ≡ Some m → m.star ≡ None → slice_get g.view s.0 ≡ Some k → Shown deck s.0 (items (run deck es).fixed) (g.before s.0) (g.due s.0) g.since (g.whole.out s.0) k m → m.shared ≡ systems_part (replay deck.limit (answered (processed (run deck es) s)))
+    by_shown g k m here none there (has_changed z) = absurd (let e : None ≡ Some (g.whole.roles.node s.0 k there).part = sym none ∙ (g.whole.roles.node s.0 k there).star in cc)
+    by_shown g k m here none there (waits_yet x h is empty) = table_is deck w g.whole.right g.before g.log g.since (g.due s.0) s x g.rounds_are (g.parts s.0) (alive deck w g s x here) g.message h.seen.shared
+
+    by_run : GoodRun deck es (run deck es) → n.shared ≡ systems_part (replay deck.limit (answered (processed (run deck es) s)))
+    by_run (in_ring begins ring g d) = table_is deck w g.history g.before (rounds (items w.fixed)) [] (g.later s.0) s n (sym (append-nil (rounds (items w.fixed)))) (g.whole s.0) (g.systems s.0 n at).0 g.message (g.systems s.0 n at).1.shared
+    by_run (in_star f g told d) = let old = g.shown s.0 n at in by_shown g old.0 n at alone old.1 old.2

@@ -1,13 +1,14 @@
--- Whoever begins in a ring has no part in star mode, whatever events there are.
-use Rattle.std.proofs.Common.{◌≡◌, ◌+◌, ℕ, zero, suc, Bool, false, cond, List, [], ◌∷◌, take, Option, Some, None, refl, ap, ◌∙◌, subst}
-use Rattle.std.specs.Prelude.{slice_get}
+-- A run of a deck in ring mode, as long as nobody has changed the mode: no system has a part in star mode, and the message
+-- is open.
+use Rattle.std.proofs.Common.{◌≡◌, ◌+◌, ℕ, zero, suc, Bool, false, cond, List, [], ◌∷◌, take, Option, Some, None, refl, ap, ◌∙◌, subst, length, sym, true}
+use Rattle.std.specs.Prelude.{slice_get, ◌&&◌, ◌==◌, replicate}
 use Rattle.grs_base.specs.declared.resource.SysId.{SysId}
-use Rattle.grs_medium.specs.Apply.{turn_row, rest_row, row, reply_to, medium_after}
-use Rattle.grs_medium.specs.Medium.{MediumState}
-use Rattle.grs_node.proofs.InRing.{ring_finish, finish-ring, ring-stays}
-use Rattle.grs_node.specs.Node.{NodeState, Step, prepare, finish, finish_quiet, first_node}
+use Rattle.grs_medium.specs.Apply.{turn_row, rest_row, row, reply_to, medium_after, apply, is_live, joined, leave_row, mail_row, purge_row, resting, submit_on, submit_row, switch_ring, switch_row, take_from, take_row, without_system, manages}
+use Rattle.grs_medium.specs.Medium.{MediumState, all_rest, awake, inbox, live, medium_at_end, word}
+use Rattle.grs_node.proofs.InRing.{ring_finish, finish-ring, open-turned}
+use Rattle.grs_node.specs.Node.{NodeState, Step, prepare, finish, finish_quiet, first_node, may_go, next_order, own_words, put_in, read_entries, switched, only, turned as node_turned}
 use Rattle.grs_base.specs.Limits.{most_additions}
-use Rattle.grs_node.specs.Star.{StarPart, first_part}
+use Rattle.grs_node.specs.Star.{first_part}
 use Rattle.grs_node.specs.declared.prepared.Prepared.{Prepared}
 use Rattle.grs_node.specs.declared.prepared.Prepared.TheVariants.{Quiet, Call, Nothing}
 use Rattle.grs_wire.specs.declared.deck.Choice.{Choice}
@@ -18,77 +19,229 @@ use Rattle.grs_wire.specs.declared.deck.Deck.{Deck}
 use Rattle.grs_wire.specs.declared.deck.Event.{Event}
 use Rattle.grs_wire.specs.declared.deck.SystemDef.{SystemDef}
 use Rattle.grs_wire.specs.declared.medium.Reply.{Reply}
-use Rattle.grs_world.specs.World.{World, first_nodes, first_world, carry_out, chosen, placed, happens, run}
+use Rattle.grs_world.specs.World.{World, first_nodes, first_world, carry_out, chosen, placed, happens, run, Turnout, counted}
 use Rattle.grs_world.proofs.run.Runs.{by_node}
 use Rattle.grs_world.proofs.run.Each.{each_answer, each_prepared, each_event, each_run}
+use Rattle.std.proofs.lemmas.Bool.{eq-eqb}
+use Rattle.std.proofs.lemmas.List.{length-set}
+use Rattle.std.proofs.lemmas.Option.{same_Some}
+use Rattle.grs_wire.specs.declared.medium.Call.{Call as CallOfMedium}
+use Rattle.grs_wire.specs.declared.deck.Order.TheVariants as orders
+use Rattle.grs_wire.specs.declared.medium.Mail.{Mail}
+use Rattle.grs_wire.proofs.WantLaws.{by_test}
+use Rattle.grs_wire.specs.Masks.{has}
+use Rattle.grs_wire.proofs.MaskLaws.{has-zero}
+use Rattle.grs_wire.specs.LockWords.{leave_changes}
+use Rattle.grs_wire.specs.declared.deck.Choice.TheVariants as choices
+use Rattle.grs_wire.specs.declared.medium.Reply.TheVariants as replies
+use Rattle.grs_node.proofs.Keeping.{Stays, stays-task, stays-turned}
+use Rattle.lock_structure.specs.declared.word.Route.{Route}
+use Rattle.lock_structure.specs.Words.{left_words, route, submitted_words}
+use Rattle.lock_structure.specs.declared.word.Route.TheVariants as routes
+use Rattle.grs_base.specs.declared.resource.TaskId.{TaskId}
+use Rattle.rsa_message.specs.Message.{closed_by, first_number, stands_at, never_opened, rest_after_turn, turn_reply, turned, turned_closed, turned_open, Message, opened}
+use Rattle.grs_wire.specs.Unseen.{unseen}
+use Rattle.grs_legal.specs.Asks.{lines_of}
 
--- none of these systems has a part in star mode
-abbrev pub AreRing : List NodeState → Type 0
-AreRing ns = (s : ℕ) (n : NodeState) → slice_get ns s ≡ Some n → n.star ≡ None
+-- What holds of the medium and each system then.
+pub record IsRing (deck : Deck) (w : World) : Type 0 where
+  pub mode : w.medium.star ≡ false
+  pub unclosed : w.medium.message.closed ≡ false
+  pub removed : w.medium.removed ≡ 0
+  pub systems : length w.nodes ≡ length deck.systems
+  pub around : w.medium.message.systems ≡ length deck.systems
+  pub boxes : w.medium.inboxes ≡ replicate (length deck.systems) []
+  pub alone : (s : ℕ) (n : NodeState) → slice_get w.nodes s ≡ Some n → n.star ≡ None
+  pub known : (s : ℕ) (n : NodeState) → slice_get w.nodes s ≡ Some n → n.known ≡ 0
 
-chosen_ring : (deck : Deck) (m : MediumState) (s : SysId) (n : NodeState) (choice : Choice) → n.star ≡ None → (chosen deck m s n choice).step.node.star ≡ None
-unfolding chosen carry_out
-chosen_ring deck m s n choice h = go (prepare deck n choice)
-  where
-    go : (p : Prepared) → (carry_out deck m s n choice p).step.node.star ≡ None
-    go Nothing = h
-    go Quiet = ring-stays deck n choice None h
-    go (Call call) = ring-stays deck n choice (Some (reply_to m s call)) h
+-- ---- What came of an event of a system of the ring: nothing but a flag of rest, a task that went on, its Turn, or the change
+-- to star mode.
+pub data Came (deck : Deck) (w : World) (s : SysId) (n : NodeState) : Turnout → Type 0 where
+  nothing : (flags : ℕ) → Came deck w s n (record { medium = record w.medium { rest = flags }; step = only n })
+  went_on : (t : TaskId) → may_go deck n t ≡ true → Came deck w s n (record { medium = w.medium; step = finish_quiet deck n (choices.Task t) })
+  turn : (flags : ℕ) → stands_at w.medium.message.holder s ≡ true →
+      Came deck w s n (record { medium = record w.medium { message = turned_open w.medium.message s (take most_additions n.outbox) (live w.medium) w.medium.rest; rest = flags }; step = put_in (read_entries deck n (unseen s w.medium.message.entries)) (length (take most_additions n.outbox)) })
+  changed : next_order deck n ≡ Some orders.Star → first_number (unseen s w.medium.message.entries) ≡ None →
+      Came deck w s n (record { medium = record w.medium { star = true; words = own_words deck n; message = closed_by w.medium.message s (live w.medium); rest = awake w.medium s }; step = only (switched deck n) })
 
-pub happens_ring : (deck : Deck) (w : World) (e : Event) → AreRing w.nodes → AreRing (happens deck w e).nodes
-unfolding placed
-happens_ring deck w e all = each_event deck w e (λ (x : World). AreRing x.nodes) all
-    (λ n at. by_node w.nodes e.system.0 n (chosen deck w.medium e.system n e.choice).step.node at (λ u k. k.star ≡ None) (chosen_ring deck w.medium e.system n e.choice (all e.system.0 n at)) (λ u k apart there. all u k there))
+-- a call of a system that wasn't removed, where none was
+pub heard : (m : MediumState) (c : SysId) (call : CallOfMedium) → m.removed ≡ 0 → call.known ≡ 0 → apply m c call ≡ row m c call.act
+unfolding apply
+heard m c call none known =
+    ap (λ b. cond b (replies.Removed, m) (cond (call.known == m.removed) (row m c call.act) (replies.Stale m.removed, m))) (ap (λ z. has z c.0) none ∙ has-zero c.0)
+    ∙ ap (λ b. cond b (row m c call.act) (replies.Stale m.removed, m)) (eq-eqb call.known m.removed (known ∙ sym none))
 
-first_ring : (deck : Deck) → deck.star ≡ false → (k : ℕ) (ds : List SystemDef) → AreRing (first_nodes deck k ds)
-unfolding first_node
-first_ring deck h k [] s n at = cc
-first_ring deck h k (d ∷ ds) zero n at = subst (λ (o : Option NodeState). star_of o ≡ None) at (first_none deck k h)
-  where
-    star_of : Option NodeState → Option StarPart
-    star_of None = None
-    star_of (Some m) = m.star
-
-    first_none : (x : Deck) (j : ℕ) → x.star ≡ false → (first_node x j).star ≡ None
-    first_none x j h = ap (λ (b : Bool). cond b (Some (first_part (record { 0 = j }) x.entries)) None) h
-first_ring deck h k (d ∷ ds) (suc s) n at = first_ring deck h (k + 1) ds s n at
-
-turn_mode : (m : MediumState) (s : SysId) (out : List Req) → (row m s (acts.Turn out)).1.star ≡ m.star
-unfolding row turn_row
-turn_mode m s out = refl
-
-rest_mode : (m : MediumState) (s : SysId) → (row m s acts.Rest).1.star ≡ m.star
-unfolding row rest_row
-rest_mode m s = refl
-
--- the mode of the medium
-chosen_mode : (deck : Deck) (m : MediumState) (s : SysId) (n : NodeState) (choice : Choice) → n.star ≡ None → (chosen deck m s n choice).medium.star ≡ m.star
-unfolding chosen carry_out
-chosen_mode deck m s n choice alone = each_prepared deck n (λ c p. (carry_out deck m s n c p).medium.star ≡ m.star) alone (λ t may. refl)
-    (called (acts.Turn (take most_additions n.outbox)) (turn_mode m s (take most_additions n.outbox))) (called acts.Rest (rest_mode m s)) (λ c. refl) choice
-  where
-    called : (act : Act) → (row m s act).1.star ≡ m.star → (medium_after m s (record { known = n.known; act = act })).star ≡ m.star
-    called act here = each_answer m s (record { known = n.known; act = act }) (λ a. a.1.star ≡ m.star) refl refl here
-
-happens_mode : (deck : Deck) (w : World) (e : Event) → AreRing w.nodes → (happens deck w e).medium.star ≡ w.medium.star
-unfolding placed
-happens_mode deck w e all = each_event deck w e (λ (x : World). x.medium.star ≡ w.medium.star) refl (λ n at. chosen_mode deck w.medium e.system n e.choice (all e.system.0 n at))
-
-pub all_ring : (deck : Deck) → deck.star ≡ false → (es : List Event) → AreRing (run deck es).nodes
-unfolding first_world
-all_ring deck h = each_run deck (λ es (w : World). AreRing w.nodes) (first_ring deck h 0 deck.systems) (λ es e all. happens_ring deck (run deck es) e all)
-
--- the medium stays in ring mode
-pub stays_ring : (deck : Deck) → deck.star ≡ false → (es : List Event) → (run deck es).medium.star ≡ false
-unfolding first_world
-stays_ring deck h = each_run deck (λ es (w : World). w.medium.star ≡ false) h (λ es e ring. happens_mode deck (run deck es) e (all_ring deck h es) ∙ ring)
-
--- ---- what a choice of such a system leads to
-abbrev pub ring_reply : Deck → NodeState → Choice → Option Reply → Step
-ring_reply deck n choice None = finish_quiet deck n choice
-ring_reply deck n choice (Some reply) = ring_finish deck n reply
-
-pub finished-ring : (deck : Deck) (n : NodeState) (choice : Choice) (reply : Option Reply) → n.star ≡ None → finish deck n choice reply ≡ ring_reply deck n choice reply
+-- the reply to a call of a system of the ring
+pub finished-ring : (deck : Deck) (n : NodeState) (choice : Choice) (reply : Reply) → n.star ≡ None → finish deck n choice (Some reply) ≡ ring_finish deck n reply
 unfolding finish
-finished-ring deck n choice None h = refl
-finished-ring deck n choice (Some reply) h = finish-ring deck n choice reply h
+finished-ring deck n choice reply h = finish-ring deck n choice reply h
+
+module _ (deck : Deck) (w : World) (g : IsRing deck w) (s : SysId) (n : NodeState) (at : slice_get w.nodes s.0 ≡ Some n) where
+  abbrev Comes : Turnout → Type 0
+  Comes o = Came deck w s n o
+
+  abbrev ComesBy : Reply × MediumState → Type 0
+  ComesBy a = Comes (record { medium = a.1; step = ring_finish deck n a.0 })
+
+  came_rest : ComesBy (row w.medium s acts.Rest)
+  unfolding row rest_row
+  came_rest = by_test (λ r. ComesBy (r, resting w.medium s)) (all_rest (resting w.medium s) && medium_at_end (resting w.medium s)) replies.Over replies.Resting (λ t. nothing (resting w.medium s).rest) (λ t. nothing (resting w.medium s).rest)
+
+  abbrev flags : ℕ
+  flags = rest_after_turn w.medium.message s (length (take most_additions n.outbox)) w.medium.rest
+
+  abbrev after_turn : Message → MediumState
+  after_turn m = record w.medium { message = m; rest = rest_after_turn w.medium.message s (length (take most_additions n.outbox)) w.medium.rest }
+
+  came_turn : ComesBy (row w.medium s (acts.Turn (take most_additions n.outbox)))
+  unfolding row turn_row turn_reply turned
+  came_turn = go (stands_at w.medium.message.holder s) refl w.medium.message.closed g.unclosed
+    where
+      at_open : Came deck w s n (record { medium = after_turn (turned_open w.medium.message s (take most_additions n.outbox) (live w.medium) w.medium.rest); step = node_turned deck n (unseen s w.medium.message.entries) (length (take most_additions n.outbox)) false }) →
+          (d : Bool) → d ≡ false →
+          ComesBy (replies.Turned (unseen s w.medium.message.entries) (cond d 0 (length (take most_additions n.outbox))) d, after_turn (cond d (turned_closed w.medium.message s) (turned_open w.medium.message s (take most_additions n.outbox) (live w.medium) w.medium.rest)))
+      at_open h false k = h
+      at_open h true k = absurd (cc)
+
+      go : (b : Bool) → stands_at w.medium.message.holder s ≡ b → (d : Bool) → d ≡ false →
+          ComesBy (
+            cond b (replies.Turned (unseen s w.medium.message.entries) (cond d 0 (length (take most_additions n.outbox))) d) (replies.NotYours w.medium.message.holder),
+            after_turn (cond b (cond d (turned_closed w.medium.message s) (turned_open w.medium.message s (take most_additions n.outbox) (live w.medium) w.medium.rest)) w.medium.message),
+          )
+      go false b d k = nothing flags
+      go true b d k = at_open (subst (λ st. Comes (record { medium = after_turn (turned_open w.medium.message s (take most_additions n.outbox) (live w.medium) w.medium.rest); step = st })) (sym (open-turned deck n (unseen s w.medium.message.entries) (length (take most_additions n.outbox)))) (turn flags b)) d k
+
+  came_switch : next_order deck n ≡ Some orders.Star → ComesBy (row w.medium s (acts.Switch (own_words deck n)))
+  unfolding row switch_row
+  came_switch next = subst (λ b. ComesBy (cond b (replies.Already, w.medium) (switch_ring w.medium s (own_words deck n) (first_number (unseen s w.medium.message.entries))))) (sym g.mode) (go (first_number (unseen s w.medium.message.entries)) refl)
+    where
+      go : (o : Option ℕ) → first_number (unseen s w.medium.message.entries) ≡ o → ComesBy (switch_ring w.medium s (own_words deck n) o)
+      go (Some first) e = nothing w.medium.rest
+      go None e = changed next e
+
+  called : (choice : Choice) (act : Act) → ComesBy (row w.medium s act) → Comes (carry_out deck w.medium s n choice (Call (record { known = n.known; act = act })))
+  unfolding carry_out
+  called choice act here =
+      let call : CallOfMedium = record { known = n.known; act = act } in
+      subst (λ (st : Step). Comes (record { medium = medium_after w.medium s call; step = st })) (sym (finished-ring deck n choice (reply_to w.medium s call) (g.alone s.0 n at)))
+      (subst ComesBy (sym (heard w.medium s call g.removed (g.known s.0 n at))) here)
+
+  pub came : (choice : Choice) → Came deck w s n (chosen deck w.medium s n choice)
+  unfolding chosen carry_out finish
+  came choice = each_prepared deck n (λ c p. Comes (carry_out deck w.medium s n c p)) (g.alone s.0 n at) (λ t m. went_on t m)
+      (called choices.Turn (acts.Turn (take most_additions n.outbox)) came_turn) (called choices.Rest acts.Rest came_rest) (λ next. called choices.Switch (acts.Switch (own_words deck n)) (came_switch next)) (λ c. nothing w.medium.rest) choice
+
+-- What holds where an event is only counted, and whatever comes of it at a system, holds behind the event.
+pub each_came : (deck : Deck) (w : World) (e : Event) (P : World → Type 0) → IsRing deck w → P (counted w)
+    → ((n : NodeState) (o : Turnout) → slice_get w.nodes e.system.0 ≡ Some n → Came deck w e.system n o → P (placed w e.system n o)) → P (happens deck w e)
+each_came deck w e P ring idle comes = each_event deck w e P idle (λ n at. comes n _ at (came deck w ring e.system n at e.choice))
+
+-- ---- one event more
+module _ (deck : Deck) (w : World) (g : IsRing deck w) where
+  pub ring-counted : IsRing deck (counted w)
+  ring-counted = record { mode = g.mode; unclosed = g.unclosed; removed = g.removed; systems = g.systems; around = g.around; boxes = g.boxes; alone = g.alone; known = g.known }
+
+  pub ring-placed : (c : SysId) (n : NodeState) → slice_get w.nodes c.0 ≡ Some n → (o : Turnout) → Came deck w c n o → o.medium.star ≡ false → IsRing deck (placed w c n o)
+  unfolding placed finish_quiet
+  ring-placed c n at o h mode = go o h mode
+    where
+      kept : (m : MediumState) (st : Step) → m.star ≡ false → m.message.closed ≡ false → m.removed ≡ 0 → m.message.systems ≡ length deck.systems → m.inboxes ≡ w.medium.inboxes → Stays n st.node → IsRing deck (placed w c n (record { medium = m; step = st }))
+      kept m st star shut gone around boxes stays = record {
+        mode = star;
+        unclosed = shut;
+        removed = gone;
+        systems = length-set w.nodes c.0 st.node ∙ g.systems;
+        around = around;
+        boxes = boxes ∙ g.boxes;
+        alone = by_node w.nodes c.0 n st.node at (λ u k. k.star ≡ None) (stays.star ∙ g.alone c.0 n at) (λ u k apart there. g.alone u k there);
+        known = by_node w.nodes c.0 n st.node at (λ u k. k.known ≡ 0) (stays.known ∙ g.known c.0 n at) (λ u k apart there. g.known u k there);
+      }
+
+      go : (o : Turnout) → Came deck w c n o → o.medium.star ≡ false → IsRing deck (placed w c n o)
+      go o (nothing flags) h = kept o.medium o.step g.mode g.unclosed g.removed g.around refl (record { star = refl; known = refl; done = refl })
+      go o (went_on t may) h = kept o.medium o.step g.mode g.unclosed g.removed g.around refl (stays-task deck.limit n t (lines_of deck t))
+      go o (turn flags here) h = kept o.medium o.step g.mode g.unclosed g.removed g.around refl (stays-turned deck n (unseen c w.medium.message.entries) (length (take most_additions n.outbox)))
+      go o (changed next seen) h = absurd (cc)
+
+-- ---- once the medium is in star mode the mode stays, and the message changes by Turns alone
+row_in_star : (m : MediumState) (c : SysId) (act : Act) → m.star ≡ true → (P : Message → Bool → Type 0) → P m.message m.star → ((out : List Req) → P (turned m.message c out (live m) m.rest) m.star) → P (row m c act).1.message (row m c act).1.star
+unfolding row turn_row switch_row submit_row take_row mail_row leave_row purge_row rest_row
+row_in_star m c (acts.Turn out) star P same turns = turns out
+row_in_star m c (acts.Switch words) star P same turns =
+    subst (λ b. P (cond {A = Reply × MediumState} b (replies.Already, m) (switch_ring m c words (first_number (unseen c m.message.entries)))).1.message (cond {A = Reply × MediumState} b (replies.Already, m) (switch_ring m c words (first_number (unseen c m.message.entries)))).1.star) (sym star) same
+row_in_star m c (acts.Submit entry q) star P same turns = go (route (word m entry) c)
+  where
+    joined_same : P (joined m c entry).message (joined m c entry).star
+    joined_same = by_test (λ (k : MediumState). P k.message k.star) (manages m c entry) m (record m { words = submitted_words m.words entry c; rest = awake m c }) (λ e. same) (λ e. same)
+
+    go : (r : Route) → P (submit_on m c entry q r).1.message (submit_on m c entry q r).1.star
+    go routes.Sole = joined_same
+    go (routes.To s) = joined_same
+row_in_star m c acts.Take star P same turns = go (inbox m c.0)
+  where
+    go : (ms : List Mail) → P (take_from m c ms).1.message (take_from m c ms).1.star
+    go [] = same
+    go (mail ∷ ms) = same
+row_in_star m c (acts.Settle to mail) star P same turns = same
+row_in_star m c (acts.Tell to mail) star P same turns = same
+row_in_star m c (acts.Leave entry) star P same turns = by_test (λ (k : MediumState). P k.message k.star) (leave_changes (word m entry) c) (record m { words = left_words m.words entry c; rest = awake m c }) m (λ e. same) (λ e. same)
+row_in_star m c (acts.Purge target) star P same turns =
+    subst (λ b. P (cond {A = Reply × MediumState} b (replies.InStar, m) (cond (is_live m target) (replies.Purged, without_system m c target) (replies.NoSuch, m))).1.message (cond {A = Reply × MediumState} b (replies.InStar, m) (cond (is_live m target) (replies.Purged, without_system m c target) (replies.NoSuch, m))).1.star) (sym star) same
+row_in_star m c acts.Rest star P same turns = same
+
+pub each_in_star : (deck : Deck) (w : World) (e : Event) → w.medium.star ≡ true → (P : Message → Bool → Type 0) → P w.medium.message w.medium.star → ((out : List Req) → P (turned w.medium.message e.system out (live w.medium) w.medium.rest) w.medium.star) →
+    P (happens deck w e).medium.message (happens deck w e).medium.star
+unfolding placed chosen carry_out
+each_in_star deck w e star P same turns = each_event deck w e (λ (x : World). P x.medium.message x.medium.star) same (λ n at. go n (prepare deck n e.choice))
+  where
+    go : (n : NodeState) (p : Prepared) → P (carry_out deck w.medium e.system n e.choice p).medium.message (carry_out deck w.medium e.system n e.choice p).medium.star
+    go n Nothing = same
+    go n Quiet = same
+    go n (Call call) = each_answer w.medium e.system call (λ a. P a.1.message a.1.star) same same (row_in_star w.medium e.system call.act star P same turns)
+
+pub star-stays : (deck : Deck) (w : World) (e : Event) → w.medium.star ≡ true → (happens deck w e).medium.star ≡ true
+star-stays deck w e star = each_in_star deck w e star (λ m b. b ≡ true) star (λ out. star)
+
+-- ---- at the start
+first_node_at : (deck : Deck) → deck.star ≡ false → (k : ℕ) (ds : List SystemDef) (s : ℕ) (n : NodeState) → slice_get (first_nodes deck k ds) s ≡ Some n → (n.star ≡ None) × (n.known ≡ 0)
+unfolding first_node
+first_node_at deck h k [] s n at = absurd (cc)
+first_node_at deck h k (d ∷ ds) zero n at = subst (λ (m : NodeState). (m.star ≡ None) × (m.known ≡ 0)) (same_Some (first_node deck k) n at) (ap (λ (b : Bool). cond b (Some (first_part (record { 0 = k }) deck.entries)) None) h, refl)
+first_node_at deck h k (d ∷ ds) (suc s) n at = first_node_at deck h (k + 1) ds s n at
+
+pub count_first : (deck : Deck) (k : ℕ) (ds : List SystemDef) → length (first_nodes deck k ds) ≡ length ds
+count_first deck k [] = refl
+count_first deck k (d ∷ ds) = ap suc (count_first deck (k + 1) ds)
+
+pub first_ring : (deck : Deck) → deck.star ≡ false → IsRing deck (first_world deck)
+unfolding first_world
+first_ring deck h = record {
+  mode = h;
+  unclosed = ap (λ b. (cond b (never_opened (length deck.systems)) (opened (length deck.systems))).closed) h;
+  removed = refl;
+  systems = count_first deck 0 deck.systems;
+  around = by_test (λ (m : Message). m.systems ≡ length deck.systems) deck.star (never_opened (length deck.systems)) (opened (length deck.systems)) (λ e. refl) (λ e. refl);
+  boxes = refl;
+  alone = λ s n at. (first_node_at deck h 0 deck.systems s n at).0;
+  known = λ s n at. (first_node_at deck h 0 deck.systems s n at).1;
+}
+
+-- ---- every list of events behind which the medium is still in ring mode
+pub is_ring : (deck : Deck) → deck.star ≡ false → (es : List Event) → (run deck es).medium.star ≡ false → IsRing deck (run deck es)
+unfolding placed
+is_ring deck h = each_run deck (λ es w. w.medium.star ≡ false → IsRing deck w) (λ mode. first_ring deck h) step
+  where
+    step : (es : List Event) (e : Event) → ((run deck es).medium.star ≡ false → IsRing deck (run deck es)) → (happens deck (run deck es) e).medium.star ≡ false → IsRing deck (happens deck (run deck es) e)
+    step es e more mode = go (run deck es).medium.star refl
+      where
+        w : World
+        w = run deck es
+
+        go : (b : Bool) → (run deck es).medium.star ≡ b → IsRing deck (happens deck (run deck es) e)
+        go true at = absurd (let both : true ≡ false = sym (star-stays deck w e at) ∙ mode in cc)
+        go false at =
+            let k = more at in
+            each_came deck w e (λ x. x.medium.star ≡ false → IsRing deck x) k (λ z. ring-counted deck w k) (λ n o here c z. placed_star k n o here c z) mode
+          where
+            placed_star : (k : IsRing deck (run deck es)) (n : NodeState) (o : Turnout) → slice_get (run deck es).nodes e.system.0 ≡ Some n → Came deck (run deck es) e.system n o → (placed (run deck es) e.system n o).medium.star ≡ false → IsRing deck (placed (run deck es) e.system n o)
+            placed_star k n o here c z = ring-placed deck w k e.system n here o c z

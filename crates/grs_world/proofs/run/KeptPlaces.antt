@@ -15,14 +15,12 @@ use Rattle.grs_known.proofs.known.ItemLaws.{items_are_history}
 use Rattle.grs_known.proofs.ring.Parts.{list_of-systems}
 use Rattle.grs_known.proofs.ring.Reading.{table-is}
 use Rattle.grs_known.proofs.lists.Facts.{slice_get-past}
-use Rattle.grs_world.specs.Kept.{places, in_table, kept_in, KeptArePlaces}
+use Rattle.grs_world.specs.Kept.{places, in_table, kept_in}
 use Rattle.grs_world.specs.Running.{is_live}
 use Rattle.grs_world.specs.World.{World, run}
-use Rattle.grs_world.proofs.run.InRing.{stays_ring}
 use Rattle.grs_world.proofs.run.Messages.{given-later}
 use Rattle.grs_world.proofs.run.Outcomes.{turn_table}
 use Rattle.grs_world.proofs.run.Runs.{GoodWorld}
-use Rattle.grs_world.proofs.run.Sound.{good_run}
 
 module _ (deck : Deck) (es : List Event) (r : Res) (all : is_systems r ≡ true) (g : GoodWorld deck es (run deck es)) (mode : (run deck es).medium.star ≡ false) where
   abbrev w : World
@@ -40,13 +38,10 @@ module _ (deck : Deck) (es : List Event) (r : Res) (all : is_systems r ≡ true)
       let given = given-later w.medium s g.before (g.later s.0) (items w.fixed) (g.whole s.0) (g.systems s.0 n at).0 g.message in
       ap (λ t. list_of t r) (turn_table deck s (items w.fixed) (g.before s.0) (g.later s.0) g.history (g.whole s.0) n (g.systems s.0 n at).1 (unseen s w.medium.message.entries) given) ∙ by_rounds
 
-  kept_is : (s : SysId) → is_live (run deck es) s ≡ true → (star : Bool) → (run deck es).medium.star ≡ star → kept_in star deck (run deck es) s r ≡ places deck es r
+  pub kept_is : (s : SysId) → is_live (run deck es) s ≡ true → (star : Bool) → (run deck es).medium.star ≡ star → kept_in star deck (run deck es) s r ≡ places deck es r
   kept_is s live true is = let no : true ≡ false = sym is ∙ mode in absurd (cc)
   kept_is s live false is = go (slice_get w.nodes s.0) refl
     where
       go : (o : Option NodeState) → slice_get (run deck es).nodes s.0 ≡ o → in_table deck (run deck es) s o r ≡ places deck es r
       go None at = let past = slice_get-past w.nodes s.0 at in absurd (grind (arith, live, past))
       go (Some n) at = in_ring s n at
-
-pub kept_places : (deck : Deck) → deck.star ≡ false → (es : List Event) → KeptArePlaces deck es
-kept_places deck h es s r live all = kept_is deck es r all (good_run deck h es) (stays_ring deck h es) s live (run deck es).medium.star refl

@@ -1,44 +1,51 @@
 -- A request comes back last: the message goes round in each world that a run reaches, so what an event gives a system
 -- of its own is left to it alone.
-use Rattle.std.proofs.Common.{ℕ, ◌≡◌, Bool, true, false, cond, ◌&&◌, List, [], ◌∷◌, ◌++◌, length, Option, Some, None, refl, sym, ap, subst, arith}
+use Rattle.std.proofs.Common.{ℕ, ◌≡◌, Bool, true, false, cond, ◌&&◌, List, [], ◌∷◌, ◌++◌, length, Option, Some, None, refl, sym, ap, subst, arith, ◌∙◌}
 use Rattle.std.specs.Prelude.{slice_get, take}
 use Rattle.grs_base.specs.declared.resource.SysId.{SysId}
 use Rattle.grs_wire.specs.Masks.{others}
-use Rattle.grs_wire.specs.declared.deck.Choice.{Choice}
 use Rattle.grs_wire.specs.declared.deck.Deck.{Deck}
 use Rattle.grs_wire.specs.declared.deck.Event.{Event}
 use Rattle.grs_wire.specs.declared.medium.Act.{Act}
-use Rattle.grs_wire.specs.declared.medium.Act.TheVariants.{Turn, Rest}
-use Rattle.grs_wire.specs.declared.medium.Reply.TheVariants.{Turned, NotYours, Resting, Over}
+use Rattle.grs_wire.specs.declared.medium.Act.TheVariants.{Turn, Rest, Switch, Submit, Take, Settle, Tell, Leave, Purge}
+use Rattle.grs_wire.specs.declared.medium.Reply.TheVariants.{Turned, NotYours, Resting, Over, Already, InStar, Kept, Left, NoSuch, Purged}
 use Rattle.grs_wire.specs.declared.medium.RingBody.TheVariants.{Request}
 use Rattle.grs_wire.specs.declared.medium.RingEntry.{RingEntry}
 use Rattle.grs_wire.specs.declared.request.Req.{Req}
 use Rattle.grs_wire.proofs.WantLaws.{by_test}
-use Rattle.rsa_message.specs.Message.{Message, stands_at, opened, never_opened, turn_reply, turned, turned_open, turned_closed}
+use Rattle.rsa_message.specs.Message.{Message, stands_at, opened, never_opened, turn_reply, turned, turned_open, turned_closed, any_unseen, closed_by, first_number}
 use Rattle.grs_wire.specs.Unseen.{unseen}
 use Rattle.rsa_message.proofs.OrderLaws.{stands_at-exact}
-use Rattle.grs_medium.specs.Medium.{MediumState, first_medium, systems_of, live, all_rest, medium_at_end}
-use Rattle.grs_medium.specs.Apply.{turn_row, resting, rest_row, row, reply_to, medium_after}
+use Rattle.grs_medium.specs.Medium.{MediumState, first_medium, live, all_rest, medium_at_end, inbox, word}
+use Rattle.grs_medium.specs.Apply.{turn_row, resting, rest_row, row, is_live, leave_row, mail_row, purge_row, submit_on, submit_row, switch_ring, switch_row, take_from, take_row, without_system}
 use Rattle.grs_node.specs.Node.{NodeState, prepare}
 use Rattle.grs_base.specs.Limits.{most_additions}
-use Rattle.grs_world.proofs.run.InRing.{AreRing, all_ring}
-use Rattle.grs_world.proofs.run.Each.{each_answer, each_prepared, each_event, each_run}
+use Rattle.grs_world.proofs.run.Each.{each_answer, each_run}
 use Rattle.grs_world.specs.Laps.{OnlyLeft, ComesBackLast, given_by, given_when, given_at, ProcessedLast}
-use Rattle.grs_world.specs.World.{World, first_world, carry_out, chosen, placed, happens, run}
-use Rattle.grs_world.proofs.message.LapsMessage.{Round, turned_round, left_at_home, last_at_home, unseen_awaited}
+use Rattle.grs_world.specs.World.{World, first_world, placed, happens, run, Turnout}
+use Rattle.grs_world.proofs.message.LapsMessage.{Round, left_at_home, last_at_home, unseen_awaited, closed_round, closed_turn, none_unseen, open_round}
+use Rattle.grs_wire.specs.declared.medium.Mail.{Mail}
+use Rattle.grs_wire.specs.declared.medium.Reply.{Reply}
+use Rattle.grs_wire.specs.LockWords.{interest, is_kept, leave_reply}
+use Rattle.lock_structure.specs.Words.{route}
+use Rattle.lock_structure.specs.declared.word.Route.{Route}
+use Rattle.lock_structure.specs.declared.word.Route.TheVariants as routes
+use Rattle.grs_node.specs.declared.prepared.Prepared.{Prepared}
+use Rattle.grs_node.specs.declared.prepared.Prepared.TheVariants.{Call, Nothing, Quiet}
+use Rattle.grs_world.proofs.run.InRing.{Came, IsRing, changed, each_came, each_in_star, is_ring, nothing, turn, went_on}
 
 -- This holds of the medium in a run.
 pub record Goes (m : MediumState) : Type 0 where
-  -- Nobody is removed, and the message goes round.
-  pub whole : m.removed ≡ 0
+  -- The message goes round.
   pub round : Round m.message
-  -- In star mode there is no message, and never was.
-  pub unused : m.star ≡ true → (m.message.closed ≡ true) × (m.message.next ≡ 1)
+  -- In star mode it is closed.
+  pub closed : m.star ≡ true → m.message.closed ≡ true
 
 -- ---- at the start
 closed_at_start : (n : ℕ) → Round (never_opened n)
+unfolding any_unseen
 closed_at_start n = record {
-  shut = λ e. refl;
+  shut = λ e u low h. absurd cc;
   inside = λ h e. absurd cc;
   awaited = λ h e. absurd cc;
   ends = tt;
@@ -53,51 +60,59 @@ open_at_start n = record {
 }
 
 goes_at_start : (n entries : ℕ) (star : Bool) → Goes (first_medium n entries star)
-goes_at_start n entries false = record { whole = refl; round = open_at_start n; unused = λ e. absurd cc }
-goes_at_start n entries true = record { whole = refl; round = closed_at_start n; unused = λ e. (refl, refl) }
-
--- ---- a call
--- Nobody has a Turn where the message stands nowhere.
-turned_nowhere : (m : Message) (c : SysId) (out : List Req) (live rest : ℕ) → m.holder ≡ None → turned m c out live rest ≡ m
-unfolding turned
-turned_nowhere m c out live rest none = ap (λ h. cond (stands_at h c) (cond m.closed (turned_closed m c) (turned_open m c out live rest)) m) none
-
-turn_goes : (m : MediumState) (c : SysId) (out : List Req) → Goes m → Goes (row m c (Turn out)).1
-unfolding row turn_row
-turn_goes m c out g = record {
-  whole = g.whole;
-  round = turned_round m.message c out (live m) m.rest g.round (ap (λ (x : ℕ). others (systems_of m) x) g.whole);
-  unused = λ star.
-      let same : m.message ≡ turned m.message c out (live m) m.rest = sym (turned_nowhere m.message c out (live m) m.rest (g.round.shut (g.unused star).0)) in
-      subst (λ (x : Message). (x.closed ≡ true) × (x.next ≡ 1)) same (g.unused star);
-}
-
-rest_goes : (m : MediumState) (c : SysId) → Goes m → Goes (row m c Rest).1
-unfolding row rest_row
-rest_goes m c g = record { whole = g.whole; round = g.round; unused = g.unused }
-
--- ---- an event
-chosen_goes : (deck : Deck) (m : MediumState) (s : SysId) (n : NodeState) (choice : Choice) → n.star ≡ None → Goes m → Goes (chosen deck m s n choice).medium
-unfolding chosen carry_out
-chosen_goes deck m s n choice alone g = each_prepared deck n (λ c p. Goes (carry_out deck m s n c p).medium) alone (λ t may. g)
-    (called (Turn (take most_additions n.outbox)) (turn_goes m s (take most_additions n.outbox) g)) (called Rest (rest_goes m s g)) (λ c. g) choice
-  where
-    called : (act : Act) → Goes (row m s act).1 → Goes (medium_after m s (record { known = n.known; act = act }))
-    called act after = each_answer m s (record { known = n.known; act = act }) (λ a. Goes a.1) g g after
-
-happens_goes : (deck : Deck) (w : World) (e : Event) → AreRing w.nodes → Goes w.medium → Goes (happens deck w e).medium
-unfolding placed
-happens_goes deck w e ring g = each_event deck w e (λ (x : World). Goes x.medium) g (λ n at. chosen_goes deck w.medium e.system n e.choice (ring e.system.0 n at) g)
+goes_at_start n entries false = record { round = open_at_start n; closed = λ e. absurd cc }
+goes_at_start n entries true = record { round = closed_at_start n; closed = λ e. refl }
 
 begun : (deck : Deck) → Goes (first_world deck).medium
 unfolding first_world
 begun deck = goes_at_start (length deck.systems) deck.entries deck.star
 
+-- ---- one event more
+-- A Turn at the closed message.
+pub turned_shut : (m : Message) (c : SysId) (out : List Req) (live rest : ℕ) → m.closed ≡ true → turned m c out live rest ≡ cond (stands_at m.holder c) (turned_closed m c) m
+unfolding turned
+turned_shut m c out live rest shut = ap (λ b. cond (stands_at m.holder c) (cond b (turned_closed m c) (turned_open m c out live rest)) m) shut
+
+shut_goes : (m : Message) (c : SysId) (out : List Req) (live rest : ℕ) → Round m → m.closed ≡ true → Round (turned m c out live rest) × ((turned m c out live rest).closed ≡ true)
+shut_goes m c out live rest round shut = subst (λ x. Round x × (x.closed ≡ true)) (sym (turned_shut m c out live rest shut))
+    (by_test (λ x. Round x × (x.closed ≡ true)) (stands_at m.holder c) (turned_closed m c) m (λ here. (closed_turn m c round (stands_at-exact m.holder c here) shut, shut)) (λ away. (round, shut)))
+
+star_goes : (deck : Deck) (w : World) (e : Event) → w.medium.star ≡ true → Goes w.medium → Goes (happens deck w e).medium
+star_goes deck w e star g =
+    let all = each_in_star deck w e star (λ x b. Round x × (x.closed ≡ true)) (g.round, g.closed star) (λ out. shut_goes w.medium.message e.system out (live w.medium) w.medium.rest g.round (g.closed star)) in
+    record { round = all.0; closed = λ z. all.1 }
+
+ring_goes : (deck : Deck) (w : World) (e : Event) → IsRing deck w → Goes w.medium → Goes (happens deck w e).medium
+unfolding placed closed_by
+ring_goes deck w e ring g = each_came deck w e (λ (x : World). Goes x.medium) ring (record { round = g.round; closed = g.closed }) (λ n o at came. by_case n o came)
+  where
+    all : live w.medium ≡ others w.medium.message.systems 0
+    all = ap (others w.medium.message.systems) ring.removed
+
+    by_case : (n : NodeState) (o : Turnout) → Came deck w e.system n o → Goes o.medium
+    by_case n o (nothing flags) = record { round = g.round; closed = g.closed }
+    by_case n o (went_on t may) = g
+    by_case n o (turn flags here) = record {
+      round = open_round w.medium.message e.system (take most_additions n.outbox) (live w.medium) w.medium.rest g.round all (stands_at-exact w.medium.message.holder e.system here) ring.unclosed;
+      closed = λ z. absurd (let no : true ≡ false = sym z ∙ ring.mode in cc);
+    }
+    by_case n o (changed next idle) = record {
+      round = closed_round w.medium.message e.system (live w.medium) g.round all (none_unseen e.system w.medium.message.entries idle);
+      closed = λ z. refl;
+    }
+
 pub goes : (deck : Deck) → deck.star ≡ false → (es : List Event) → Goes (run deck es).medium
-goes deck h = each_run deck (λ es (w : World). Goes w.medium) (begun deck) (λ es e g. happens_goes deck (run deck es) e (all_ring deck h es) g)
+goes deck h = each_run deck (λ es (w : World). Goes w.medium) (begun deck) step
+  where
+    step : (es : List Event) (e : Event) → Goes (run deck es).medium → Goes (happens deck (run deck es) e).medium
+    step es e g = go (run deck es).medium.star refl
+      where
+        go : (b : Bool) → (run deck es).medium.star ≡ b → Goes (happens deck (run deck es) e).medium
+        go true is = star_goes deck (run deck es) e is g
+        go false is = ring_goes deck (run deck es) e (is_ring deck h es is) g
 
 pub comes_back_last : ComesBackLast
-comes_back_last deck h es = last_at_home _ (goes deck h es).round
+comes_back_last deck h es = last_at_home (run deck es).medium.message (goes deck h es).round
 
 -- ---- what the next event gives
 -- Of these entries a system's own are left to it alone.
@@ -108,27 +123,52 @@ no_gift : (s : SysId) → Gives s []
 no_gift s [] behind entry q is body from = absurd cc
 no_gift s (x ∷ before) behind entry q is body from = absurd cc
 
-turn_gift : (m : MediumState) (s : SysId) (out : List Req) → Goes m → Gives s (given_by (row m s (Turn out)).0)
+turn_gift : (m : MediumState) (s : SysId) (out : List Req) → Round m.message → Gives s (given_by (row m s (Turn out)).0)
 unfolding row turn_row turn_reply
-turn_gift m s out g =
+turn_gift m s out round =
     by_test (λ r. Gives s (given_by r)) (stands_at m.message.holder s) (Turned (unseen s m.message.entries) (cond m.message.closed 0 (length out)) m.message.closed) (NotYours m.message.holder)
-    (λ here before behind entry q is body from. left_at_home m.message.systems s (unseen s m.message.entries) before behind entry (unseen_awaited m.message.systems s m.message.entries (g.round.awaited s (stands_at-exact m.message.holder s here))) is from)
+    (λ here before behind entry q is body from. left_at_home m.message.systems s (unseen s m.message.entries) before behind entry (unseen_awaited m.message.systems s m.message.entries (round.awaited s (stands_at-exact m.message.holder s here))) is from)
     (λ away. no_gift s)
 
-rest_gift : (m : MediumState) (s : SysId) → Gives s (given_by (row m s Rest).0)
-unfolding row rest_row
-rest_gift m s = by_test (λ r. Gives s (given_by r)) (all_rest (resting m s) && medium_at_end (resting m s)) Over Resting (λ t. no_gift s) (λ t. no_gift s)
-
-prepared_gift : (deck : Deck) (m : MediumState) (s : SysId) (n : NodeState) (choice : Choice) → n.star ≡ None → Goes m → Gives s (given_when m s (prepare deck n choice))
-prepared_gift deck m s n choice alone g = each_prepared deck n (λ c p. Gives s (given_when m s p)) alone (λ t may. no_gift s)
-    (called (Turn (take most_additions n.outbox)) (turn_gift m s (take most_additions n.outbox) g)) (called Rest (rest_gift m s)) (λ c. no_gift s) choice
+-- No other call gives any.
+row_gift : (m : MediumState) (s : SysId) (act : Act) → Round m.message → Gives s (given_by (row m s act).0)
+unfolding row switch_row submit_row take_row mail_row leave_row leave_reply purge_row rest_row
+row_gift m s (Turn out) round = turn_gift m s out round
+row_gift m s (Switch words) round = go m.star (first_number (unseen s m.message.entries))
   where
-    called : (act : Act) → Gives s (given_by (row m s act).0) → Gives s (given_by (reply_to m s (record { known = n.known; act = act })))
-    called act here = each_answer m s (record { known = n.known; act = act }) (λ a. Gives s (given_by a.0)) (no_gift s) (no_gift s) here
+    go : (b : Bool) (o : Option ℕ) → Gives s (given_by (cond {A = Reply × MediumState} b (Already, m) (switch_ring m s words o)).0)
+    go true o = no_gift s
+    go false (Some first) = no_gift s
+    go false None = no_gift s
+row_gift m s (Submit entry q) round = go (route (word m entry) s)
+  where
+    go : (r : Route) → Gives s (given_by (submit_on m s entry q r).0)
+    go routes.Sole = no_gift s
+    go (routes.To to) = no_gift s
+row_gift m s Take round = go (inbox m s.0)
+  where
+    go : (ms : List Mail) → Gives s (given_by (take_from m s ms).0)
+    go [] = no_gift s
+    go (mail ∷ ms) = no_gift s
+row_gift m s (Settle to mail) round = no_gift s
+row_gift m s (Tell to mail) round = no_gift s
+row_gift m s (Leave entry) round = by_test (λ r. Gives s (given_by r)) (is_kept (word m entry) s) (Kept (interest (word m entry))) Left (λ t. no_gift s) (λ t. no_gift s)
+row_gift m s (Purge target) round = go m.star (is_live m target)
+  where
+    go : (b d : Bool) → Gives s (given_by (cond {A = Reply × MediumState} b (InStar, m) (cond d (Purged, without_system m s target) (NoSuch, m))).0)
+    go true d = no_gift s
+    go false true = no_gift s
+    go false false = no_gift s
+row_gift m s Rest round = by_test (λ r. Gives s (given_by r)) (all_rest (resting m s) && medium_at_end (resting m s)) Over Resting (λ t. no_gift s) (λ t. no_gift s)
+
+prepared_gift : (m : MediumState) (s : SysId) (p : Prepared) → Round m.message → Gives s (given_when m s p)
+prepared_gift m s Nothing round = no_gift s
+prepared_gift m s Quiet round = no_gift s
+prepared_gift m s (Call call) round = each_answer m s call (λ a. Gives s (given_by a.0)) (no_gift s) (no_gift s) (row_gift m s call.act round)
 
 pub processed_last : (deck : Deck) → deck.star ≡ false → (es : List Event) (e : Event) → ProcessedLast deck es e
-processed_last deck h es e = go (slice_get (run deck es).nodes e.system.0) refl
+processed_last deck h es e = go (slice_get (run deck es).nodes e.system.0)
   where
-    go : (n : Option NodeState) → slice_get (run deck es).nodes e.system.0 ≡ n → Gives e.system (given_at deck (run deck es) e n)
-    go None at = no_gift e.system
-    go (Some n) at = prepared_gift deck (run deck es).medium e.system n e.choice (all_ring deck h es e.system.0 n at) (goes deck h es)
+    go : (n : Option NodeState) → Gives e.system (given_at deck (run deck es) e n)
+    go None = no_gift e.system
+    go (Some n) = prepared_gift (run deck es).medium e.system (prepare deck n e.choice) (goes deck h es).round

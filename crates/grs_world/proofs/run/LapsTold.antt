@@ -1,6 +1,6 @@
 -- An answer is told last: by an event that tells a task an answer, every other system has processed its requests, and
 -- the event puts no request of that task in.
-use Rattle.std.proofs.Common.{◌≡◌, ◌+◌, cond, Bool, true, false, ◌||◌, ℕ, List, [], ◌∷◌, ◌++◌, length, take, drop, Some, refl, ap, sym, ◌∙◌, subst, append-nil}
+use Rattle.std.proofs.Common.{◌≡◌, ◌+◌, cond, Bool, true, false, ◌||◌, ℕ, List, [], ◌∷◌, ◌++◌, length, take, drop, Some, refl, ap, sym, ◌∙◌, subst, append-nil, ◌<◌, arith}
 use Rattle.std.specs.Prelude.{slice_get, ◌==◌}
 use Rattle.std.specs.List.{list_all, list_any}
 use Rattle.std.proofs.lemmas.Bool.{and_parts, eqb-true, eq-eqb, or_left, or_right}
@@ -11,7 +11,7 @@ use Rattle.grs_base.specs.declared.resource.SysId.{SysId}
 use Rattle.grs_base.specs.declared.resource.TaskId.{TaskId}
 use Rattle.grs_base.proofs.SameLaws.{same_task-exact, same_task-itself}
 use Rattle.grs_node.specs.Node.{NodeState, Step, put_in, read_entries}
-use Rattle.grs_base.specs.Limits.{most_additions}
+use Rattle.grs_base.specs.Limits.{most_additions, most_systems}
 use Rattle.grs_wire.specs.Masks.{has}
 use Rattle.grs_wire.specs.declared.deck.Deck.{Deck}
 use Rattle.grs_wire.specs.declared.deck.Event.{Event}
@@ -24,34 +24,49 @@ use Rattle.grs_wire.specs.declared.request.Fixed.TheVariants.{Asked, LocalLook, 
 use Rattle.grs_wire.specs.declared.request.Req.{Req}
 use Rattle.grs_wire.specs.declared.told.ToldLine.{ToldLine}
 use Rattle.grs_wire.specs.declared.told.ToldLine.TheVariants as lines
-use Rattle.grs_medium.specs.Medium.{live}
+use Rattle.grs_medium.specs.Medium.{live, MediumState}
 use Rattle.rsa_message.specs.Message.{Message, stands_at}
 use Rattle.grs_wire.specs.Unseen.{is_unseen, unseen}
 use Rattle.rsa_message.proofs.OrderLaws.{stands_at-exact}
-use Rattle.grs_known.specs.Items.{RunItem, items}
+use Rattle.grs_known.specs.Items.{RunItem, items, history}
 use Rattle.grs_known.proofs.lists.Facts.{filter-cons_kept}
 use Rattle.grs_known.proofs.lists.Owners.{is_among}
 use Rattle.grs_known.proofs.lists.Truths.{no_truth, or_other}
 use Rattle.grs_world.specs.Laps.{LeftHome, answers, AnsweredLast}
-use Rattle.grs_world.specs.World.{World, Turnout, told_by, placed, happens, run, told, first_world}
+use Rattle.grs_world.specs.World.{World, Turnout, told_by, placed, happens, run, told, first_world, chosen, counted, fixed_by}
 use Rattle.grs_world.proofs.message.LapsMessage.{EndsAtHome, AllEndAtHome, left_at_home}
 use Rattle.grs_world.proofs.message.Stands.{Bodies, body_of}
 use Rattle.grs_world.proofs.message.Stands as stands
-use Rattle.grs_world.proofs.run.Answered.{Answered, answered-by, left_turned}
-use Rattle.grs_world.proofs.run.Came.{Came, nothing, went_on, turn, each_came, IsHome, AllHome, all_home}
+use Rattle.grs_world.proofs.run.Answered.{Answered, answered-by, left_turned, left_behind}
 use Rattle.grs_world.proofs.run.Growing.{fixeds}
-use Rattle.grs_world.proofs.run.InRing.{all_ring}
 use Rattle.grs_world.proofs.run.Laps.{goes}
-use Rattle.grs_world.proofs.run.Messages.{given-later}
-use Rattle.grs_known.proofs.told.News.{told-fewer}
+use Rattle.grs_world.proofs.run.Messages.{given-later, given-due}
+use Rattle.grs_known.proofs.told.News.{told-fewer, ToldNews}
 use Rattle.grs_world.proofs.run.Outcomes.{turn_told}
 use Rattle.grs_world.proofs.run.Runs.{GoodWorld}
-use Rattle.grs_world.proofs.run.Sound.{good_run}
-use Rattle.grs_world.proofs.run.Each.{run-push}
+use Rattle.grs_world.proofs.run.Each.{run-push, each_event}
 use Rattle.grs_known.proofs.system.Askers.{among-front, askers-append}
 use Rattle.grs_world.proofs.system.AtNode.{QuietStep, keeps, fixes}
 use Rattle.grs_world.proofs.system.Quiet.{quiet}
 use Rattle.grs_known.proofs.system.Says.{ToldBy, askers, own_asked, own_requests, is_line_of}
+use Rattle.grs_world.proofs.run.Home.{IsHome, AllHome, all_home}
+use Rattle.grs_world.proofs.run.Desks.{EventTells, tells_already, tells_done, tells_tasks}
+use Rattle.grs_world.proofs.move.Late.{CameLate, came_late, desk_late, nothing_late, task_late, turn_late}
+use Rattle.grs_world.proofs.move.Changing.{IsChanging, Shown, Waits, has_changed, waits_yet}
+use Rattle.grs_world.proofs.move.Begin.{switch-moved}
+use Rattle.grs_world.proofs.move.Decks.{order-may}
+use Rattle.grs_world.proofs.move.Moved.{alive, event-moved}
+use Rattle.grs_world.proofs.move.Sound.{GoodRun, every_run, in_ring, in_star}
+use Rattle.grs_world.proofs.star.Events.{good_choice}
+use Rattle.grs_world.proofs.star.Members.{IsStep}
+use Rattle.grs_world.proofs.system.Desks.{desk-told}
+use Rattle.grs_world.specs.Decks.{FitsStar, may_be_star}
+use Rattle.grs_wire.proofs.DeckLaws.{entries_some}
+use Rattle.grs_wire.specs.declared.told.Said.{Said}
+use Rattle.grs_wire.specs.declared.told.Said.TheVariants as saids
+use Rattle.grs_wire.specs.declared.told.Told.{Told}
+use Rattle.std.proofs.lemmas.Option.{slice_get_within}
+use Rattle.grs_world.proofs.run.InRing.{Came, IsRing, changed, each_came, nothing, turn, went_on}
 
 -- ---- the entries of the message, one of them
 home_of : (before behind : List RingEntry) (e : RingEntry) → AllHome (before ++ e ∷ behind) → IsHome e.from e.body
@@ -105,8 +120,12 @@ lines_home s t (l ∷ ls) mine a = go (answers t l) refl (lines_home s t ls (and
     go true is later = line_home s t l (and_parts _ _ mine).0 is
     go false is later = later (or_other (answers t l) (list_any (answers t) ls) a is)
 
+-- lines of a desk answer no task
+desk_answers : (t : TaskId) (k : ℕ) (said : Said) → list_any (answers t) (lines.Desk k said ∷ []) ≡ false
+desk_answers t k said = refl
+
 -- ---- one event
-module _ (deck : Deck) (ring : deck.star ≡ false) (es : List Event) (e : Event) where
+module _ (deck : Deck) (begins : deck.star ≡ false) (fits : may_be_star deck ≡ true → FitsStar deck) (es : List Event) (e : Event) where
   abbrev w : World
   w = run deck es
 
@@ -128,79 +147,144 @@ module _ (deck : Deck) (ring : deck.star ≡ false) (es : List Event) (e : Event
   from_home : (t : TaskId) (entry : RingEntry) (q : Req) → entry.body ≡ Request q → q.task ≡ t → IsHome entry.from entry.body → entry.from.0 ≡ t.system.0
   from_home t entry q body same home = sym (subst (λ (b : RingBody). IsHome entry.from b) body home) ∙ ap (λ (u : TaskId). u.system.0) same
 
-  module _ (g : GoodWorld deck es w) (n : NodeState) (at : slice_get w.nodes e.system.0 ≡ Some n) where
-    -- So it is where the message stands at the task's system,
-    at_home : stands_at w.medium.message.holder e.system ≡ true → (t : TaskId) → t.system.0 ≡ s → Last t
-    at_home here t home before behind entry q is body same =
-        let m = w.medium.message in
-        let mine : IsHome entry.from entry.body = home_of before behind entry (subst AllHome is (all_home deck ring es)) in
-        let from : entry.from ≡ t.system = ap (λ (x : ℕ). let y : SysId = record { 0 = x } in y) (from_home t entry q body same mine) in
-        left_at_home m.systems t.system m.entries before behind entry ((goes deck ring es).round.awaited t.system (stands_at-exact m.holder e.system here ∙ ap Some (sym (its_system t home)))) is from
+  -- So it is where the message stands at the task's system,
+  at_home : stands_at w.medium.message.holder e.system ≡ true → (t : TaskId) → t.system.0 ≡ s → Last t
+  at_home here t home before behind entry q is body same =
+      let m = w.medium.message in
+      let mine : IsHome entry.from entry.body = home_of before behind entry (subst AllHome is (all_home deck fits es)) in
+      let from : entry.from ≡ t.system = ap (λ (x : ℕ). let y : SysId = record { 0 = x } in y) (from_home t entry q body same mine) in
+      left_at_home m.systems t.system m.entries before behind entry ((goes deck begins es).round.awaited t.system (stands_at-exact m.holder e.system here ∙ ap Some (sym (its_system t home)))) is from
 
+  -- nobody was told an answer
+  none_told : (m : MediumState) (told : List Told) → ((t : TaskId) → list_any (λ x. answers t x.line) (drop (length w.told) told) ≡ false) →
+      (t : TaskId) → list_any (λ x. answers t x.line) (drop (length w.told) told) ≡ true → Last t × LeftHome t m.message.entries
+  none_told m told none t a = absurd (let f : true ≡ false = sym a ∙ none t in cc)
+
+  module _ (n : NodeState) (due : List RunItem) (given : Bodies (fixeds due) (unseen e.system w.medium.message.entries)) where
     -- and where the task has no request that its system has still to process.
-    at_rest : (t : TaskId) → t.system.0 ≡ s → is_among t (askers (own_requests e.system.0 (g.later e.system.0))) ≡ false → Last t
+    at_rest : (t : TaskId) → t.system.0 ≡ s → is_among t (askers (own_requests e.system.0 due)) ≡ false → Last t
     unfolding unseen
-    at_rest t home none before behind entry q is body same u other = ends_of before behind entry (subst AllEndAtHome is (goes deck ring es).round.ends) (seen_by (has entry.mask entry.from.0) refl) u
+    at_rest t home none before behind entry q is body same u other = ends_of before behind entry (subst AllEndAtHome is (goes deck begins es).round.ends) (seen_by (has entry.mask entry.from.0) refl) u
       where
-        here : SysId
-        here = e.system
-
         mine : entry.from.0 ≡ e.system.0
-        mine = from_home t entry q body same (home_of before behind entry (subst AllHome is (all_home deck ring es))) ∙ home
-
-        given : Bodies (fixeds (g.later e.system.0)) (unseen e.system w.medium.message.entries)
-        given = given-later w.medium e.system g.before (g.later s) (items w.fixed) (g.whole s) (g.systems s n at).0 g.message
+        mine = from_home t entry q body same (home_of before behind entry (subst AllHome is (all_home deck fits es))) ∙ home
 
         split : is_unseen e.system entry ≡ true → unseen e.system w.medium.message.entries ≡ unseen e.system before ++ entry ∷ unseen e.system behind
-        split due = ap (unseen e.system) is ∙ (filter-append (is_unseen e.system) before (entry ∷ behind) ∙ ap (λ xs. unseen e.system before ++ xs) (filter-cons_kept (is_unseen e.system) entry behind due))
+        split left = ap (unseen e.system) is ∙ (filter-append (is_unseen e.system) before (entry ∷ behind) ∙ ap (λ xs. unseen e.system before ++ xs) (filter-cons_kept (is_unseen e.system) entry behind left))
 
         seen_by : (b : Bool) → has entry.mask entry.from.0 ≡ b → has entry.mask entry.from.0 ≡ false
         seen_by false m = m
         seen_by true m =
-            let due : is_unseen e.system entry ≡ true = subst (λ (x : ℕ). has entry.mask x ≡ true) mine m in
-            let among = among_bodies s (g.later s) (unseen e.system before) (unseen e.system behind) entry q (subst (Bodies (fixeds (g.later s))) (split due) given) body (ap (λ (x : TaskId). x.system.0) same ∙ home) in
-            no_truth (is_among t (askers (own_requests s (g.later s)))) (subst (λ (x : TaskId). is_among x (askers (own_requests s (g.later s))) ≡ true) same among) none
+            let left : is_unseen e.system entry ≡ true = subst (λ (x : ℕ). has entry.mask x ≡ true) mine m in
+            let among = among_bodies s due (unseen e.system before) (unseen e.system behind) entry q (subst (Bodies (fixeds due)) (split left) given) body (ap (λ (x : TaskId). x.system.0) same ∙ home) in
+            no_truth (is_among t (askers (own_requests s due))) (subst (λ (x : TaskId). is_among x (askers (own_requests s due)) ≡ true) same among) none
 
     -- What was told in the event are these lines.
-    told_now : (k : NodeState) (ls : List ToldLine) → k.tasks.told ≡ n.tasks.told ++ ls → (t : TaskId) → list_any (λ x. answers t x.line) (drop (length w.told) (w.told ++ told_by (w.events + 1) e.system (drop (length n.tasks.told) k.tasks.told))) ≡ true → list_any (answers t) ls ≡ true
-    told_now k ls is t a =
+    told_now : (k : NodeState) (ls : List ToldLine) → k.tasks.told ≡ n.tasks.told ++ ls → (t : TaskId) → list_any (λ x. answers t x.line) (drop (length w.told) (w.told ++ told_by (w.events + 1) e.system (drop (length n.tasks.told) k.tasks.told))) ≡ list_any (answers t) ls
+    told_now k ls is t =
         let new : drop (length n.tasks.told) k.tasks.told ≡ ls = ap (drop (length n.tasks.told)) is ∙ drop-append_seam n.tasks.told ls in
         let all : drop (length w.told) (w.told ++ told_by (w.events + 1) e.system (drop (length n.tasks.told) k.tasks.told)) ≡ told_by (w.events + 1) e.system ls = drop-append_seam w.told _ ∙ ap (told_by (w.events + 1) e.system) new in
-        sym (answers_told t (w.events + 1) e.system ls) ∙ (sym (ap (list_any (λ x. answers t x.line)) all) ∙ a)
+        ap (list_any (λ x. answers t x.line)) all ∙ answers_told t (w.events + 1) e.system ls
 
-    by_step : {H : List HistEntry} (step : Step) → ToldBy deck e.system.0 (own_requests e.system.0 (g.later e.system.0) ++ step.node.outbox) H n.tasks.told step.node.tasks.told → Right (placed w e.system n (record { medium = w.medium; step = step }))
+    -- a line of its desk, or nothing
+    by_nothing : (o : Turnout) → o.step.node.tasks.told ≡ n.tasks.told → Right (placed w e.system n o)
+    unfolding placed
+    by_nothing o told = none_told o.medium (placed w e.system n o).told (λ t. told_now o.step.node [] (told ∙ sym (append-nil n.tasks.told)) t)
+
+    by_desk : (o : Turnout) (k : ℕ) (said : Said) → o.step.node.tasks.told ≡ n.tasks.told ++ lines.Desk k said ∷ [] → Right (placed w e.system n o)
+    unfolding placed
+    by_desk o k said told = none_told o.medium (placed w e.system n o).told (λ t. told_now o.step.node (lines.Desk k said ∷ []) told t ∙ desk_answers t k said)
+
+    -- a task went on
+    by_step : {H : List HistEntry} (step : Step) → ToldBy deck e.system.0 (own_requests e.system.0 due ++ step.node.outbox) H n.tasks.told step.node.tasks.told → Right (placed w e.system n (record { medium = w.medium; step = step }))
     unfolding placed
     by_step step told t a =
-        let m = answered-by (told-fewer (λ u. among-front u (own_requests s (g.later s)) step.node.outbox) told) in
-        let answered = told_now step.node m.lines m.is t a in
+        let m = answered-by (told-fewer (λ u. among-front u (own_requests s due) step.node.outbox) told) in
+        let answered = sym (told_now step.node m.lines m.is t) ∙ a in
         let last : Last t = at_rest t (lines_home s t m.lines m.ours answered) (m.clear t answered) in
         (last, last)
 
-    by_quiet : (step : Step) → QuietStep deck e.system.0 e.system (items w.fixed) (g.before e.system.0) (g.later e.system.0) (own_requests e.system.0 (g.later e.system.0)) n step → Right (placed w e.system n (record { medium = w.medium; step = step }))
-    by_quiet step (keeps none seen told) = by_step step told
-    by_quiet step (fixes q one home alone may seen told) = by_step step told
+    by_quiet : (T before later : List RunItem) (step : Step) → QuietStep deck e.system.0 e.system T before later (own_requests e.system.0 due) n step → Right (placed w e.system n (record { medium = w.medium; step = step }))
+    by_quiet T before later step (keeps none seen told) = by_step step told
+    by_quiet T before later step (fixes q one home alone may seen told) = by_step step told
+
+    -- lines of its tasks, where each of its tasks has none
+    by_lines : {H : List HistEntry} (o : Turnout) → ToldNews deck e.system.0 H n.tasks.told o.step.node.tasks.told → ((t : TaskId) → t.system.0 ≡ s → Last t × LeftHome t o.medium.message.entries) → Right (placed w e.system n o)
+    unfolding placed
+    by_lines o news each t a = each t (lines_home s t news.lines news.ours (sym (told_now o.step.node news.lines news.is t) ∙ a))
+
+    by_tells : (H : List HistEntry) (o : Turnout) (before after : Bool) → EventTells deck e.system H n o.step.node before after → ((t : TaskId) → t.system.0 ≡ s → Last t × LeftHome t o.medium.message.entries) → Right (placed w e.system n o)
+    by_tells H o before after (tells_tasks news done mode) each = by_lines o news each
+    by_tells H o before after (tells_done next told done ring was now) each = by_desk o (n.done + 1) saids.StarDone told
+    by_tells H o before after (tells_already next told done was now) each = by_desk o (n.done + 1) saids.StarAlready told
+
+  -- ---- in ring mode
+  module _ (ring : IsRing deck w) (g : GoodWorld deck es w) (n : NodeState) (at : slice_get w.nodes e.system.0 ≡ Some n) where
+    given : Bodies (fixeds (g.later e.system.0)) (unseen e.system w.medium.message.entries)
+    given = given-later w.medium e.system g.before (g.later s) (items w.fixed) (g.whole s) (g.systems s n at).0 g.message
 
     right : (o : Turnout) → Came deck w e.system n o → Right (placed w e.system n o)
     unfolding placed
-    right o (nothing m k same told) t a = let none : false ≡ true = told_now k [] (told ∙ sym (append-nil n.tasks.told)) t a in absurd cc
-    right o (went_on task may) t a = by_quiet _ (quiet deck s e.system (items w.fixed) (g.before s) (g.later s) (own_requests s (g.later s)) n task (all_ring deck ring es s n at) g.history (g.systems s n at).1 may) t a
-    right o (turn medium here is) t a =
-        let given = given-later w.medium e.system g.before (g.later s) (items w.fixed) (g.whole s) (g.systems s n at).0 g.message in
+    right o (nothing flags) = by_nothing n (g.later s) given o refl
+    right o (went_on task may) = by_quiet n (g.later s) given (items w.fixed) (g.before s) (g.later s) o.step (quiet deck s e.system (items w.fixed) (g.before s) (g.later s) (own_requests s (g.later s)) n task (ring.alone s n at) g.history (g.systems s n at).1 may)
+    right o (turn flags here) = λ t a.
         let out = take most_additions n.outbox in
         let after : NodeState = (put_in (read_entries deck n (unseen e.system w.medium.message.entries)) (length out)).node in
         let m : Answered s n.outbox n.tasks.told after.tasks.told = answered-by (turn_told deck e.system (items w.fixed) (g.before s) (g.later s) g.history (g.whole s) n (length out) (g.systems s n at).1 (unseen e.system w.medium.message.entries) given) in
-        let answered = told_now after m.lines m.is t a in
+        let answered = sym (told_now n (g.later s) given after m.lines m.is t) ∙ a in
         let last : Last t = at_home here t (lines_home s t m.lines m.ours answered) in
-        (last, subst (λ (x : Message). LeftHome t x.entries) (sym is) (left_turned t e.system w.medium.message.next (live w.medium) most_additions n.outbox w.medium.message.entries last (m.clear t answered)))
+        (last, left_turned t e.system w.medium.message.next (live w.medium) most_additions n.outbox w.medium.message.entries last (m.clear t answered))
+    right o (changed next idle) =
+        let f : FitsStar deck = fits (order-may deck n next) in
+        let moved = switch-moved deck begins (entries_some deck.entries f.entries) f.few w ring g.history g.before g.later g.whole g.message g.systems e.system n at next idle in
+        changes (history (items (w.fixed ++ fixed_by e.system []))) o moved.news
+      where
+        changes : (H : List HistEntry) (x : Turnout) → EventTells deck e.system H n x.step.node w.medium.star true → Right (placed w e.system n x)
+        changes H x (tells_tasks news done mode) = absurd (let z : true ≡ false = mode ∙ ring.mode in cc)
+        changes H x (tells_done next told done star was now) = by_desk n (g.later s) given x (n.done + 1) saids.StarDone told
+        changes H x (tells_already next told done was now) = by_desk n (g.later s) given x (n.done + 1) saids.StarAlready told
 
-pub answered_last : (deck : Deck) → deck.star ≡ false → (es : List Event) (e : Event) → AnsweredLast deck es e
-answered_last deck ring es e t a =
-    let g = good_run deck ring es in
-    let w = run deck es in
-    let all : Right deck ring es e (happens deck w e) = each_came deck w e (Right deck ring es e) g.message.no_turn (all_ring deck ring es)
-    (λ u none. nobody u (sym (ap (list_any (λ x. answers u x.line)) (ap (drop (length w.told)) (sym (append-nil w.told)) ∙ drop-append_seam w.told [])) ∙ none))
-    (λ n o at c. right deck ring es e g n at o c) in
-    subst (Right deck ring es e) (sym (run-push deck es (first_world deck) e)) all t a
-  where
-    nobody : (t : TaskId) → false ≡ true → Last deck ring es e t × Last deck ring es e t
-    nobody t f = absurd cc
+  -- ---- once the medium is in star mode
+  module _ (f : FitsStar deck) (g : IsChanging deck w) where
+    given_star : (n : NodeState) → slice_get w.nodes e.system.0 ≡ Some n → Bodies (fixeds (g.due e.system.0)) (unseen e.system w.medium.message.entries)
+    given_star n at = given-due w.medium e.system g.before (g.due s) g.log (g.parts s) (alive deck w g e.system n at) g.message
+
+    inside : (n : NodeState) → slice_get w.nodes e.system.0 ≡ Some n → e.system.0 < most_systems
+    inside n at = let here = slice_get_within w.nodes e.system.0 n at in omega (arith, here, g.count, f.few)
+
+    -- a system that hasn't changed
+    late_right : (n : NodeState) (at : slice_get w.nodes e.system.0 ≡ Some n) → Waits deck e.system.0 (items w.fixed) (g.before e.system.0) (g.due e.system.0) g.since n → (o : Turnout) → CameLate deck w e.system n o → EventTells deck e.system (history (items (w.fixed ++ fixed_by e.system o.step.fixed))) n o.step.node w.medium.star o.medium.star → Right (placed w e.system n o)
+    late_right n at h o (nothing_late flags) tells = by_nothing n (g.due s) (given_star n at) o refl
+    late_right n at h o (task_late task may) tells = by_quiet n (g.due s) (given_star n at) (items w.fixed) (g.before s) (g.due s ++ g.since) o.step (quiet deck s e.system (items w.fixed) (g.before s) (g.due s ++ g.since) (own_requests s (g.due s)) n task h.alone g.whole.right h.seen may)
+    late_right n at h o (turn_late flags here) tells = by_tells n (g.due s) (given_star n at) (history (items (w.fixed ++ fixed_by e.system o.step.fixed))) o w.medium.star o.medium.star tells
+        (λ t home. let last : Last t = at_home here t home in (last, left_behind t e.system w.medium.message.entries last))
+    late_right n at h o (desk_late next) tells = by_desk n (g.due s) (given_star n at) o (n.done + 1) saids.StarAlready (desk-told n saids.StarAlready)
+
+    star_right : (n : NodeState) (at : slice_get w.nodes e.system.0 ≡ Some n) → Right (placed w e.system n (chosen deck w.medium e.system n e.choice))
+    star_right n at = by_shown (g.shown s n at).0 n at (g.shown s n at).1 (g.shown s n at).2
+      where
+        some : 0 < deck.entries
+        some = entries_some deck.entries f.entries
+
+        by_shown : (k m : NodeState) (here : slice_get w.nodes e.system.0 ≡ Some m) → slice_get g.view e.system.0 ≡ Some k → Shown deck e.system.0 (items w.fixed) (g.before e.system.0) (g.due e.system.0) g.since (g.whole.out e.system.0) k m → Right (placed w e.system m (chosen deck w.medium e.system m e.choice))
+        by_shown k m here there (waits_yet x h is empty) = late_right x here h (chosen deck w.medium e.system x e.choice)
+            (came_late deck w g.whole.roles.mode g.closed g.whole.roles.removed e.system x h.alone h.known e.choice) (event-moved deck some w g e.system (inside x here) x here e.choice).news
+        by_shown k m here there (has_changed none) =
+            let o : Turnout = chosen deck w.medium e.system k e.choice in
+            let step : IsStep deck (record w { nodes = g.view }) e.system k o = good_choice deck some (record w { nodes = g.view }) e.system (inside k here) k there g.whole.roles (g.whole.roles.node s k there) e.choice in
+            let rest : (t : TaskId) → t.system.0 ≡ s → Last t = λ t home. at_rest k (g.due s) (given_star k here) t home (ap (λ xs. is_among t (askers (own_requests s xs))) none) in
+            by_tells k (g.due s) (given_star k here) (history (items (w.fixed ++ fixed_by e.system o.step.fixed))) o w.medium.star o.medium.star (event-moved deck some w g e.system (inside k here) k here e.choice).news
+            (λ t home. (rest t home, subst (λ (x : Message). LeftHome t x.entries) (sym step.message) (rest t home)))
+
+  answers_right : Right (happens deck w e)
+  answers_right = by_run (every_run deck fits es)
+    where
+      idle : Right (counted w)
+      idle t a = absurd (let f : true ≡ false = sym a ∙ ap (list_any (λ x. answers t x.line)) (ap (drop (length w.told)) (sym (append-nil w.told)) ∙ drop-append_seam w.told []) in cc)
+
+      by_run : GoodRun deck es w → Right (happens deck w e)
+      by_run (in_ring z ring g d) = each_came deck w e Right ring idle (λ n o at c. right ring g n at o c)
+      by_run (in_star f g told d) = each_event deck w e Right idle (λ n at. star_right f g n at)
+
+pub answered_last : (deck : Deck) → deck.star ≡ false → (may_be_star deck ≡ true → FitsStar deck) → (es : List Event) (e : Event) → AnsweredLast deck es e
+answered_last deck begins fits es e t a = subst (Right deck begins fits es e) (sym (run-push deck es (first_world deck) e)) (answers_right deck begins fits es e) t a

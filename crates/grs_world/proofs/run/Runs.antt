@@ -1,5 +1,5 @@
 -- What holds of the world at every moment of a run, part by part, and how an event of a system keeps it.
-use Rattle.std.proofs.Common.{◌≡◌, ◌≢◌, ◌≤◌, ◌+◌, ◌-◌, Bool, true, false, eqb, ℕ, suc, List, [], ◌∷◌, ◌++◌, length, take, drop, Some, None, refl, ap, sym, ◌∙◌, subst, arith, append-nil, append_assoc, length-append}
+use Rattle.std.proofs.Common.{◌≡◌, ◌≢◌, ◌≤◌, ◌+◌, ◌-◌, Bool, true, false, eqb, ℕ, suc, List, [], ◌∷◌, ◌++◌, length, take, drop, Some, refl, ap, sym, ◌∙◌, subst, arith, append-nil, append_assoc, length-append}
 use Rattle.std.specs.Prelude.{filter, slice_get, set, ◌==◌}
 use Rattle.std.specs.List.{list_all}
 use Rattle.std.proofs.lemmas.Bool.{and_parts, eqb-true, eqb-false}
@@ -20,21 +20,23 @@ use Rattle.grs_wire.specs.declared.told.Told.{Told}
 use Rattle.grs_wire.specs.declared.told.ToldLine.{ToldLine}
 use Rattle.grs_wire.specs.declared.told.ToldLine.TheVariants as lines
 use Rattle.grs_known.specs.Items.{RunItem, rounds, history, items}
-use Rattle.grs_known.specs.Change.{put_at}
+use Rattle.grs_known.specs.Parts.{put_at}
 use Rattle.grs_known.proofs.known.Histories.{IsHistory}
 use Rattle.grs_known.proofs.known.ItemLaws.{items_are_history}
 use Rattle.grs_known.proofs.lists.Facts.{slice_get-set, slice_get-set_other}
 use Rattle.grs_known.proofs.lists.Truths.{false_by}
 use Rattle.grs_known.proofs.lists.Placed.{put_each}
-use Rattle.grs_world.specs.Agree.{Agrees, AgreesBy, AllAgree, Moment, moment, lines_of_told}
+use Rattle.grs_world.specs.Agree.{Agrees, AgreesBy, AllAgree, Moment, moment, lines_of_told, DeskAgrees}
 use Rattle.grs_world.specs.World.{World, Turnout, placed, counted, fixed_by, told_by, happens, run, hist, first_world}
 use Rattle.grs_world.proofs.message.Stands.{Stands, waits_for}
 use Rattle.grs_world.proofs.run.Growing.{fixeds, grows-items, grows-history, grows-rounds, grows-seen, grows-requests, own_requests-append}
-use Rattle.grs_known.proofs.told.News.{LinesAgree, ToldNews, filter-ours}
+use Rattle.grs_known.proofs.told.News.{LinesAgree, ToldNews}
 use Rattle.grs_world.proofs.run.Outcomes.{Outcome}
 use Rattle.grs_world.proofs.run.Each.{run-push}
 use Rattle.grs_world.proofs.system.AtNode.{Seen}
 use Rattle.grs_known.proofs.system.Says.{AgreesBehind, is_line_of, own_requests}
+use Rattle.grs_wire.specs.declared.history.HistEntry.{HistEntry}
+use Rattle.grs_wire.specs.declared.told.Said.{Said}
 
 -- ---- what was told
 lines_of_told-append : (xs ys : List Told) → lines_of_told (xs ++ ys) ≡ lines_of_told xs ++ lines_of_told ys
@@ -122,19 +124,18 @@ by_node ns s n m at P here there u k e = go (eqb u s) refl
     go false f = let ne : u ≢ s = eqb-false u s f in there u k ne (sym (slice_get-set_other ns s u m ne) ∙ e)
 
 -- ---- the parts
--- What was told: it is counted by events, each line agrees with its event, and each system was told its part of it.
+-- What was told: it is counted by events, each line agrees with its event, and each system has told its part of it; the
+-- lines of its desk are in no part of that.
 pub record GoodTold (deck : Deck) (es : List Event) (w : World) : Type 0 where
   pub counted : w.events ≡ length es
   pub by_now : AllBy (length es) w.told
   pub agree : AllAgree deck es [] w.told
-  pub lines : (s : ℕ) (n : NodeState) → slice_get w.nodes s ≡ Some n → n.tasks.told ≡ filter (is_line_of s) (lines_of_told w.told)
+  pub lines : (s : ℕ) (n : NodeState) → slice_get w.nodes s ≡ Some n → filter (is_line_of s) n.tasks.told ≡ filter (is_line_of s) (lines_of_told w.told)
 
--- The message holds, of all that was put in, what a system has yet to process, under its number; and where it is closed
--- nobody has a Turn.
+-- The message holds, of all that was put in, what a system has yet to process, under its number.
 pub record GoodMessage (m : MediumState) (log : List Fixed) (seen : ℕ → ℕ) : Type 0 where
   pub stands : Stands (waits_for (live m) seen) 0 log m.message.entries
   pub next : m.message.next ≡ suc (length log)
-  pub no_turn : m.message.closed ≡ true → m.message.holder ≡ None
 
 -- what went with the message, and how much of it systems have processed
 abbrev pub message_log : List RunItem → List Fixed
@@ -168,33 +169,53 @@ told-counted deck es e w g = record {
   lines = g.lines;
 }
 
--- What the system of an event tells agrees with the history after the event: so does all that was told.
-pub told-after : (deck : Deck) (es : List Event) (e : Event) (n : NodeState) → slice_get (run deck es).nodes e.system.0 ≡ Some n → GoodTold deck es (run deck es) → (o : Turnout) (T : List RunItem) →
-    items (placed (run deck es) e.system n o).fixed ≡ T → ToldNews deck e.system.0 (history T) n.tasks.told o.step.node.tasks.told → happens deck (run deck es) e ≡ placed (run deck es) e.system n o → GoodTold deck (es ++ e ∷ []) (placed (run deck es) e.system n o)
-unfolding placed
-told-after deck es e n at g o T items_now news is =
-    let w : World = run deck es in
-    let s : ℕ = e.system.0 in
-    let after : List ToldLine = o.step.node.tasks.told in
-    let lines_are : drop (length n.tasks.told) after ≡ news.lines = ap (drop (length n.tasks.told)) news.is ∙ drop-append_seam n.tasks.told news.lines in
-    let told_is : w.told ++ told_by (w.events + 1) e.system (drop (length n.tasks.told) after) ≡ w.told ++ told_by (w.events + 1) e.system news.lines = ap (λ ls. w.told ++ told_by (w.events + 1) e.system ls) lines_are in
-    let all_lines : lines_of_told (w.told ++ told_by (w.events + 1) e.system (drop (length n.tasks.told) after)) ≡ lines_of_told w.told ++ news.lines =
-    ap lines_of_told told_is ∙ (lines_of_told-append w.told (told_by (w.events + 1) e.system news.lines) ∙ ap (λ z. lines_of_told w.told ++ z) (lines-told_by (w.events + 1) e.system news.lines)) in
-    let number : w.events + 1 ≡ length (es ++ e ∷ []) = ap (λ k. k + 1) g.counted ∙ sym (length-append es (e ∷ [])) in
-    let hist_run : hist deck (es ++ e ∷ []) ≡ history T = ap (λ (x : World). answered x.fixed) (run-push deck es (first_world deck) e ∙ is) ∙ sym (items_are_history (w.fixed ++ fixed_by e.system o.step.fixed)).0 ∙ ap history items_now in
-    record {
-      counted = number;
-      by_now = subst (λ xs. AllBy (length (es ++ e ∷ [])) xs) (sym told_is) (by-append (length (es ++ e ∷ [])) w.told (told_by (w.events + 1) e.system news.lines) (by-later (length es) (length (es ++ e ∷ [])) (omega (arith, length-append es (e ∷ []))) w.told g.by_now)
-          (subst (λ k. AllBy k (told_by (w.events + 1) e.system news.lines)) number (by-told (w.events + 1) e.system news.lines)));
-      agree = subst (λ xs. AllAgree deck (es ++ e ∷ []) [] xs) (sym told_is)
-          (agree-append deck (es ++ e ∷ []) [] w.told (told_by (w.events + 1) e.system news.lines) (agree-longer deck es e [] w.told g.by_now g.agree)
-          (agree-new deck (es ++ e ∷ []) (w.events + 1) e.system w.told news.lines number news.ours
-          (subst (λ H. LinesAgree deck H (lines_of_told w.told) news.lines) (sym hist_run) (news.agree (lines_of_told w.told) (g.lines s n at)))));
-      lines = by_node w.nodes s n o.step.node at (λ u k. k.tasks.told ≡ filter (is_line_of u) (lines_of_told (w.told ++ told_by (w.events + 1) e.system (drop (length n.tasks.told) after))))
-          (news.is ∙ (ap (λ z. z ++ news.lines) (g.lines s n at) ∙ (ap (λ z. filter (is_line_of s) (lines_of_told w.told) ++ z) (sym (filter-ours s news.lines news.ours)) ∙ (sym (filter-append (is_line_of s) (lines_of_told w.told) news.lines) ∙ ap (filter (is_line_of s)) (sym all_lines)))))
-          (λ u k ne f. g.lines u k f ∙ (sym (append-nil (filter (is_line_of u) (lines_of_told w.told))) ∙ (ap (λ z. filter (is_line_of u) (lines_of_told w.told) ++ z) (sym (lines-apart s u news.lines ne news.ours))
-          ∙ (sym (filter-append (is_line_of u) (lines_of_told w.told) news.lines) ∙ ap (filter (is_line_of u)) (sym all_lines)))));
-    }
+-- What an event of system c tells, where this was told before it: lines of its tasks that agree with the history H, or one line
+-- of its desk.
+pub data Tells (deck : Deck) (w : World) (c : SysId) (H : List HistEntry) (T0 T : List ToldLine) : Type 0 where
+  to_tasks : ToldNews deck c.0 H T0 T → Tells deck w c H T0 T
+  at_desk : (k : ℕ) (said : Said) → T ≡ T0 ++ lines.Desk k said ∷ [] → ((m : Moment) → m.before ≡ w.told → DeskAgrees deck m (w.events + 1) c k said) → Tells deck w c H T0 T
+
+module _ (deck : Deck) (es : List Event) (e : Event) (n : NodeState) (at : slice_get (run deck es).nodes e.system.0 ≡ Some n) (g : GoodTold deck es (run deck es)) (o : Turnout) (T : List RunItem) (items_now : items (placed (run deck es) e.system n o).fixed ≡ T) (is : happens deck (run deck es) e ≡ placed (run deck es) e.system n o) where
+  abbrev told_world : World
+  told_world = run deck es
+
+  -- the number of the event
+  told_number : (run deck es).events + 1 ≡ length (es ++ e ∷ [])
+  told_number = ap (λ k. k + 1) g.counted ∙ sym (length-append es (e ∷ []))
+
+  told_history : hist deck (es ++ e ∷ []) ≡ history T
+  unfolding placed
+  told_history = ap (λ (x : World). answered x.fixed) (run-push deck es (first_world deck) e ∙ is) ∙ sym (items_are_history ((run deck es).fixed ++ fixed_by e.system o.step.fixed)).0 ∙ ap history items_now
+
+  -- it tells these lines, each of which agrees, and none is of another system's task
+  told-behind : (ls : List ToldLine) → o.step.node.tasks.told ≡ n.tasks.told ++ ls → ((u : ℕ) → u ≢ e.system.0 → filter (is_line_of u) ls ≡ []) →
+      AllAgree deck (es ++ e ∷ []) (run deck es).told (told_by ((run deck es).events + 1) e.system ls) → GoodTold deck (es ++ e ∷ []) (placed (run deck es) e.system n o)
+  unfolding placed
+  told-behind ls now apart agree =
+      let w : World = run deck es in
+      let s : ℕ = e.system.0 in
+      let after : List ToldLine = o.step.node.tasks.told in
+      let lines_are : drop (length n.tasks.told) after ≡ ls = ap (drop (length n.tasks.told)) now ∙ drop-append_seam n.tasks.told ls in
+      let told_is : w.told ++ told_by (w.events + 1) e.system (drop (length n.tasks.told) after) ≡ w.told ++ told_by (w.events + 1) e.system ls = ap (λ xs. w.told ++ told_by (w.events + 1) e.system xs) lines_are in
+      let all_lines : lines_of_told (w.told ++ told_by (w.events + 1) e.system (drop (length n.tasks.told) after)) ≡ lines_of_told w.told ++ ls =
+      ap lines_of_told told_is ∙ (lines_of_told-append w.told (told_by (w.events + 1) e.system ls) ∙ ap (λ z. lines_of_told w.told ++ z) (lines-told_by (w.events + 1) e.system ls)) in
+      record {
+        counted = told_number;
+        by_now = subst (λ xs. AllBy (length (es ++ e ∷ [])) xs) (sym told_is) (by-append (length (es ++ e ∷ [])) w.told (told_by (w.events + 1) e.system ls) (by-later (length es) (length (es ++ e ∷ [])) (omega (arith, length-append es (e ∷ []))) w.told g.by_now)
+            (subst (λ k. AllBy k (told_by (w.events + 1) e.system ls)) told_number (by-told (w.events + 1) e.system ls)));
+        agree = subst (λ xs. AllAgree deck (es ++ e ∷ []) [] xs) (sym told_is) (agree-append deck (es ++ e ∷ []) [] w.told (told_by (w.events + 1) e.system ls) (agree-longer deck es e [] w.told g.by_now g.agree) agree);
+        lines = by_node w.nodes s n o.step.node at (λ u k. filter (is_line_of u) k.tasks.told ≡ filter (is_line_of u) (lines_of_told (w.told ++ told_by (w.events + 1) e.system (drop (length n.tasks.told) after))))
+            (ap (filter (is_line_of s)) now ∙ (filter-append (is_line_of s) n.tasks.told ls ∙ (ap (λ z. z ++ filter (is_line_of s) ls) (g.lines s n at) ∙ (sym (filter-append (is_line_of s) (lines_of_told w.told) ls) ∙ ap (filter (is_line_of s)) (sym all_lines)))))
+            (λ u k ne f. g.lines u k f ∙ (sym (append-nil (filter (is_line_of u) (lines_of_told w.told))) ∙ (ap (λ z. filter (is_line_of u) (lines_of_told w.told) ++ z) (sym (apart u ne))
+            ∙ (sym (filter-append (is_line_of u) (lines_of_told w.told) ls) ∙ ap (filter (is_line_of u)) (sym all_lines)))));
+      }
+
+  -- What the system of an event tells agrees with the history after the event: so does all that was told.
+  pub told-after : Tells deck (run deck es) e.system (history T) n.tasks.told o.step.node.tasks.told → GoodTold deck (es ++ e ∷ []) (placed (run deck es) e.system n o)
+  told-after (to_tasks news) = told-behind news.lines news.is (λ u ne. lines-apart e.system.0 u news.lines ne news.ours)
+      (agree-new deck (es ++ e ∷ []) (told_world.events + 1) e.system told_world.told news.lines told_number news.ours
+      (subst (λ H. LinesAgree deck H (lines_of_told told_world.told) news.lines) (sym told_history) (news.agree (lines_of_told told_world.told) (g.lines e.system.0 n at))))
+  told-after (at_desk k said now agrees) = told-behind (lines.Desk k said ∷ []) now (λ u ne. refl) (agrees (moment deck (es ++ e ∷ []) (told_world.events + 1) told_world.told) refl, tt)
 
 -- the world after an event of a system, whose outcome is known
 module _ (deck : Deck) (es : List Event) (e : Event) (g : GoodWorld deck es (run deck es)) (n : NodeState) (at : slice_get (run deck es).nodes e.system.0 ≡ Some n) where
@@ -216,7 +237,7 @@ module _ (deck : Deck) (es : List Event) (e : Event) (g : GoodWorld deck es (run
     items-now = grows-items w.fixed o.grows
 
     told-now : happens deck (run deck es) e ≡ after → GoodTold deck (es ++ e ∷ []) after
-    told-now is = told-after deck es e n at g.told (record { medium = m; step = st }) o.items items-now o.news is
+    told-now is = told-after deck es e n at g.told (record { medium = m; step = st }) o.items items-now is (to_tasks o.news)
 
     -- what the systems have processed, and have yet to process
     abbrev before_now : ℕ → List RunItem

@@ -153,7 +153,7 @@ abbrev star_done : Told
 star_done = at 1 0 (Desk 1 StarDone)
 
 -- the first to command it changes the complex, and the next is told that it has changed
-star_once : Agrees desks (fixing [] []) star_done × Agrees desks (fixing [] (star_done ∷ [])) (at 2 1 (Desk 1 StarAlready))
+pub star_once : Agrees desks (fixing [] []) star_done × Agrees desks (fixing [] (star_done ∷ [])) (at 2 1 (Desk 1 StarAlready))
 star_once = ((omega arith, refl, refl), (omega arith, refl, refl))
 
 star_twice : Agrees desks (fixing [] (star_done ∷ [])) (at 2 1 (Desk 1 StarDone)) → ⊥

@@ -47,7 +47,7 @@ unfolding has without with_also first_after unseen any_unseen cleared stamped tu
 goes_round = (refl, refl, refl, refl)
 
 -- No message comes home before system 1 has processed the entry.
-home_early : LastAtHome (message_at 0 (entry 1 0 3 ∷ []) 2) → ⊥
+pub home_early : LastAtHome (message_at 0 (entry 1 0 3 ∷ []) 2) → ⊥
 unfolding has
 home_early law = let unseen_by_1 : true ≡ false = law (sys 0) [] [] (entry 1 0 3) (ask 0) refl refl refl refl 1 (λ e. omega arith) in absurd cc
 

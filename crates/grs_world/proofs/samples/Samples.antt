@@ -21,7 +21,7 @@ use Rattle.grs_base.specs.declared.rnl.RnlEntry.{RnlEntry}
 use Rattle.grs_base.specs.Rnl.{no_entries}
 use Rattle.grs_medium.specs.Apply.{turn_row, rest_row, row, apply, reply_to}
 use Rattle.grs_medium.specs.Medium.{medium_at_end}
-use Rattle.grs_node.specs.Node.{decide, post, ask, wait, take_line, end_step, ready_step, phase_step, is_pending, may_go, prepare, finish_quiet, read_entries, all_sent, put_in, finish_star, finish_call, finish}
+use Rattle.grs_node.specs.Node.{decide, post, ask, wait, take_line, end_step, ready_step, phase_step, is_pending, may_go, prepare, finish_quiet, read_entries, all_sent, put_in, finish_star, finish_call, finish, first_node, turned as system_turned}
 use Rattle.grs_wire.specs.Masks.{has, without, with_also}
 use Rattle.grs_wire.specs.declared.deck.Deck.{Deck}
 use Rattle.grs_wire.specs.declared.deck.Event.{Event}
@@ -40,7 +40,6 @@ use Rattle.grs_wire.specs.Unseen.{unseen}
 use Rattle.task_state.specs.declared.state.Rec.{Rec}
 use Rattle.task_state.specs.Replies.{tell_code, record_enq, after_code, replied, passes_wait, tell_line, tell_untold, tell_control, tell_all, tell_new, recalled, tell_answer, tell_answer_any}
 use Rattle.task_state.specs.View.{state_of, with_state, with_line, with_phase, with_outstanding, with_record, without_record, with_told, with_exclusive, telling}
-use Rattle.grs_node.specs.Node.{first_node}
 use Rattle.grs_world.specs.World.{World, first_world, carry_out, chosen, placed, happens_at, happens, run, hist, told}
 
 abbrev pub system : ℕ → SysId
@@ -112,7 +111,7 @@ waits_for_ecb = deck_of (((enq 66 E System RetNone ∷ deq 66 System ∷ []) ∷
 abbrev deadlock : Deck
 deadlock = deck_of (((enq 88 E System RetNone ∷ enq 89 E System RetNone ∷ []) ∷ (enq 89 E System RetNone ∷ enq 88 E System RetNone ∷ []) ∷ []) ∷ [])
 
-samples :
+pub samples :
     (hist behind_ecb (goes 0 0 ∷ goes 0 1 ∷ goes 0 2 ∷ goes 0 1 ∷ goes 0 1 ∷ [])
     ≡ Enq (task_of 0 0) (own 66) S RetNone C00 ∷ Enq (task_of 0 1) (own 66) E RetEcb C04 ∷ Enq (task_of 0 2) (own 66) S RetNone Wait ∷ Release (task_of 0 1) (own 66) ∷ [])
     × (told behind_ecb (goes 0 0 ∷ goes 0 1 ∷ goes 0 2 ∷ goes 0 1 ∷ goes 0 1 ∷ [])
@@ -162,7 +161,7 @@ reserves :
     × (told volumes (goes 0 0 ∷ goes 0 0 ∷ turn 0 ∷ turn 0 ∷ []) ≡ at 1 0 (Coded (task_of 0 0) 1 0 verbs.Enq C00) ∷ at 4 0 (Coded (task_of 0 0) 2 0 verbs.Enq C00) ∷ [])
     × (records (run volumes (goes 0 0 ∷ goes 0 0 ∷ turn 0 ∷ turn 0 ∷ []))
     ≡ ((record { res = own_volume 49; ctl = E; rank = 0; told = true; unit = Some 6657; line = 1 } ∷ record { res = shared_volume 50; ctl = E; rank = 0; told = true; unit = None; line = 2 } ∷ []) ∷ []) ∷ [])
-unfolding state_of with_state with_line with_phase with_outstanding with_record without_record with_told with_exclusive telling tell_code record_enq after_code replied passes_wait tell_line tell_untold tell_control tell_all tell_new recalled tell_answer tell_answer_any answer_own process process_entry decide post ask wait take_line end_step ready_step phase_step may_go prepare finish_quiet read_entries all_sent put_in finish_call finish has without with_also first_after unseen any_unseen cleared stamped turn_reply wakes rest_after_turn turned turn_row row apply first_node first_world carry_out chosen placed happens_at happens
+unfolding state_of with_state with_line with_phase with_outstanding with_record without_record with_told with_exclusive telling tell_code record_enq after_code replied passes_wait tell_line tell_untold tell_control tell_all tell_new recalled tell_answer tell_answer_any answer_own process process_entry decide post ask wait take_line end_step ready_step phase_step may_go prepare finish_quiet read_entries system_turned all_sent put_in finish_call finish has without with_also first_after unseen any_unseen cleared stamped turn_reply wakes rest_after_turn turned turn_row row apply first_node first_world carry_out chosen placed happens_at happens
 reserves = (refl, refl, refl)
 
 -- ---- a ring
@@ -213,7 +212,7 @@ rings :
     ≡ at 5 0 (Coded (task_of 0 0) 1 0 verbs.Enq C00) ∷ at 6 1 (Coded (task_of 1 0) 1 0 verbs.Enq C04) ∷ at 11 0 (Coded (task_of 0 0) 2 0 verbs.Deq C00) ∷ at 12 1 (Coded (task_of 1 0) 2 0 verbs.Deq C00) ∷ [])
     × (records (run about_to_leave both_leave) ≡ ((asked_first true ∷ []) ∷ []) ∷ ((asked_first false ∷ []) ∷ []) ∷ [])
     × (records (run about_to_leave (both_leave ++ turn 1 ∷ [])) ≡ ((asked_first true ∷ []) ∷ []) ∷ ((asked_first true ∷ []) ∷ []) ∷ [])
-unfolding state_of with_state with_line with_phase with_outstanding with_record without_record with_told with_exclusive telling tell_code record_enq after_code replied passes_wait tell_line tell_untold tell_control tell_all tell_new recalled tell_answer tell_answer_any answer_own process process_entry decide post ask wait take_line end_step ready_step phase_step may_go prepare finish_quiet read_entries all_sent put_in finish_call finish has without with_also first_after unseen any_unseen cleared stamped turn_reply wakes rest_after_turn turned turn_row row apply first_node first_world carry_out chosen placed happens_at happens
+unfolding state_of with_state with_line with_phase with_outstanding with_record without_record with_told with_exclusive telling tell_code record_enq after_code replied passes_wait tell_line tell_untold tell_control tell_all tell_new recalled tell_answer tell_answer_any answer_own process process_entry decide post ask wait take_line end_step ready_step phase_step may_go prepare finish_quiet read_entries system_turned all_sent put_in finish_call finish has without with_also first_after unseen any_unseen cleared stamped turn_reply wakes rest_after_turn turned turn_row row apply first_node first_world carry_out chosen placed happens_at happens
 rings = (refl, refl, refl, refl, refl, refl, refl, refl)
 
 -- ---- rest

@@ -17,8 +17,7 @@ use Rattle.grs_base.specs.declared.resource.TaskId.{TaskId}
 use Rattle.grs_base.specs.declared.rnl.Which.TheVariants as which
 use Rattle.grs_base.specs.Rnl.{no_entries}
 use Rattle.grs_medium.specs.Apply.{turn_row, row, apply}
-use Rattle.grs_node.specs.Node.{decide, post, ask, wait, take_line, end_step, ready_step, phase_step, may_go, prepare, finish_quiet, read_entries, all_sent, put_in, finish_call, finish, first_node}
-use Rattle.grs_node.specs.Node.{NodeState}
+use Rattle.grs_node.specs.Node.{decide, post, ask, wait, take_line, end_step, ready_step, phase_step, may_go, prepare, finish_quiet, read_entries, all_sent, put_in, finish_call, finish, first_node, NodeState, turned as system_turned}
 use Rattle.grs_node.specs.Star.{StarPart, first_part}
 use Rattle.grs_wire.specs.History.{answered, replay}
 use Rattle.grs_wire.specs.LockWords.{manager}
@@ -42,7 +41,7 @@ use Rattle.task_state.specs.View.{state_of, with_state, with_line, with_phase, w
 use Rattle.grs_world.specs.Kept.{places, kept}
 use Rattle.grs_world.specs.Laps.{LeftHome, given, told_next}
 use Rattle.grs_world.specs.Tables.{before_number, first_unseen}
-use Rattle.grs_known.specs.Change.{systems_part}
+use Rattle.grs_known.specs.Parts.{systems_part}
 use Rattle.grs_world.specs.World.{World, first_world, carry_out, chosen, placed, happens_at, happens, run}
 
 abbrev sys : ℕ → SysId
@@ -83,7 +82,7 @@ fixed = looks ∷ local_look ∷ enq ∷ removal ∷ []
 abbrev table_before : ℕ → State
 table_before number = systems_part (replay 4096 (answered (before_number number fixed)))
 
-fronts :
+pub fronts :
     (before_number 1 fixed ≡ [])
     × (before_number 2 fixed ≡ looks ∷ local_look ∷ [])
     × (before_number 3 fixed ≡ looks ∷ local_look ∷ enq ∷ [])
@@ -143,7 +142,7 @@ keeps :
     × (given ring (run ring half_way) (turn 0) ≡ entry 1 ∷ [])
     × (told_next ring put (turn 1) ≡ [])
     × (told_next ring half_way (turn 0) ≡ record { event = 4; system = sys 0; line = Coded (task_of 0) 1 0 verbs.Enq C00 } ∷ [])
-unfolding state_of with_state with_line with_phase with_outstanding with_record without_record with_told with_exclusive telling tell_code record_enq after_code replied passes_wait tell_line tell_untold tell_control tell_all tell_new recalled tell_answer tell_answer_any answer_own process process_entry decide post ask wait take_line end_step ready_step phase_step may_go prepare finish_quiet read_entries all_sent put_in finish_call finish has without with_also first_after unseen any_unseen cleared stamped turn_reply wakes rest_after_turn turned turn_row row apply first_node first_world carry_out chosen placed happens_at happens
+unfolding state_of with_state with_line with_phase with_outstanding with_record without_record with_told with_exclusive telling tell_code record_enq after_code replied passes_wait tell_line tell_untold tell_control tell_all tell_new recalled tell_answer tell_answer_any answer_own process process_entry decide post ask wait take_line end_step ready_step phase_step may_go prepare finish_quiet read_entries system_turned all_sent put_in finish_call finish has without with_also first_after unseen any_unseen cleared stamped turn_reply wakes rest_after_turn turned turn_row row apply first_node first_world carry_out chosen placed happens_at happens
 keeps = (refl, refl, refl, refl, refl, refl, refl, refl, refl, refl, refl)
 
 -- ---- a complex that changes to star mode
@@ -179,7 +178,7 @@ keeps_in_change :
     × (kept ring (changing 515 (Some manages_one)) (sys 0) shared ≡ element 1 ∷ [])
     × (kept ring (changing 515 (Some manages_none)) (sys 0) shared ≡ [])
     × (kept ring (changing 0 (Some manages_one)) (sys 1) shared ≡ [])
-unfolding state_of with_state with_line with_phase with_outstanding with_record without_record with_told with_exclusive telling tell_code record_enq after_code replied passes_wait tell_line tell_untold tell_control tell_all tell_new recalled tell_answer tell_answer_any answer_own process process_entry decide post ask wait take_line end_step ready_step phase_step may_go prepare finish_quiet read_entries all_sent put_in finish_call finish has without with_also first_after unseen any_unseen cleared stamped turn_reply wakes rest_after_turn turned turn_row row apply first_node first_world carry_out chosen placed happens_at happens manager
+unfolding state_of with_state with_line with_phase with_outstanding with_record without_record with_told with_exclusive telling tell_code record_enq after_code replied passes_wait tell_line tell_untold tell_control tell_all tell_new recalled tell_answer tell_answer_any answer_own process process_entry decide post ask wait take_line end_step ready_step phase_step may_go prepare finish_quiet read_entries system_turned all_sent put_in finish_call finish has without with_also first_after unseen any_unseen cleared stamped turn_reply wakes rest_after_turn turned turn_row row apply first_node first_world carry_out chosen placed happens_at happens manager
 keeps_in_change = (refl, refl, refl, refl, refl, refl)
 
 -- Were the asker told by the Turn that puts its request in, it would be told too early: the message was empty before, but
@@ -187,5 +186,5 @@ keeps_in_change = (refl, refl, refl, refl, refl, refl)
 told_at_once :
     ((run ring (goes ∷ [])).medium.message.entries ≡ [])
     × (LeftHome (task_of 0) (run ring put).medium.message.entries → ⊥)
-unfolding state_of with_state with_line with_phase with_outstanding with_record without_record with_told with_exclusive telling tell_code record_enq after_code replied passes_wait tell_line tell_untold tell_control tell_all tell_new recalled tell_answer tell_answer_any answer_own process process_entry decide post ask wait take_line end_step ready_step phase_step may_go prepare finish_quiet read_entries all_sent put_in finish_call finish has without with_also first_after unseen any_unseen cleared stamped turn_reply wakes rest_after_turn turned turn_row row apply first_node first_world carry_out chosen placed happens_at happens
+unfolding state_of with_state with_line with_phase with_outstanding with_record without_record with_told with_exclusive telling tell_code record_enq after_code replied passes_wait tell_line tell_untold tell_control tell_all tell_new recalled tell_answer tell_answer_any answer_own process process_entry decide post ask wait take_line end_step ready_step phase_step may_go prepare finish_quiet read_entries system_turned all_sent put_in finish_call finish has without with_also first_after unseen any_unseen cleared stamped turn_reply wakes rest_after_turn turned turn_row row apply first_node first_world carry_out chosen placed happens_at happens
 told_at_once = (refl, λ law. let unseen_by_1 : true ≡ false = law [] [] (entry 3) (enq_by 0) refl refl refl 1 (λ e. omega arith) in absurd cc)

@@ -13,24 +13,23 @@ use Rattle.grs_base.specs.declared.resource.Res.{Res}
 use Rattle.grs_base.specs.declared.resource.SysId.{SysId}
 use Rattle.grs_base.specs.declared.resource.TaskId.{TaskId}
 use Rattle.grs_legal.specs.Asks.{lines_of}
-use Rattle.grs_medium.specs.Apply.{apply, row, submit_row, submit_on, joined, take_row, take_from, mail_row, leave_row, rest_row, resting, manages as manages_word}
+use Rattle.grs_medium.specs.Apply.{row, submit_row, submit_on, joined, take_row, take_from, mail_row, leave_row, rest_row, resting, manages as manages_word, switch_ring, switch_row}
 use Rattle.grs_medium.specs.Inboxes.{with_mail, without_first}
 use Rattle.grs_medium.specs.Medium.{MediumState, inbox, awake, all_rest, medium_at_end}
-use Rattle.grs_node.specs.Node.{NodeState, prepare, prepared_by, star_call, star_need, may_go, may_send, is_pending, finish, finish_quiet, finish_call, finish_star, with_star, send_own, turn_call, is_for_deck}
+use Rattle.grs_node.specs.Node.{NodeState, prepare, prepared_by, star_call, star_need, may_go, may_send, is_pending, finish, finish_quiet, finish_call, finish_star, with_star, send_own, turn_call, is_for_deck, desk_told, next_order, own_words, switch_call}
 use Rattle.grs_node.specs.Star.{StarPart, StarStep, request_of, entry_for, entry_asked, manages, has_interest, with_interest, serves, answer_for, rank_of, to_tell, first_held, may_leave, is_busy_in, is_done_with, send_to, send_of, settle_by, tell_by, fixing_none, decide_own, own_step, begun, begin_at, sent_to, with_held, took_mail, settled_first, settled_by, told_by, left_at}
 use Rattle.lock_structure.specs.Entries.{is_entry}
 use Rattle.grs_node.specs.declared.star.Need.{Need}
 use Rattle.grs_node.specs.declared.star.Need.TheVariants.{Alone, Asks, Idle}
 use Rattle.grs_node.specs.declared.prepared.Prepared.TheVariants.{Quiet, Call, Nothing}
 use Rattle.grs_wire.specs.LockWords.{manager, is_manager, lock_word, epoch, leave_reply, is_kept, leave_changes, left_word, interest}
-use Rattle.grs_wire.specs.Masks.{has, without}
+use Rattle.grs_wire.specs.Masks.{without}
 use Rattle.grs_wire.specs.Wants.{after_want}
 use Rattle.grs_wire.specs.declared.deck.Choice.{Choice}
 use Rattle.grs_wire.specs.declared.deck.Choice.TheVariants as choices
 use Rattle.grs_wire.specs.declared.deck.Deck.{Deck}
 use Rattle.grs_wire.specs.declared.medium.Act.{Act}
 use Rattle.grs_wire.specs.declared.medium.Act.TheVariants as acts
-use Rattle.grs_wire.specs.declared.medium.Call.{Call as CallOfMedium}
 use Rattle.grs_wire.specs.declared.medium.Mail.{Mail}
 use Rattle.grs_wire.specs.declared.medium.Mail.TheVariants as mails
 use Rattle.grs_wire.specs.declared.medium.Reply.{Reply}
@@ -38,7 +37,6 @@ use Rattle.grs_wire.specs.declared.medium.Reply.TheVariants as replies
 use Rattle.grs_wire.specs.declared.request.Fixed.{Fixed}
 use Rattle.grs_wire.specs.declared.request.Fixed.TheVariants as fixes
 use Rattle.grs_wire.specs.declared.request.Req.{Req}
-use Rattle.grs_wire.proofs.MaskLaws.{has-zero}
 use Rattle.grs_wire.proofs.WantLaws.{by_test}
 use Rattle.lock_structure.specs.Laws.{is_interested, manager_at}
 use Rattle.lock_structure.specs.Words.{word_at, route, route_by, submitted_words, left_words}
@@ -53,13 +51,12 @@ use Rattle.grs_world.proofs.star.Members.{IsPart, IsMember, IsStar, IsStep, Move
 use Rattle.grs_world.proofs.star.Roles.{part-settled, part-told, part-held, part-interest, part-place, part-left, want-within, interest-within}
 use Rattle.grs_world.proofs.star.Tasks.{task-quiet}
 use Rattle.grs_world.proofs.star.Under.{under, under-other}
-
--- a call of a system that wasn't removed, where none was
-pub heard : (m : MediumState) (c : SysId) (call : CallOfMedium) → m.removed ≡ 0 → call.known ≡ 0 → apply m c call ≡ row m c call.act
-unfolding apply
-heard m c call none known =
-    ap (λ b. cond b (replies.Removed, m) (cond (call.known == m.removed) (row m c call.act) (replies.Stale m.removed, m))) (ap (λ z. has z c.0) none ∙ has-zero c.0)
-    ∙ ap (λ b. cond b (row m c call.act) (replies.Stale m.removed, m)) (eq-eqb call.known m.removed (known ∙ sym none))
+use Rattle.grs_wire.specs.declared.deck.Order.TheVariants as orders
+use Rattle.grs_wire.specs.declared.deck.Order.{Order}
+use Rattle.grs_known.proofs.lists.Alike.{Alike, alike-itself, alike-none}
+use Rattle.grs_world.proofs.run.InRing.{heard}
+use Rattle.rsa_message.specs.Message.{first_number}
+use Rattle.grs_wire.specs.Unseen.{unseen}
 
 module _ (deck : Deck) (some : 0 < deck.entries) (w : World) (c : SysId) (few : c.0 < most_systems) (n : NodeState) (at : slice_get w.nodes c.0 ≡ Some n) (g : IsStar deck w) (me : IsMember deck w.medium.words (all_lists w) c.0 n) where
   abbrev words : List ℕ
@@ -85,6 +82,7 @@ module _ (deck : Deck) (some : 0 < deck.entries) (w : World) (c : SysId) (few : 
     mode = g.mode;
     removed = g.removed;
     inboxes = same;
+    message = refl;
     moves = m;
     member = record { part = q; star = refl; outbox = me.outbox; known = me.known; fits = k };
   }
@@ -95,7 +93,7 @@ module _ (deck : Deck) (some : 0 < deck.entries) (w : World) (c : SysId) (few : 
   still boxes flags v q same k = step words boxes flags v q [] same (stays deck w c.0 g) k
 
   good_idle : Leads (idle w.medium n)
-  good_idle = record { mode = g.mode; removed = g.removed; inboxes = refl; moves = stays deck w c.0 g; member = me }
+  good_idle = record { mode = g.mode; removed = g.removed; inboxes = refl; message = refl; moves = stays deck w c.0 g; member = me }
 
   -- what an event comes to by what it needs
   abbrev Needs : Choice → Need → Type 0
@@ -133,6 +131,7 @@ module _ (deck : Deck) (some : 0 < deck.entries) (w : World) (c : SysId) (few : 
         mode = g.mode;
         removed = g.removed;
         inboxes = refl;
+        message = refl;
         moves = record {
           count = refl;
           managed = g.managed;
@@ -152,7 +151,7 @@ module _ (deck : Deck) (some : 0 < deck.entries) (w : World) (c : SysId) (few : 
             interests = me.fits.interests;
             roles = me.fits.roles;
             interest = me.fits.interest;
-            lists = λ e h. me.fits.lists e h ∙ sym (k.lists deck.entries e L);
+            lists = λ e h. subst (Alike (plain (items_of (managed_at p.manager e)))) (sym (k.lists deck.entries e L)) (me.fits.lists e h);
             well = me.fits.well;
           };
         };
@@ -315,7 +314,7 @@ module _ (deck : Deck) (some : 0 < deck.entries) (w : World) (c : SysId) (few : 
         go false = refl
 
     pub begun_part : manager_at w.medium.words x ≡ None → IsPart deck joined_words (all_lists w) c.0 (begun me.part x)
-    begun_part is = part-place deck words joined_words L c.0 p x (Some no_elements) true me.fits inside (role_gained is) interest_now (λ h. sym (g.free x is)) (entries_are_well_kept p.manager x me.fits.well).0
+    begun_part is = part-place deck words joined_words L c.0 p x (Some no_elements) true me.fits inside (role_gained is) interest_now (λ h. subst (Alike []) (sym (g.free x is)) (alike-itself [])) (entries_are_well_kept p.manager x me.fits.well).0
 
     -- the entry is managed by another system, to which the request goes
     sends_away : (t : TaskId) (a : Asked) → (state_of n.tasks t).outstanding ≡ Some a → entry_for me.part a.req.want ≡ Some x → (s : SysId) → manager_at w.medium.words x ≡ Some s →
@@ -398,7 +397,7 @@ module _ (deck : Deck) (some : 0 < deck.entries) (w : World) (c : SysId) (few : 
 
     -- nothing stands in the lists of an entry that it manages
     nothing : has_manager w.medium.words x c.0 ≡ true → under deck.entries x (all_lists w) ≡ []
-    nothing mine = sym (me.fits.lists x (me.fits.roles x ∙ mine)) ∙ ap plain (no_items (items_of (managed_at p.manager x)) (and_parts (length (items_of (managed_at p.manager x)) == 0) _ done).0)
+    nothing mine = alike-none (under deck.entries x L) (subst (λ zs. Alike (plain zs) (under deck.entries x L)) (no_items (items_of (managed_at p.manager x)) (and_parts (length (items_of (managed_at p.manager x)) == 0) _ done).0) (me.fits.lists x (me.fits.roles x ∙ mine)))
       where
         no_items : (xs : List Ranked) → (length xs == 0) ≡ true → xs ≡ []
         no_items [] h = refl
@@ -510,6 +509,20 @@ module _ (deck : Deck) (some : 0 < deck.entries) (w : World) (c : SysId) (few : 
   unfolding carry_out
   nothing_done choice = good_idle
 
+  -- the complex changed before, and the system's desk is told so
+  good_told : LeadsBy choices.Switch (replies.Already, w.medium)
+  unfolding finish finish_call desk_told
+  good_told = record { mode = g.mode; removed = g.removed; inboxes = refl; message = refl; moves = stays deck w c.0 g; member = record { part = me.part; star = me.star; outbox = me.outbox; known = me.known; fits = me.fits } }
+
+  good_already : LeadsBy choices.Switch (row w.medium c (acts.Switch (own_words deck n)))
+  unfolding row switch_row
+  good_already = subst (λ b. LeadsBy choices.Switch (cond b (replies.Already, w.medium) (switch_ring w.medium c (own_words deck n) (first_number (unseen c w.medium.message.entries))))) (sym g.mode) good_told
+
+  good_switch : (o : Option Order) → Leads (carry_out deck w.medium c n choices.Switch (switch_call deck n o))
+  good_switch None = nothing_done choices.Switch
+  good_switch (Some orders.Star) = called choices.Switch (acts.Switch (own_words deck n)) good_already
+  good_switch (Some (orders.Vary t)) = nothing_done choices.Switch
+
   pub good_choice : (choice : Choice) → IsStep deck w c n (chosen deck w.medium c n choice)
   unfolding chosen prepare
   good_choice (choices.Task t) = by_test (λ q. Leads (carry_out deck w.medium c n (choices.Task t) q)) (may_go deck n t) Quiet Nothing (λ h. quietly t) (λ h. nothing_done (choices.Task t))
@@ -520,5 +533,5 @@ module _ (deck : Deck) (some : 0 < deck.entries) (w : World) (c : SysId) (few : 
   good_choice choices.Settle = by_need choices.Settle (good_settle (first_held p) refl)
   good_choice (choices.Tell e) = by_need (choices.Tell e) (good_tell e (to_tell p e))
   good_choice (choices.Leave e) = by_need (choices.Leave e) (by_test (Needs (choices.Leave e)) (may_leave p n.tasks e) (Asks (acts.Leave e)) Idle (λ h. called (choices.Leave e) (acts.Leave e) (good_leave e h)) (λ h. good_none (choices.Leave e)))
-  good_choice choices.Switch = by_need choices.Switch (good_none choices.Switch)
+  good_choice choices.Switch = good_switch (next_order deck n)
   good_choice (choices.Purge t) = by_need (choices.Purge t) (good_none (choices.Purge t))

@@ -55,7 +55,7 @@ all-front p [] ys h = refl
 all-front p (x ∷ xs) ys h = grind (arith, h, all-front p xs ys, cases_Bool (p x))
 
 -- the same tasks, where these are open
-opens-as : (deck : Deck) (s : ℕ) (os os' : Opens) (T : List RunItem) (v : TasksView) → os'.out ≡ os.out → ((u : TaskId) (ls : List Meaning) → IsOurs deck s v u ls → mine u os'.later ≡ mine u os.later) →
+pub opens-as : (deck : Deck) (s : ℕ) (os os' : Opens) (T : List RunItem) (v : TasksView) → os'.out ≡ os.out → ((u : TaskId) (ls : List Meaning) → IsOurs deck s v u ls → mine u os'.later ≡ mine u os.later) →
     ((u : TaskId) (o : Option Asked) → IsAskedBy u o os.all → IsAskedBy u o os'.all) → IsGood deck s os T v → IsGood deck s os' T v
 opens-as deck s os os' T v same due asked g = record {
   tasks = record { each = λ u ls o. here-kept deck os os' T v.told v.told u ls (state_of v u) (due u ls o) (asked u (state_of v u).outstanding) (λ a. subst (λ qs. are_sent u (state_of v u).phase qs ≡ true) (sym same) a) (λ p leaving y j. j) (g.tasks.each u ls o) };

@@ -24,6 +24,7 @@ use Rattle.grs_known.proofs.known.ItemLaws.{lists_from-append}
 use Rattle.grs_known.proofs.lists.Facts.{slice_get-set, slice_get-set_other}
 use Rattle.grs_world.specs.World.{World, Turnout, fixed_by, placed}
 use Rattle.grs_world.proofs.star.Under.{under}
+use Rattle.grs_known.proofs.lists.Alike.{Alike}
 
 -- whether a system manages an entry, by the words
 abbrev pub has_manager : List ℕ → ℕ → ℕ → Bool
@@ -49,7 +50,7 @@ pub record IsPart (deck : Deck) (words : List ℕ) (L : State) (s : ℕ) (p : St
   pub roles : (e : ℕ) → manages p e ≡ has_manager words e s
   pub interest : (e : ℕ) → has_interest p e ≡ is_interested words e s
   -- of an entry that it manages it keeps the lists
-  pub lists : (e : ℕ) → manages p e ≡ true → plain (items_of (managed_at p.manager e)) ≡ under deck.entries e L
+  pub lists : (e : ℕ) → manages p e ≡ true → Alike (plain (items_of (managed_at p.manager e))) (under deck.entries e L)
   -- there ranks rise, and each who is still to be told owns and is of another system
   pub well : AreWellKept p.manager
 
@@ -106,6 +107,7 @@ pub record IsStep (deck : Deck) (w : World) (c : SysId) (n : NodeState) (o : Tur
   pub mode : o.medium.star ≡ true
   pub removed : o.medium.removed ≡ 0
   pub inboxes : length o.medium.inboxes ≡ length w.medium.inboxes
+  pub message : o.medium.message ≡ w.medium.message
   pub moves : Moves deck c.0 w.medium.words o.medium.words (all_lists w) (lists_after (all_lists w) o.step.fixed)
   pub member : IsMember deck o.medium.words (lists_after (all_lists w) o.step.fixed) c.0 o.step.node
 
@@ -135,7 +137,7 @@ member-other deck c words words' L L' u n ne m k = record {
     interest = λ e. k.fits.interest e ∙ sym (m.interest e u ne);
     lists = λ e h.
         let mine : has_manager words e u ≡ true = sym (k.fits.roles e) ∙ h in
-        k.fits.lists e h ∙ sym (m.lists e (alone words e mine) (alone words' e (m.managers e u ne ∙ mine)));
+        subst (Alike (plain (items_of (managed_at k.part.manager e)))) (sym (m.lists e (alone words e mine) (alone words' e (m.managers e u ne ∙ mine)))) (k.fits.lists e h);
     well = k.fits.well;
   };
 }

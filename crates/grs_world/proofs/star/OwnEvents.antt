@@ -102,7 +102,7 @@ res-round deck (StepRes n j q r) e h f = absurd (cc)
 res-round deck (System n q r) e h f = absurd (cc)
 res-round deck (Systems q r) e h f = absurd (cc)
 
-want-round : (deck : Deck) (w : Want) (e : ℕ) → wants_round w ≡ false → entry_wanted deck.entries w ≡ Some e → ⊥
+pub want-round : (deck : Deck) (w : Want) (e : ℕ) → wants_round w ≡ false → entry_wanted deck.entries w ≡ Some e → ⊥
 want-round deck (Enq r c ret full) e h f = res-round deck r e h f
 want-round deck (Deq r have) e h f = res-round deck r e h f
 want-round deck (Release r) e h f = res-round deck r e h f
@@ -110,7 +110,7 @@ want-round deck (Look first count g) e h f = absurd (cc)
 
 module _ (deck : Deck) (words : List ℕ) (T : List RunItem) (right : IsHistory deck T) (s : ℕ) (n : NodeState) (ms : List Mail) (later : List RunItem) (out : List Req) (h : IsSystem deck words T s n ms later out) where
   -- what comes, behind an item of a task that its system decides
-  coming-own : (c : SysId) (q : Req) → (q.task.system.0 == s) ≡ true → IsHomely deck words s q.want → is_late q.task later ≡ false → (t : TaskId) → is_home_at deck s t ≡ true → Coming t (blank (is_late t later)) (T ++ made_item c T (fixing.Asked q) ∷ []) (news_of ms)
+  pub coming-own : (c : SysId) (q : Req) → (q.task.system.0 == s) ≡ true → IsHomely deck words s q.want → is_late q.task later ≡ false → (t : TaskId) → is_home_at deck s t ≡ true → Coming t (blank (is_late t later)) (T ++ made_item c T (fixing.Asked q) ∷ []) (news_of ms)
   coming-own c q mine_q homely idle t home = go (same_task t q.task) refl
     where
       item : RunItem

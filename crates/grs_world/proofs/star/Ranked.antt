@@ -26,11 +26,11 @@ use Rattle.grs_known.proofs.system.Asking.{Opens, unasked, unasked-told, IsAsked
 use Rattle.grs_known.proofs.system.Did.{Did}
 use Rattle.grs_known.proofs.system.Events.{StaysGood}
 use Rattle.grs_known.proofs.system.Good.{IsGood}
-use Rattle.grs_known.proofs.system.Ours.{IsOurs, changed-state}
+use Rattle.grs_known.proofs.system.Ours.{IsOurs, changed-state, IsHere}
 use Rattle.grs_known.proofs.system.Says.{ToldBy, none}
 use Rattle.grs_known.proofs.system.Turns.{quiet_good}
 
-abbrev ranked : ℕ → Rec → Rec
+abbrev pub ranked : ℕ → Rec → Rec
 ranked k y = record y { rank = k }
 
 rec-ranked : (ls : List Meaning) (E : List HistEntry) (T : List ToldLine) (owns leaving : Res → Bool) (t : TaskId) (line : ℕ) (p : Phase) (k : ℕ) (x : Rec) → IsRec ls E T owns leaving t line p x → IsRec ls E T owns leaving t line p (ranked k x)
@@ -79,8 +79,20 @@ open-ranked limit ls t r k x h = go x.outstanding h
     go None j = j
     go (Some a) j = (j.0, j.1, by_want x.line x.records a.req.want a.unit j.2)
 
+-- a task stands as it did
+pub here-ranked : (deck : Deck) (os : Opens) (P : List RunItem) (T : List ToldLine) (t : TaskId) (ls : List Meaning) (x : TaskState) (r : Res) (k : ℕ) → IsHere deck os P T t ls x → IsHere deck os P T t ls (record x { records = on_record r (ranked k) x.records })
+here-ranked deck os P T t ls x r k h = record {
+  known = h.known;
+  knows = h.knows;
+  due = h.due;
+  task = subst (λ y. IsTask ls (past_of t h.known P) T (λ q. is_leaving q x.outstanding) t y) (sym (unasked-told x r (ranked k))) (task-ranked ls (past_of t h.known P) T (λ q. is_leaving q x.outstanding) t (unasked x) r k h.task);
+  opened = open-ranked deck.limit ls t r k x h.opened;
+  asked = h.asked;
+  sent = h.sent;
+}
+
 -- ---- the tasks of a system, once a request of one of them has its rank
-did-rank : (v : TasksView) (t : TaskId) (r : Res) (k : ℕ) → is_task v t ≡ true → Did v (with_rank v t r k) t (record (state_of v t) { records = on_record r (ranked k) (state_of v t).records }) v.told
+pub did-rank : (v : TasksView) (t : TaskId) (r : Res) (k : ℕ) → is_task v t ≡ true → Did v (with_rank v t r k) t (record (state_of v t) { records = on_record r (ranked k) (state_of v t).records }) v.told
 unfolding with_rank
 did-rank v t r k here =
     let f : TaskState → TaskState = λ x. record x { records = on_record r (λ y. record y { rank = k }) x.records } in
@@ -91,18 +103,10 @@ good-rank deck s os P v t ls r k ours g =
     let x : TaskState = state_of v t in
     let h = g.tasks.each t ls ours in
     (quiet_good deck s os os P v g t ls ours (with_rank v t r k) (record x { records = on_record r (ranked k) x.records }) v.told (did-rank v t r k ours.here)
-    (record {
-      known = h.known;
-      knows = h.knows;
-      due = h.due;
-      task = subst (λ y. IsTask ls (past_of t h.known P) v.told (λ q. is_leaving q x.outstanding) t y) (sym (unasked-told x r (ranked k))) (task-ranked ls (past_of t h.known P) v.told (λ q. is_leaving q x.outstanding) t (unasked x) r k h.task);
-      opened = open-ranked deck.limit ls t r k x h.opened;
-      asked = h.asked;
-      sent = h.sent;
-    })
+    (here-ranked deck os P v.told t ls x r k h)
     (λ u o apart a. a) (λ u ph apart a. a) refl (λ u ms apart p leaving y j. j) none).good
 
-told-rank : (v : TasksView) (t : TaskId) (r : Res) (k : ℕ) → is_task v t ≡ true → (with_rank v t r k).told ≡ v.told
+pub told-rank : (v : TasksView) (t : TaskId) (r : Res) (k : ℕ) → is_task v t ≡ true → (with_rank v t r k).told ≡ v.told
 told-rank v t r k here = (did-rank v t r k here).told
 
 pub ranked-good : (deck : Deck) (s : ℕ) (os : Opens) (P : List RunItem) (T0 : List ToldLine) (v : TasksView) (t : TaskId) (ls : List Meaning) (o : Option Res) (k : ℕ) → IsOurs deck s v t ls → StaysGood deck s os P T0 v → StaysGood deck s os P T0 (with_rank_of v t o k)

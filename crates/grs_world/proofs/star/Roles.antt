@@ -26,6 +26,7 @@ use Rattle.grs_known.proofs.lists.Facts.{some_of}
 use Rattle.grs_world.proofs.star.Members.{IsPart, has_manager}
 use Rattle.grs_world.proofs.star.Under.{under, under-want, under-other, entry-same}
 use Rattle.lock_structure.specs.Laws.{is_interested}
+use Rattle.grs_known.proofs.lists.Alike.{Alike, alike-want}
 
 -- ---- entries are there
 pub res-within : (entries : ℕ) (r : Res) (x : ℕ) → 0 < entries → entry_of_res entries r ≡ Some x → x < entries
@@ -77,14 +78,14 @@ abbrev keeping : StarPart → ℕ → Managed → List Req → StarPart
 keeping p x m held = record p { manager = record { system = p.manager.system; entries = slice_set p.manager.entries x (Some m) }; held = held }
 
 part-keeping : (deck : Deck) (words : List ℕ) (L L' : State) (s : ℕ) (p : StarPart) (x : ℕ) (m : Managed) (held : List Req) → IsPart deck words L s p → manages p x ≡ true →
-    plain m.items ≡ under deck.entries x L' → ((e : ℕ) → e ≢ x → under deck.entries e L' ≡ under deck.entries e L) → AreWellKept (keeping p x m held).manager → IsPart deck words L' s (keeping p x m held)
+    Alike (plain m.items) (under deck.entries x L') → ((e : ℕ) → e ≢ x → under deck.entries e L' ≡ under deck.entries e L) → AreWellKept (keeping p x m held).manager → IsPart deck words L' s (keeping p x m held)
 part-keeping deck words L L' s p x m held k mine now others well = record {
   home = k.home;
   entries = length-set p.manager.entries x (Some m) ∙ k.entries;
   interests = k.interests;
   roles = λ e. ap is_some (kept-set p.manager.entries x e (Some m) inside) ∙ (role e (e == x) refl ∙ k.roles e);
   interest = k.interest;
-  lists = λ e h. ap (λ o. plain (items_of o)) (kept-set p.manager.entries x e (Some m) inside) ∙ list e (e == x) refl (sym (ap is_some (kept-set p.manager.entries x e (Some m) inside)) ∙ h);
+  lists = λ e h. subst (λ o. Alike (plain (items_of o)) (under deck.entries e L')) (sym (kept-set p.manager.entries x e (Some m) inside)) (list e (e == x) refl (sym (ap is_some (kept-set p.manager.entries x e (Some m) inside)) ∙ h));
   well = well;
 }
   where
@@ -95,9 +96,9 @@ part-keeping deck words L L' s p x m held k mine now others well = record {
     role e true f = sym (ap (manages p) (eqb-true e x f) ∙ mine)
     role e false f = refl
 
-    list : (e : ℕ) (b : Bool) → (e == x) ≡ b → is_some (cond b (Some m) (kept_at p.manager.entries e)) ≡ true → plain (items_of (cond b (Some m) (kept_at p.manager.entries e))) ≡ under deck.entries e L'
-    list e true f h = now ∙ ap (λ i. under deck.entries i L') (sym (eqb-true e x f))
-    list e false f h = k.lists e h ∙ sym (others e (eqb-false e x f))
+    list : (e : ℕ) (b : Bool) → (e == x) ≡ b → is_some (cond b (Some m) (kept_at p.manager.entries e)) ≡ true → Alike (plain (items_of (cond b (Some m) (kept_at p.manager.entries e)))) (under deck.entries e L')
+    list e true f h = subst (λ i. Alike (plain m.items) (under deck.entries i L')) (sym (eqb-true e x f)) now
+    list e false f h = subst (Alike (plain (items_of (kept_at p.manager.entries e)))) (sym (others e (eqb-false e x f))) (k.lists e h)
 
 managed-some : (p : StarPart) (x : ℕ) → manages p x ≡ true → (m : Managed) × (managed_at p.manager x ≡ Some m)
 managed-some p x h = some_of (managed_at p.manager x) h
@@ -127,7 +128,7 @@ part-settled deck words L s p t w x held k at mine = go (managed-some p x mine)
         ∙ ap (λ o. option_map_or (λ z. with_entry p.manager (Some x) (Some (settled p.manager.system.0 z t w))) o p.manager) is in
         subst (λ (v : ManagerView). IsPart deck words (after_want L t w) s (record p { manager = v; held = held })) (sym same)
         (part-keeping deck words L (after_want L t w) s p x (settled p.manager.system.0 m t w) held k mine
-        (lists_follow p.manager.system.0 m t w ∙ (ap (λ z. after_want z t w) (ap (λ o. plain (items_of o)) (sym is) ∙ k.lists x mine) ∙ under-want deck.entries x L t w mine_entry))
+        (subst (λ z. Alike z (under deck.entries x (after_want L t w))) (sym (lists_follow p.manager.system.0 m t w)) (subst (Alike (after_want (plain m.items) t w)) (under-want deck.entries x L t w mine_entry) (alike-want (plain m.items) (under deck.entries x L) t w (subst (λ o. Alike (plain (items_of o)) (under deck.entries x L)) is (k.lists x mine)))))
         (λ e ne. under-other deck.entries e L t w (other_entry e ne))
         (subst AreWellKept same (requests_keep_well p.manager t w k.well)))
 
@@ -141,7 +142,7 @@ part-telling deck words L s p t r k = by_entry (entry_of_res (length p.manager.e
     by_managed x (Some m) is well =
         let mine : manages p x ≡ true = ap is_some is in
         part-keeping deck words L L s p x (told t r m) p.held k mine
-        (telling_keeps_lists false r t m.items ∙ (ap (λ o. plain (items_of o)) (sym is) ∙ k.lists x mine))
+        (subst (λ z. Alike z (under deck.entries x L)) (sym (telling_keeps_lists false r t m.items)) (subst (λ o. Alike (plain (items_of o)) (under deck.entries x L)) is (k.lists x mine)))
         (λ e ne. refl)
         well
 
@@ -174,7 +175,7 @@ part-interest deck words words' L s p x b k inside roles interest = record {
 
 -- It manages an entry from now on, or no longer, and gains or loses interest in it.
 pub part-place : (deck : Deck) (words words' : List ℕ) (L : State) (s : ℕ) (p : StarPart) (x : ℕ) (o : Option Managed) (b : Bool) → IsPart deck words L s p → x < deck.entries →
-    ((e : ℕ) → has_manager words' e s ≡ cond (e == x) (is_some o) (has_manager words e s)) → ((e : ℕ) → is_interested words' e s ≡ cond (e == x) b (is_interested words e s)) → (is_some o ≡ true → plain (items_of o) ≡ under deck.entries x L) →
+    ((e : ℕ) → has_manager words' e s ≡ cond (e == x) (is_some o) (has_manager words e s)) → ((e : ℕ) → is_interested words' e s ≡ cond (e == x) b (is_interested words e s)) → (is_some o ≡ true → Alike (plain (items_of o)) (under deck.entries x L)) →
     AreWellKept (with_entry p.manager (Some x) o) → IsPart deck words' L s (with_interest (record p { manager = with_entry p.manager (Some x) o }) x b)
 part-place deck words words' L s p x o b k inside roles interest kept well = record {
   home = k.home;
@@ -182,7 +183,7 @@ part-place deck words words' L s p x o b k inside roles interest kept well = rec
   interests = length-set p.interest x b ∙ k.interests;
   roles = λ e. ap is_some (kept-set p.manager.entries x e o there) ∙ (role e (e == x) ∙ sym (roles e));
   interest = λ e. interest-set p.interest x e b (omega (arith, inside, k.interests)) ∙ (ap (cond (e == x) b) (k.interest e) ∙ sym (interest e));
-  lists = λ e h. ap (λ z. plain (items_of z)) (kept-set p.manager.entries x e o there) ∙ list e (e == x) refl (sym (ap is_some (kept-set p.manager.entries x e o there)) ∙ h);
+  lists = λ e h. subst (λ z. Alike (plain (items_of z)) (under deck.entries e L)) (sym (kept-set p.manager.entries x e o there)) (list e (e == x) refl (sym (ap is_some (kept-set p.manager.entries x e o there)) ∙ h));
   well = well;
 }
   where
@@ -193,8 +194,8 @@ part-place deck words words' L s p x o b k inside roles interest kept well = rec
     role e true = refl
     role e false = k.roles e
 
-    list : (e : ℕ) (c : Bool) → (e == x) ≡ c → is_some (cond c o (kept_at p.manager.entries e)) ≡ true → plain (items_of (cond c o (kept_at p.manager.entries e))) ≡ under deck.entries e L
-    list e true f h = kept h ∙ ap (λ i. under deck.entries i L) (sym (eqb-true e x f))
+    list : (e : ℕ) (c : Bool) → (e == x) ≡ c → is_some (cond c o (kept_at p.manager.entries e)) ≡ true → Alike (plain (items_of (cond c o (kept_at p.manager.entries e)))) (under deck.entries e L)
+    list e true f h = subst (λ i. Alike (plain (items_of o)) (under deck.entries i L)) (sym (eqb-true e x f)) (kept h)
     list e false f h = k.lists e h
 
 -- It has no interest in an entry any more, and if it managed the entry it no longer does.

@@ -1,8 +1,7 @@
--- What holds of words, roles and lists after every run in star mode.
-use Rattle.std.proofs.Common.{◌≡◌, ◌<◌, ◌≤◌, ◌+◌, ◌%◌, ℕ, zero, suc, true, false, cond, List, [], ◌∷◌, length, Option, Some, None, refl, ap, sym, ◌∙◌, subst, arith}
+-- What holds of words, roles and lists at the start of star mode; and the lists that are kept in it.
+use Rattle.std.proofs.Common.{◌≡◌, ◌≤◌, ◌%◌, ℕ, zero, suc, true, false, cond, List, [], ◌∷◌, length, Option, Some, None, refl, ap, sym, ◌∙◌, subst, arith}
 use Rattle.std.specs.Prelude.{is_some, slice_get, replicate, slice_index_or}
 use Rattle.std.proofs.lemmas.List.{length-replicate}
-use Rattle.std.proofs.lemmas.Option.{slice_get_within, same_Some}
 use Rattle.contention_mgr.specs.Manager.{plain, items_of, kept_at, kept_for}
 use Rattle.lock_structure.specs.Entries.{entry_of_res}
 use Rattle.contention_mgr.proofs.ManagerLaws.{well_kept_begins}
@@ -16,39 +15,25 @@ use Rattle.grs_node.specs.Star.{first_part, manages}
 use Rattle.grs_wire.specs.LockWords.{manager, is_manager}
 use Rattle.grs_wire.specs.Masks.{has}
 use Rattle.grs_wire.specs.declared.deck.Deck.{Deck}
-use Rattle.grs_wire.specs.declared.deck.Event.{Event}
-use Rattle.grs_wire.specs.declared.deck.SystemDef.{SystemDef}
-use Rattle.grs_wire.proofs.DeckLaws.{entries_some}
 use Rattle.grs_wire.proofs.MaskLaws.{has-zero}
-use Rattle.lock_structure.specs.Laws.{IsManaged, is_interested, manager_at}
+use Rattle.lock_structure.specs.Laws.{is_interested, manager_at}
 use Rattle.lock_structure.specs.Words.{word_at}
-use Rattle.lock_structure.proofs.LawProofs.{words_begin, empty_is_managed}
+use Rattle.lock_structure.proofs.LawProofs.{words_begin}
 use Rattle.grs_known.proofs.lists.Facts.{slice_get-past}
-use Rattle.grs_world.specs.Kept.{IsKeptBy, ManagersKeepWell, kept, kept_in, at_manager, at_node, managed_list, named_by}
-use Rattle.grs_world.specs.World.{World, run, first_world, first_nodes, happens, counted, chosen}
+use Rattle.grs_world.specs.Kept.{kept, kept_in, at_manager, at_node, managed_list, named_by}
+use Rattle.grs_world.specs.World.{World, first_world, counted}
 use Rattle.grs_world.proofs.run.Sound.{first_is}
-use Rattle.grs_world.proofs.run.Each.{each_event, each_run}
-use Rattle.grs_world.specs.Decks.{IsStarDeck}
-use Rattle.grs_world.specs.Interest.{WordsGoWithSystems, interest_at, interest_by, manages_at, manages_by}
-use Rattle.grs_world.proofs.star.Events.{good_choice}
-use Rattle.grs_world.proofs.star.Members.{IsPart, IsMember, IsStar, has_manager, manager-here, all_lists, framed}
+use Rattle.grs_world.proofs.star.Members.{IsPart, IsMember, IsStar, manager-here, all_lists}
 use Rattle.grs_world.proofs.star.Under.{in_entry, under, entry-same, list-under}
+use Rattle.grs_known.proofs.lists.Alike.{Alike, alike-itself}
+use Rattle.grs_world.proofs.run.InRing.{count_first}
 
 -- ---- one event
 -- an event that is only counted
 pub counted-star : (deck : Deck) (w : World) → IsStar deck w → IsStar deck (counted w)
 counted-star deck w g = record { mode = g.mode; removed = g.removed; words = g.words; inboxes = g.inboxes; systems = g.systems; managed = g.managed; nobody = g.nobody; free = g.free; node = g.node }
 
-good_happens : (deck : Deck) → IsStarDeck deck → 0 < deck.entries → (w : World) → IsStar deck w → (e : Event) → IsStar deck (happens deck w e)
-good_happens deck star some w g e = each_event deck w e (IsStar deck) (counted-star deck w g) (λ n at.
-    let here = slice_get_within w.nodes e.system.0 n at in
-    framed deck w e.system n at g (chosen deck w.medium e.system n e.choice) (good_choice deck some w e.system (omega (arith, here, g.systems, star.few)) n at g (g.node e.system.0 n at) e.choice))
-
 -- ---- the first world
-count_first : (deck : Deck) (k : ℕ) (ds : List SystemDef) → length (first_nodes deck k ds) ≡ length ds
-count_first deck k [] = refl
-count_first deck k (d ∷ ds) = ap suc (count_first deck (k + 1) ds)
-
 -- a word of the start
 first_word : (k e : ℕ) → word_at (replicate k 0) e ≡ 0
 first_word zero e = refl
@@ -79,7 +64,7 @@ first_fits deck s = record {
   interests = length-replicate deck.entries false;
   roles = λ e. ap is_some (no_managed deck.entries e) ∙ sym (ap (λ o. is_manager o (record { 0 = s })) (no_manager deck.entries e));
   interest = λ e. none_interested deck.entries e ∙ sym (no_interest deck.entries e s);
-  lists = λ e h. ap (λ o. plain (items_of o)) (no_managed deck.entries e);
+  lists = λ e h. subst (λ o. Alike (plain (items_of o)) []) (sym (no_managed deck.entries e)) (alike-itself []);
   well = well_kept_begins (record { 0 = s }) deck.entries;
 }
 
@@ -93,9 +78,9 @@ first_member deck s star = record {
   fits = first_fits deck s;
 }
 
-first_good : (deck : Deck) → deck.star ≡ true → IsStar deck (first_world deck)
+pub first_star : (deck : Deck) → deck.star ≡ true → IsStar deck (first_world deck)
 unfolding first_world
-first_good deck star = record {
+first_star deck star = record {
   mode = star;
   removed = refl;
   words = length-replicate deck.entries 0;
@@ -107,39 +92,12 @@ first_good deck star = record {
   node = λ s n f. subst (λ (k : NodeState). IsMember deck (replicate deck.entries 0) [] s k) (sym (first_is deck s n f)) (first_member deck s star);
 }
 
--- ---- every list of events
-pub star_run : (deck : Deck) → IsStarDeck deck → (es : List Event) → IsStar deck (run deck es)
-star_run deck star = each_run deck (λ es w. IsStar deck w) (first_good deck star.star) (λ es e g. good_happens deck star (entries_some deck.entries star.entries) (run deck es) g e)
-
--- ---- words go with systems
+-- ---- words
+-- there are no others
 pub word_past : (words : List ℕ) (e : ℕ) → length words ≤ e → word_at words e ≡ 0
 word_past [] e past = refl
 word_past (w ∷ ws) zero past = absurd (omega (arith, past))
 word_past (w ∷ ws) (suc e) past = word_past ws e (omega (arith, past))
-
-pub words_go : (deck : Deck) → IsStarDeck deck → (es : List Event) → WordsGoWithSystems deck es
-words_go deck star es =
-    let w : World = run deck es in
-    let g : IsStar deck w = star_run deck star es in
-    record { interest = λ e s. by_node g e s (slice_get w.nodes s) refl; manages = λ e s. by_role g e s (slice_get w.nodes s) refl; managed = λ e. by_place g e (slice_get w.medium.words e) refl }
-  where
-    by_node : IsStar deck (run deck es) → (e s : ℕ) → (o : Option NodeState) → slice_get (run deck es).nodes s ≡ o → is_interested (run deck es).medium.words e s ≡ interest_at o e
-    by_node g e s None at = (g.nobody e s (slice_get-past (run deck es).nodes s at)).0
-    by_node g e s (Some n) at = let k = g.node s n at in sym (k.fits.interest e) ∙ sym (ap (λ o. interest_by o e) k.star)
-
-    by_role : IsStar deck (run deck es) → (e s : ℕ) → (o : Option NodeState) → slice_get (run deck es).nodes s ≡ o → manages_at o e ≡ has_manager (run deck es).medium.words e s
-    by_role g e s None at = sym (g.nobody e s (slice_get-past (run deck es).nodes s at)).1
-    by_role g e s (Some n) at = let k = g.node s n at in ap (λ o. manages_by o e) k.star ∙ k.fits.roles e
-
-    by_place : IsStar deck (run deck es) → (e : ℕ) (o : Option ℕ) → slice_get (run deck es).medium.words e ≡ o → IsManaged (word_at (run deck es).medium.words e)
-    by_place g e (Some x) h = g.managed e 0 (slice_get_within (run deck es).medium.words e x h)
-    by_place g e None h = subst IsManaged (sym (word_past (run deck es).medium.words e (slice_get-past (run deck es).medium.words e h))) empty_is_managed
-
--- ---- managers keep well what they manage
-pub keep_well : (deck : Deck) → IsStarDeck deck → (es : List Event) → ManagersKeepWell deck es
-keep_well deck star es s n p at is =
-    let k = (star_run deck star es).node s n at in
-    subst (IsKeptBy s) (same_Some k.part p (sym k.star ∙ is)) (record { home = k.fits.home; well = k.fits.well })
 
 -- ---- what is kept are the lists after all that was fixed
 pub kept_lists : (deck : Deck) (w : World) → IsStar deck w → (s : SysId) (r : Res) → is_systems r ≡ true → kept deck w s r ≡ list_of (all_lists w) r
@@ -166,7 +124,7 @@ kept_lists deck w g s (Systems q r) all = ap (λ b. kept_in b deck w s res) g.mo
         let entry : entry_of_res (length k.part.manager.entries) res ≡ Some x = ap (λ i. Some (entry_of (slice_of q r) i)) (k.fits.entries ∙ sym g.words) in
         ap (λ o. managed_list deck w m n o res) k.star
         ∙ ap (λ o. list_of (plain (items_of (kept_for k.part.manager.entries o))) res) entry
-        ∙ ap (λ z. list_of z res) (k.fits.lists x mine)
+        ∙ (k.fits.lists x mine).lists res
         ∙ listed
 
     by_system : (m : SysId) (o : Option NodeState) → slice_get w.nodes m.0 ≡ o → manager_at w.medium.words x ≡ Some m → at_node deck w m o (Systems q r) ≡ list_of (all_lists w) (Systems q r)

@@ -38,7 +38,7 @@ use Rattle.task_state.specs.View.{state_of, with_phase}
 use Rattle.task_state.specs.declared.state.Asked.{Asked}
 use Rattle.task_state.specs.declared.state.Phase.TheVariants as phases
 use Rattle.grs_known.specs.Items.{RunItem, mine, lists, history, items}
-use Rattle.grs_known.specs.Change.{put_at}
+use Rattle.grs_known.specs.Parts.{put_at}
 use Rattle.grs_known.proofs.known.Histories.{MayFollow, made_item, follows}
 use Rattle.grs_known.proofs.known.ItemLaws.{lists-push}
 use Rattle.grs_known.proofs.lists.Facts.{slice_get-past}
@@ -57,8 +57,9 @@ use Rattle.grs_world.proofs.star.OwnEvents.{may-follow, system-decided, system-s
 use Rattle.grs_world.proofs.star.Runs.{word_past}
 use Rattle.grs_world.proofs.star.Systems.{IsSystem, Keeps, Away, near_at, requests_in, system-other, system-requested, system-words}
 use Rattle.grs_world.proofs.star.Under.{res-entry}
-use Rattle.grs_world.proofs.star.Worlds.{IsIn, IsHand, AllHands, Hands, IsWhole, in_hands, items-none, items-one, whole-placed}
+use Rattle.grs_world.proofs.star.Worlds.{IsIn, IsHand, AllHands, Hands, IsWhole, in_hands, items-none, items-one, whole-placed, none_fixed, fixes-own}
 use Rattle.grs_world.proofs.star.steps.Outcome.{IsOutcome}
+use Rattle.grs_world.proofs.run.Desks.{tells_tasks}
 
 -- ---- the words grow
 -- By other words each manager manages what it did, and what matters to a system stays.
@@ -279,11 +280,11 @@ module _ (deck : Deck) (w : World) (g : IsWhole deck w) (c : SysId) (n : NodeSta
 
     pub outcome-sent : (p p' : StarPart) → n.star ≡ Some p → p'.held ≡ p.held →
         IsStep deck w c n (record { medium = sent_on; step = record { node = record n { tasks = with_phase n.tasks t phases.Sent; star = Some p' }; fixed = [] } }) →
-        IsOutcome deck w c n (record { medium = sent_on; step = record { node = record n { tasks = with_phase n.tasks t phases.Sent; star = Some p' }; fixed = [] } })
+        IsOutcome deck w g c n (record { medium = sent_on; step = record { node = record n { tasks = with_phase n.tasks t phases.Sent; star = Some p' }; fixed = [] } })
     outcome-sent p p' star held step = record {
-      whole =
+      stays =
           let own_box : inbox sent_on c.0 ≡ inbox w.medium c.0 = other_box c.0 (λ e. apart (sym e)) in
-          whole-placed deck w c n at g.roles (record { medium = sent_on; step = record { node = record n { tasks = with_phase n.tasks t phases.Sent; star = Some p' }; fixed = [] } }) step T (items-none w.fixed c) g.later out'
+          whole-placed deck w g c n at (record { medium = sent_on; step = record { node = record n { tasks = with_phase n.tasks t phases.Sent; star = Some p' }; fixed = [] } }) step T (items-none w.fixed c) g.later out' other_out none_fixed
           g.right near-grown
           (subst (λ ms. IsSystem deck words T c.0 (record n { tasks = with_phase n.tasks t phases.Sent; star = Some p' }) ms (g.later c.0) (out' c.0)) (sym own_box)
           (subst (λ qs. IsSystem deck words T c.0 (record n { tasks = with_phase n.tasks t phases.Sent; star = Some p' }) (inbox w.medium c.0) (g.later c.0) qs) (sym own_out) (sender (Some p'))))
@@ -292,7 +293,7 @@ module _ (deck : Deck) (w : World) (g : IsWhole deck w) (c : SysId) (n : NodeSta
           subst (λ (y : StarPart). Hands deck words (length w.nodes) g.later out' c.0 (in_hands y (inbox sent_on c.0))) (same_Some p' k found)
           (subst (λ hs. Hands deck words (length w.nodes) g.later out' c.0 (hs ++ requests_in (inbox sent_on c.0))) (sym held) (hands_others c.0 n p at star)))
           (λ m k v ne found known. hands_others m k v found known);
-      news = still-told (told-phase n.tasks t phases.Sent);
+      news = tells_tasks (still-told (told-phase n.tasks t phases.Sent)) refl refl;
     }
 
   -- ---- it decides it as the manager of its entry
@@ -315,14 +316,14 @@ module _ (deck : Deck) (w : World) (g : IsWhole deck w) (c : SysId) (n : NodeSta
 
     pub outcome-decided : ((u : TaskId) → is_among u ts ≡ true → owns (list_of (lists (T ++ item ∷ [])) r) u ≡ true) →
         IsStep deck w c n (record { medium = record w.medium { words = words; rest = flags }; step = record { node = decided; fixed = fixing.Asked (request_of t a) ∷ [] } }) →
-        IsOutcome deck w c n (record { medium = record w.medium { words = words; rest = flags }; step = record { node = decided; fixed = fixing.Asked (request_of t a) ∷ [] } })
+        IsOutcome deck w g c n (record { medium = record w.medium { words = words; rest = flags }; step = record { node = decided; fixed = fixing.Asked (request_of t a) ∷ [] } })
     outcome-decided owned step =
         let h = system-grown c.0 n at in
         let m = may-follow deck words T g.right c.0 n (inbox w.medium c.0) (g.later c.0) (g.out c.0) h t ls ours home a is free c in
         let z = system-decided deck words T g.right c.0 n (inbox w.medium c.0) (g.later c.0) (g.out c.0) h t ls ours home a is free c entry of_entry managing r wanted ts rank (Some p') owned in
         record {
-          whole =
-              whole-placed deck w c n at g.roles (record { medium = record w.medium { words = words; rest = flags }; step = record { node = decided; fixed = fixing.Asked q ∷ [] } }) step (T ++ item ∷ []) (items-one w.fixed c (fixing.Asked q)) g.later g.out
+          stays =
+              whole-placed deck w g c n at (record { medium = record w.medium { words = words; rest = flags }; step = record { node = decided; fixed = fixing.Asked q ∷ [] } }) step (T ++ item ∷ []) (items-one w.fixed c (fixing.Asked q)) g.later g.out (λ u ne. refl) (fixes-own deck c g.out T q m ours.home)
               (follows deck T item g.right m)
               (subst (AreNear deck words) (sym (lists-push T item)) (near-want deck words (lists T) t a.req.want (λ v e. near v e step.moves.managed) near-grown))
               z.system (others-item m)
@@ -330,7 +331,7 @@ module _ (deck : Deck) (w : World) (g : IsWhole deck w) (c : SysId) (n : NodeSta
               subst (λ (y : StarPart). Hands deck words (length w.nodes) g.later g.out c.0 (in_hands y (inbox w.medium c.0))) (same_Some p' k found)
               (subst (λ hs. Hands deck words (length w.nodes) g.later g.out c.0 (hs ++ requests_in (inbox w.medium c.0))) (sym held) (hands_same c.0 n p at star)))
               (λ k y v ne found known. hands_same k y v found known);
-          news = subst (λ U. ToldNews deck c.0 (history U) n.tasks.told decided.tasks.told) (sym (items-one w.fixed c (fixing.Asked q))) (told-news z.told);
+          news = tells_tasks (subst (λ U. ToldNews deck c.0 (history U) n.tasks.told decided.tasks.told) (sym (items-one w.fixed c (fixing.Asked q))) (told-news z.told)) refl refl;
         }
       where
         near : (v : Res) → res_wanted a.req.want ≡ Some v → All IsManaged words → is_near_res deck words v t ≡ true

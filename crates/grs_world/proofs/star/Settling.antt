@@ -34,7 +34,7 @@ use Rattle.grs_wire.specs.declared.request.Req.{Req}
 use Rattle.task_state.specs.Replies.{tell_all}
 use Rattle.task_state.specs.declared.state.Asked.{Asked}
 use Rattle.grs_known.specs.Items.{RunItem, lists, history, mine, is_of, items}
-use Rattle.grs_known.specs.Change.{put_at}
+use Rattle.grs_known.specs.Parts.{put_at}
 use Rattle.grs_known.proofs.known.Histories.{IsHistory, IsAsk, MayFollow, made_item, follows}
 use Rattle.grs_known.proofs.lists.Owners.{is_among}
 use Rattle.grs_known.proofs.system.Asking.{IsReq, IsAskedBy}
@@ -46,7 +46,7 @@ use Rattle.grs_known.proofs.lists.Placed.{put_here, put_other}
 use Rattle.grs_world.proofs.star.Members.{has_manager, one-manages, IsStep}
 use Rattle.grs_world.proofs.star.OwnEvents.{Goes, late-calm}
 use Rattle.grs_world.proofs.star.Systems.{IsSystem, system-other, Away, near_at, is_near, gives_want, system-settled, requests_in, here}
-use Rattle.grs_world.proofs.star.Worlds.{IsIn, IsHand, AllHands, IsWhole, Hands, in_hands, items-one, whole-placed}
+use Rattle.grs_world.proofs.star.Worlds.{IsIn, IsHand, AllHands, IsWhole, Hands, in_hands, items-one, whole-placed, Fixes, StaysWhole, one_fixed}
 
 -- the manager: another system's item is fixed, and its own tasks that became owners are told
 pub system-manages : (deck : Deck) (words : List ℕ) (T : List RunItem) (s : ℕ) (n : NodeState) (ms : List Mail) (later : List RunItem) (out : List Req) (x : RunItem) (a : IsAsk deck x) → a.req.task.system.0 ≢ s → IsHistory deck (T ++ x ∷ []) →
@@ -232,12 +232,12 @@ module _ (deck : Deck) (w : World) (g : IsWhole deck w) (c : SysId) (n : NodeSta
 
     pub whole-settled : (r : Res) → res_wanted q.want ≡ Some r → (ts : List TaskId) → ((u : TaskId) → is_among u ts ≡ true → owns (list_of (lists (T ++ item ∷ [])) r) u ≡ true) → entry_of_res deck.entries r ≡ Some hand.entry →
         (p' : StarPart) → p'.held ≡ qs → (n' : NodeState) → n' ≡ record n { tasks = tell_all n.tasks r ts; star = Some p' } →
-        IsStep deck w c n (record { medium = sent_on; step = record { node = n'; fixed = fixing.Asked q ∷ [] } }) → IsWhole deck (placed w c n (record { medium = sent_on; step = record { node = n'; fixed = fixing.Asked q ∷ [] } }))
+        IsStep deck w c n (record { medium = sent_on; step = record { node = n'; fixed = fixing.Asked q ∷ [] } }) → StaysWhole deck w g c (placed w c n (record { medium = sent_on; step = record { node = n'; fixed = fixing.Asked q ∷ [] } }))
     whole-settled r wanted ts owned of_entry p' kept n' node step =
         let away : c.0 ≢ s = λ e. hand.apart (sym e) in
         let z = manager-after r ts owned of_entry (Some p') in
         let asked = (here deck s T (g.later s) (g.out s) other its.at q.task (asker-home deck w.medium.words T g.right s other (inbox w.medium s) (g.later s) (g.out s) its q hand.among hand.idle c hand.entry hand.at hand.managed hand.apart)).asked in
-        whole-placed deck w c n at g.roles (record { medium = sent_on; step = record { node = n'; fixed = fixing.Asked q ∷ [] } }) step (T ++ item ∷ []) (items-one w.fixed c (fixing.Asked q)) (later-with g.later s item) g.out
+        whole-placed deck w g c n at (record { medium = sent_on; step = record { node = n'; fixed = fixing.Asked q ∷ [] } }) step (T ++ item ∷ []) (items-one w.fixed c (fixing.Asked q)) (later-with g.later s item) g.out (λ u ne. refl) asker_sent
         (follows deck T item g.right follows-now)
         (subst (AreNear deck w.medium.words) (sym (lists-push T item)) (near-want deck w.medium.words (lists T) q.task q.want (λ v e. near v (same_Some r v (sym wanted ∙ e)) of_entry) g.near))
         (subst (λ (y : NodeState). IsSystem deck w.medium.words (T ++ item ∷ []) c.0 y (inbox sent_on c.0) (later-with g.later s item c.0) (g.out c.0)) (sym node)
@@ -253,6 +253,13 @@ module _ (deck : Deck) (w : World) (g : IsWhole deck w) (c : SysId) (n : NodeSta
         record { each = hands-later deck w.medium.words (length w.nodes) g.later g.out q item refl c.0 (qs ++ requests_in (inbox w.medium c.0)) (not-true (is_among q.task (askers (qs ++ requests_in (inbox w.medium c.0)))) both.0) mine_hands.each.1; apart = both.1 }))))
         (λ m k v ne found is. hands_others m k v ne found is asked)
       where
+        -- a system whose tasks sent nothing isn't the asker's
+        asker_sent : Fixes deck c.0 g.out T (T ++ item ∷ [])
+        asker_sent = one_fixed item follows-now.ask (λ u ne empty e. not_there (ap g.out (ap (λ (r : Req). r.task.system.0) same_req ∙ e) ∙ empty))
+          where
+            not_there : g.out s ≡ [] → ⊥
+            not_there e = subst (IsIn q) e hand.among
+
         near : (v : Res) → r ≡ v → entry_of_res deck.entries r ≡ Some hand.entry → is_near_res deck w.medium.words v q.task ≡ true
         near v e f = ap (λ y. near_at w.medium.words s (entry_of_res deck.entries y)) (sym e) ∙ (ap (near_at w.medium.words s) f ∙ (asker-away deck w.medium.words T g.right s other (inbox w.medium s) (g.later s) (g.out s) its q hand.among hand.idle c hand.entry hand.at hand.managed hand.apart).1)
 

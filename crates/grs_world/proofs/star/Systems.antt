@@ -37,10 +37,9 @@ use Rattle.grs_known.proofs.known.Histories.{IsHistory, IsAsk, made_item, stays-
 use Rattle.grs_known.proofs.lists.Facts.{list_any-push, filter-cons_kept, filter-cons_left, any-more, any-last}
 use Rattle.grs_known.proofs.lists.Owners.{is_among}
 use Rattle.grs_known.proofs.lists.Truths.{no_truth, false_by, or_off}
-use Rattle.grs_world.proofs.system.AtNode.{not-ours}
+use Rattle.grs_world.proofs.system.AtNode.{not-ours, opens_of}
 use Rattle.grs_known.proofs.system.Ours.{IsOurs, IsHere}
 use Rattle.grs_world.proofs.system.Puts.{home-task}
-use Rattle.grs_world.proofs.system.AtNode.{opens_of}
 use Rattle.grs_known.proofs.system.Says.{is_home_at, askers}
 use Rattle.grs_world.proofs.star.Answering.{Settled, asker-settled}
 use Rattle.grs_world.proofs.star.Ghosts.{ghosted, IsAt, at-other}

@@ -1,5 +1,5 @@
 -- The systems of a run in star mode together: whose hands each request is in, and how an event of one system is placed.
-use Rattle.std.proofs.Common.{◌≡◌, ◌≢◌, ◌⊎◌, ◌<◌, ℕ, Bool, true, false, List, [], ◌∷◌, ◌++◌, length, Some, refl, ap, sym, ◌∙◌, subst, append-nil}
+use Rattle.std.proofs.Common.{◌≡◌, ◌≢◌, ◌⊎◌, ◌<◌, ℕ, Bool, true, false, List, [], ◌∷◌, ◌++◌, length, Some, refl, ap, sym, ◌∙◌, subst, append-nil, None, Option}
 use Rattle.std.specs.Prelude.{set, slice_get, ◌==◌}
 use Rattle.std.proofs.lemmas.Bool.{eqb-true, eqb-false}
 use Rattle.std.proofs.lemmas.List.{length-set}
@@ -22,18 +22,22 @@ use Rattle.grs_wire.specs.declared.request.Fixed.TheVariants as fixing
 use Rattle.grs_wire.specs.declared.request.Req.{Req}
 use Rattle.grs_wire.specs.History.{replay}
 use Rattle.grs_known.specs.Items.{RunItem, goes_round, mine, lists, items, history}
-use Rattle.grs_known.proofs.known.Histories.{IsHistory, MayFollow, made_item, items-append, replayed, follows, wants-round}
+use Rattle.grs_known.proofs.known.Histories.{IsHistory, MayFollow, made_item, items-append, replayed, follows, wants-round, IsAsk}
 use Rattle.grs_known.proofs.known.ItemLaws.{lists-push}
 use Rattle.grs_known.proofs.lists.Facts.{slice_get-set, slice_get-set_other}
 use Rattle.grs_world.specs.Kept.{kept}
-use Rattle.grs_world.specs.World.{World, Turnout, fixed_by, placed}
+use Rattle.grs_world.specs.World.{World, Turnout, fixed_by, placed, counted}
 use Rattle.grs_known.proofs.system.Says.{askers, stand_apart}
 use Rattle.grs_world.proofs.star.Elements.{AreNear, is_near_res, near-want}
-use Rattle.grs_world.proofs.star.OwnEvents.{Task, idle_task, local_task, system-task}
+use Rattle.grs_world.proofs.star.OwnEvents.{Task, idle_task, local_task, system-task, want-round}
 use Rattle.grs_world.proofs.star.Tasks.{task-quiet}
 use Rattle.grs_world.proofs.star.Members.{IsMember, IsStar, IsStep, has_manager, all_lists, framed}
-use Rattle.grs_world.proofs.star.Runs.{kept_lists}
+use Rattle.grs_world.proofs.star.Runs.{kept_lists, counted-star}
 use Rattle.grs_world.proofs.star.Systems.{IsSystem, requests_in, system-other}
+use Rattle.lock_structure.specs.Entries.{is_entry}
+use Rattle.grs_wire.specs.declared.told.Told.{Told}
+use Rattle.rsa_message.specs.Message.{Message}
+use Rattle.grs_world.proofs.star.Under.{under, under-other}
 
 -- a request is one of these
 abbrev pub IsIn : Req → List Req → Type 0
@@ -75,6 +79,18 @@ pub record IsWhole (deck : Deck) (w : World) : Type 0 where
   pub system : (s : ℕ) (n : NodeState) → slice_get w.nodes s ≡ Some n → IsSystem deck w.medium.words (items w.fixed) s n (inbox w.medium s) (later s) (out s)
   pub hands : (m : ℕ) (n : NodeState) (p : StarPart) → slice_get w.nodes m ≡ Some n → n.star ≡ Some p → Hands deck w.medium.words (length w.nodes) later out m (in_hands p (inbox w.medium m))
 
+-- ---- what an event leaves
+-- Behind these items an event of system c fixed nothing, or one item: of no other system whose tasks had sent nothing.
+pub data Fixes (deck : Deck) (c : ℕ) (out : ℕ → List Req) (T : List RunItem) : List RunItem → Type 0 where
+  none_fixed : Fixes deck c out T T
+  one_fixed : (x : RunItem) (a : IsAsk deck x) → ((u : ℕ) → u ≢ c → out u ≡ [] → a.req.task.system.0 ≢ u) → Fixes deck c out T (T ++ x ∷ [])
+
+-- The world is whole after an event of system c, and what the tasks of every other system sent stays.
+pub record StaysWhole (deck : Deck) (w : World) (g : IsWhole deck w) (c : SysId) (w' : World) : Type 0 where
+  pub whole : IsWhole deck w'
+  pub sent : (u : ℕ) → u ≢ c.0 → whole.out u ≡ g.out u
+  pub fixes : Fixes deck c.0 g.out (items w.fixed) (items w'.fixed)
+
 -- one item more
 pub items-one : (xs : List (SysId × Fixed)) (c : SysId) (f : Fixed) → items (xs ++ fixed_by c (f ∷ [])) ≡ items xs ++ made_item c (items xs) f ∷ []
 items-one xs c f = items-append xs (fixed_by c (f ∷ []))
@@ -83,7 +99,7 @@ pub items-none : (xs : List (SysId × Fixed)) (c : SysId) → items (xs ++ fixed
 items-none xs c = ap items (append-nil xs)
 
 -- ---- the world after an event of system c, where the items become these
-module _ (deck : Deck) (w : World) (c : SysId) (n : NodeState) (at : slice_get w.nodes c.0 ≡ Some n) (g : IsStar deck w) (o : Turnout) (step : IsStep deck w c n o) (T : List RunItem) (grown : items (w.fixed ++ fixed_by c o.step.fixed) ≡ T) (later : ℕ → List RunItem) (out : ℕ → List Req) where
+module _ (deck : Deck) (w : World) (g : IsWhole deck w) (c : SysId) (n : NodeState) (at : slice_get w.nodes c.0 ≡ Some n) (o : Turnout) (step : IsStep deck w c n o) (T : List RunItem) (grown : items (w.fixed ++ fixed_by c o.step.fixed) ≡ T) (later : ℕ → List RunItem) (out : ℕ → List Req) (sent : (u : ℕ) → u ≢ c.0 → out u ≡ g.out u) (fixes : Fixes deck c.0 g.out (items w.fixed) T) where
   abbrev words : List ℕ
   words = o.medium.words
 
@@ -103,22 +119,90 @@ module _ (deck : Deck) (w : World) (c : SysId) (n : NodeState) (at : slice_get w
       ((s : ℕ) (k : NodeState) → s ≢ c.0 → slice_get w.nodes s ≡ Some k → IsSystem deck o.medium.words T s k (inbox o.medium s) (later s) (out s)) →
       ((p : StarPart) → o.step.node.star ≡ Some p → Hands deck o.medium.words (length w.nodes) later out c.0 (in_hands p (inbox o.medium c.0))) →
       ((m : ℕ) (k : NodeState) (p : StarPart) → m ≢ c.0 → slice_get w.nodes m ≡ Some k → k.star ≡ Some p → Hands deck o.medium.words (length w.nodes) later out m (in_hands p (inbox o.medium m))) →
-      IsWhole deck (placed w c n o)
+      StaysWhole deck w g c (placed w c n o)
   unfolding placed
   whole-placed right near own others hands_own hands_others = record {
-    roles = framed deck w c n at g o step;
-    right = subst (IsHistory deck) (sym grown) right;
-    later = later;
-    out = out;
-    near = subst (λ U. AreNear deck o.medium.words (lists U)) (sym grown) near;
-    system = λ s k f. subst (λ U. IsSystem deck o.medium.words U s k (inbox o.medium s) (later s) (out s)) (sym grown) (by_system (λ u z. IsSystem deck o.medium.words T u z (inbox o.medium u) (later u) (out u)) own others s k f);
-    hands = λ m k p f is. subst (λ count. Hands deck o.medium.words count later out m (in_hands p (inbox o.medium m))) (sym (length-set w.nodes c.0 o.step.node))
-        (by_system (λ u z. (q : StarPart) → z.star ≡ Some q → Hands deck o.medium.words (length w.nodes) later out u (in_hands q (inbox o.medium u))) hands_own (λ u z ne found q star. hands_others u z q ne found star) m k f p is);
+    whole = record {
+      roles = framed deck w c n at g.roles o step;
+      right = subst (IsHistory deck) (sym grown) right;
+      later = later;
+      out = out;
+      near = subst (λ U. AreNear deck o.medium.words (lists U)) (sym grown) near;
+      system = λ s k f. subst (λ U. IsSystem deck o.medium.words U s k (inbox o.medium s) (later s) (out s)) (sym grown) (by_system (λ u z. IsSystem deck o.medium.words T u z (inbox o.medium u) (later u) (out u)) own others s k f);
+      hands = λ m k p f is. subst (λ count. Hands deck o.medium.words count later out m (in_hands p (inbox o.medium m))) (sym (length-set w.nodes c.0 o.step.node))
+          (by_system (λ u z. (q : StarPart) → z.star ≡ Some q → Hands deck o.medium.words (length w.nodes) later out u (in_hands q (inbox o.medium u))) hands_own (λ u z ne found q star. hands_others u z q ne found star) m k f p is);
+    };
+    sent = sent;
+    fixes = subst (Fixes deck c.0 g.out (items w.fixed)) (sym grown) fixes;
   }
+
+-- an event that is only counted
+pub whole-counted : (deck : Deck) (w : World) (g : IsWhole deck w) → (h : IsWhole deck (counted w)) × ((u : ℕ) → h.out u ≡ g.out u)
+whole-counted deck w g = (
+  record {
+    roles = counted-star deck w g.roles;
+    right = g.right;
+    later = g.later;
+    out = g.out;
+    near = g.near;
+    system = g.system;
+    hands = g.hands;
+  },
+  λ u. refl,
+)
+
+-- What holds of the world says nothing of the message and of flags of rest, nor of what was told.
+pub whole-still : (deck : Deck) (w : World) (g : IsWhole deck w) (message : Message) (flags events : ℕ) (fixed : List (SysId × Fixed)) (told : List Told) → items fixed ≡ items w.fixed →
+    (h : IsWhole deck (record w { medium = record w.medium { message = message; rest = flags }; events = events; fixed = fixed; told = told })) × ((u : ℕ) → h.out u ≡ g.out u)
+whole-still deck w g message flags events fixed told same = (
+  record {
+    roles = record {
+      mode = g.roles.mode;
+      removed = g.roles.removed;
+      words = g.roles.words;
+      inboxes = g.roles.inboxes;
+      systems = g.roles.systems;
+      managed = g.roles.managed;
+      nobody = g.roles.nobody;
+      free = λ e none. subst (λ T. under deck.entries e (lists T) ≡ []) (sym same) (g.roles.free e none);
+      node = λ s k f. subst (λ T. IsMember deck w.medium.words (lists T) s k) (sym same) (g.roles.node s k f);
+    };
+    right = subst (IsHistory deck) (sym same) g.right;
+    later = g.later;
+    out = g.out;
+    near = subst (λ T. AreNear deck w.medium.words (lists T)) (sym same) g.near;
+    system = λ s k f. subst (λ T. IsSystem deck w.medium.words T s k (inbox w.medium s) (g.later s) (g.out s)) (sym same) (g.system s k f);
+    hands = g.hands;
+  },
+  λ u. refl,
+)
 
 -- So what is kept is what the history says.
 pub kept-whole : (deck : Deck) (w : World) → IsWhole deck w → (s : SysId) (r : Res) → is_systems r ≡ true → kept deck w s r ≡ list_of (replay deck.limit (history (items w.fixed))) r
 kept-whole deck w g s r all = kept_lists deck w g.roles s r all ∙ ap (λ st. list_of st r) (replayed deck (items w.fixed) g.right)
+
+-- an item of the system's own task is none of another system
+pub fixes-own : (deck : Deck) (c : SysId) (out : ℕ → List Req) (T : List RunItem) (q : Req) (m : MayFollow deck T (made_item c T (fixing.Asked q))) → q.task.system.0 ≡ c.0 → Fixes deck c.0 out T (T ++ made_item c T (fixing.Asked q) ∷ [])
+fixes-own deck c out T q m home = one_fixed (made_item c T (fixing.Asked q)) m.ask (λ u ne empty e. ne (sym e ∙ (ap (λ (z : Req). z.task.system.0) (sym asker) ∙ home)))
+  where
+    asker : q ≡ m.ask.req
+    asker = let e : fixing.Asked q ≡ fixing.Asked m.ask.req = m.ask.asked in cc
+
+-- a request that doesn't go with the message is of no lock entry
+no_entry : (deck : Deck) (words : List ℕ) (u : TaskId) (r : Res) → is_systems r ≡ false → is_near_res deck words r u ≡ true
+no_entry deck words u (StepRes z j q r) e = refl
+no_entry deck words u (System z q r) e = refl
+no_entry deck words u (Systems q r) e = absurd (cc)
+
+pub near-local : (deck : Deck) (words : List ℕ) (T : List RunItem) (c : SysId) (q : Req) → goes_round (fixing.Asked q) ≡ false → AreNear deck words (lists T) → AreNear deck words (lists (T ++ made_item c T (fixing.Asked q) ∷ []))
+near-local deck words T c q away near = subst (AreNear deck words) (sym (lists-push T (made_item c T (fixing.Asked q)))) (near-want deck words (lists T) q.task q.want (λ r wanted. no_entry deck words q.task r (sym (wants-round q.want r wanted) ∙ away)) near)
+
+pub under-local : (deck : Deck) (T : List RunItem) (c : SysId) (q : Req) → goes_round (fixing.Asked q) ≡ false → (e : ℕ) → under deck.entries e (lists (T ++ made_item c T (fixing.Asked q) ∷ [])) ≡ under deck.entries e (lists T)
+under-local deck T c q away e = ap (under deck.entries e) (lists-push T (made_item c T (fixing.Asked q))) ∙ under-other deck.entries e (lists T) q.task q.want (none (entry_wanted deck.entries q.want) refl)
+  where
+    none : (o : Option ℕ) → entry_wanted deck.entries q.want ≡ o → is_entry e o ≡ false
+    none None at = refl
+    none (Some x) at = absurd (want-round deck q.want x away at)
 
 -- ---- events of a system c
 module _ (deck : Deck) (w : World) (g : IsWhole deck w) (c : SysId) (n : NodeState) (at : slice_get w.nodes c.0 ≡ Some n) where
@@ -126,7 +210,7 @@ module _ (deck : Deck) (w : World) (g : IsWhole deck w) (c : SysId) (n : NodeSta
   T = items w.fixed
 
   -- its own item is another system's to the others
-  others-item : (f : Req) (m : MayFollow deck T (made_item c T (fixing.Asked f))) → f.task.system.0 ≡ c.0 → (s : ℕ) (k : NodeState) → s ≢ c.0 → slice_get w.nodes s ≡ Some k →
+  pub others-item : (f : Req) (m : MayFollow deck T (made_item c T (fixing.Asked f))) → f.task.system.0 ≡ c.0 → (s : ℕ) (k : NodeState) → s ≢ c.0 → slice_get w.nodes s ≡ Some k →
       IsSystem deck w.medium.words (T ++ made_item c T (fixing.Asked f) ∷ []) s k (inbox w.medium s) (g.later s) (g.out s)
   others-item f m home s k ne found = system-other deck w.medium.words T s k (inbox w.medium s) (g.later s) (g.out s) (made_item c T (fixing.Asked f)) m.ask (λ e. ne (sym e ∙ (ap (λ (q : Req). q.task.system.0) (sym asker) ∙ home))) (g.system s k found)
     where
@@ -134,7 +218,7 @@ module _ (deck : Deck) (w : World) (g : IsWhole deck w) (c : SysId) (n : NodeSta
       asker = let e : fixing.Asked f ≡ fixing.Asked m.ask.req = m.ask.asked in cc
 
   -- a task goes on by itself
-  pub whole-task : (t : TaskId) → may_go deck n t ≡ true → IsStep deck w c n (record { medium = w.medium; step = finish_quiet deck n (choices.Task t) }) → IsWhole deck (placed w c n (record { medium = w.medium; step = finish_quiet deck n (choices.Task t) }))
+  pub whole-task : (t : TaskId) → may_go deck n t ≡ true → IsStep deck w c n (record { medium = w.medium; step = finish_quiet deck n (choices.Task t) }) → StaysWhole deck w g c (placed w c n (record { medium = w.medium; step = finish_quiet deck n (choices.Task t) }))
   unfolding finish_quiet
   whole-task t goes step = by_task (system-task deck w.medium.words T g.right c.0 n (inbox w.medium c.0) (g.later c.0) (g.out c.0) (g.system c.0 n at) c t goes)
     where
@@ -144,20 +228,12 @@ module _ (deck : Deck) (w : World) (g : IsWhole deck w) (c : SysId) (n : NodeSta
           by_part : IsMember deck w.medium.words (all_lists w) c.0 n → (finish_quiet deck n (choices.Task t)).node.star ≡ n.star
           by_part m = (task-quiet m.part n m.star deck.limit t (lines_of deck t)).star
 
-      no_entry : (u : TaskId) (r : Res) → is_systems r ≡ false → is_near_res deck w.medium.words r u ≡ true
-      no_entry u (StepRes z j q r) e = refl
-      no_entry u (System z q r) e = refl
-      no_entry u (Systems q r) e = absurd (cc)
-
-      near-local : (q : Req) → goes_round (fixing.Asked q) ≡ false → AreNear deck w.medium.words (lists (T ++ made_item c T (fixing.Asked q) ∷ []))
-      near-local q away = subst (AreNear deck w.medium.words) (sym (lists-push T (made_item c T (fixing.Asked q)))) (near-want deck w.medium.words (lists T) q.task q.want (λ r wanted. no_entry q.task r (sym (wants-round q.want r wanted) ∙ away)) g.near)
-
-      by_task : Task deck w.medium.words T g.right c.0 n (inbox w.medium c.0) (g.later c.0) (g.out c.0) (g.system c.0 n at) c (finish_quiet deck n (choices.Task t)) → IsWhole deck (placed w c n (record { medium = w.medium; step = finish_quiet deck n (choices.Task t) }))
-      by_task (idle_task none_fixed z) =
-          whole-placed deck w c n at g.roles (record { medium = w.medium; step = finish_quiet deck n (choices.Task t) }) step T (ap (λ fs. items (w.fixed ++ fixed_by c fs)) none_fixed ∙ items-none w.fixed c) g.later g.out
+      by_task : Task deck w.medium.words T g.right c.0 n (inbox w.medium c.0) (g.later c.0) (g.out c.0) (g.system c.0 n at) c (finish_quiet deck n (choices.Task t)) → StaysWhole deck w g c (placed w c n (record { medium = w.medium; step = finish_quiet deck n (choices.Task t) }))
+      by_task (idle_task nothing z) =
+          whole-placed deck w g c n at (record { medium = w.medium; step = finish_quiet deck n (choices.Task t) }) step T (ap (λ fs. items (w.fixed ++ fixed_by c fs)) nothing ∙ items-none w.fixed c) g.later g.out (λ u ne. refl) none_fixed
           g.right g.near z.system (λ s k ne found. g.system s k found) (λ p is. g.hands c.0 n p at (sym same_star ∙ is)) (λ m k p ne found is. g.hands m k p found is)
-      by_task (local_task q one_fixed mine_q away m z) =
+      by_task (local_task q is_item mine_q away m z) =
           let item : RunItem = made_item c T (fixing.Asked q) in
           let home : q.task.system.0 ≡ c.0 = eqb-true q.task.system.0 c.0 mine_q in
-          whole-placed deck w c n at g.roles (record { medium = w.medium; step = finish_quiet deck n (choices.Task t) }) step (T ++ item ∷ []) (ap (λ fs. items (w.fixed ++ fixed_by c fs)) one_fixed ∙ items-one w.fixed c (fixing.Asked q)) g.later g.out
-          (follows deck T item g.right m) (near-local q away) z.system (others-item q m home) (λ p is. g.hands c.0 n p at (sym same_star ∙ is)) (λ k j p ne found is. g.hands k j p found is)
+          whole-placed deck w g c n at (record { medium = w.medium; step = finish_quiet deck n (choices.Task t) }) step (T ++ item ∷ []) (ap (λ fs. items (w.fixed ++ fixed_by c fs)) is_item ∙ items-one w.fixed c (fixing.Asked q)) g.later g.out (λ u ne. refl) (fixes-own deck c g.out T q m home)
+          (follows deck T item g.right m) (near-local deck w.medium.words T c q away g.near) z.system (others-item q m home) (λ p is. g.hands c.0 n p at (sym same_star ∙ is)) (λ k j p ne found is. g.hands k j p found is)

@@ -8,3 +8,4 @@ pub mod Tell
 pub mod Words
 pub mod Settle
 pub mod Leave
+pub mod Desk

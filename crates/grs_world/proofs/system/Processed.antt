@@ -6,25 +6,21 @@ use Rattle.std.proofs.lemmas.Bool.{and_parts, eqb-true, eqb-false, not-true}
 use Rattle.std.proofs.lemmas.Option.{same_Some}
 use Rattle.grs_base.specs.Same.{same_task}
 use Rattle.grs_base.specs.State.{is_systems}
-use Rattle.grs_base.specs.declared.resource.Ctl.{Ctl}
-use Rattle.grs_base.specs.declared.resource.Ctl.TheVariants as ctls
-use Rattle.grs_base.specs.declared.resource.Ret.{Ret}
-use Rattle.grs_base.specs.declared.resource.Ret.TheVariants as rets
 use Rattle.grs_base.specs.declared.resource.Res.{Res}
 use Rattle.grs_base.specs.declared.resource.TaskId.{TaskId}
-use Rattle.grs_base.proofs.SameLaws.{same_res-itself, same_task-itself}
+use Rattle.grs_base.proofs.SameLaws.{same_task-itself}
 use Rattle.grs_legal.specs.Asks.{lines_of}
 use Rattle.grs_legal.specs.declared.meaning.Meaning.{Meaning}
 use Rattle.grs_node.specs.Node.{NodeState}
+use Rattle.grs_wire.specs.contracts.request.WantPartialEq.TheImpl.{eq-value as same_want}
 use Rattle.grs_wire.specs.Wants.{answer_to, after_want, res_wanted, new_owners}
 use Rattle.grs_wire.specs.declared.deck.Deck.{Deck}
 use Rattle.grs_wire.specs.declared.history.HistEntry.{HistEntry}
 use Rattle.grs_wire.specs.declared.request.Answer.{Answer}
 use Rattle.grs_wire.specs.declared.request.Fixed.TheVariants as fixing
 use Rattle.grs_wire.specs.declared.request.Req.{Req}
-use Rattle.grs_wire.specs.declared.request.Want.{Want}
-use Rattle.grs_wire.specs.declared.request.Want.TheVariants.{Enq, Deq, Release, Look}
-use Rattle.ring_mode.specs.Ring.{Side, process, answer_own, is_asked, same_want, same_ctl, same_ret, same_bool}
+use Rattle.ring_mode.specs.Ring.{Side, process, answer_own, is_asked}
+use Rattle.ring_mode.proofs.WantLaws.{want-itself}
 use Rattle.task_state.specs.Replies.{replied, recalled, tell_answer, tell_answer_any, tell_new, phase_asking, gives_up, is_leaving}
 use Rattle.task_state.specs.View.{TasksView, is_task, state_of, is_sent}
 use Rattle.task_state.proofs.ViewLaws.{is_task-system}
@@ -50,29 +46,6 @@ use Rattle.grs_known.proofs.system.Ours.{IsOurs, IsHere}
 use Rattle.grs_known.proofs.system.Says.{is_home_at, askers, stand_apart, own_asked, ToldBy, none}
 use Rattle.grs_known.proofs.system.Outstanding.{asked-good}
 
--- a request is told by itself
-same_ctl-itself : (c : Ctl) → same_ctl c c ≡ true
-same_ctl-itself ctls.E = refl
-same_ctl-itself ctls.S = refl
-
-same_ret-itself : (x : Ret) → same_ret x x ≡ true
-same_ret-itself rets.RetNone = refl
-same_ret-itself rets.RetUse = refl
-same_ret-itself rets.RetHave = refl
-same_ret-itself rets.RetTest = refl
-same_ret-itself rets.RetChng = refl
-same_ret-itself rets.RetEcb = refl
-
-same_bool-itself : (b : Bool) → same_bool b b ≡ true
-same_bool-itself true = refl
-same_bool-itself false = refl
-
-pub same_want-itself : (w : Want) (r : Res) → res_wanted w ≡ Some r → same_want w w ≡ true
-same_want-itself (Enq q c ret full) r e = rw (same_res-itself q, same_ctl-itself c, same_ret-itself ret, same_bool-itself full) refl
-same_want-itself (Deq q have) r e = rw (same_res-itself q, same_bool-itself have) refl
-same_want-itself (Release q) r e = same_res-itself q
-same_want-itself (Look first count f) r e = absurd (cc)
-
 -- ---- what the node does
 -- a system's node after it has processed an entry of the message
 abbrev pub after_read : NodeState → Req → NodeState
@@ -87,11 +60,11 @@ unfolding process
 read-shared n q = refl
 
 -- the tasks among which a request of the system's own was answered
-answers-own : (v : TasksView) (q : Req) (answer : Answer) (a : Asked) → is_task v q.task ≡ true → is_sent (state_of v q.task).phase ≡ true → (state_of v q.task).outstanding ≡ Some a → a.req ≡ q → same_want q.want q.want ≡ true →
+answers-own : (v : TasksView) (q : Req) (answer : Answer) (a : Asked) → is_task v q.task ≡ true → is_sent (state_of v q.task).phase ≡ true → (state_of v q.task).outstanding ≡ Some a → a.req ≡ q →
     answer_own v q answer ≡ replied (recalled v q.task q.want) q.task q.want a.unit answer
 unfolding answer_own tell_answer_any tell_answer
-answers-own v q answer a here sent opened is same =
-    let asked : is_asked q.want (state_of v q.task).outstanding ≡ true = ap (is_asked q.want) opened ∙ ap (λ (z : Req). same_want q.want z.want) is ∙ same in
+answers-own v q answer a here sent opened is =
+    let asked : is_asked q.want (state_of v q.task).outstanding ≡ true = ap (is_asked q.want) opened ∙ ap (λ (z : Req). same_want.it q.want z.want) is ∙ want-itself q.want in
     let all : (is_task v q.task && (is_sent (state_of v q.task).phase && is_asked q.want (state_of v q.task).outstanding)) ≡ true = rw (here, sent, asked) refl in
     ap (λ b. cond b (tell_answer_any v q.task answer (state_of v q.task).outstanding) v) all
     ∙ ap (λ o. tell_answer_any v q.task answer o) opened
@@ -208,7 +181,7 @@ module _ (deck : Deck) (s : ℕ) (P before : List RunItem) (right : IsHistory de
           let task1 = subst (λ o. IsTask ls own_past n.tasks.told (λ r. is_leaving r o) q.task (unasked_by o y)) f k.task in
           let task2 = subst (λ (z : Req). IsTask ls own_past n.tasks.told (λ r. gives_up r z.want) q.task (record y { line = line_asked z.want y.line; phase = phase_asking z.want y.code })) rq task1 in
           reads-by a (q ∷ out) out seen (and_parts _ _ seen.homes).1 (and_parts _ _ seen.apart).1 _
-          (ap (λ z. tell_new z (res_wanted q.want) (new_owners (lists before) q.task q.want)) (answers-own n.tasks q (answer_to (lists before) q.task q.want) b ours.here sent f rq (same_want-itself q.want a.res a.wanted)))
+          (ap (λ z. tell_new z (res_wanted q.want) (new_owners (lists before) q.task q.want)) (answers-own n.tasks q (answer_to (lists before) q.task q.want) b ours.here sent f rq))
           (own_read out q ls ours (ap (is_of q.task) a.asked ∙ same_task-itself q.task) seen (λ u. ap (is_of u) a.asked) a.res a.wanted (read_by deck P before x later q a.res right whole a.asked a.wanted wide) b.unit (task-open ls own_past n.tasks.told _ q.task _ None task2) asked_for)
 
   -- one of another system

@@ -46,7 +46,7 @@ use Rattle.grs_known.proofs.system.Says.{is_home_at, askers, stand_apart, none}
 use Rattle.grs_known.proofs.system.Telling.{told-phase}
 use Rattle.grs_known.proofs.system.Turns.{quiet_good}
 
-asked-middle : (t : TaskId) (o : Option Asked) (xs : List Req) (q : Req) (ys : List Req) → IsAskedBy t o (xs ++ q ∷ ys) → same_task t q.task ≡ true → IsReq q o
+pub asked-middle : (t : TaskId) (o : Option Asked) (xs : List Req) (q : Req) (ys : List Req) → IsAskedBy t o (xs ++ q ∷ ys) → same_task t q.task ≡ true → IsReq q o
 asked-middle t o [] q ys h e = h.0 e
 asked-middle t o (x ∷ xs) q ys h e = asked-middle t o xs q ys h.1 e
 

@@ -4,13 +4,13 @@ use Rattle.grs_top.specs.Seen.{whole_report, ending}
 use Rattle.grs_top.proofs.due.reported.Goals as goal
 
 pub returns-in_err-seen-clause-sound : goal.returns-in_err-seen-clause-sound
-returns-in_err-seen-clause-sound c = c.runs_are_sound.ensures c.args.deck.now (λ star. record { star = star; few = c.requires.fits.few; entries = c.requires.entries }) c.args.deck.now.events
+returns-in_err-seen-clause-sound c = c.runs_are_sound.ensures c.args.deck.now (λ star. record { few = c.requires.fits.few; entries = c.requires.entries }) c.args.deck.now.events
 
 pub returns-in_err-out-clause-sound : goal.returns-in_err-out-clause-sound
-returns-in_err-out-clause-sound c = c.runs_are_sound.ensures c.args.deck.now (λ star. record { star = star; few = c.requires.fits.few; entries = c.requires.entries }) c.args.deck.now.events
+returns-in_err-out-clause-sound c = c.runs_are_sound.ensures c.args.deck.now (λ star. record { few = c.requires.fits.few; entries = c.requires.entries }) c.args.deck.now.events
 
 pub returns-clause-sound : goal.returns-clause-sound
-returns-clause-sound c = c.runs_are_sound.ensures c.args.deck.now (λ star. record { star = star; few = c.requires.fits.few; entries = c.requires.entries }) c.args.deck.now.events
+returns-clause-sound c = c.runs_are_sound.ensures c.args.deck.now (λ star. record { few = c.requires.fits.few; entries = c.requires.entries }) c.args.deck.now.events
 
 pub returns-clause-out : goal.returns-clause-out
 unfolding whole_report

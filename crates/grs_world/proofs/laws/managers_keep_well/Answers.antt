@@ -1,5 +1,5 @@
-use Rattle.grs_world.proofs.star.Runs.{keep_well}
 use Rattle.grs_world.proofs.laws.managers_keep_well.Goals as goal
+use Rattle.grs_world.proofs.move.Roles.{every_part}
 
 pub returns : goal.returns
-returns c = keep_well
+returns c = every_part

@@ -40,9 +40,10 @@ use Rattle.grs_world.proofs.star.Leaving.{no-element, system-left}
 use Rattle.grs_world.proofs.star.Members.{IsMember, IsStep, all_lists, has_manager, managed-is}
 use Rattle.grs_world.proofs.star.Settling.{asker-away}
 use Rattle.grs_world.proofs.star.Systems.{IsSystem, near_at, system-words}
-use Rattle.grs_world.proofs.star.Worlds.{Hands, IsHand, IsWhole, in_hands, items-none, whole-placed}
+use Rattle.grs_world.proofs.star.Worlds.{Hands, IsHand, IsWhole, in_hands, items-none, whole-placed, none_fixed}
 use Rattle.grs_world.proofs.star.steps.Outcome.{Comes, ComesBy, ComesOf, IsOutcome, comes-called, comes-finished, comes-needs, comes-none, comes-quiet}
 use Rattle.grs_world.proofs.star.steps.Words.{hands-words, others-keep}
+use Rattle.grs_world.proofs.run.Desks.{tells_tasks}
 
 module _ (deck : Deck) (some : 0 < deck.entries) (w : World) (g : IsWhole deck w) (c : SysId) (inside : c.0 < 8) (n : NodeState) (at : slice_get w.nodes c.0 ≡ Some n) where
   abbrev me : IsMember deck w.medium.words (all_lists w) c.0 n
@@ -122,9 +123,9 @@ module _ (deck : Deck) (some : 0 < deck.entries) (w : World) (g : IsWhole deck w
                     ap (is_interested words' a) same ∙ (same-interest a apart ∙ (ap (is_interested words a) (sym same) ∙ near))
                 by_system false f = step.moves.interest a t.system.0 (eqb-false t.system.0 c.0 f) ∙ near
 
-        whole-left : IsOutcome deck w c n (record { medium = left flags; step = with_star n (fixing_none n.tasks (left_at p x)) })
+        whole-left : IsOutcome deck w g c n (record { medium = left flags; step = with_star n (fixing_none n.tasks (left_at p x)) })
         whole-left = record {
-          whole = whole-placed deck w c n at g.roles (record { medium = left flags; step = with_star n (fixing_none n.tasks (left_at p x)) }) step T (items-none w.fixed c) g.later g.out
+          stays = whole-placed deck w g c n at (record { medium = left flags; step = with_star n (fixing_none n.tasks (left_at p x)) }) step T (items-none w.fixed c) g.later g.out (λ u ne. refl) none_fixed
               g.right
               (near-words deck words' (all_lists w) near-then)
               own
@@ -133,20 +134,20 @@ module _ (deck : Deck) (some : 0 < deck.entries) (w : World) (g : IsWhole deck w
               subst (λ (y : StarPart). Hands deck words' (length w.nodes) g.later g.out c.0 (in_hands y (inbox w.medium c.0))) (same_Some (left_at p x) k found)
               (hands-words deck words words' (length w.nodes) g.later g.out c.0 (λ q h. same-role h.entry (alone q h) ∙ h.managed) (in_hands p (inbox w.medium c.0)) (g.hands c.0 n p at me.star)))
               (λ m k v ne found star. hands-words deck words words' (length w.nodes) g.later g.out m (λ q h. step.moves.managers h.entry m ne ∙ h.managed) (in_hands v (inbox w.medium m)) (g.hands m k v found star));
-          news = still-told refl;
+          news = tells_tasks (still-told refl) refl refl;
         }
 
       comes-left : ComesOf deck w g c n at (choices.Leave x) (replies.Left, cond (leave_changes (word_at words x) c) (record w.medium { words = words'; rest = awake w.medium c }) w.medium)
       unfolding finish finish_call finish_star
       comes-left =
-          subst (λ (m : MediumState). Comes deck w c n (record { medium = m; step = finish deck n (choices.Leave x) (Some replies.Left) })) (sym (left-is deck some w c inside n at g.roles me x free))
+          subst (λ (m : MediumState). Comes deck w g c n (record { medium = m; step = finish deck n (choices.Leave x) (Some replies.Left) })) (sym (left-is deck some w c inside n at g.roles me x free))
           (comes-finished deck w g c n at (left (cond (leave_changes (word_at words x) c) (awake w.medium c) w.medium.rest)) (choices.Leave x) replies.Left (λ step. whole-left _ step))
 
     -- a manager that would leave others behind is answered Kept, and nothing changes
     comes-kept : is_kept (word_at words x) c ≡ true → ComesOf deck w g c n at (choices.Leave x) (replies.Kept (interest (word_at words x)), cond (leave_changes (word_at words x) c) (record w.medium { words = words'; rest = awake w.medium c }) w.medium)
     unfolding finish finish_call finish_star leave_changes
     comes-kept is =
-        subst (λ (m : MediumState). Comes deck w c n (record { medium = m; step = finish deck n (choices.Leave x) (Some (replies.Kept (interest (word_at words x)))) })) (sym same)
+        subst (λ (m : MediumState). Comes deck w g c n (record { medium = m; step = finish deck n (choices.Leave x) (Some (replies.Kept (interest (word_at words x)))) })) (sym same)
         (comes-finished deck w g c n at w.medium (choices.Leave x) (replies.Kept (interest (word_at words x))) (comes-quiet deck w g c n at w.medium refl refl))
       where
         stays : leave_changes (word_at words x) c ≡ false
@@ -161,7 +162,7 @@ module _ (deck : Deck) (some : 0 < deck.entries) (w : World) (g : IsWhole deck w
         (λ h. comes-kept h)
         (λ h. comes-left (ap (λ b. cond b (replies.Kept (interest (word_at words x))) replies.Left) h))
 
-  pub outcome-leave : (x : ℕ) → Comes deck w c n (chosen deck w.medium c n (choices.Leave x))
+  pub outcome-leave : (x : ℕ) → Comes deck w g c n (chosen deck w.medium c n (choices.Leave x))
   unfolding chosen prepare
   outcome-leave x = comes-needs deck w g c n at (choices.Leave x)
       (by_test (ComesBy deck w g c n at (choices.Leave x)) (may_leave p n.tasks x) (Asks (acts.Leave x)) Idle (λ h. comes-called deck w g c n at (choices.Leave x) (acts.Leave x) (comes-replied x h)) (λ h. comes-none deck w g c n at (choices.Leave x)))

@@ -15,34 +15,35 @@ use Rattle.grs_wire.specs.declared.deck.Deck.{Deck}
 use Rattle.grs_wire.specs.declared.medium.Act.{Act}
 use Rattle.grs_wire.specs.declared.medium.Reply.{Reply}
 use Rattle.grs_world.specs.World.{World, Turnout, carry_out, fixed_by, idle, placed}
-use Rattle.grs_known.proofs.told.News.{ToldNews, still-told}
+use Rattle.grs_known.proofs.told.News.{still-told}
 use Rattle.grs_world.proofs.star.Elements.{AreNear}
-use Rattle.grs_world.proofs.star.Events.{heard}
 use Rattle.grs_world.proofs.star.Members.{IsStep, all_lists}
 use Rattle.grs_world.proofs.star.Systems.{IsSystem}
-use Rattle.grs_world.proofs.star.Worlds.{IsWhole, Hands, in_hands, items-none, whole-placed}
+use Rattle.grs_world.proofs.star.Worlds.{IsWhole, Hands, in_hands, items-none, whole-placed, StaysWhole, none_fixed}
+use Rattle.grs_world.proofs.run.Desks.{EventTells, tells_tasks}
+use Rattle.grs_world.proofs.run.InRing.{heard}
 
 -- The world stays whole, and what the system tells agrees with the history.
-pub record IsOutcome (deck : Deck) (w : World) (c : SysId) (n : NodeState) (o : Turnout) : Type 0 where
-  pub whole : IsWhole deck (placed w c n o)
-  pub news : ToldNews deck c.0 (history (items (w.fixed ++ fixed_by c o.step.fixed))) n.tasks.told o.step.node.tasks.told
+pub record IsOutcome (deck : Deck) (w : World) (g : IsWhole deck w) (c : SysId) (n : NodeState) (o : Turnout) : Type 0 where
+  pub stays : StaysWhole deck w g c (placed w c n o)
+  pub news : EventTells deck c (history (items (w.fixed ++ fixed_by c o.step.fixed))) n o.step.node w.medium.star o.medium.star
 
 -- as far as it is a step of words, roles and lists
-abbrev pub Comes : Deck → World → SysId → NodeState → Turnout → Type 0
-Comes deck w c n o = IsStep deck w c n o → IsOutcome deck w c n o
+abbrev pub Comes : (deck : Deck) (w : World) → IsWhole deck w → SysId → NodeState → Turnout → Type 0
+Comes deck w g c n o = IsStep deck w c n o → IsOutcome deck w g c n o
 
 module _ (deck : Deck) (w : World) (g : IsWhole deck w) (c : SysId) (n : NodeState) (at : slice_get w.nodes c.0 ≡ Some n) where
   -- Nothing happens to words, mail and the system, whatever happens to the message and to flags of rest.
-  pub outcome-still : (m : MediumState) → m.words ≡ w.medium.words → m.inboxes ≡ w.medium.inboxes → (k : NodeState) → k ≡ n → Comes deck w c n (record { medium = m; step = record { node = k; fixed = [] } })
+  pub outcome-still : (m : MediumState) → m.words ≡ w.medium.words → m.inboxes ≡ w.medium.inboxes → (k : NodeState) → k ≡ n → Comes deck w g c n (record { medium = m; step = record { node = k; fixed = [] } })
   outcome-still m words boxes k same step = record {
-    whole = whole-placed deck w c n at g.roles (record { medium = m; step = record { node = k; fixed = [] } }) step (items w.fixed) (items-none w.fixed c) g.later g.out
+    stays = whole-placed deck w g c n at (record { medium = m; step = record { node = k; fixed = [] } }) step (items w.fixed) (items-none w.fixed c) g.later g.out (λ u ne. refl) none_fixed
         g.right
         (subst (λ ws. AreNear deck ws (all_lists w)) (sym words) g.near)
         (subst (λ (z : NodeState). IsSystem deck m.words (items w.fixed) c.0 z (inbox m c.0) (g.later c.0) (g.out c.0)) (sym same) (system_at c.0 n at))
         (λ s j ne found. system_at s j found)
         (λ p star. hands_at c.0 n p at (ap (λ (z : NodeState). z.star) (sym same) ∙ star))
         (λ s j p ne found star. hands_at s j p found star);
-    news = still-told (ap (λ (z : NodeState). z.tasks.told) same);
+    news = tells_tasks (still-told (ap (λ (z : NodeState). z.tasks.told) same)) (ap (λ (z : NodeState). z.done) same) (step.mode ∙ sym g.roles.mode);
   }
     where
       system_at : (s : ℕ) (j : NodeState) → slice_get w.nodes s ≡ Some j → IsSystem deck m.words (items w.fixed) s j (inbox m s) (g.later s) (g.out s)
@@ -53,7 +54,7 @@ module _ (deck : Deck) (w : World) (g : IsWhole deck w) (c : SysId) (n : NodeSta
       hands_at s j p found star = subst (λ ws. Hands deck ws (length w.nodes) g.later g.out s (in_hands p (inbox m s))) (sym words)
           (subst (λ bs. Hands deck w.medium.words (length w.nodes) g.later g.out s (in_hands p (inbox_of bs s))) (sym boxes) (g.hands s j p found star))
 
-  pub comes-idle : Comes deck w c n (idle w.medium n)
+  pub comes-idle : Comes deck w g c n (idle w.medium n)
   comes-idle = outcome-still w.medium refl refl n refl
 
   -- the part of the system
@@ -61,16 +62,16 @@ module _ (deck : Deck) (w : World) (g : IsWhole deck w) (c : SysId) (n : NodeSta
   part = (g.roles.node c.0 n at).part
 
   -- a reply that says nothing new
-  pub comes-quiet : (m : MediumState) → m.words ≡ w.medium.words → m.inboxes ≡ w.medium.inboxes → Comes deck w c n (record { medium = m; step = with_star n (fixing_none n.tasks part) })
+  pub comes-quiet : (m : MediumState) → m.words ≡ w.medium.words → m.inboxes ≡ w.medium.inboxes → Comes deck w g c n (record { medium = m; step = with_star n (fixing_none n.tasks part) })
   comes-quiet m words boxes = outcome-still m words boxes _ (ap (λ o. record n { star = o }) (sym (g.roles.node c.0 n at).star))
 
   -- ---- by what a choice needs
   abbrev pub ComesBy : Choice → Need → Type 0
-  ComesBy choice need = Comes deck w c n (carry_out deck w.medium c n choice (prepared_by n.known need))
+  ComesBy choice need = Comes deck w g c n (carry_out deck w.medium c n choice (prepared_by n.known need))
 
-  pub comes-needs : (choice : Choice) → ComesBy choice (star_need deck n part choice) → Comes deck w c n (carry_out deck w.medium c n choice (star_call deck n n.star choice))
+  pub comes-needs : (choice : Choice) → ComesBy choice (star_need deck n part choice) → Comes deck w g c n (carry_out deck w.medium c n choice (star_call deck n n.star choice))
   unfolding star_call
-  comes-needs choice h = subst (λ o. Comes deck w c n (carry_out deck w.medium c n choice (star_call deck n o choice))) (sym (g.roles.node c.0 n at).star) h
+  comes-needs choice h = subst (λ o. Comes deck w g c n (carry_out deck w.medium c n choice (star_call deck n o choice))) (sym (g.roles.node c.0 n at).star) h
 
   pub comes-none : (choice : Choice) → ComesBy choice Idle
   unfolding carry_out
@@ -78,12 +79,12 @@ module _ (deck : Deck) (w : World) (g : IsWhole deck w) (c : SysId) (n : NodeSta
 
   -- ---- by the reply to a call, which is neither Removed nor Stale, since no system is removed
   abbrev pub ComesOf : Choice → Reply × MediumState → Type 0
-  ComesOf choice a = Comes deck w c n (record { medium = a.1; step = finish deck n choice (Some a.0) })
+  ComesOf choice a = Comes deck w g c n (record { medium = a.1; step = finish deck n choice (Some a.0) })
 
   pub comes-called : (choice : Choice) (act : Act) → ComesOf choice (row w.medium c act) → ComesBy choice (Asks act)
   unfolding carry_out
   comes-called choice act h = subst (ComesOf choice) (sym (heard w.medium c (record { known = n.known; act = act }) g.roles.removed (g.roles.node c.0 n at).known)) h
 
   -- the system's part finishes it
-  pub comes-finished : (m : MediumState) (choice : Choice) (reply : Reply) → Comes deck w c n (record { medium = m; step = finish_star deck n (Some part) choice reply }) → Comes deck w c n (record { medium = m; step = finish_star deck n n.star choice reply })
-  comes-finished m choice reply h = subst (λ o. Comes deck w c n (record { medium = m; step = finish_star deck n o choice reply })) (sym (g.roles.node c.0 n at).star) h
+  pub comes-finished : (m : MediumState) (choice : Choice) (reply : Reply) → Comes deck w g c n (record { medium = m; step = finish_star deck n (Some part) choice reply }) → Comes deck w g c n (record { medium = m; step = finish_star deck n n.star choice reply })
+  comes-finished m choice reply h = subst (λ o. Comes deck w g c n (record { medium = m; step = finish_star deck n o choice reply })) (sym (g.roles.node c.0 n at).star) h

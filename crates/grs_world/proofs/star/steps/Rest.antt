@@ -1,5 +1,4 @@
--- A system comes to rest, which changes no more than its flag of rest; and in star mode there is no Turn, no Switch and no
--- Purge.
+-- A system comes to rest, which changes no more than its flag of rest; and in star mode there is no Turn and no Purge.
 use Rattle.std.proofs.Common.{◌≡◌, Some, refl, sym, subst}
 use Rattle.std.specs.Prelude.{slice_get, ◌&&◌}
 use Rattle.grs_base.specs.declared.resource.SysId.{SysId}
@@ -18,7 +17,7 @@ use Rattle.grs_world.proofs.star.Worlds.{IsWhole}
 use Rattle.grs_world.proofs.star.steps.Outcome.{Comes, ComesOf, comes-called, comes-finished, comes-idle, comes-needs, comes-none, comes-quiet}
 
 module _ (deck : Deck) (w : World) (g : IsWhole deck w) (c : SysId) (n : NodeState) (at : slice_get w.nodes c.0 ≡ Some n) where
-  idle_choice : (choice : Choice) → Comes deck w c n (carry_out deck w.medium c n choice Nothing)
+  idle_choice : (choice : Choice) → Comes deck w g c n (carry_out deck w.medium c n choice Nothing)
   unfolding carry_out
   idle_choice choice = comes-idle deck w g c n at
 
@@ -28,20 +27,16 @@ module _ (deck : Deck) (w : World) (g : IsWhole deck w) (c : SysId) (n : NodeSta
       (λ h. comes-finished deck w g c n at (resting w.medium c) choices.Rest replies.Over (comes-quiet deck w g c n at (resting w.medium c) refl refl))
       (λ h. comes-finished deck w g c n at (resting w.medium c) choices.Rest replies.Resting (comes-quiet deck w g c n at (resting w.medium c) refl refl))
 
-  pub outcome-rest : Comes deck w c n (chosen deck w.medium c n choices.Rest)
+  pub outcome-rest : Comes deck w g c n (chosen deck w.medium c n choices.Rest)
   unfolding chosen prepare
-  outcome-rest = by_test (λ q. Comes deck w c n (carry_out deck w.medium c n choices.Rest q)) (is_pending deck n) Nothing (Call (record { known = n.known; act = acts.Rest }))
+  outcome-rest = by_test (λ q. Comes deck w g c n (carry_out deck w.medium c n choices.Rest q)) (is_pending deck n) Nothing (Call (record { known = n.known; act = acts.Rest }))
       (λ h. idle_choice choices.Rest)
       (λ h. comes-called deck w g c n at choices.Rest acts.Rest rested)
 
-  pub outcome-turn : Comes deck w c n (chosen deck w.medium c n choices.Turn)
+  pub outcome-turn : Comes deck w g c n (chosen deck w.medium c n choices.Turn)
   unfolding chosen prepare
-  outcome-turn = subst (λ o. Comes deck w c n (carry_out deck w.medium c n choices.Turn (turn_call n o))) (sym (g.roles.node c.0 n at).star) (idle_choice choices.Turn)
+  outcome-turn = subst (λ o. Comes deck w g c n (carry_out deck w.medium c n choices.Turn (turn_call n o))) (sym (g.roles.node c.0 n at).star) (idle_choice choices.Turn)
 
-  pub outcome-switch : Comes deck w c n (chosen deck w.medium c n choices.Switch)
-  unfolding chosen prepare
-  outcome-switch = comes-needs deck w g c n at choices.Switch (comes-none deck w g c n at choices.Switch)
-
-  pub outcome-purge : (target : SysId) → Comes deck w c n (chosen deck w.medium c n (choices.Purge target))
+  pub outcome-purge : (target : SysId) → Comes deck w g c n (chosen deck w.medium c n (choices.Purge target))
   unfolding chosen prepare
   outcome-purge target = comes-needs deck w g c n at (choices.Purge target) (comes-none deck w g c n at (choices.Purge target))

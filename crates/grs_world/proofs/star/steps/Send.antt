@@ -61,6 +61,7 @@ use Rattle.grs_world.proofs.star.Systems.{IsSystem, here}
 use Rattle.grs_world.proofs.star.Under.{under, entry-same, answer-under, owners-under}
 use Rattle.grs_world.proofs.star.Worlds.{IsWhole}
 use Rattle.grs_world.proofs.star.steps.Outcome.{Comes, ComesBy, ComesOf, comes-needs, comes-none, comes-called, comes-finished}
+use Rattle.grs_known.proofs.lists.Alike.{Alike, answer-alike, owners-alike}
 
 -- a task whose request waits to be sent has sent none
 waits-free : (t : TaskId) (p : Phase) (qs : List Req) → is_to_send p ≡ true → are_sent t p qs ≡ true → is_among t (askers qs) ≡ false
@@ -81,7 +82,7 @@ waits-free t p (q ∷ qs) waits h = go (same_task t q.task) h (waits-free t p qs
     go false f more = more f
 
 -- what is asked is of a resource
-asks-res : (limit : ℕ) (ls : List Meaning) (line : ℕ) (xs : List Rec) (w : Want) (unit : Option ℕ) → IsAskedFor limit ls line xs w unit → (r : Res) × (res_wanted w ≡ Some r)
+pub asks-res : (limit : ℕ) (ls : List Meaning) (line : ℕ) (xs : List Rec) (w : Want) (unit : Option ℕ) → IsAskedFor limit ls line xs w unit → (r : Res) × (res_wanted w ≡ Some r)
 asks-res limit ls line xs (Enq r c ret full) unit h = (r, refl)
 asks-res limit ls line xs (Deq r have) unit h = (r, refl)
 asks-res limit ls line xs (Release r) unit h = (r, refl)
@@ -89,8 +90,8 @@ asks-res limit ls line xs (Look first count f) unit h = absurd h
 
 -- A manager decides by its lists as all lists would.
 module _ (deck : Deck) (words : List ℕ) (L : State) (s : ℕ) (p : StarPart) (k : IsPart deck words L s p) (x : ℕ) (mine : manages p x ≡ true) (v : TasksView) (t : TaskId) (a : Asked) (r : Res) (wanted : res_wanted a.req.want ≡ Some r) (at : entry_wanted deck.entries a.req.want ≡ Some x) where
-  lists-are : lists_for p a.req.want ≡ under deck.entries x L
-  lists-are = ap (λ o. plain (items_of (kept_for p.manager.entries o))) (ap (λ i. entry_wanted i a.req.want) k.entries ∙ at) ∙ k.lists x mine
+  lists-are : Alike (lists_for p a.req.want) (under deck.entries x L)
+  lists-are = subst (λ o. Alike (plain (items_of (kept_for p.manager.entries o))) (under deck.entries x L)) (sym (ap (λ i. entry_wanted i a.req.want) k.entries ∙ at)) (k.lists x mine)
 
   here_at : is_entry x (entry_wanted deck.entries a.req.want) ≡ true
   here_at = entry-same x (entry_wanted deck.entries a.req.want) at
@@ -98,7 +99,8 @@ module _ (deck : Deck) (words : List ℕ) (L : State) (s : ℕ) (p : StarPart) (
   decides-as : tell_new (tell_answer_ranked v t a (answer_to L t a.req.want) (rank_of p (request_of t a))) (res_wanted a.req.want) (new_owners L t a.req.want) ≡
       tell_new (tell_answer_ranked v t a (answer_for p (request_of t a)) (rank_of p (request_of t a))) (res_wanted a.req.want) (owners_by p (request_of t a))
   decides-as = sym (
-      ap (λ z. tell_new (tell_answer_ranked v t a (answer_to z t a.req.want) (rank_of p (request_of t a))) (res_wanted a.req.want) (new_owners z t a.req.want)) lists-are
+      ap (λ z. tell_new (tell_answer_ranked v t a z (rank_of p (request_of t a))) (res_wanted a.req.want) (owners_by p (request_of t a))) (answer-alike (lists_for p a.req.want) (under deck.entries x L) t a.req.want r wanted lists-are)
+      ∙ ap (λ z. tell_new (tell_answer_ranked v t a (answer_to (under deck.entries x L) t a.req.want) (rank_of p (request_of t a))) (res_wanted a.req.want) z) (owners-alike (lists_for p a.req.want) (under deck.entries x L) t a.req.want lists-are)
       ∙ ap (λ z. tell_new (tell_answer_ranked v t a z (rank_of p (request_of t a))) (res_wanted a.req.want) (new_owners (under deck.entries x L) t a.req.want)) (answer-under deck.entries x L t a.req.want r wanted here_at)
       ∙ ap (λ z. tell_new (tell_answer_ranked v t a (answer_to L t a.req.want) (rank_of p (request_of t a))) (res_wanted a.req.want) z) (owners-under deck.entries x L t a.req.want r wanted here_at)
       )
@@ -162,10 +164,10 @@ module _ (deck : Deck) (some : 0 < deck.entries) (w : World) (g : IsWhole deck w
 
         -- it is decided by these words and this part, which manages the entry
         decided : (ws : List ℕ) (flags : ℕ) (grow : WordsGrow w.medium.words ws) (q : StarPart) → IsPart deck ws (all_lists w) c.0 q → manages q x ≡ true → q.held ≡ p.held →
-            Comes deck w c n (record { medium = record w.medium { words = ws; rest = flags }; step = with_star n (decide_own n.tasks q t a) })
+            Comes deck w g c n (record { medium = record w.medium { words = ws; rest = flags }; step = with_star n (decide_own n.tasks q t a) })
         unfolding decide_own
         decided ws flags grow q fits mine held =
-            subst (λ (v : TasksView). Comes deck w c n (record { medium = record w.medium { words = ws; rest = flags }; step = with_star n (record { tasks = v; part = record q { manager = after_request q.manager t a.req.want }; fixed = fixing.Asked (request_of t a) ∷ [] }) }))
+            subst (λ (v : TasksView). Comes deck w g c n (record { medium = record w.medium { words = ws; rest = flags }; step = with_star n (record { tasks = v; part = record q { manager = after_request q.manager t a.req.want }; fixed = fixing.Asked (request_of t a) ∷ [] }) }))
             (decides-as deck ws L c.0 q fits x mine n.tasks t a resource.0 resource.1 of_entry)
             (outcome-decided deck w g c n at ws grow flags t lines.0 lines.1 home a is free x of_entry (sym (fits.roles x) ∙ mine) resource.0 resource.1 (new_owners L t a.req.want) (rank_of q (request_of t a)) p (record q { manager = after_request q.manager t a.req.want }) me.star held owned)
 
@@ -173,8 +175,8 @@ module _ (deck : Deck) (some : 0 < deck.entries) (w : World) (g : IsWhole deck w
         alone : manages p x ≡ true → ComesBy deck w g c n at (choices.Send t) Alone
         unfolding carry_out finish finish_quiet
         alone mine =
-            subst (λ o. Comes deck w c n (record { medium = w.medium; step = send_own n t o })) (sym me.star)
-            (subst (λ o. Comes deck w c n (record { medium = w.medium; step = with_star n (own_step n.tasks p t o) })) (sym is)
+            subst (λ o. Comes deck w g c n (record { medium = w.medium; step = send_own n t o })) (sym me.star)
+            (subst (λ o. Comes deck w g c n (record { medium = w.medium; step = with_star n (own_step n.tasks p t o) })) (sym is)
             (decided words w.medium.rest (words-stay words) p me.fits mine refl))
 
         -- another system manages it, or nobody does
@@ -188,31 +190,31 @@ module _ (deck : Deck) (some : 0 < deck.entries) (w : World) (g : IsWhole deck w
           joined-is : manages_word w.medium c x ≡ false → joined w.medium c x ≡ record w.medium { words = submitted_words w.medium.words x c; rest = awake w.medium c }
           joined-is e = ap (λ b. cond b w.medium (record w.medium { words = now; rest = awake w.medium c })) e
 
-          sole : manager_at w.medium.words x ≡ None → Comes deck w c n (record { medium = record w.medium { words = submitted_words w.medium.words x c; rest = awake w.medium c }; step = finish_star deck n (Some p) (choices.Send t) replies.Sole })
+          sole : manager_at w.medium.words x ≡ None → Comes deck w g c n (record { medium = record w.medium { words = submitted_words w.medium.words x c; rest = awake w.medium c }; step = finish_star deck n (Some p) (choices.Send t) replies.Sole })
           unfolding finish_star
           sole nobody =
               let fits = begun_part deck some w c inside n at g.roles me x (want-within deck.entries a.req.want x some of_entry) nobody in
-              subst (λ o. Comes deck w c n (record { medium = record w.medium { words = now; rest = awake w.medium c }; step = with_star n (begin_at n.tasks p t o (entry_asked p o)) })) (sym is)
-              (subst (λ o. Comes deck w c n (record { medium = record w.medium { words = now; rest = awake w.medium c }; step = with_star n (begin_at n.tasks p t (Some a) o) })) (sym asks)
+              subst (λ o. Comes deck w g c n (record { medium = record w.medium { words = now; rest = awake w.medium c }; step = with_star n (begin_at n.tasks p t o (entry_asked p o)) })) (sym is)
+              (subst (λ o. Comes deck w g c n (record { medium = record w.medium { words = now; rest = awake w.medium c }; step = with_star n (begin_at n.tasks p t (Some a) o) })) (sym asks)
               (decided now (awake w.medium c) grow (begun p x) fits (fits.roles x ∙ submit-first words x c inside_words inside g.roles.managed nobody) refl))
 
           sends : (s : SysId) → manager_at w.medium.words x ≡ Some s → (s.0 == c.0) ≡ false →
-              Comes deck w c n (record { medium = record w.medium { words = submitted_words w.medium.words x c; inboxes = with_mail w.medium.inboxes s.0 (mails.Request x c (request_of t a)); rest = awake w.medium c }; step = finish_star deck n (Some p) (choices.Send t) replies.Sent })
+              Comes deck w g c n (record { medium = record w.medium { words = submitted_words w.medium.words x c; inboxes = with_mail w.medium.inboxes s.0 (mails.Request x c (request_of t a)); rest = awake w.medium c }; step = finish_star deck n (Some p) (choices.Send t) replies.Sent })
           unfolding finish_star
           sends s manager apart =
-              subst (λ o. Comes deck w c n (record { medium = record w.medium { words = now; inboxes = with_mail w.medium.inboxes s.0 (mails.Request x c (request_of t a)); rest = awake w.medium c }; step = with_star n (sent_to n.tasks p t o) })) (sym (ap (entry_asked p) is ∙ asks))
+              subst (λ o. Comes deck w g c n (record { medium = record w.medium { words = now; inboxes = with_mail w.medium.inboxes s.0 (mails.Request x c (request_of t a)); rest = awake w.medium c }; step = with_star n (sent_to n.tasks p t o) })) (sym (ap (entry_asked p) is ∙ asks))
               (outcome-sent deck w g c n at now grow (awake w.medium c) t lines.0 lines.1 home a is free x of_entry (submit-near words x c inside_words inside g.roles.managed) s (manager-here words x s manager) (eqb-false s.0 c.0 apart) p (with_interest p x true) me.star refl)
 
           by_route : (o : Option SysId) → manager_at w.medium.words x ≡ o → ComesOf deck w g c n at (choices.Send t) (submit_on w.medium c x (request_of t a) (route_by o c))
           unfolding finish finish_call
           by_route None nobody =
-              subst (λ (m : MediumState). Comes deck w c n (record { medium = m; step = finish deck n (choices.Send t) (Some replies.Sole) })) (sym (joined-is (ap (λ o. is_manager o c) nobody)))
+              subst (λ (m : MediumState). Comes deck w g c n (record { medium = m; step = finish deck n (choices.Send t) (Some replies.Sole) })) (sym (joined-is (ap (λ o. is_manager o c) nobody)))
               (comes-finished deck w g c n at (record w.medium { words = now; rest = awake w.medium c }) (choices.Send t) replies.Sole (sole nobody))
           by_route (Some s) manager =
               let apart : (s.0 == c.0) ≡ false = sym (ap (λ o. is_manager o (record { 0 = c.0 })) manager) ∙ (sym (me.fits.roles x) ∙ not_mine) in
               let boxes = with_mail w.medium.inboxes s.0 (mails.Request x c (request_of t a)) in
               subst (λ (b : Bool). ComesOf deck w g c n at (choices.Send t) (submit_on w.medium c x (request_of t a) (cond b routes.Sole (routes.To s)))) (sym apart)
-              (subst (λ (m : MediumState). Comes deck w c n (record { medium = record m { inboxes = boxes }; step = finish deck n (choices.Send t) (Some replies.Sent) })) (sym (joined-is (ap (λ o. is_manager o c) manager ∙ apart)))
+              (subst (λ (m : MediumState). Comes deck w g c n (record { medium = record m { inboxes = boxes }; step = finish deck n (choices.Send t) (Some replies.Sent) })) (sym (joined-is (ap (λ o. is_manager o c) manager ∙ apart)))
               (comes-finished deck w g c n at (record w.medium { words = now; inboxes = boxes; rest = awake w.medium c }) (choices.Send t) replies.Sent (sends s manager apart)))
 
           submitted : ComesOf deck w g c n at (choices.Send t) (row w.medium c (acts.Submit x (request_of t a)))
@@ -229,7 +231,7 @@ module _ (deck : Deck) (some : 0 < deck.entries) (w : World) (g : IsWhole deck w
     by_asked None e = comes-none deck w g c n at (choices.Send t)
     by_asked (Some a) e = by_entry a e (entry_for p a.req.want) refl
 
-  pub outcome-send : (t : TaskId) → Comes deck w c n (chosen deck w.medium c n (choices.Send t))
+  pub outcome-send : (t : TaskId) → Comes deck w g c n (chosen deck w.medium c n (choices.Send t))
   unfolding chosen prepare
   outcome-send t = comes-needs deck w g c n at (choices.Send t)
       (by_test (ComesBy deck w g c n at (choices.Send t)) (may_send deck n t) (send_of p t (state_of n.tasks t).outstanding) Idle

@@ -39,6 +39,8 @@ use Rattle.grs_world.proofs.star.Systems.{gives_want}
 use Rattle.grs_world.proofs.star.Under.{under, answer-under, entry-same, owners-under, res-entry}
 use Rattle.grs_world.proofs.star.Worlds.{IsHand, IsWhole, items-one}
 use Rattle.grs_world.proofs.star.steps.Outcome.{Comes, ComesBy, ComesOf, comes-called, comes-finished, comes-needs, comes-none}
+use Rattle.grs_known.proofs.lists.Alike.{Alike, answer-alike, owners-alike}
+use Rattle.grs_world.proofs.run.Desks.{tells_tasks}
 
 -- what gives something up puts nothing into a list
 rank-plain : (o : Option Managed) (t : TaskId) (w : Want) → gives_want w ≡ true → rank_for o t w ≡ 0
@@ -83,17 +85,17 @@ module _ (deck : Deck) (w : World) (g : IsWhole deck w) (c : SysId) (n : NodeSta
     of_entry = res-entry deck.entries q.want follow.ask.res its.entry wanted its.at
 
     -- its lists of the entry are what all lists have of it
-    lists-here : lists_for p q.want ≡ under deck.entries its.entry (lists T)
+    lists-here : Alike (lists_for p q.want) (under deck.entries its.entry (lists T))
     lists-here =
-        ap (λ o. plain (items_of (kept_for p.manager.entries o))) (ap (λ k. entry_wanted k q.want) me.fits.entries ∙ its.at)
-        ∙ me.fits.lists its.entry (me.fits.roles its.entry ∙ its.managed)
+        subst (λ o. Alike (plain (items_of (kept_for p.manager.entries o))) (under deck.entries its.entry (lists T))) (sym (ap (λ k. entry_wanted k q.want) me.fits.entries ∙ its.at))
+        (me.fits.lists its.entry (me.fits.roles its.entry ∙ its.managed))
 
     -- so they answer the same, and give the same tasks control
     same-answer : answer_for p q ≡ answer_to (lists T) q.task q.want
-    same-answer = ap (λ z. answer_to z q.task q.want) lists-here ∙ answer-under deck.entries its.entry (lists T) q.task q.want follow.ask.res wanted (entry-same its.entry (entry_wanted deck.entries q.want) its.at)
+    same-answer = answer-alike (lists_for p q.want) (under deck.entries its.entry (lists T)) q.task q.want follow.ask.res wanted lists-here ∙ answer-under deck.entries its.entry (lists T) q.task q.want follow.ask.res wanted (entry-same its.entry (entry_wanted deck.entries q.want) its.at)
 
     same-owners : owners_by p q ≡ new_owners (lists T) q.task q.want
-    same-owners = ap (λ z. new_owners z q.task q.want) lists-here ∙ owners-under deck.entries its.entry (lists T) q.task q.want follow.ask.res wanted (entry-same its.entry (entry_wanted deck.entries q.want) its.at)
+    same-owners = owners-alike (lists_for p q.want) (under deck.entries its.entry (lists T)) q.task q.want lists-here ∙ owners-under deck.entries its.entry (lists T) q.task q.want follow.ask.res wanted (entry-same its.entry (entry_wanted deck.entries q.want) its.at)
 
     own : (u : TaskId) → is_among u (owners_by p q) ≡ true → owns (list_of (lists (T ++ item ∷ [])) follow.ask.res) u ≡ true
     own u among = ap (λ z. owns (list_of z follow.ask.res) u) (lists-push T item) ∙ new-owns (lists T) q.task q.want follow.ask.res u wanted (sym (ap (is_among u) same-owners) ∙ among)
@@ -116,19 +118,19 @@ module _ (deck : Deck) (w : World) (g : IsWhole deck w) (c : SysId) (n : NodeSta
     abbrev answered : Answer → MediumState
     answered a = record w.medium { inboxes = with_mail w.medium.inboxes q.task.system.0 (mails.Answered q.task a (rank_of p q)); rest = awake w.medium c }
 
-    by-history : Comes deck w c n (record { medium = answered (answer_to (lists T) q.task q.want); step = with_star n (settled_first n.tasks p q) })
+    by-history : Comes deck w g c n (record { medium = answered (answer_to (lists T) q.task q.want); step = with_star n (settled_first n.tasks p q) })
     by-history step = record {
-      whole = whole-settled deck w g c n at p me.star q (drop 1 p.held) held (rank_of p q) (rank-plain _ q.task q.want) (awake w.medium c) follow.ask.res wanted (owners_by p q) own of_entry after refl _ node-is step;
-      news = news;
+      stays = whole-settled deck w g c n at p me.star q (drop 1 p.held) held (rank_of p q) (rank-plain _ q.task q.want) (awake w.medium c) follow.ask.res wanted (owners_by p q) own of_entry after refl _ node-is step;
+      news = tells_tasks news refl refl;
     }
 
     comes-settled : serves p q ≡ true → ComesOf deck w g c n at choices.Settle (row w.medium c (acts.Settle q.task.system (mails.Answered q.task (answer_for p q) (rank_of p q))))
     unfolding row mail_row finish finish_call finish_star
     comes-settled serving =
         comes-finished deck w g c n at (answered (answer_for p q)) choices.Settle replies.Settled
-        (subst (λ o. Comes deck w c n (record { medium = answered (answer_for p q); step = with_star n (settled_by n.tasks p o) })) (sym first)
-        (subst (λ b. Comes deck w c n (record { medium = answered (answer_for p q); step = with_star n (cond b (settled_first n.tasks p q) (fixing_none n.tasks p)) })) (sym serving)
-        (subst (λ a. Comes deck w c n (record { medium = answered a; step = with_star n (settled_first n.tasks p q) })) (sym same-answer) by-history)))
+        (subst (λ o. Comes deck w g c n (record { medium = answered (answer_for p q); step = with_star n (settled_by n.tasks p o) })) (sym first)
+        (subst (λ b. Comes deck w g c n (record { medium = answered (answer_for p q); step = with_star n (cond b (settled_first n.tasks p q) (fixing_none n.tasks p)) })) (sym serving)
+        (subst (λ a. Comes deck w g c n (record { medium = answered a; step = with_star n (settled_first n.tasks p q) })) (sym same-answer) by-history)))
 
   by_first : (o : Option Req) → first_held p ≡ o → ComesBy deck w g c n at choices.Settle (settle_by p o)
   by_first None e = comes-none deck w g c n at choices.Settle
@@ -137,6 +139,6 @@ module _ (deck : Deck) (w : World) (g : IsWhole deck w) (c : SysId) (n : NodeSta
       (λ h. comes-called deck w g c n at choices.Settle (acts.Settle q.task.system (mails.Answered q.task (answer_for p q) (rank_of p q))) (comes-settled q e h))
       (λ h. comes-none deck w g c n at choices.Settle)
 
-  pub outcome-settle : Comes deck w c n (chosen deck w.medium c n choices.Settle)
+  pub outcome-settle : Comes deck w g c n (chosen deck w.medium c n choices.Settle)
   unfolding chosen prepare
   outcome-settle = comes-needs deck w g c n at choices.Settle (by_first (first_held p) refl)

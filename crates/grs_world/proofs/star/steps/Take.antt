@@ -28,7 +28,7 @@ use Rattle.star_client.specs.Client.{after_mail}
 use Rattle.task_state.specs.Replies.{tell_control}
 use Rattle.task_state.specs.View.{TasksView}
 use Rattle.grs_known.specs.Items.{RunItem, mine, history, items}
-use Rattle.grs_known.specs.Change.{put_at}
+use Rattle.grs_known.specs.Parts.{put_at}
 use Rattle.grs_known.proofs.lists.Owners.{is_among}
 use Rattle.grs_known.proofs.lists.Truths.{no_truth, false_by, task_swap}
 use Rattle.grs_known.proofs.lists.Placed.{put_here, put_other}
@@ -40,8 +40,9 @@ use Rattle.grs_world.proofs.star.Mailed.{TookAnswer, learns, leaves, took-reques
 use Rattle.grs_world.proofs.star.Members.{IsMember, all_lists}
 use Rattle.grs_world.proofs.star.OwnEvents.{Goes}
 use Rattle.grs_world.proofs.star.Systems.{IsSystem, is_late, late-none, requests_in}
-use Rattle.grs_world.proofs.star.Worlds.{IsIn, IsHand, AllHands, Hands, IsWhole, in_hands, items-none, whole-placed}
+use Rattle.grs_world.proofs.star.Worlds.{IsIn, IsHand, AllHands, Hands, IsWhole, in_hands, items-none, whole-placed, none_fixed}
 use Rattle.grs_world.proofs.star.steps.Outcome.{Comes, ComesOf, comes-quiet, comes-needs, comes-called, comes-finished}
+use Rattle.grs_world.proofs.run.Desks.{tells_tasks}
 
 -- ---- a request of a task that isn't answered stays in whose hands it is
 in-filter : (f : Req → Bool) (q : Req) (qs : List Req) → f q ≡ true → IsIn q qs → IsIn q (filter f qs)
@@ -125,9 +126,9 @@ module _ (deck : Deck) (w : World) (g : IsWhole deck w) (c : SysId) (n : NodeSta
   took-mail : (later : ℕ → List RunItem) (out : ℕ → List Req) → ((s : ℕ) → s ≢ c.0 → later s ≡ g.later s) → ((s : ℕ) → s ≢ c.0 → out s ≡ g.out s) →
       ((m : ℕ) (qs : List Req) → AllHands deck w.medium.words (length w.nodes) g.later g.out m qs → AllHands deck w.medium.words (length w.nodes) later out m qs) → (v : TasksView) (q : StarPart) →
       Goes deck w.medium.words T c.0 (record n { tasks = v; star = Some q }) rest (later c.0) (out c.0) n.tasks.told → Hands deck w.medium.words (length w.nodes) g.later g.out c.0 (in_hands q rest) →
-      Comes deck w c n (to v q)
+      Comes deck w g c n (to v q)
   took-mail later out same_later same_out stay v q goes own step = record {
-    whole = whole-placed deck w c n at g.roles (to v q) step T (items-none w.fixed c) later out g.right g.near
+    stays = whole-placed deck w g c n at (to v q) step T (items-none w.fixed c) later out same_out none_fixed g.right g.near
         (subst (λ ms. IsSystem deck w.medium.words T c.0 (record n { tasks = v; star = Some q }) ms (later c.0) (out c.0)) (sym own_box) goes.system)
         (λ s k ne found. subst (λ ms. IsSystem deck w.medium.words T s k ms (later s) (out s)) (sym (other_box s ne))
         (subst (λ xs. IsSystem deck w.medium.words T s k (inbox w.medium s) xs (out s)) (sym (same_later s ne))
@@ -135,7 +136,7 @@ module _ (deck : Deck) (w : World) (g : IsWhole deck w) (c : SysId) (n : NodeSta
         (λ p found. subst (λ z. Hands deck w.medium.words (length w.nodes) later out c.0 (in_hands z (inbox took c.0))) (same_Some q p found)
         (subst (λ ms. Hands deck w.medium.words (length w.nodes) later out c.0 (in_hands q ms)) (sym own_box) (kept c.0 (in_hands q rest) own)))
         (λ m k p ne found star. subst (λ ms. Hands deck w.medium.words (length w.nodes) later out m (in_hands p ms)) (sym (other_box m ne)) (kept m (in_hands p (inbox w.medium m)) (g.hands m k p found star)));
-    news = subst (λ U. ToldNews deck c.0 (history U) n.tasks.told v.told) (sym (items-none w.fixed c)) (told-news goes.told);
+    news = tells_tasks (subst (λ U. ToldNews deck c.0 (history U) n.tasks.told v.told) (sym (items-none w.fixed c)) (told-news goes.told)) refl refl;
   }
     where
       kept : (m : ℕ) (qs : List Req) → Hands deck w.medium.words (length w.nodes) g.later g.out m qs → Hands deck w.medium.words (length w.nodes) later out m qs
@@ -143,13 +144,13 @@ module _ (deck : Deck) (w : World) (g : IsWhole deck w) (c : SysId) (n : NodeSta
 
   -- the same is open afterwards
   took-same : (v : TasksView) (q : StarPart) → Goes deck w.medium.words T c.0 (record n { tasks = v; star = Some q }) rest (g.later c.0) (g.out c.0) n.tasks.told →
-      Hands deck w.medium.words (length w.nodes) g.later g.out c.0 (in_hands q rest) → Comes deck w c n (to v q)
+      Hands deck w.medium.words (length w.nodes) g.later g.out c.0 (in_hands q rest) → Comes deck w g c n (to v q)
   took-same v q goes own step = took-mail g.later g.out (λ s ne. refl) (λ s ne. refl) (λ m qs h. h) v q goes own step
 
   -- the answer to a task's request was learned
   took-learned : (t : TaskId) (v : TasksView) (q : StarPart) → is_late t (g.later c.0) ≡ true →
       Goes deck w.medium.words T c.0 (record n { tasks = v; star = Some q }) rest (others_of t (g.later c.0)) (without_asker t (g.out c.0)) n.tasks.told →
-      Hands deck w.medium.words (length w.nodes) g.later g.out c.0 (in_hands q rest) → Comes deck w c n (to v q)
+      Hands deck w.medium.words (length w.nodes) g.later g.out c.0 (in_hands q rest) → Comes deck w g c n (to v q)
   took-learned t v q late goes own step =
       let xs = others_of t (g.later c.0) in
       let qs = without_asker t (g.out c.0) in
@@ -176,46 +177,46 @@ module _ (deck : Deck) (w : World) (g : IsWhole deck w) (c : SysId) (n : NodeSta
   no_request e from q is k = record { system = took-request deck words (items w.fixed) c.0 n e from q rest (g.later c.0) (g.out c.0) (Some k) (system_now (Request e from q) is); told = none }
 
   -- it is held last: the same requests are in the system's hands, in the same order
-  holds_request : (e : ℕ) (from : SysId) (q : Req) (is : inbox w.medium c.0 ≡ Request e from q ∷ rest) → Comes deck w c n (to deck w g c n at (Request e from q) rest is n.tasks (record p { held = p.held ++ q ∷ [] }))
+  holds_request : (e : ℕ) (from : SysId) (q : Req) (is : inbox w.medium c.0 ≡ Request e from q ∷ rest) → Comes deck w g c n (to deck w g c n at (Request e from q) rest is n.tasks (record p { held = p.held ++ q ∷ [] }))
   holds_request e from q is = took-same deck w g c n at (Request e from q) rest is n.tasks (record p { held = p.held ++ q ∷ [] }) (no_request e from q is (record p { held = p.held ++ q ∷ [] }))
       (subst (Hands deck words count g.later g.out c.0) (sym (append_assoc p.held (q ∷ []) (requests_in rest))) (hands_now (Request e from q) is))
 
   -- it has no effect
-  drops_request : (e : ℕ) (from : SysId) (q : Req) (is : inbox w.medium c.0 ≡ Request e from q ∷ rest) → Comes deck w c n (to deck w g c n at (Request e from q) rest is n.tasks p)
+  drops_request : (e : ℕ) (from : SysId) (q : Req) (is : inbox w.medium c.0 ≡ Request e from q ∷ rest) → Comes deck w g c n (to deck w g c n at (Request e from q) rest is n.tasks p)
   drops_request e from q is =
       let h = hands_now (Request e from q) is in
       took-same deck w g c n at (Request e from q) rest is n.tasks p (no_request e from q is p) (record { each = all-fewer deck words count g.later g.out c.0 p.held q (requests_in rest) h.each; apart = apart-fewer p.held q (requests_in rest) h.apart })
 
   -- an answer
-  takes_answer : (t : TaskId) (answer : Answer) (rank : ℕ) (is : inbox w.medium c.0 ≡ Answered t answer rank ∷ rest) → is_of_deck deck t ≡ true → Comes deck w c n (to deck w g c n at (Answered t answer rank) rest is (after_mail n.tasks (Answered t answer rank)) p)
+  takes_answer : (t : TaskId) (answer : Answer) (rank : ℕ) (is : inbox w.medium c.0 ≡ Answered t answer rank ∷ rest) → is_of_deck deck t ≡ true → Comes deck w g c n (to deck w g c n at (Answered t answer rank) rest is (after_mail n.tasks (Answered t answer rank)) p)
   takes_answer t answer rank is of_deck = go (took-answer deck words (items w.fixed) g.right c.0 n rest (g.later c.0) (g.out c.0) t answer rank h of_deck (Some p))
     where
       h : IsSystem deck w.medium.words (items w.fixed) c.0 n (Answered t answer rank ∷ rest) (g.later c.0) (g.out c.0)
       h = system_now (Answered t answer rank) is
 
       go : TookAnswer deck w.medium.words (items w.fixed) g.right c.0 n rest (g.later c.0) (g.out c.0) t answer rank h (record n { tasks = after_mail n.tasks (Answered t answer rank); star = Some p }) →
-          Comes deck w c n (to deck w g c n at (Answered t answer rank) rest is (after_mail n.tasks (Answered t answer rank)) p)
+          Comes deck w g c n (to deck w g c n at (Answered t answer rank) rest is (after_mail n.tasks (Answered t answer rank)) p)
       go (learns late z) = took-learned deck w g c n at (Answered t answer rank) rest is t (after_mail n.tasks (Answered t answer rank)) p late z (hands_now (Answered t answer rank) is)
       go (leaves z) = took-same deck w g c n at (Answered t answer rank) rest is (after_mail n.tasks (Answered t answer rank)) p z (hands_now (Answered t answer rank) is)
 
-  drops_answer : (t : TaskId) (answer : Answer) (rank : ℕ) (is : inbox w.medium c.0 ≡ Answered t answer rank ∷ rest) → is_of_deck deck t ≡ false → Comes deck w c n (to deck w g c n at (Answered t answer rank) rest is n.tasks p)
+  drops_answer : (t : TaskId) (answer : Answer) (rank : ℕ) (is : inbox w.medium c.0 ≡ Answered t answer rank ∷ rest) → is_of_deck deck t ≡ false → Comes deck w g c n (to deck w g c n at (Answered t answer rank) rest is n.tasks p)
   drops_answer t answer rank is strange =
       took-same deck w g c n at (Answered t answer rank) rest is n.tasks p
       (record { system = strange-answer deck words (items w.fixed) g.right c.0 n rest (g.later c.0) (g.out c.0) t answer rank (system_now (Answered t answer rank) is) strange (Some p); told = none })
       (hands_now (Answered t answer rank) is)
 
   -- control
-  takes_control : (t : TaskId) (r : Res) (is : inbox w.medium c.0 ≡ Granted t r ∷ rest) → is_of_deck deck t ≡ true → Comes deck w c n (to deck w g c n at (Granted t r) rest is (tell_control n.tasks r t) p)
+  takes_control : (t : TaskId) (r : Res) (is : inbox w.medium c.0 ≡ Granted t r ∷ rest) → is_of_deck deck t ≡ true → Comes deck w g c n (to deck w g c n at (Granted t r) rest is (tell_control n.tasks r t) p)
   takes_control t r is of_deck = took-same deck w g c n at (Granted t r) rest is (tell_control n.tasks r t) p
       (took-control deck words (items w.fixed) g.right c.0 n rest (g.later c.0) (g.out c.0) t r (system_now (Granted t r) is) of_deck (Some p)) (hands_now (Granted t r) is)
 
-  drops_control : (t : TaskId) (r : Res) (is : inbox w.medium c.0 ≡ Granted t r ∷ rest) → Comes deck w c n (to deck w g c n at (Granted t r) rest is n.tasks p)
+  drops_control : (t : TaskId) (r : Res) (is : inbox w.medium c.0 ≡ Granted t r ∷ rest) → Comes deck w g c n (to deck w g c n at (Granted t r) rest is n.tasks p)
   drops_control t r is = took-same deck w g c n at (Granted t r) rest is n.tasks p
       (record { system = strange-control deck words (items w.fixed) g.right c.0 n rest (g.later c.0) (g.out c.0) t r (system_now (Granted t r) is) (Some p); told = none }) (hands_now (Granted t r) is)
 
   -- whatever the mail is
   abbrev Takes : StarStep → Type 0
-  Takes st = Comes deck w c n (record { medium = record w.medium { inboxes = without_first w.medium.inboxes c.0; rest = awake w.medium c }; step = with_star n st })
+  Takes st = Comes deck w g c n (record { medium = record w.medium { inboxes = without_first w.medium.inboxes c.0; rest = awake w.medium c }; step = with_star n st })
 
   takes : (mail : Mail) → inbox w.medium c.0 ≡ mail ∷ rest → Takes (take_mail deck n.tasks p mail)
   unfolding took_mail after_mail
@@ -235,6 +236,6 @@ module _ (deck : Deck) (w : World) (g : IsWhole deck w) (c : SysId) (n : NodeSta
   by_inbox [] is = comes-finished deck w g c n at w.medium choices.Take replies.Empty (comes-quiet deck w g c n at w.medium refl refl)
   by_inbox (mail ∷ rest) is = comes-finished deck w g c n at (record w.medium { inboxes = without_first w.medium.inboxes c.0; rest = awake w.medium c }) choices.Take (replies.Taken mail) (takes deck w g c n at me.part me.star rest mail is)
 
-  pub outcome-take : Comes deck w c n (chosen deck w.medium c n choices.Take)
+  pub outcome-take : Comes deck w g c n (chosen deck w.medium c n choices.Take)
   unfolding chosen prepare row take_row
   outcome-take = comes-needs deck w g c n at choices.Take (comes-called deck w g c n at choices.Take acts.Take (by_inbox (inbox w.medium c.0) refl))

@@ -1,5 +1,5 @@
 -- A task of a system in star mode goes on by itself.
-use Rattle.std.proofs.Common.{◌≡◌, ◌++◌, Some, ap, sym, ◌∙◌, subst, true}
+use Rattle.std.proofs.Common.{◌≡◌, ◌++◌, Some, ap, sym, ◌∙◌, subst, true, refl}
 use Rattle.std.specs.Prelude.{slice_get}
 use Rattle.grs_base.specs.declared.resource.SysId.{SysId}
 use Rattle.grs_base.specs.declared.resource.TaskId.{TaskId}
@@ -16,6 +16,9 @@ use Rattle.grs_known.proofs.told.News.{ToldNews, told-news}
 use Rattle.grs_world.proofs.star.OwnEvents.{Task, idle_task, local_task, system-task}
 use Rattle.grs_world.proofs.star.Worlds.{IsWhole, items-none, items-one, whole-task}
 use Rattle.grs_world.proofs.star.steps.Outcome.{Comes, comes-none}
+use Rattle.grs_node.proofs.Keeping.{stays-task}
+use Rattle.grs_world.proofs.run.Desks.{tells_tasks}
+use Rattle.grs_legal.specs.Asks.{lines_of}
 
 module _ (deck : Deck) (w : World) (g : IsWhole deck w) (c : SysId) (n : NodeState) (at : slice_get w.nodes c.0 ≡ Some n) where
   -- what it tells agrees
@@ -24,16 +27,17 @@ module _ (deck : Deck) (w : World) (g : IsWhole deck w) (c : SysId) (n : NodeSta
   task-news st (local_task q one_fixed mine_q away m z) =
       subst (λ U. ToldNews deck c.0 (history U) n.tasks.told st.node.tasks.told) (sym (ap (λ fs. items (w.fixed ++ fixed_by c fs)) one_fixed ∙ items-one w.fixed c (fixing.Asked q))) (told-news z.told)
 
-  goes-on : (t : TaskId) → may_go deck n t ≡ true → Comes deck w c n (record { medium = w.medium; step = finish_quiet deck n (choices.Task t) })
+  goes-on : (t : TaskId) → may_go deck n t ≡ true → Comes deck w g c n (record { medium = w.medium; step = finish_quiet deck n (choices.Task t) })
+  unfolding finish_quiet
   goes-on t goes step = record {
-    whole = whole-task deck w g c n at t goes step;
-    news = task-news (finish_quiet deck n (choices.Task t)) (system-task deck w.medium.words (items w.fixed) g.right c.0 n (inbox w.medium c.0) (g.later c.0) (g.out c.0) (g.system c.0 n at) c t goes);
+    stays = whole-task deck w g c n at t goes step;
+    news = tells_tasks (task-news (finish_quiet deck n (choices.Task t)) (system-task deck w.medium.words (items w.fixed) g.right c.0 n (inbox w.medium c.0) (g.later c.0) (g.out c.0) (g.system c.0 n at) c t goes)) (stays-task deck.limit n t (lines_of deck t)).done refl;
   }
 
-  by_itself : (t : TaskId) → may_go deck n t ≡ true → Comes deck w c n (carry_out deck w.medium c n (choices.Task t) Quiet)
+  by_itself : (t : TaskId) → may_go deck n t ≡ true → Comes deck w g c n (carry_out deck w.medium c n (choices.Task t) Quiet)
   unfolding carry_out finish
   by_itself t goes = goes-on t goes
 
-  pub outcome-task : (t : TaskId) → Comes deck w c n (chosen deck w.medium c n (choices.Task t))
+  pub outcome-task : (t : TaskId) → Comes deck w g c n (chosen deck w.medium c n (choices.Task t))
   unfolding chosen prepare
-  outcome-task t = by_test (λ p. Comes deck w c n (carry_out deck w.medium c n (choices.Task t) p)) (may_go deck n t) Quiet Nothing (λ h. by_itself t h) (λ h. comes-none deck w g c n at (choices.Task t))
+  outcome-task t = by_test (λ p. Comes deck w g c n (carry_out deck w.medium c n (choices.Task t) p)) (may_go deck n t) Quiet Nothing (λ h. by_itself t h) (λ h. comes-none deck w g c n at (choices.Task t))

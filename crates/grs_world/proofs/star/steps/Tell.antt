@@ -38,8 +38,10 @@ use Rattle.grs_world.proofs.star.Elements.{near-has}
 use Rattle.grs_world.proofs.star.Members.{IsPart, has_manager, one-manages}
 use Rattle.grs_world.proofs.star.Systems.{IsSystem, IsAway, near_at, requests_in, system-granted}
 use Rattle.grs_world.proofs.star.Under.{under, in_entry, entry-is, list-under, under-has}
-use Rattle.grs_world.proofs.star.Worlds.{IsWhole, Hands, in_hands, items-none, whole-placed}
+use Rattle.grs_world.proofs.star.Worlds.{IsWhole, Hands, in_hands, items-none, whole-placed, none_fixed}
 use Rattle.grs_world.proofs.star.steps.Outcome.{Comes, ComesBy, ComesOf, part, comes-called, comes-finished, comes-needs, comes-none}
+use Rattle.grs_known.proofs.lists.Alike.{Alike}
+use Rattle.grs_world.proofs.run.Desks.{tells_tasks}
 
 -- ---- who is told
 -- A task of another system than s, which owns a resource of an entry that s manages.
@@ -52,11 +54,11 @@ record IsOwner (deck : Deck) (words : List ℕ) (L : State) (s e : ℕ) (t : Tas
 module _ (deck : Deck) (words : List ℕ) (L : State) (s : ℕ) (p : StarPart) (k : IsPart deck words L s p) (e : ℕ) where
   -- the owner who is found first in an entry is one
   module _ (m : Managed) (is : managed_at p.manager e ≡ Some m) (y : Ranked) (first : first_untold p.manager.system.0 m.items ≡ Some y) where
-    kept : plain m.items ≡ under deck.entries e L
-    kept = ap (λ o. plain (items_of o)) (sym is) ∙ k.lists e (ap is_some is)
+    kept : Alike (plain m.items) (under deck.entries e L)
+    kept = subst (λ o. Alike (plain (items_of o)) (under deck.entries e L)) is (k.lists e (ap is_some is))
 
     by_manager : owns (list_of (under deck.entries e L) y.res) y.elem.task ≡ true
-    by_manager = ap (λ z. owns (list_of z y.res) y.elem.task) (sym kept) ∙ first_untold_owns p.manager.system.0 p.manager.system.0 m y (k.well e m is).untold first
+    by_manager = ap (λ es. owns es y.elem.task) (sym (kept.lists y.res)) ∙ first_untold_owns p.manager.system.0 p.manager.system.0 m y (k.well e m is).untold first
 
     here : in_entry deck.entries e y.res ≡ true
     here = under-has deck.entries e L y.res y.elem.task (owns-has (list_of (under deck.entries e L) y.res) y.elem.task by_manager)
@@ -164,13 +166,13 @@ module _ (deck : Deck) (w : World) (g : IsWhole deck w) (c : SysId) (n : NodeSta
           subst (Hands deck words (length w.nodes) g.later g.out c.0) (ap (λ ms. p.held ++ requests_in ms) (sym own_box) ∙ (ap (λ qs. qs ++ requests_in (inbox sent_on c.0)) (sym held) ∙ ap (λ (z : StarPart). in_hands z (inbox sent_on c.0)) (same_Some q k is)))
           (g.hands c.0 n p at (g.roles.node c.0 n at).star)
 
-      tells : Comes deck w c n after
+      tells : Comes deck w g c n after
       tells step = record {
-        whole = whole-placed deck w c n at g.roles after step T (items-none w.fixed c) g.later g.out g.right g.near own
+        stays = whole-placed deck w g c n at after step T (items-none w.fixed c) g.later g.out (λ u ne. refl) none_fixed g.right g.near own
             (λ u k ne found. others u k found)
             hands_own
             (λ m k v ne found is. subst (Hands deck words (length w.nodes) g.later g.out m) (ap (λ zs. v.held ++ zs) (same_requests m k found)) (g.hands m k v found is));
-        news = still-told refl;
+        news = tells_tasks (still-told refl) refl refl;
       }
 
   -- ---- the event
@@ -178,7 +180,7 @@ module _ (deck : Deck) (w : World) (g : IsWhole deck w) (c : SysId) (n : NodeSta
   unfolding row mail_row finish finish_call finish_star
   sends entry x is =
       comes-finished deck w g c n at (sent_on entry x.0 x.1 owner (awake w.medium c)) (choices.Tell entry) replies.Told
-      (subst (λ o. Comes deck w c n (record { medium = sent_on entry x.0 x.1 owner (awake w.medium c); step = with_star n (fixing_none n.tasks (told_by p o)) })) (sym is)
+      (subst (λ o. Comes deck w g c n (record { medium = sent_on entry x.0 x.1 owner (awake w.medium c); step = with_star n (fixing_none n.tasks (told_by p o)) })) (sym is)
       (tells entry x.0 x.1 owner (awake w.medium c) (told_by p (Some x)) refl))
     where
       owner : IsOwner deck w.medium.words (lists (items w.fixed)) c.0 entry x.0 x.1
@@ -188,6 +190,6 @@ module _ (deck : Deck) (w : World) (g : IsWhole deck w) (c : SysId) (n : NodeSta
   by_owner entry None is = comes-none deck w g c n at (choices.Tell entry)
   by_owner entry (Some x) is = comes-called deck w g c n at (choices.Tell entry) (acts.Tell x.0.system (Granted x.0 x.1)) (sends entry x is)
 
-  pub outcome-tell : (entry : ℕ) → Comes deck w c n (chosen deck w.medium c n (choices.Tell entry))
+  pub outcome-tell : (entry : ℕ) → Comes deck w g c n (chosen deck w.medium c n (choices.Tell entry))
   unfolding chosen prepare
   outcome-tell entry = comes-needs deck w g c n at (choices.Tell entry) (by_owner entry (to_tell p entry) refl)

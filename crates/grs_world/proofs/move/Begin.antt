@@ -1,0 +1,289 @@
+-- The complex begins to change: the lock words are those of the table of the system that orders it, and every system is shown
+-- as it will be behind what it has still to process. So the world that is shown is one in star mode.
+use Rattle.std.proofs.Common.{◌≡◌, [], ◌<◌, ◌≤◌, ◌++◌, List, Option, Some, None, ap, append-nil, arith, false, length, refl, set, suc, subst, sym, true, zero, ℕ, ◌∙◌, ◌∷◌, ◌+◌, ◌||◌}
+use Rattle.std.specs.Prelude.{nat_lt, replicate, slice_get, is_some, slice_index_or}
+use Rattle.std.specs.List.{list_all, All}
+use Rattle.std.proofs.lemmas.Bool.{and_from, and_parts, lt-ltb, ltb-true}
+use Rattle.std.proofs.lemmas.List.{length-replicate, length-set}
+use Rattle.std.proofs.lemmas.Option.{same_Some}
+use Rattle.grs_base.specs.State.{State, is_systems}
+use Rattle.grs_base.specs.Limits.{most_systems}
+use Rattle.grs_base.specs.declared.resource.SysId.{SysId}
+use Rattle.grs_legal.specs.Asks.{lines_of}
+use Rattle.grs_known.proofs.known.Histories.{AllAsk, IsHistory, elements-ask, may_have}
+use Rattle.grs_known.proofs.lists.Facts.{slice_get-set, slice_get-set_other}
+use Rattle.grs_known.proofs.lists.Parts.{is_res_of}
+use Rattle.grs_known.proofs.ring.Reading.{table-is}
+use Rattle.grs_known.proofs.system.Says.{own_requests}
+use Rattle.grs_known.specs.Items.{RunItem, items, lists, rounds}
+use Rattle.grs_medium.specs.Medium.{awake, inbox, live}
+use Rattle.grs_node.proofs.ChangeFits.{star-changed}
+use Rattle.grs_node.proofs.Fits.{deck-task}
+use Rattle.grs_node.proofs.InRing.{switched-ring}
+use Rattle.grs_node.specs.Change.{part_by_table}
+use Rattle.grs_node.specs.Node.{NodeState, change_to_star, desk_told, next_order, only, own_words, switched, words_by}
+use Rattle.grs_node.specs.Star.{StarPart}
+use Rattle.grs_wire.specs.declared.deck.Deck.{Deck}
+use Rattle.grs_wire.specs.declared.deck.Order.TheVariants as orders
+use Rattle.grs_wire.specs.declared.medium.Mail.{Mail}
+use Rattle.grs_wire.specs.declared.medium.RingEntry.{RingEntry}
+use Rattle.grs_wire.specs.declared.told.Said.TheVariants as saids
+use Rattle.grs_wire.specs.declared.told.ToldLine.TheVariants as lines
+use Rattle.grs_world.proofs.message.Stands.{Bodies}
+use Rattle.grs_world.proofs.move.Changing.{IsMoved, Shown, Waits, has_changed, view-read, viewed, waits_yet}
+use Rattle.grs_world.proofs.move.Parts.{free-by, near-by, nobody-by, part-by}
+use Rattle.grs_world.proofs.move.Ranks.{changed-at, changed-told}
+use Rattle.grs_world.proofs.run.Desks.{tells_done}
+use Rattle.grs_world.proofs.run.Growing.{asks-rounds, fixeds}
+use Rattle.grs_world.proofs.run.InRing.{IsRing}
+use Rattle.grs_world.proofs.run.Messages.{given-later, message-kept}
+use Rattle.grs_world.proofs.run.Runs.{GoodMessage, GoodSystems, by_node, message_log, seen_at}
+use Rattle.grs_world.proofs.star.Elements.{AreNear}
+use Rattle.grs_world.proofs.star.Members.{IsMember, IsPart, IsStar, has_manager}
+use Rattle.grs_world.proofs.star.Sound.{no_mail}
+use Rattle.grs_world.proofs.star.Systems.{IsSystem}
+use Rattle.grs_world.proofs.star.Worlds.{Hands, IsWhole, in_hands, items-none}
+use Rattle.grs_world.proofs.system.AtNode.{Seen}
+use Rattle.grs_world.proofs.system.Desks.{desk-seen, desk-told}
+use Rattle.grs_world.specs.World.{Turnout, World, fixed_by, placed}
+use Rattle.grs_world.proofs.run.Reading.{read_all}
+use Rattle.grs_world.proofs.move.Waiting.{known-read}
+use Rattle.lock_structure.specs.Laws.{is_interested, manager_at, IsManaged}
+use Rattle.mode_migrate.proofs.TableWords.{table-count, table-managed}
+use Rattle.mode_migrate.specs.Laws.{are_within}
+use Rattle.mode_migrate.specs.Migrate.{table_words}
+use Rattle.rsa_message.specs.Message.{closed_by, first_number}
+use Rattle.grs_wire.specs.Unseen.{unseen}
+
+-- ---- the elements of a table of a run are of systems of the deck
+each-within : (deck : Deck) (t : State) → list_all (λ h. may_have deck h.0 h.1.task) t ≡ true → are_within (length deck.systems) t ≡ true
+each-within deck [] h = refl
+each-within deck (x ∷ t) h =
+    let both = and_parts (may_have deck x.0 x.1.task) (list_all (λ z. may_have deck z.0 z.1.task) t) h in
+    and_from (nat_lt x.1.task.system.0 (length deck.systems)) (are_within (length deck.systems) t) (deck-task deck x.1.task (and_parts (is_some (lines_of deck x.1.task)) (is_systems x.0 || is_res_of x.1.task.system.0 x.0) both.0).0) (each-within deck t both.1)
+
+pub more-within : (n m : ℕ) → n ≤ m → (t : State) → are_within n t ≡ true → are_within m t ≡ true
+more-within n m l [] h = refl
+more-within n m l (x ∷ t) h =
+    let both = and_parts (nat_lt x.1.task.system.0 n) (are_within n t) h in
+    let below : x.1.task.system.0 < n = ltb-true x.1.task.system.0 n both.0 in
+    and_from (nat_lt x.1.task.system.0 m) (are_within m t) (lt-ltb x.1.task.system.0 m (omega (arith, l, below))) (more-within n m l t both.1)
+
+pub front-within : (deck : Deck) (xs : List RunItem) → AllAsk deck xs → are_within (length deck.systems) (lists xs) ≡ true
+front-within deck xs asks = each-within deck (lists xs) (elements-ask deck [] xs asks refl)
+
+-- ---- what a system comes to by its change
+-- System s changes from a node that has processed all that went with the message, and whose requests are all answered.
+pub record Arrives (deck : Deck) (s : ℕ) (T : List RunItem) (k : NodeState) : Type 0 where
+  pub from : NodeState
+  pub is : k ≡ change_to_star deck from
+  pub seen : Seen deck s T (rounds T) [] [] from
+  pub known : from.known ≡ 0
+
+module _ (deck : Deck) (some : 0 < deck.entries) (few : length deck.systems ≤ most_systems) (w : World) (right : IsHistory deck (items w.fixed)) (words_are : w.medium.words ≡ table_words deck.entries (lists (rounds (items w.fixed)))) where
+  abbrev T : List RunItem
+  T = items w.fixed
+
+  abbrev t : State
+  t = lists (rounds (items w.fixed))
+
+  within : are_within (length deck.systems) (lists (rounds (items w.fixed))) ≡ true
+  within = front-within deck (rounds T) (asks-rounds deck T right.asks)
+
+  within_most : are_within most_systems (lists (rounds (items w.fixed))) ≡ true
+  within_most = more-within (length deck.systems) most_systems few t within
+
+  abbrev part_at : ℕ → StarPart
+  part_at s = part_by_table deck.entries (record { 0 = s }) (lists (rounds (items w.fixed)))
+
+  part_is : (s : ℕ) (k : NodeState) → Arrives deck s (items w.fixed) k → k.star ≡ Some (part_at s)
+  part_is s k a = ap (λ (z : NodeState). z.star) a.is ∙ (star-changed deck a.from
+      ∙ (ap (λ (i : ℕ). Some (part_by_table deck.entries (record { 0 = i }) a.from.shared)) a.seen.good.system
+      ∙ ap (λ x. Some (part_by_table deck.entries (record { 0 = s }) x)) a.seen.shared))
+
+  fits : (s : ℕ) → IsPart deck w.medium.words (lists (items w.fixed)) s (part_at s)
+  fits s = subst (λ ws. IsPart deck ws (lists (items w.fixed)) s (part_at s)) (sym words_are) (part-by deck some t (lists T) (table-is T) within_most s)
+
+  member : (s : ℕ) (k : NodeState) → Arrives deck s (items w.fixed) k → IsMember deck w.medium.words (lists (items w.fixed)) s k
+  unfolding change_to_star
+  member s k a = record {
+    part = part_at s;
+    star = part_is s k a;
+    outbox = ap (λ (z : NodeState). z.outbox) a.is;
+    known = ap (λ (z : NodeState). z.known) a.is ∙ a.known;
+    fits = fits s;
+  }
+
+  system : (s : ℕ) (k : NodeState) → Arrives deck s (items w.fixed) k → (ms : List Mail) → ms ≡ [] → IsSystem deck w.medium.words (items w.fixed) s k ms [] []
+  system s k a ms empty = subst (λ xs. IsSystem deck w.medium.words T s k xs [] []) (sym empty) (subst (λ z. IsSystem deck w.medium.words T s z [] [] []) (sym a.is) (record {
+    at = changed-at deck s T (rounds T) [] a.from a.seen (λ u ls o. refl);
+    late = tt;
+    sent = λ u h. refl;
+    near = refl;
+    coming = λ u home. tt;
+    answered = λ u x home due gave. absurd (cc);
+    fits = tt;
+  }))
+
+  module _ (view : List NodeState) (count : length view ≡ length deck.systems) (each : (s : ℕ) (k : NodeState) → slice_get view s ≡ Some k → Arrives deck s (items w.fixed) k)
+      (mode : w.medium.star ≡ true) (removed : w.medium.removed ≡ 0) (boxes : w.medium.inboxes ≡ replicate (length deck.systems) []) where
+    no_box : (s : ℕ) → inbox w.medium s ≡ []
+    no_box s = ap (λ (xs : List (List Mail)). slice_index_or xs s []) boxes ∙ no_mail (length deck.systems) s
+
+    roles : IsStar deck (record w { nodes = view })
+    roles = record {
+      mode = mode;
+      removed = removed;
+      words = ap (λ (ws : List ℕ). length ws) words_are ∙ table-count deck.entries some t within_most;
+      inboxes = ap (λ (xs : List (List Mail)). length xs) boxes ∙ length-replicate (length deck.systems) [];
+      systems = count;
+      managed = subst (All IsManaged) (sym words_are) (table-managed deck.entries some t within_most);
+      nobody = λ e s past. subst (λ ws. (is_interested ws e s ≡ false) × (has_manager ws e s ≡ false)) (sym words_are) (nobody-by deck some t (lists T) (table-is T) within_most (length deck.systems) within e s (subst (λ n. n ≤ s) count past));
+      free = λ e none. free-by deck some t (lists T) (table-is T) within_most e (sym (ap (λ ws. manager_at ws e) words_are) ∙ none);
+      node = λ s k f. member s k (each s k f);
+    }
+
+    hands : (m : ℕ) (k : NodeState) (p : StarPart) → slice_get view m ≡ Some k → k.star ≡ Some p → Hands deck w.medium.words (length view) (λ s. []) (λ s. []) m (in_hands p (inbox w.medium m))
+    hands m k p f is = subst (λ ms. Hands deck w.medium.words (length view) (λ s. []) (λ s. []) m (in_hands p ms)) (sym (no_box m))
+        (subst (λ (q : StarPart). Hands deck w.medium.words (length view) (λ s. []) (λ s. []) m (in_hands q [])) (same_Some (part_at m) p (sym (part_is m k (each m k f)) ∙ is)) (record { each = tt; apart = refl }))
+
+    pub whole-begun : (h : IsWhole deck (record w { nodes = view })) × ((u : ℕ) → h.out u ≡ [])
+    whole-begun = (
+      record {
+        roles = roles;
+        right = right;
+        later = λ s. [];
+        out = λ s. [];
+        near = subst (λ ws. AreNear deck ws (lists (items w.fixed))) (sym words_are) (near-by deck some t (lists T) (table-is T) within_most);
+        system = λ s k f. system s k (each s k f) (inbox w.medium s) (no_box s);
+        hands = hands;
+      },
+      λ u. refl,
+    )
+
+-- ---- every node as it will be
+unfoldable all_viewed : Deck → (ℕ → List RunItem) → List NodeState → List NodeState
+all_viewed deck due [] = []
+all_viewed deck due (n ∷ ns) = viewed deck n (due 0) ∷ all_viewed deck (λ i. due (suc i)) ns
+
+viewed-count : (deck : Deck) (due : ℕ → List RunItem) (ns : List NodeState) → length (all_viewed deck due ns) ≡ length ns
+unfolding all_viewed
+viewed-count deck due [] = refl
+viewed-count deck due (n ∷ ns) = ap suc (viewed-count deck (λ i. due (suc i)) ns)
+
+viewed-at : (deck : Deck) (due : ℕ → List RunItem) (ns : List NodeState) (s : ℕ) (n : NodeState) → slice_get ns s ≡ Some n → slice_get (all_viewed deck due ns) s ≡ Some (viewed deck n (due s))
+unfolding all_viewed
+viewed-at deck due [] s n at = absurd (cc)
+viewed-at deck due (m ∷ ns) zero n at = ap (λ (z : NodeState). Some (viewed deck z (due 0))) (same_Some m n at)
+viewed-at deck due (m ∷ ns) (suc s) n at = viewed-at deck (λ i. due (suc i)) ns s n at
+
+-- and back
+viewed-of : (deck : Deck) (due : ℕ → List RunItem) (ns : List NodeState) (s : ℕ) (k : NodeState) → slice_get (all_viewed deck due ns) s ≡ Some k → (n : NodeState) × (slice_get ns s ≡ Some n) × (k ≡ viewed deck n (due s))
+unfolding all_viewed
+viewed-of deck due [] s k at = absurd (cc)
+viewed-of deck due (m ∷ ns) zero k at = (m, refl, sym (same_Some (viewed deck m (due 0)) k at))
+viewed-of deck due (m ∷ ns) (suc s) k at = viewed-of deck (λ i. due (suc i)) ns s k at
+
+-- ---- what comes of it
+-- who is given nothing has processed all
+all-seen : (es : List RingEntry) (xs : List RunItem) → first_number es ≡ None → Bodies (fixeds xs) es → xs ≡ []
+all-seen [] [] e b = refl
+all-seen [] (x ∷ xs) e b = elim b [ ]
+all-seen (y ∷ es) xs e b = absurd (cc)
+
+module _ (deck : Deck) (ring_mode : deck.star ≡ false) (some : 0 < deck.entries) (few : length deck.systems ≤ most_systems) (w : World) (ring : IsRing deck w) (right : IsHistory deck (items w.fixed)) (before later : ℕ → List RunItem)
+    (whole : (s : ℕ) → rounds (items w.fixed) ≡ before s ++ later s) (message : GoodMessage w.medium (message_log (items w.fixed)) (seen_at before)) (systems : GoodSystems deck w before later)
+    (c : SysId) (n : NodeState) (at : slice_get w.nodes c.0 ≡ Some n) (next : next_order deck n ≡ Some orders.Star) (idle : first_number (unseen c w.medium.message.entries) ≡ None) where
+  abbrev P : List RunItem
+  P = items w.fixed
+
+  abbrev o : Turnout
+  o = record { medium = record w.medium { star = true; words = own_words deck n; message = closed_by w.medium.message c (live w.medium); rest = awake w.medium c }; step = only (switched deck n) }
+
+  abbrev view : List NodeState
+  view = set (all_viewed deck later w.nodes) c.0 (switched deck n)
+
+  same : items (w.fixed ++ fixed_by c []) ≡ items w.fixed
+  same = items-none w.fixed c
+
+  -- its Turn gave it all
+  nothing_later : later c.0 ≡ []
+  nothing_later = all-seen (unseen c w.medium.message.entries) (later c.0) idle (given-later w.medium c before (later c.0) P (whole c.0) (systems c.0 n at).0 message)
+
+  all_before : before c.0 ≡ rounds (items w.fixed)
+  all_before = sym (whole c.0 ∙ (ap (λ xs. before c.0 ++ xs) nothing_later ∙ append-nil (before c.0)))
+
+  seen_all : Seen deck c.0 (items w.fixed) (rounds (items w.fixed)) [] [] n
+  seen_all = subst (λ xs. Seen deck c.0 P xs [] [] n) all_before (subst (λ xs. Seen deck c.0 P (before c.0) xs (own_requests c.0 xs) n) nothing_later (systems c.0 n at).1)
+
+  words_are : own_words deck n ≡ table_words deck.entries (lists (rounds (items w.fixed)))
+  words_are = ap (λ (p : Option StarPart). words_by deck.entries n.shared p) (ring.alone c.0 n at) ∙ ap (table_words deck.entries) seen_all.shared
+
+  -- it changes itself
+  switched-is : switched deck n ≡ change_to_star deck (desk_told n saids.StarDone)
+  switched-is = switched-ring deck n (ring.alone c.0 n at)
+
+  own_arrives : Arrives deck c.0 (items w.fixed) (switched deck n)
+  unfolding desk_told
+  own_arrives = record { from = desk_told n saids.StarDone; is = switched-is; seen = desk-seen deck c.0 P (rounds P) [] [] n saids.StarDone seen_all; known = ring.known c.0 n at }
+
+  -- the others wait
+  other_waits : (u : ℕ) (m : NodeState) → slice_get w.nodes u ≡ Some m → Waits deck u (items w.fixed) (before u) (later u) [] m
+  other_waits u m there = record {
+    alone = ring.alone u m there;
+    known = ring.known u m there;
+    seen = subst (λ xs. Seen deck u P (before u) xs (own_requests u (later u)) m) (sym (append-nil (later u))) (systems u m there).1;
+    away = λ t home. refl;
+  }
+
+  other_arrives : (u : ℕ) (m : NodeState) → slice_get w.nodes u ≡ Some m → Arrives deck u (items w.fixed) (viewed deck m (later u))
+  other_arrives u m there =
+      let all : rounds P ≡ before u ++ (later u ++ []) = whole u ∙ ap (λ xs. before u ++ xs) (sym (append-nil (later u))) in
+      let read = view-read deck u P (before u) (later u) [] right all m (other_waits u m there) in
+      record {
+        from = read_all m (later u);
+        is = refl;
+        seen = subst (λ xs. Seen deck u P xs [] [] (read_all m (later u))) (sym (whole u)) read.seen;
+        known = known-read m (later u) ∙ ring.known u m there;
+      }
+
+  each_arrives : (s : ℕ) (k : NodeState) → slice_get view s ≡ Some k → Arrives deck s (items (w.fixed ++ fixed_by c [])) k
+  each_arrives s k f = subst (λ U. Arrives deck s U k) (sym same)
+      (by_node (all_viewed deck later w.nodes) c.0 (viewed deck n (later c.0)) (switched deck n) (viewed-at deck later w.nodes c.0 n at) (λ u z. Arrives deck u P z) own_arrives (λ u z ne there. let old = viewed-of deck later w.nodes u z there in subst (Arrives deck u P) (sym old.2) (other_arrives u old.0 old.1)) s k f)
+
+  count : length view ≡ length deck.systems
+  count = length-set (all_viewed deck later w.nodes) c.0 (switched deck n) ∙ (viewed-count deck later w.nodes ∙ ring.systems)
+
+  begun : (h : IsWhole deck (record (placed w c n o) { nodes = view })) × ((u : ℕ) → h.out u ≡ [])
+  unfolding placed
+  begun = whole-begun deck some few (placed w c n o) (subst (IsHistory deck) (sym same) right) (words_are ∙ ap (λ U. table_words deck.entries (lists (rounds U))) (sym same)) view count each_arrives refl ring.removed ring.boxes
+
+  own-told : (switched deck n).tasks.told ≡ n.tasks.told ++ lines.Desk (n.done + 1) saids.StarDone ∷ []
+  own-told = ap (λ (z : NodeState). z.tasks.told) switched-is ∙ (changed-told deck c.0 P (rounds P) [] (desk_told n saids.StarDone) (desk-seen deck c.0 P (rounds P) [] [] n saids.StarDone seen_all) (λ u ls o. refl) ∙ desk-told n saids.StarDone)
+
+  own-done : (switched deck n).done ≡ n.done + 1
+  unfolding desk_told change_to_star
+  own-done = ap (λ (z : NodeState). z.done) switched-is
+
+  pub switch-moved : IsMoved deck w c n o
+  unfolding placed closed_by
+  switch-moved = record {
+    changing = record {
+      view = view;
+      whole = begun.0;
+      log = rounds (items w.fixed);
+      since = [];
+      rounds_are = ap rounds same ∙ sym (append-nil (rounds P));
+      before = before;
+      due = later;
+      parts = whole;
+      message = message-kept w.medium o.medium (message_log P) (seen_at before) refl refl refl message;
+      closed = refl;
+      around = ring.around;
+      count = length-set w.nodes c.0 (switched deck n) ∙ ring.systems;
+      shown = by_node w.nodes c.0 n (switched deck n) at (λ u x. (j : NodeState) × (slice_get view u ≡ Some j) × Shown deck u (items (w.fixed ++ fixed_by c [])) (before u) (later u) [] (begun.0.out u) j x)
+          (switched deck n, slice_get-set (all_viewed deck later w.nodes) c.0 (viewed deck n (later c.0)) (switched deck n) (viewed-at deck later w.nodes c.0 n at), has_changed nothing_later)
+          (λ u x ne there. (viewed deck x (later u), slice_get-set_other (all_viewed deck later w.nodes) c.0 u (switched deck n) ne ∙ viewed-at deck later w.nodes u x there, waits_yet x (subst (λ U. Waits deck u U (before u) (later u) [] x) (sym same) (other_waits u x there)) refl (begun.1 u)));
+    };
+    news = tells_done next own-told own-done ring_mode ring.mode refl;
+  }

@@ -1,0 +1,128 @@
+-- What a system's part is by the words of a table: it manages the entries that they give to it, with the table's lists.
+use Rattle.std.proofs.Common.{◌≡◌, [], ◌<◌, Bool, List, None, Option, Some, ap, arith, cond, false, refl, subst, sym, true, ◌||◌, ℕ, ◌∙◌, ◌∷◌, ◌≤◌}
+use Rattle.std.specs.Prelude.{◌==◌}
+use Rattle.std.proofs.lemmas.Bool.{eq-eqb, eqb-true, ltb-true, or_left, or_parts, or_right}
+use Rattle.std.specs.List.{list_any}
+use Rattle.grs_world.proofs.star.Elements.{AreNear, is_near_res, near-words}
+use Rattle.grs_world.proofs.star.Members.{IsPart, has_manager}
+use Rattle.grs_world.proofs.star.Under.{entry-same, in_entry, list-under, under}
+use Rattle.grs_world.proofs.star.Systems.{near_at}
+use Rattle.grs_wire.specs.declared.deck.Deck.{Deck}
+use Rattle.grs_wire.specs.LockWords.{is_manager}
+use Rattle.grs_base.specs.declared.resource.Elem.{Elem}
+use Rattle.grs_base.specs.declared.resource.Res.{Res}
+use Rattle.grs_base.specs.State.{State, is_systems, list_of}
+use Rattle.grs_base.specs.declared.resource.Res.TheVariants.{Step as StepRes, System, Systems}
+use Rattle.grs_base.specs.declared.resource.SysId.{SysId}
+use Rattle.grs_base.specs.declared.resource.TaskId.{TaskId}
+use Rattle.grs_base.specs.Lists.{has_task}
+use Rattle.grs_base.specs.Limits.{most_systems}
+use Rattle.grs_base.specs.Rows.{rows_of}
+use Rattle.grs_base.specs.Same.{same_res, same_task}
+use Rattle.grs_base.proofs.SameLaws.{same_res-exact, same_task-exact}
+use Rattle.mode_migrate.specs.Laws.{are_within}
+use Rattle.mode_migrate.proofs.TableWords.{elements-are, table-free, table-interest, table-manager}
+use Rattle.mode_migrate.proofs.WordLaws.{elements-within, least-passes}
+use Rattle.mode_migrate.specs.Migrate.{has_elements, manager_by, table_words, is_by}
+use Rattle.mode_migrate.proofs.Rows.{any-list}
+use Rattle.lock_structure.specs.Entries.{entry_of_res, is_entry}
+use Rattle.lock_structure.specs.Laws.{is_interested, manager_at}
+use Rattle.grs_known.proofs.lists.Truths.{false_by, no_truth}
+use Rattle.grs_known.proofs.ring.Parts.{list_of-systems}
+use Rattle.grs_known.proofs.lists.Parts.{part}
+use Rattle.grs_known.specs.Parts.{systems_part}
+use Rattle.grs_node.specs.Change.{part_by_table}
+use Rattle.grs_node.proofs.TableParts.{table-counts, table-interested, table-lists, table-manages, table-well}
+
+-- a resource of an entry is one of the whole complex
+entry-wide : (entries e : ℕ) (r : Res) → in_entry entries e r ≡ true → is_systems r ≡ true
+entry-wide entries e (StepRes s j q r) h = absurd (cc)
+entry-wide entries e (System s q r) h = absurd (cc)
+entry-wide entries e (Systems q r) h = refl
+
+-- of other resources the elements of an entry have no list
+none-under : (p : Res → Bool) (s : State) (r : Res) → p r ≡ false → list_of (part p s) r ≡ []
+none-under p [] r h = refl
+none-under p (x ∷ s) r h = go (p x.0) refl (none-under p s r h)
+  where
+    here : p x.0 ≡ true → (b : Bool) → same_res r x.0 ≡ b → list_of (part p s) r ≡ [] → cond b (x.1 ∷ list_of (part p s) r) (list_of (part p s) r) ≡ []
+    here passes true same more = no_truth (p r) (ap p (same_res-exact r x.0 same) ∙ passes) h
+    here passes false same more = more
+
+    go : (b : Bool) → p x.0 ≡ b → list_of (part p s) r ≡ [] → list_of (cond b (x ∷ part p s) (part p s)) r ≡ []
+    go true e more = here e (same_res r x.0) refl more
+    go false e more = more
+
+module _ (deck : Deck) (some : 0 < deck.entries) (t L : State) (is : t ≡ systems_part L) (few : are_within most_systems t ≡ true) where
+  abbrev words : List ℕ
+  words = table_words deck.entries t
+
+  -- the table's lists of an entry are those of all elements
+  table-under : (e : ℕ) (q : Res) → cond (is_entry e (entry_of_res deck.entries q)) (list_of t q) [] ≡ list_of (under deck.entries e L) q
+  table-under e q = go (in_entry deck.entries e q) refl
+    where
+      go : (b : Bool) → in_entry deck.entries e q ≡ b → cond b (list_of t q) [] ≡ list_of (under deck.entries e L) q
+      go true h = ap (λ s. list_of s q) is ∙ (list_of-systems L q (entry-wide deck.entries e q h) ∙ sym (list-under deck.entries e L q h))
+      go false h = sym (none-under (in_entry deck.entries e) L q h)
+
+  -- the part of a system
+  pub part-by : (s : ℕ) → IsPart deck words L s (part_by_table deck.entries (record { 0 = s }) t)
+  part-by s = record {
+    home = refl;
+    entries = (table-counts deck.entries some (record { 0 = s }) t few).0;
+    interests = (table-counts deck.entries some (record { 0 = s }) t few).1;
+    roles = λ e. table-manages deck.entries some (record { 0 = s }) t few e;
+    interest = λ e. table-interested deck.entries some (record { 0 = s }) t few e ∙ sym (table-interest deck.entries some t few e s);
+    lists = λ e h. record { lists = λ q. table-lists deck.entries some (record { 0 = s }) t few e h q ∙ table-under e q };
+    well = table-well deck.entries some (record { 0 = s }) t few;
+  }
+
+  -- where there is no manager nothing is queued
+  any-part : (p : Res → Bool) (z : State) → ((r : Res) → p r ≡ true → is_systems r ≡ true) → list_any (λ h. p h.0) (systems_part z) ≡ false → part p z ≡ []
+  any-part p [] wide h = refl
+  any-part p (x ∷ z) wide h = go (p x.0) refl (is_systems x.0) refl h (any-part p z wide)
+    where
+      go : (b : Bool) → p x.0 ≡ b → (c : Bool) → is_systems x.0 ≡ c → list_any (λ y. p y.0) (cond c (x ∷ systems_part z) (systems_part z)) ≡ false → (list_any (λ y. p y.0) (systems_part z) ≡ false → part p z ≡ []) → cond b (x ∷ part p z) (part p z) ≡ []
+      go true e true f g more = absurd (let a : true ≡ false = sym e ∙ (or_parts (p x.0) (list_any (λ y. p y.0) (systems_part z)) g).0 in cc)
+      go true e false f g more = absurd (let a : true ≡ false = sym (wide x.0 e) ∙ f in cc)
+      go false e true f g more = more (or_parts (p x.0) (list_any (λ y. p y.0) (systems_part z)) g).1
+      go false e false f g more = more g
+
+  pub free-by : (e : ℕ) → manager_at words e ≡ None → under deck.entries e L ≡ []
+  free-by e none = any-part (in_entry deck.entries e) L (entry-wide deck.entries e)
+      (ap (list_any (λ h. is_entry e (entry_of_res deck.entries h.0))) (sym is) ∙ table-free deck.entries some t few e none)
+
+  -- who has an element has interest in its entry
+  pub near-by : AreNear deck words L
+  near-by = near-words deck words L each
+    where
+      has-by : (s : ℕ) (es : List Elem) (u : TaskId) → u.system.0 ≡ s → has_task es u ≡ true → list_any (is_by s) es ≡ true
+      has-by s [] u home h = absurd (cc)
+      has-by s (x ∷ es) u home h = go (same_task u x.task) refl h (has-by s es u home)
+        where
+          go : (b : Bool) → same_task u x.task ≡ b → (b || has_task es u) ≡ true → (has_task es u ≡ true → list_any (is_by s) es ≡ true) → ((x.task.system.0 == s) || list_any (is_by s) es) ≡ true
+          go true e f more = or_left (x.task.system.0 == s) (list_any (is_by s) es) (eq-eqb x.task.system.0 s (ap (λ (z : TaskId). z.system.0) (sym (same_task-exact u x.task e)) ∙ home))
+          go false e f more = or_right (x.task.system.0 == s) (list_any (is_by s) es) (more f)
+
+      each : (r : Res) (u : TaskId) → has_task (list_of L r) u ≡ true → is_near_res deck words r u ≡ true
+      each r u has = go (entry_of_res deck.entries r) refl
+        where
+          go : (o : Option ℕ) → entry_of_res deck.entries r ≡ o → near_at words u.system.0 o ≡ true
+          go None e = refl
+          go (Some x) e =
+              let here : in_entry deck.entries x r ≡ true = entry-same x (entry_of_res deck.entries r) e in
+              let listed : list_of L r ≡ list_of t r = sym (ap (λ s. list_of s r) is ∙ list_of-systems L r (entry-wide deck.entries x r here)) in
+              table-interest deck.entries some t few x u.system.0
+              ∙ (elements-are deck.entries x t u.system.0
+              ∙ any-list (λ q. is_entry x (entry_of_res deck.entries q)) (is_by u.system.0) t r here (has-by u.system.0 (list_of t r) u refl (ap (λ es. has_task es u) (sym listed) ∙ has)))
+
+  -- nobody but a system has interest or manages
+  pub nobody-by : (n : ℕ) → are_within n t ≡ true → (e s : ℕ) → n ≤ s → (is_interested words e s ≡ false) × (has_manager words e s ≡ false)
+  nobody-by n within e s past = (table-interest deck.entries some t few e s ∙ none s past, ap (λ o. is_manager o (record { 0 = s })) (table-manager deck.entries some t few e) ∙ by_manager (manager_by deck.entries e (rows_of t)) refl)
+    where
+      none : (u : ℕ) → n ≤ u → has_elements deck.entries e (rows_of t) u ≡ false
+      none u l = false_by (has_elements deck.entries e (rows_of t) u) (λ h. absurd (let k : u < n = ltb-true u n (elements-within n deck.entries e t u within h) in omega (arith, k, l)))
+
+      by_manager : (o : Option SysId) → manager_by deck.entries e (rows_of t) ≡ o → is_manager o (record { 0 = s }) ≡ false
+      by_manager None at = refl
+      by_manager (Some m) at = false_by (m.0 == s) (λ same. no_truth (has_elements deck.entries e (rows_of t) m.0) (least-passes most_systems (has_elements deck.entries e (rows_of t)) m at).1 (none m.0 (subst (λ u. n ≤ u) (sym (eqb-true m.0 s same)) past)))

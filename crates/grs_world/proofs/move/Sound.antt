@@ -1,0 +1,145 @@
+-- Every run is sound, in either mode and where it changes from ring to star mode.
+use Rattle.std.proofs.Common.{◌≡◌, ◌<◌, ◌++◌, [], ◌∷◌, Bool, List, Some, ap, arith, false, not, refl, true, ℕ, cond, length}
+use Rattle.std.specs.Prelude.{◌&&◌, slice_get}
+use Rattle.std.specs.List.{list_any}
+use Rattle.std.proofs.lemmas.Bool.{or_left}
+use Rattle.std.proofs.lemmas.Option.{slice_get_within}
+use Rattle.grs_base.specs.Limits.{most_systems}
+use Rattle.grs_base.specs.declared.resource.SysId.{SysId}
+use Rattle.grs_known.proofs.known.Histories.{IsHistory}
+use Rattle.grs_known.specs.Items.{history, items}
+use Rattle.grs_node.specs.Node.{NodeState}
+use Rattle.grs_wire.proofs.DeckLaws.{entries_some}
+use Rattle.grs_wire.proofs.WantLaws.{by_test}
+use Rattle.grs_wire.specs.declared.deck.Deck.{Deck}
+use Rattle.grs_wire.specs.declared.deck.Event.{Event}
+use Rattle.grs_world.proofs.move.Begin.{switch-moved}
+use Rattle.grs_world.proofs.move.Changing.{IsChanging, IsMoved, Shown, has_changed, waits_yet}
+use Rattle.grs_world.proofs.move.Decks.{order-may}
+use Rattle.grs_world.proofs.move.Moved.{changing-counted, event-moved}
+use Rattle.grs_world.proofs.run.Desks.{GoodDesks, desk-agrees, desks-after, desks-counted}
+use Rattle.grs_world.proofs.run.Each.{each_event, each_run}
+use Rattle.grs_world.proofs.run.InRing.{Came, IsRing, changed, count_first, each_came, first_ring, nothing, ring-counted, ring-placed, turn, went_on}
+use Rattle.grs_world.proofs.run.Runs.{GoodTold, GoodWorld, told-after, told-counted}
+use Rattle.grs_world.proofs.run.Sound.{came_tells, first_good, first_good_told, first_message, good_came, good_counted, sound-of}
+use Rattle.grs_world.proofs.star.Sound.{first_whole}
+use Rattle.grs_world.specs.Agree.{Sound}
+use Rattle.grs_world.specs.Decks.{FitsStar, may_be_star, orders_star}
+use Rattle.grs_world.specs.World.{Turnout, World, chosen, first_world, fixed_by, happens, placed, run}
+use Rattle.rsa_message.specs.Message.{Message, never_opened, opened}
+
+-- What holds of the world w after these events: the medium is in ring mode, or it was changed to star mode.
+pub data GoodRun (deck : Deck) (es : List Event) (w : World) : Type 0 where
+  in_ring : deck.star ≡ false → IsRing deck w → GoodWorld deck es w → GoodDesks deck w → GoodRun deck es w
+  in_star : FitsStar deck → IsChanging deck w → GoodTold deck es w → GoodDesks deck w → GoodRun deck es w
+
+-- ---- one event
+-- a system shows its number
+home-shown : (deck : Deck) (w : World) (g : IsChanging deck w) (s : ℕ) (n : NodeState) → slice_get w.nodes s ≡ Some n → n.tasks.system ≡ s
+home-shown deck w g s n at = by_shown (g.shown s n at).0 n (g.shown s n at).1 (g.shown s n at).2
+  where
+    by_shown : (k m : NodeState) → slice_get g.view s ≡ Some k → Shown deck s (items w.fixed) (g.before s) (g.due s) g.since (g.whole.out s) k m → m.tasks.system ≡ s
+    by_shown k m there (has_changed none) = (g.whole.system s k there).at.good.system
+    by_shown k m there (waits_yet x h is empty) = h.seen.good.system
+
+module _ (deck : Deck) (fits : may_be_star deck ≡ true → FitsStar deck) (es : List Event) (e : Event) where
+  abbrev c : SysId
+  c = e.system
+
+  abbrev w : World
+  w = run deck es
+
+  abbrev Good : World → Type 0
+  Good x = GoodRun deck (es ++ e ∷ []) x
+
+  module _ (n : NodeState) (at : slice_get (run deck es).nodes e.system.0 ≡ Some n) where
+    came : (o : Turnout) → items (placed (run deck es) e.system n o).fixed ≡ items ((run deck es).fixed ++ fixed_by e.system o.step.fixed)
+    unfolding placed
+    came o = refl
+
+    -- the medium is in star mode behind it
+    to_star : FitsStar deck → GoodTold deck es (run deck es) → GoodDesks deck (run deck es) → n.tasks.system ≡ e.system.0 → (o : Turnout) → IsMoved deck (run deck es) e.system n o → happens deck (run deck es) e ≡ placed (run deck es) e.system n o → Good (placed (run deck es) e.system n o)
+    to_star f told d home o moved is = in_star f moved.changing
+        (told-after deck es e n at told o (items (w.fixed ++ fixed_by c o.step.fixed)) (came o) is (desk-agrees deck es w told d c n at home (history (items (w.fixed ++ fixed_by c o.step.fixed))) o.step.node o.medium.star moved.news))
+        (desks-after deck w d c n at o (history (items (w.fixed ++ fixed_by c o.step.fixed))) moved.news)
+
+  -- in ring mode
+  module _ (begins : deck.star ≡ false) (ring : IsRing deck (run deck es)) (g : GoodWorld deck es (run deck es)) (d : GoodDesks deck (run deck es)) where
+    stays_ring : (n : NodeState) (at : slice_get (run deck es).nodes e.system.0 ≡ Some n) (o : Turnout) → Came deck (run deck es) e.system n o → o.medium.star ≡ false → happens deck (run deck es) e ≡ placed (run deck es) e.system n o → Good (placed (run deck es) e.system n o)
+    stays_ring n at o came mode is = in_ring begins (ring-placed deck w ring c n at o came mode) (good_came deck es e ring g n at o came mode is)
+        (desks-after deck w d c n at o (history (items (w.fixed ++ fixed_by c o.step.fixed))) (came_tells deck es e ring g n at o came mode))
+
+    comes : (n : NodeState) (o : Turnout) → slice_get (run deck es).nodes e.system.0 ≡ Some n → Came deck (run deck es) e.system n o → happens deck (run deck es) e ≡ placed (run deck es) e.system n o → Good (placed (run deck es) e.system n o)
+    comes n o at (nothing flags) is = stays_ring n at _ (nothing flags) ring.mode is
+    comes n o at (went_on t may) is = stays_ring n at _ (went_on t may) ring.mode is
+    comes n o at (turn flags here) is = stays_ring n at _ (turn flags here) ring.mode is
+    comes n o at (changed next idle) is =
+        let f : FitsStar deck = fits (order-may deck n next) in
+        to_star n at f g.told d (g.systems c.0 n at).1.good.system _ (switch-moved deck begins (entries_some deck.entries f.entries) f.few w ring g.history g.before g.later g.whole g.message g.systems c n at next idle) is
+
+    from_ring : Good (happens deck (run deck es) e)
+    from_ring = each_came deck w e (λ x. happens deck w e ≡ x → Good x) ring (λ is. in_ring begins (ring-counted deck w ring) (good_counted deck es e ring g) (desks-counted deck w d)) comes refl
+
+  -- in star mode
+  from_star : FitsStar deck → IsChanging deck (run deck es) → GoodTold deck es (run deck es) → GoodDesks deck (run deck es) → Good (happens deck (run deck es) e)
+  from_star f g told d = each_event deck w e (λ x. happens deck w e ≡ x → Good x) (λ is. in_star f (changing-counted deck w g) (told-counted deck es e w told) (desks-counted deck w d)) comes_star refl
+    where
+      comes_star : (n : NodeState) → slice_get (run deck es).nodes e.system.0 ≡ Some n → happens deck (run deck es) e ≡ placed (run deck es) e.system n (chosen deck (run deck es).medium e.system n e.choice) → Good (placed (run deck es) e.system n (chosen deck (run deck es).medium e.system n e.choice))
+      comes_star n at is =
+          let here = slice_get_within w.nodes c.0 n at in
+          let inside : c.0 < most_systems = omega (arith, here, g.count, f.few) in
+          to_star n at f told d (home-shown deck w g c.0 n at) (chosen deck w.medium c n e.choice) (event-moved deck (entries_some deck.entries f.entries) w g c inside n at e.choice) is
+
+  next_good : GoodRun deck es (run deck es) → Good (happens deck (run deck es) e)
+  next_good (in_ring begins ring g d) = from_ring begins ring g d
+  next_good (in_star f g told d) = from_star f g told d
+
+-- ---- the first world
+first_changing : (deck : Deck) → deck.star ≡ true → IsChanging deck (first_world deck)
+unfolding first_world
+first_changing deck star = record {
+  view = (first_world deck).nodes;
+  whole = first_whole deck star;
+  log = [];
+  since = [];
+  rounds_are = refl;
+  before = λ u. [];
+  due = λ u. [];
+  parts = λ u. refl;
+  message = first_message deck;
+  closed = ap (λ b. (cond b (never_opened (length deck.systems)) (opened (length deck.systems))).closed) star;
+  around = by_test (λ (m : Message). m.systems ≡ length deck.systems) deck.star (never_opened (length deck.systems)) (opened (length deck.systems)) (λ e. refl) (λ e. refl);
+  count = count_first deck 0 deck.systems;
+  shown = λ s n at. (n, at, has_changed refl);
+}
+
+first_desks : (deck : Deck) → GoodDesks deck (first_world deck)
+unfolding first_world
+first_desks deck = record { changes = never deck.star; lines = λ s n at. refl }
+  where
+    never : (b : Bool) → false ≡ (b && not b)
+    never true = refl
+    never false = refl
+
+first_run : (deck : Deck) → (may_be_star deck ≡ true → FitsStar deck) → GoodRun deck [] (first_world deck)
+first_run deck fits = go deck.star refl
+  where
+    go : (b : Bool) → deck.star ≡ b → GoodRun deck [] (first_world deck)
+    go false is = in_ring is (first_ring deck is) (first_good deck) (first_desks deck)
+    go true is = in_star (fits (or_left deck.star (list_any (λ s. orders_star s.desk) deck.systems) is)) (first_changing deck is) (first_good_told deck) (first_desks deck)
+
+-- ---- every list of events
+pub every_run : (deck : Deck) → (may_be_star deck ≡ true → FitsStar deck) → (es : List Event) → GoodRun deck es (run deck es)
+every_run deck fits = each_run deck (GoodRun deck) (first_run deck fits) (λ es e g. next_good deck fits es e g)
+
+good_history : (deck : Deck) (es : List Event) (w : World) → GoodRun deck es w → IsHistory deck (items w.fixed)
+good_history deck es w (in_ring begins ring g d) = g.history
+good_history deck es w (in_star f g told d) = g.whole.right
+
+good_told : (deck : Deck) (es : List Event) (w : World) → GoodRun deck es w → GoodTold deck es w
+good_told deck es w (in_ring begins ring g d) = g.told
+good_told deck es w (in_star f g told d) = told
+
+-- ---- so every run is sound
+pub every_sound : (deck : Deck) → (may_be_star deck ≡ true → FitsStar deck) → (es : List Event) → Sound deck es
+every_sound deck fits es = sound-of deck (λ us. good_history deck us (run deck us) (every_run deck fits us)) es (good_told deck es (run deck es) (every_run deck fits es))
