@@ -7,7 +7,7 @@ use Rattle.std.proofs.lemmas.Bool.{and_parts, ne_eqb, lt-ltb}
 use Rattle.std.proofs.lemmas.List.{take_at, drop_at}
 use Rattle.grs_base.specs.ShortNames.{is_name_byte, all_name, is_name}
 use Rattle.deck_scan.specs.declared.token.Token.{Token}
-use Rattle.deck_scan.specs.declared.token.Token.TheVariants.{Word}
+use Rattle.deck_scan.specs.declared.token.Token.TheVariants.{Word, Open, Close, Comma}
 use Rattle.deck_scan.specs.declared.token.TokenLine.{TokenLine}
 use Rattle.deck_scan.specs.Next.{Sets}
 use Rattle.deck_scan.proofs.Again.{is_free, all_again}
@@ -18,6 +18,9 @@ use Rattle.job_syntax.specs.LineAsk.{line_word}
 use Rattle.job_syntax.specs.Spelled.{IsWord, line_word_for}
 use Rattle.job_syntax.proofs.Again.{line_ask_again}
 use Rattle.rnl_syntax.proofs.Again.{rnldef_again}
+use Rattle.deck_form.specs.declared.command.Command.{Command}
+use Rattle.deck_form.specs.declared.command.GivenOrder.{GivenOrder}
+use Rattle.deck_form.specs.declared.command.GivenOrder.TheVariants as orders
 use Rattle.deck_form.specs.declared.complex.Setup.{Setup}
 use Rattle.deck_form.specs.declared.event.EventAct.{EventAct}
 use Rattle.deck_form.specs.declared.event.EventAct.TheVariants as acts
@@ -26,12 +29,13 @@ use Rattle.deck_form.specs.declared.form.Stmt.TheVariants as stmts
 use Rattle.deck_form.specs.declared.form.Key.TheVariants as keys
 use Rattle.deck_form.specs.Words.{short_at, parted, dotted_at, written_number, named_at}
 use Rattle.deck_form.specs.Complex.{no_setup, mode_of, entries_of, limit_of, with_operand, operand_at, complex_at}
+use Rattle.deck_form.specs.Command.{setgrs_at, vary_at, order_at, command_at}
 use Rattle.deck_form.specs.Event.{event_word, pair_at, entry_at, act_at, event_at}
 use Rattle.deck_form.specs.UnbuiltWord.{is_unbuilt_word}
 use Rattle.deck_form.specs.Form.{key, plain_form, keyed, first_form, event_form, form}
-use Rattle.deck_form.specs.Spelled.{IsName, Operand, Mode, Entries, Limit, operand, IsFreeOperand, set_operand, IsComplex, IsFirst, IsAct, IsEvent, Spells}
+use Rattle.deck_form.specs.Spelled.{IsName, Operand, Mode, Entries, Limit, operand, IsFreeOperand, set_operand, IsComplex, IsOrder, IsCommand, IsFirst, IsAct, IsEvent, Spells}
 
-named_again : (n : List ℕ) → IsName n → named_at (Word n ∷ []) ≡ Some n
+pub named_again : (n : List ℕ) → IsName n → named_at (Word n ∷ []) ≡ Some n
 unfolding named_at short_at
 named_again n h = rw h refl
 
@@ -65,6 +69,31 @@ operands_again given c h = all_again IsFreeOperand set_operand operand operand_a
 complex_again : (ts : List Token) (c : Setup) → IsComplex ts c → complex_at ts ≡ Some c
 complex_again ts c h = rw h.spelled (operands_again h.given c h.operands)
 
+-- ---- commands
+
+-- the word of a command and what stands behind it
+abbrev ordered : List Token → Option GivenOrder
+ordered (Word w ∷ ts) = order_at w ts
+ordered _ = None
+
+vary_again : (n : List ℕ) → IsName n → vary_at (Word (codes "GRS") ∷ Open ∷ Word n ∷ Close ∷ Comma ∷ Word (codes "PURGE") ∷ []) ≡ Some (orders.Vary n)
+unfolding vary_at short_at
+vary_again n h = rw h refl
+
+order_again : (ts : List Token) (o : GivenOrder) → IsOrder ts o → ordered ts ≡ Some o
+unfolding order_at setgrs_at
+order_again ts orders.Star h = rw h refl
+order_again ts (orders.Vary n) h = rw (h.0, vary_again n h.1) refl
+
+command_tail : (w : List ℕ) (ts : List Token) (n : ℕ) (o : GivenOrder) → written_number w ≡ Some n → ordered ts ≡ Some o → command_at (Word w ∷ ts) ≡ Some (record { at = n; order = o })
+unfolding command_at
+command_tail w (Word v ∷ ts) n o h k = rw (h, k) refl
+command_tail w [] n o h k = absurd cc
+command_tail w (_ ∷ ts) n o h k = absurd cc
+
+command_again : (ts : List Token) (c : Command) → IsCommand ts c → command_at ts ≡ Some c
+command_again ts c h = rw h.spelled (command_tail h.number h.behind c.at c.order h.at (order_again h.behind c.order h.order))
+
 -- ---- statements before SCHEDULE
 
 -- a word that isn't built is no other word
@@ -95,6 +124,10 @@ built_rnldef : is_unbuilt_word (codes "RNLDEF") ≡ false
 unfolding is_unbuilt_word
 built_rnldef = refl
 
+built_at : is_unbuilt_word (codes "AT") ≡ false
+unfolding is_unbuilt_word
+built_at = refl
+
 built_schedule : is_unbuilt_word (codes "SCHEDULE") ≡ false
 unfolding is_unbuilt_word
 built_schedule = refl
@@ -102,7 +135,7 @@ built_schedule = refl
 unbuilt_again : (w : List ℕ) (rest : List Token) → is_unbuilt_word w ≡ true → keyed (key w) rest ≡ Ok stmts.Unbuilt
 unfolding key plain_form
 unbuilt_again w rest h =
-    rw (other_word w (codes "COMPLEX") h built_complex, other_word w (codes "RNLDEF") h built_rnldef, other_word w (codes "SYSTEM") h built_system, other_word w (codes "JOB") h built_job, other_word w (codes "TASK") h built_task, other_word w (codes "SCHEDULE") h built_schedule, h) refl
+    rw (other_word w (codes "COMPLEX") h built_complex, other_word w (codes "RNLDEF") h built_rnldef, other_word w (codes "SYSTEM") h built_system, other_word w (codes "JOB") h built_job, other_word w (codes "TASK") h built_task, other_word w (codes "AT") h built_at, other_word w (codes "SCHEDULE") h built_schedule, h) refl
 
 -- the key of a task line whose word is built
 line_again : (v : LineWord) (w : List ℕ) → IsWord v w → is_unbuilt_word w ≡ false → key w ≡ keys.Line v
@@ -123,6 +156,7 @@ first_again ts (stmts.Rnldef d) h = rw (h.1, rnldef_again h.0 d h.2) refl
 first_again ts (stmts.System n) h = rw (h.0, named_again n h.1) refl
 first_again ts (stmts.Job n) h = rw (h.0, named_again n h.1) refl
 first_again ts (stmts.Task n) h = rw (h.0, named_again n h.1) refl
+first_again ts (stmts.Command c) h = rw (h.1, command_again h.0 c h.2) refl
 first_again ts (stmts.Line s) h = rw (h.0.parts, line_again (line_word_for s) h.0.word h.0.is_word h.1, line_ask_again h.0.behind s h.0.is_behind) refl
 first_again ts stmts.Schedule h = rw h refl
 first_again ts (stmts.Event s a) h = absurd h

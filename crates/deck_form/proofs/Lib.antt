@@ -3,3 +3,4 @@ pub mod Taken
 pub mod Again
 pub mod Unknown
 pub mod Gathered
+pub mod Systems

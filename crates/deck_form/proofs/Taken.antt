@@ -8,10 +8,10 @@ use Rattle.std.proofs.lemmas.List.Quantifiers.{position-Some}
 use Rattle.grs_base.specs.ShortNames.{is_name}
 use Rattle.grs_base.specs.Limits.{is_entries, is_limit}
 use Rattle.deck_scan.specs.declared.token.Token.{Token}
-use Rattle.deck_scan.specs.declared.token.Token.TheVariants.{Word, Open, Unclosed}
+use Rattle.deck_scan.specs.declared.token.Token.TheVariants.{Word, Open, Close, Comma, Equals, Unclosed}
 use Rattle.deck_scan.specs.declared.token.TokenLine.{TokenLine}
-use Rattle.deck_scan.specs.Next.{◌>>=◌, open_at, close_at, end_at, any_word_at}
-use Rattle.deck_scan.proofs.Taking.{bind_some, guard_some, some_is, same_bytes, IsWordOf, row, once_some, open_taken, close_taken, end_taken, any_word_taken, TookOne, all_taken}
+use Rattle.deck_scan.specs.Next.{◌>>=◌, open_at, close_at, comma_at, end_at, any_word_at, word_at, value_at}
+use Rattle.deck_scan.proofs.Taking.{bind_some, guard_some, some_is, same_bytes, IsWordOf, row, once_some, open_taken, close_taken, comma_taken, end_taken, any_word_taken, value_taken, TookOne, all_taken}
 use Rattle.job_syntax.specs.declared.line_ask.LineWord.{LineWord}
 use Rattle.job_syntax.specs.LineAsk.{line_word, line_ask_at}
 use Rattle.job_syntax.specs.Spelled.{IsWord, IsLineAsk}
@@ -19,6 +19,9 @@ use Rattle.job_syntax.proofs.Taken.{line_ask_taken, line_word_taken}
 use Rattle.rnl_syntax.specs.Lines.{is_rnldef_word}
 use Rattle.rnl_syntax.specs.Operands.{rnldef_at}
 use Rattle.rnl_syntax.proofs.Taken.{rnldef_taken}
+use Rattle.deck_form.specs.declared.command.Command.{Command}
+use Rattle.deck_form.specs.declared.command.GivenOrder.{GivenOrder}
+use Rattle.deck_form.specs.declared.command.GivenOrder.TheVariants as orders
 use Rattle.deck_form.specs.declared.complex.Setup.{Setup}
 use Rattle.deck_form.specs.declared.event.EventAct.{EventAct}
 use Rattle.deck_form.specs.declared.event.EventAct.TheVariants as acts
@@ -30,10 +33,11 @@ use Rattle.deck_form.specs.declared.form.Key.{Key}
 use Rattle.deck_form.specs.declared.form.Key.TheVariants as keys
 use Rattle.deck_form.specs.Words.{short_at, parted, dotted_at, written_number, named_at}
 use Rattle.deck_form.specs.Complex.{no_setup, mode_of, entries_of, limit_of, with_star, with_entries, with_limit, with_operand, operand_at, complex_at}
+use Rattle.deck_form.specs.Command.{setgrs_at, vary_at, order_at, command_at}
 use Rattle.deck_form.specs.Event.{event_word, pair_at, entry_at, alone_at, act_at, event_at}
 use Rattle.deck_form.specs.UnbuiltWord.{is_unbuilt_word}
 use Rattle.deck_form.specs.Form.{line_key, key, plain_form, or_bad, keyed, first_form, event_form, form}
-use Rattle.deck_form.specs.Spelled.{IsName, mode_word, Operand, Mode, Entries, Limit, enclosed, operand, IsFreeOperand, set_operand, IsComplex, IsFirst, IsAct, IsEvent, Spells}
+use Rattle.deck_form.specs.Spelled.{IsName, mode_word, Operand, Mode, Entries, Limit, enclosed, operand, IsFreeOperand, set_operand, IsComplex, IsOrder, IsCommand, IsFirst, IsAct, IsEvent, Spells}
 
 short_taken : (ts : List Token) (x : List ℕ × List Token) → short_at ts ≡ Some x → (ts ≡ Word x.0 ∷ x.1) × IsName x.0
 unfolding short_at
@@ -42,7 +46,7 @@ short_taken ts x e =
     let g = guard_some (is_name b.0.0) (b.0.0, b.0.1) x b.2 in
     subst (λ (y : List ℕ × List Token). (ts ≡ Word y.0 ∷ y.1) × IsName y.0) g.1 (any_word_taken ts b.0 b.1, g.0)
 
-named_taken : (ts : List Token) (n : List ℕ) → named_at ts ≡ Some n → (ts ≡ Word n ∷ []) × IsName n
+pub named_taken : (ts : List Token) (n : List ℕ) → named_at ts ≡ Some n → (ts ≡ Word n ∷ []) × IsName n
 unfolding named_at
 named_taken ts n e =
     let b = bind_some (short_at ts) (λ n. end_at n.1 >>= λ end. Some n.0) n e in
@@ -57,6 +61,9 @@ named_taken ts n e =
 mode_taken : (w : List ℕ) (b : Bool) → mode_of w ≡ Some b → w ≡ mode_word b
 unfolding mode_of
 mode_taken w b e = subst (IsWordOf mode_word w) e (row mode_word w false _ (row mode_word w true None tt))
+
+front : (w v : List ℕ) (ts us : List Token) → w ≡ v → ts ≡ us → Word w ∷ ts ≡ Word v ∷ us
+front w v ts us p q = cc
 
 entries_taken : (w : List ℕ) (n : ℕ) → entries_of w ≡ Some n → (written_number w ≡ Some n) × (is_entries n ≡ true)
 unfolding entries_of
@@ -133,6 +140,61 @@ complex_taken ts c e =
     let t = all_taken IsFreeOperand set_operand operand operand_at operand_taken 3 no_setup ts c e in
     record { given = t.0; spelled = t.1; operands = t.2 }
 
+-- ---- commands
+
+pub word_taken : (word : List ℕ) (ts rest : List Token) → word_at word ts ≡ Some rest → ts ≡ Word word ∷ rest
+word_taken word ts rest e =
+    let b = bind_some (any_word_at ts) (λ w. cond (bytes_eq w.0 word) (Some w.1) None) rest e in
+    let g = guard_some (bytes_eq b.0.0 word) b.0.1 rest b.2 in
+    any_word_taken ts b.0 b.1 ∙ front b.0.0 word b.0.1 rest (same_bytes b.0.0 word g.0) g.1
+
+setgrs_taken : (ts : List Token) (o : GivenOrder) → setgrs_at ts ≡ Some o → IsOrder (Word (codes "SETGRS") ∷ ts) o
+unfolding setgrs_at
+setgrs_taken ts o e =
+    let a = bind_some (word_at (codes "MODE") ts) (λ a. value_at a >>= λ v. end_at v.1 >>= λ end. cond (bytes_eq v.0 (codes "STAR")) (Some orders.Star) None) o e in
+    let v = bind_some (value_at a.0) (λ v. end_at v.1 >>= λ end. cond (bytes_eq v.0 (codes "STAR")) (Some orders.Star) None) o a.2 in
+    let z = bind_some (end_at v.0.1) (λ end. cond (bytes_eq v.0.0 (codes "STAR")) (Some orders.Star) None) o v.2 in
+    let g = guard_some (bytes_eq v.0.0 (codes "STAR")) orders.Star o z.2 in
+    let mode : a.0 ≡ Equals ∷ Word (codes "STAR") ∷ [] = value_taken a.0 v.0 v.1 ∙ ap (λ (t : List Token). Equals ∷ t) (front v.0.0 _ v.0.1 [] (same_bytes v.0.0 _ g.0) (end_taken v.0.1 z.0 z.1)) in
+    subst (IsOrder (Word (codes "SETGRS") ∷ ts)) g.1 (ap (λ (t : List Token). Word (codes "SETGRS") ∷ t) (word_taken _ ts a.0 a.1 ∙ ap (λ (t : List Token). Word (codes "MODE") ∷ t) mode))
+
+vary_taken : (ts : List Token) (o : GivenOrder) → vary_at ts ≡ Some o → IsOrder (Word (codes "VARY") ∷ ts) o
+unfolding vary_at
+vary_taken ts o e =
+    let a = bind_some (word_at (codes "GRS") ts) (λ a. open_at a >>= λ b. short_at b >>= λ n. close_at n.1 >>= λ c. comma_at c >>= λ d. word_at (codes "PURGE") d >>= λ f. end_at f >>= λ end. Some (orders.Vary n.0)) o e in
+    let b = bind_some (open_at a.0) (λ b. short_at b >>= λ n. close_at n.1 >>= λ c. comma_at c >>= λ d. word_at (codes "PURGE") d >>= λ f. end_at f >>= λ end. Some (orders.Vary n.0)) o a.2 in
+    let n = bind_some (short_at b.0) (λ n. close_at n.1 >>= λ c. comma_at c >>= λ d. word_at (codes "PURGE") d >>= λ f. end_at f >>= λ end. Some (orders.Vary n.0)) o b.2 in
+    let c = bind_some (close_at n.0.1) (λ c. comma_at c >>= λ d. word_at (codes "PURGE") d >>= λ f. end_at f >>= λ end. Some (orders.Vary n.0.0)) o n.2 in
+    let d = bind_some (comma_at c.0) (λ d. word_at (codes "PURGE") d >>= λ f. end_at f >>= λ end. Some (orders.Vary n.0.0)) o c.2 in
+    let f = bind_some (word_at (codes "PURGE") d.0) (λ f. end_at f >>= λ end. Some (orders.Vary n.0.0)) o d.2 in
+    let z = bind_some (end_at f.0) (λ end. Some (orders.Vary n.0.0)) o f.2 in
+    let s = short_taken b.0 n.0 n.1 in
+    let tail : n.0.1 ≡ Close ∷ Comma ∷ Word (codes "PURGE") ∷ [] = close_taken n.0.1 c.0 c.1 ∙ ap (λ (t : List Token). Close ∷ t) (comma_taken c.0 d.0 d.1 ∙ ap (λ (t : List Token). Comma ∷ t) (word_taken _ d.0 f.0 f.1 ∙ ap (λ (t : List Token). Word (codes "PURGE") ∷ t) (end_taken f.0 z.0 z.1))) in
+    let behind : ts ≡ Word (codes "GRS") ∷ Open ∷ Word n.0.0 ∷ Close ∷ Comma ∷ Word (codes "PURGE") ∷ [] = word_taken _ ts a.0 a.1 ∙ ap (λ (t : List Token). Word (codes "GRS") ∷ t) (open_taken a.0 b.0 b.1 ∙ ap (λ (t : List Token). Open ∷ t) (s.0 ∙ ap (λ (t : List Token). Word n.0.0 ∷ t) tail)) in
+    subst (IsOrder (Word (codes "VARY") ∷ ts)) (some_is (orders.Vary n.0.0) o z.2) (ap (λ (t : List Token). Word (codes "VARY") ∷ t) behind, s.1)
+
+order_taken : (w : List ℕ) (ts : List Token) (o : GivenOrder) → order_at w ts ≡ Some o → IsOrder (Word w ∷ ts) o
+unfolding order_at
+order_taken w ts o e = which (bytes_eq w (codes "SETGRS")) (bytes_eq w (codes "VARY")) refl refl e
+  where
+    worded : (word : List ℕ) → w ≡ word → IsOrder (Word word ∷ ts) o → IsOrder (Word w ∷ ts) o
+    worded word is h = subst (λ (x : List ℕ). IsOrder (Word x ∷ ts) o) (sym is) h
+
+    which : (a b : Bool) → bytes_eq w (codes "SETGRS") ≡ a → bytes_eq w (codes "VARY") ≡ b → cond a (setgrs_at ts) (cond b (vary_at ts) None) ≡ Some o → IsOrder (Word w ∷ ts) o
+    which true b p q h = worded _ (same_bytes w _ p) (setgrs_taken ts o h)
+    which false true p q h = worded _ (same_bytes w _ q) (vary_taken ts o h)
+    which false false p q h = absurd cc
+
+command_taken : (ts : List Token) (c : Command) → command_at ts ≡ Some c → IsCommand ts c
+unfolding command_at
+command_taken ts c e =
+    let w = bind_some (any_word_at ts) (λ w. written_number w.0 >>= λ n. any_word_at w.1 >>= λ v. order_at v.0 v.1 >>= λ o. Some (record { at = n; order = o })) c e in
+    let n = bind_some (written_number w.0.0) (λ n. any_word_at w.0.1 >>= λ v. order_at v.0 v.1 >>= λ o. Some (record { at = n; order = o })) c w.2 in
+    let v = bind_some (any_word_at w.0.1) (λ v. order_at v.0 v.1 >>= λ o. Some (record { at = n.0; order = o })) c n.2 in
+    let o = bind_some (order_at v.0.0 v.0.1) (λ o. Some (record { at = n.0; order = o })) c v.2 in
+    let made : IsCommand ts (record { at = n.0; order = o.0 }) = record { number = w.0.0; behind = Word v.0.0 ∷ v.0.1; spelled = any_word_taken ts w.0 w.1 ∙ ap (λ (t : List Token). Word w.0.0 ∷ t) (any_word_taken w.0.1 v.0 v.1); at = n.1; order = order_taken v.0.0 v.0.1 o.0 o.1 } in
+    subst (IsCommand ts) (some_is (record { at = n.0; order = o.0 }) c o.2) made
+
 -- ---- event lines
 
 parted_taken : (w : List ℕ) (x : List ℕ × List ℕ) → parted (position (λ b. eqb b 46) w) w ≡ Some x → (w ≡ x.0 ++ 46 ∷ x.1) × IsName x.0 × IsName x.1
@@ -148,9 +210,6 @@ parted_taken w x e = go (position (λ b. eqb b 46) w) refl e
         let lt : i < length w = at.0 in
         let parts : w ≡ take i w ++ 46 ∷ drop (i + 1) w = sym (take-append-drop i w) ∙ ap (λ (t : List ℕ). take i w ++ t) (drop-cons w i 0 lt ∙ rw (dot, add-one) refl) in
         subst (λ (y : List ℕ × List ℕ). (w ≡ y.0 ++ 46 ∷ y.1) × IsName y.0 × IsName y.1) g.1 (parts, both.0, both.1)
-
-front : (w v : List ℕ) (ts us : List Token) → w ≡ v → ts ≡ us → Word w ∷ ts ≡ Word v ∷ us
-front w v ts us p q = cc
 
 dotted_taken : (ts : List Token) (x : List ℕ × List ℕ × List Token) → dotted_at ts ≡ Some x → (ts ≡ Word (x.0 ++ 46 ∷ x.1) ∷ x.2) × IsName x.0 × IsName x.1
 unfolding dotted_at
@@ -265,6 +324,7 @@ Worded w keys.Rnldef = w ≡ codes "RNLDEF"
 Worded w keys.System = w ≡ codes "SYSTEM"
 Worded w keys.Job = w ≡ codes "JOB"
 Worded w keys.Task = w ≡ codes "TASK"
+Worded w keys.At = w ≡ codes "AT"
 Worded w keys.Schedule = w ≡ codes "SCHEDULE"
 Worded w keys.Unbuilt = is_unbuilt_word w ≡ true
 Worded w (keys.Line v) = (line_word w ≡ Some v) × (is_unbuilt_word w ≡ false)
@@ -290,8 +350,9 @@ worded w =
     (by_test (Worded w) (bytes_eq w (codes "SYSTEM")) _ _ (same_bytes w _)
     (by_test (Worded w) (bytes_eq w (codes "JOB")) _ _ (same_bytes w _)
     (by_test (Worded w) (bytes_eq w (codes "TASK")) _ _ (same_bytes w _)
+    (by_test (Worded w) (bytes_eq w (codes "AT")) _ _ (same_bytes w _)
     (by_test (Worded w) (bytes_eq w (codes "SCHEDULE")) _ _ (same_bytes w _)
-    (by_both (Worded w) (is_unbuilt_word w) _ _ (λ h. h) (line_worded w (line_word w) refl)))))))
+    (by_both (Worded w) (is_unbuilt_word w) _ _ (λ h. h) (line_worded w (line_word w) refl))))))))
 
 ok_taken : (o : Option Stmt) (st : Stmt) → or_bad o ≡ Ok st → o ≡ Some st
 ok_taken (Some x) st e = cc
@@ -324,6 +385,9 @@ keyed_taken (keys.Line v) w ts st is e =
     let line_ask = line_ask_taken v ts b.0 b.1 in
     let made : IsLineAsk (Word w ∷ ts) b.0 = record { word = w; behind = ts; parts = refl; is_word = subst (λ (x : LineWord). IsWord x w) (sym line_ask.of) (line_word_taken w v is.0); is_behind = line_ask.behind } in
     subst (IsFirst (Word w ∷ ts)) (some_is (stmts.Line b.0) st b.2) (made, is.1)
+keyed_taken keys.At w ts st is e =
+    let b = bind_some (command_at ts) (λ c. Some (stmts.Command c)) st (ok_taken _ st e) in
+    subst (IsFirst (Word w ∷ ts)) (some_is (stmts.Command b.0) st b.2) (ts, front w _ ts _ is refl, command_taken ts b.0 b.1)
 keyed_taken keys.Schedule w ts st is e =
     let b = bind_some (end_at ts) (λ end. Some stmts.Schedule) st (ok_taken _ st e) in
     subst (IsFirst (Word w ∷ ts)) (some_is stmts.Schedule st b.2) (front w _ ts _ is (end_taken ts b.0 b.1))

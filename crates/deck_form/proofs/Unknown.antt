@@ -58,9 +58,10 @@ key_unknown w h =
     let b = test_fails (bytes_eq w (codes "SYSTEM")) keys.System _ (λ e. cc) r.1 in
     let c = test_fails (bytes_eq w (codes "JOB")) keys.Job _ (λ e. cc) b.1 in
     let d = test_fails (bytes_eq w (codes "TASK")) keys.Task _ (λ e. cc) c.1 in
-    let f = test_fails (bytes_eq w (codes "SCHEDULE")) keys.Schedule _ (λ e. cc) d.1 in
+    let t = test_fails (bytes_eq w (codes "AT")) keys.At _ (λ e. cc) d.1 in
+    let f = test_fails (bytes_eq w (codes "SCHEDULE")) keys.Schedule _ (λ e. cc) t.1 in
     let g = test_fails (is_unbuilt_word w) keys.Unbuilt _ (λ e. cc) f.1 in
-    rw (a.0, r.0, b.0, c.0, d.0, f.0, g.0, no_line (line_word w) g.1) refl
+    rw (a.0, r.0, b.0, c.0, d.0, t.0, f.0, g.0, no_line (line_word w) g.1) refl
 
 unknown_key : (w : List ℕ) → is_statement_word w ≡ false → key w ≡ keys.Unknown
 unfolding key
@@ -70,9 +71,10 @@ unknown_key w h =
     let b = or_parts (bytes_eq w (codes "SYSTEM")) _ r.1 in
     let c = or_parts (bytes_eq w (codes "JOB")) _ b.1 in
     let d = or_parts (bytes_eq w (codes "TASK")) _ c.1 in
-    let f = or_parts (bytes_eq w (codes "SCHEDULE")) _ d.1 in
+    let t = or_parts (bytes_eq w (codes "AT")) _ d.1 in
+    let f = or_parts (bytes_eq w (codes "SCHEDULE")) _ t.1 in
     let g = or_parts (is_unbuilt_word w) (is_some (line_word w)) f.1 in
-    rw (a.0, r.0, b.0, c.0, d.0, f.0, g.0) (line_none (line_word w) g.1)
+    rw (a.0, r.0, b.0, c.0, d.0, t.0, f.0, g.0) (line_none (line_word w) g.1)
 
 bad_not_unknown : (o : Option Stmt) → or_bad o ≡ failed UnknownStatement → ⊥
 bad_not_unknown (Some st) h = cc
@@ -86,6 +88,7 @@ keyed_none keys.Job ts h = absurd (bad_not_unknown (plain_form keys.Job ts) h)
 keyed_none keys.Task ts h = absurd (bad_not_unknown (plain_form keys.Task ts) h)
 keyed_none (keys.Line v) ts h = absurd (bad_not_unknown (plain_form (keys.Line v) ts) h)
 keyed_none keys.Rnldef ts h = absurd (bad_not_unknown (plain_form keys.Rnldef ts) h)
+keyed_none keys.At ts h = absurd (bad_not_unknown (plain_form keys.At ts) h)
 keyed_none keys.Schedule ts h = absurd (bad_not_unknown (plain_form keys.Schedule ts) h)
 keyed_none keys.Unbuilt ts h = absurd (bad_not_unknown (plain_form keys.Unbuilt ts) h)
 
@@ -130,6 +133,7 @@ keyed_kind keys.Job ts k h = inr (or_bad_kind (plain_form keys.Job ts) k h)
 keyed_kind keys.Task ts k h = inr (or_bad_kind (plain_form keys.Task ts) k h)
 keyed_kind (keys.Line v) ts k h = inr (or_bad_kind (plain_form (keys.Line v) ts) k h)
 keyed_kind keys.Rnldef ts k h = inr (or_bad_kind (plain_form keys.Rnldef ts) k h)
+keyed_kind keys.At ts k h = inr (or_bad_kind (plain_form keys.At ts) k h)
 keyed_kind keys.Schedule ts k h = inr (or_bad_kind (plain_form keys.Schedule ts) k h)
 keyed_kind keys.Unbuilt ts k h = inr (or_bad_kind (plain_form keys.Unbuilt ts) k h)
 

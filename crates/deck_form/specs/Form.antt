@@ -18,6 +18,7 @@ use Rattle.rnl_syntax.specs.Operands.{rnldef_at}
 use Rattle.deck_form.specs.Words.{named_at}
 use Rattle.deck_form.specs.Complex.{complex_at}
 use Rattle.deck_form.specs.Event.{event_at}
+use Rattle.deck_form.specs.Command.{command_at}
 use Rattle.deck_form.specs.UnbuiltWord.{is_unbuilt_word}
 
 abbrev pub line_key : Option LineWord → Key
@@ -32,6 +33,7 @@ key w =
     else if bytes_eq w (codes "SYSTEM") then keys.System
     else if bytes_eq w (codes "JOB") then keys.Job
     else if bytes_eq w (codes "TASK") then keys.Task
+    else if bytes_eq w (codes "AT") then keys.At
     else if bytes_eq w (codes "SCHEDULE") then keys.Schedule
     else if is_unbuilt_word w then keys.Unbuilt
     else line_key (line_word w)
@@ -44,6 +46,7 @@ plain_form keys.System ts = named_at ts >>= λ n. Some (stmts.System n)
 plain_form keys.Job ts = named_at ts >>= λ n. Some (stmts.Job n)
 plain_form keys.Task ts = named_at ts >>= λ n. Some (stmts.Task n)
 plain_form (keys.Line v) ts = line_ask_at v ts >>= λ x. Some (stmts.Line x)
+plain_form keys.At ts = command_at ts >>= λ c. Some (stmts.Command c)
 plain_form keys.Schedule ts = end_at ts >>= λ end. Some stmts.Schedule
 plain_form keys.Unbuilt ts = Some stmts.Unbuilt
 plain_form keys.Unknown ts = None
@@ -60,6 +63,7 @@ keyed keys.System ts = or_bad (plain_form keys.System ts)
 keyed keys.Job ts = or_bad (plain_form keys.Job ts)
 keyed keys.Task ts = or_bad (plain_form keys.Task ts)
 keyed (keys.Line v) ts = or_bad (plain_form (keys.Line v) ts)
+keyed keys.At ts = or_bad (plain_form keys.At ts)
 keyed keys.Schedule ts = or_bad (plain_form keys.Schedule ts)
 keyed keys.Unbuilt ts = or_bad (plain_form keys.Unbuilt ts)
 

@@ -7,9 +7,12 @@ use Rattle.grs_base.specs.declared.fault.Kind.TheVariants.{UnknownStatement, Bad
 use Rattle.grs_base.specs.ShortNames.{is_name}
 use Rattle.grs_base.specs.Limits.{is_entries, is_limit}
 use Rattle.deck_scan.specs.declared.token.Token.{Token}
-use Rattle.deck_scan.specs.declared.token.Token.TheVariants.{Word, Open, Close, Unclosed}
+use Rattle.deck_scan.specs.declared.token.Token.TheVariants.{Word, Open, Close, Comma, Equals, Unclosed}
 use Rattle.deck_scan.specs.declared.token.TokenLine.{TokenLine}
 use Rattle.deck_form.specs.declared.complex.Setup.{Setup}
+use Rattle.deck_form.specs.declared.command.GivenOrder.{GivenOrder}
+use Rattle.deck_form.specs.declared.command.GivenOrder.TheVariants as orders
+use Rattle.deck_form.specs.declared.command.Command.{Command}
 use Rattle.deck_form.specs.declared.event.EventAct.{EventAct}
 use Rattle.deck_form.specs.declared.event.EventAct.TheVariants as acts
 use Rattle.deck_form.specs.declared.form.Stmt.{Stmt}
@@ -61,6 +64,19 @@ pub record IsComplex (ts : List Token) (c : Setup) : Type 0 where
   pub spelled : ts ≡ flat_map operand given
   pub operands : Sets IsFreeOperand set_operand no_setup given c
 
+-- What stands behind the number of a command.
+abbrev pub IsOrder : List Token → GivenOrder → Type 0
+IsOrder ts orders.Star = ts ≡ Word (codes "SETGRS") ∷ Word (codes "MODE") ∷ Equals ∷ Word (codes "STAR") ∷ []
+IsOrder ts (orders.Vary n) = (ts ≡ Word (codes "VARY") ∷ Word (codes "GRS") ∷ Open ∷ Word n ∷ Close ∷ Comma ∷ Word (codes "PURGE") ∷ []) × IsName n
+
+-- What stands behind AT: a number and what is commanded.
+pub record IsCommand (ts : List Token) (c : Command) : Type 0 where
+  pub number : List ℕ
+  pub behind : List Token
+  pub spelled : ts ≡ Word number ∷ behind
+  pub at : written_number number ≡ Some c.at
+  pub order : IsOrder behind c.order
+
 -- A statement before SCHEDULE, and SCHEDULE. A task line has a word that is built.
 abbrev pub IsFirst : List Token → Stmt → Type 0
 IsFirst ts stmts.Unbuilt = (w : List ℕ) × ((rest : List Token) × (ts ≡ Word w ∷ rest) × (is_unbuilt_word w ≡ true))
@@ -69,6 +85,7 @@ IsFirst ts (stmts.Rnldef d) = (rest : List Token) × (ts ≡ Word (codes "RNLDEF
 IsFirst ts (stmts.System n) = (ts ≡ Word (codes "SYSTEM") ∷ Word n ∷ []) × IsName n
 IsFirst ts (stmts.Job n) = (ts ≡ Word (codes "JOB") ∷ Word n ∷ []) × IsName n
 IsFirst ts (stmts.Task n) = (ts ≡ Word (codes "TASK") ∷ Word n ∷ []) × IsName n
+IsFirst ts (stmts.Command c) = (rest : List Token) × (ts ≡ Word (codes "AT") ∷ rest) × IsCommand rest c
 IsFirst ts (stmts.Line s) = (h : IsLineAsk ts s) × (is_unbuilt_word h.word ≡ false)
 IsFirst ts stmts.Schedule = ts ≡ Word (codes "SCHEDULE") ∷ []
 IsFirst ts (stmts.Event s a) = ⊥
@@ -111,9 +128,10 @@ is_statement_word w =
     || (bytes_eq w (codes "SYSTEM")
     || (bytes_eq w (codes "JOB")
     || (bytes_eq w (codes "TASK")
+    || (bytes_eq w (codes "AT")
     || (bytes_eq w (codes "SCHEDULE")
     || (is_unbuilt_word w
-    || is_some (line_word w)))))))
+    || is_some (line_word w))))))))
 
 abbrev pub BeginsOtherwise : List Token → Type 0
 BeginsOtherwise (Word w ∷ ts) = is_statement_word w ≡ false

@@ -29,9 +29,9 @@ pub enum EventAct<'t> {
     Tell(u32),
     /// It gives up its interest in this lock entry, which is below the deck's number of them.
     Leave(u32),
-    /// It changes the complex to star mode. This is read and not carried out, as the next is.
+    /// It changes the complex to star mode.
     Switch,
-    /// It removes this system.
+    /// It removes this system. This is read and not carried out.
     Purge(GivenName<'t>),
     /// It comes to rest.
     Rest,

@@ -5,6 +5,7 @@ ghost use Rattle.deck_form.specs.Form.{plain_form, first_form, event_form, form,
 ghost use Rattle.deck_form.specs.Spelled.{Answers};
 ghost use Rattle.deck_form.specs.declared.form.Stmt.{Stmt as StmtValue};
 
+use crate::command::{Command, command_at};
 use crate::complex::{Setup, complex_at};
 use crate::event::{EventAct, event_at};
 use crate::unbuilt::is_unbuilt_word;
@@ -17,7 +18,7 @@ use rnl_syntax::{Rnldef, is_rnldef_word, rnldef_at};
 /// A statement, with names of any length.
 #[derive(Drop)]
 pub enum Stmt<'t> {
-    /// A statement with the word AT, GQSCAN, DISPLAY or D, which this program doesn't carry out. Nothing
+    /// A statement with the word GQSCAN, DISPLAY or D, which this program doesn't carry out. Nothing
     /// more of it was read.
     Unbuilt,
     /// The settings of the complex.
@@ -32,6 +33,8 @@ pub enum Stmt<'t> {
     Task(GivenName<'t>),
     /// What a task is to ask or to wait for.
     Line(LineAsk<'t>),
+    /// What is commanded at the desk of a system.
+    Command(Command<'t>),
     /// Every line behind it is an event.
     Schedule,
     /// What a system does next.
@@ -50,6 +53,7 @@ pub enum Key {
     Job,
     Task,
     Line(LineWord),
+    At,
     Schedule,
     Unbuilt,
     Unknown,
@@ -88,6 +92,8 @@ fn key_of(w: &[u8]) -> Key
         Key::Job
     } else if w == b"TASK".as_slice() {
         Key::Task
+    } else if w == b"AT".as_slice() {
+        Key::At
     } else if w == b"SCHEDULE".as_slice() {
         Key::Schedule
     } else if is_unbuilt_word(w) {
@@ -109,6 +115,7 @@ fn plain_form<'a, 't>(key: Key, ts: &'a [Token<'t>]) -> Result<Stmt<'a>, Miss>
         Key::Job => Ok(Stmt::Job(named_at(ts)?)),
         Key::Task => Ok(Stmt::Task(named_at(ts)?)),
         Key::Line(line_word) => Ok(Stmt::Line(line_ask_at(line_word, ts)?)),
+        Key::At => Ok(Stmt::Command(command_at(ts)?)),
         Key::Schedule => {
             end_at(ts)?;
             Ok(Stmt::Schedule)

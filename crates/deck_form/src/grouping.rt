@@ -9,7 +9,8 @@ use rnl_syntax::gather;
 use std::alloc::Global;
 use std::marker::Model;
 
-fn is_schedule(ts: &[Token<'_>]) -> bool
+/// Whether a line is SCHEDULE.
+pub fn is_schedule(ts: &[Token<'_>]) -> bool
     ensures { result ≡ is_schedule ts.now }
 {
     match ts.split_first() {

@@ -2,17 +2,21 @@
 //! not what other statements said.
 #![tactic(auto)]
 
+mod command;
 mod complex;
 mod event;
 mod form;
 mod grouping;
 mod laws;
+mod system_names;
 mod unbuilt;
 mod words;
 
+pub use command::{Command, GivenOrder};
 pub use complex::Setup;
 pub use event::EventAct;
 pub use form::{Stmt, statement};
 pub use grouping::Statements;
-pub use laws::one_statement;
+pub use laws::{names_are_spelled, one_statement};
+pub use system_names::SystemNames;
 pub use unbuilt::is_unbuilt;

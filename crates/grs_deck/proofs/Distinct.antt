@@ -10,23 +10,26 @@ use Rattle.std.proofs.lemmas.List.Elements.{All-nil, All-cons, All-push, All-tai
 use Rattle.std.proofs.lemmas.List.Quantifiers.{all_pairs_push}
 use Rattle.std.proofs.lemmas.Slice.Eq.{bytes_eq-Decides}
 use Rattle.grs_base.specs.declared.line.Line.{Line}
+use Rattle.grs_wire.specs.declared.deck.Desk.{Desk}
 use Rattle.grs_wire.specs.declared.deck.TaskDef.{TaskDef}
 use Rattle.grs_wire.specs.declared.deck.JobDef.{JobDef}
 use Rattle.grs_wire.specs.declared.deck.SystemDef.{SystemDef}
 use Rattle.grs_wire.specs.declared.deck.Event.{Event}
 use Rattle.grs_wire.specs.declared.deck.Deck.{Deck}
 use Rattle.grs_wire.specs.Decks.{AreDistinct, IsNamedOnce, AreNamedOnce}
+use Rattle.deck_form.specs.declared.command.GivenOrder.{GivenOrder}
+use Rattle.deck_form.specs.declared.command.GivenOrder.TheVariants as orders
 use Rattle.deck_form.specs.declared.form.Stmt.{Stmt}
 use Rattle.deck_form.specs.declared.form.Stmt.TheVariants as stmts
 use Rattle.job_syntax.specs.Lines.{line_of}
 use Rattle.grs_deck.specs.declared.judge.Draft.{Draft}
 use Rattle.grs_deck.specs.Places.{at_last, jobs_now, tasks_now, system_place, job_place, task_place, event_of}
-use Rattle.grs_deck.specs.Grow.{on_last, add_job, add_task, add_line, in_jobs, in_tasks, with_event, grow}
+use Rattle.grs_deck.specs.Grow.{on_last, add_command, add_order, add_job, add_task, add_line, in_jobs, in_tasks, with_event, grow}
 use Rattle.grs_deck.specs.Spells.{IsRight}
 
 -- ---- one name more
 
-differs : (a b : List ℕ) → bytes_eq a b ≡ false → a ≢ b
+pub differs : (a b : List ℕ) → bytes_eq a b ≡ false → a ≢ b
 differs a b h same = let k : bytes_eq a b ≡ true = (bytes_eq-Decides a b).1 same in absurd cc
 
 others : {A : Type 0} (g : A → List ℕ) (n : List ℕ) (xs : List A) → length xs ≤ position_or_len (λ x. bytes_eq (g x) n) xs → All (λ m. m ≢ n) (map g xs)
@@ -63,7 +66,7 @@ map_same g f (x ∷ y ∷ ys) e = ap (λ t. g x ∷ t) (map_same g f (y ∷ ys) 
 same_names : {A : Type 0} (g : A → List ℕ) (f : A → A) (xs : List A) → ((x : A) → g (f x) ≡ g x) → AreDistinct (map g xs) → AreDistinct (map g (on_last f xs))
 same_names g f xs e h = subst AreDistinct (sym (map_same g f xs e)) h
 
-all_last : {A B : Type 0} (P : A → Type 0) (f : A → A) (h : A → List B) (xs : List A) → ((x : A) → at_last h xs ≡ h x → P x → P (f x)) → All P xs → All P (on_last f xs)
+pub all_last : {A B : Type 0} (P : A → Type 0) (f : A → A) (h : A → List B) (xs : List A) → ((x : A) → at_last h xs ≡ h x → P x → P (f x)) → All P xs → All P (on_last f xs)
 all_last P f h [] g all = all
 all_last P f h (x ∷ []) g all = All-cons P (f x) [] (g x refl (all 0 x (omega arith))) (All-nil P)
 all_last P f h (x ∷ y ∷ ys) g all = All-cons P x (on_last f (y ∷ ys)) (all 0 x (omega arith)) (all_last P f h (y ∷ ys) g (All-tail P x (y ∷ ys) all))
@@ -88,6 +91,13 @@ once_system name ss none h =
     let new : SystemDef = record { name = name; desk = []; jobs = [] } in
     let empty : IsNamedOnce new = record { jobs = nothing; tasks = All-nil IsOnceJob } in
     record { names = one_more system_name ss new none h.names; each = All-push IsNamedOnce ss new h.each empty }
+
+once_command : (c : Desk) (ss : List SystemDef) → AreNamedOnce ss → AreNamedOnce (add_command c ss)
+once_command c ss h = record { names = same_names system_name _ ss (λ s. refl) h.names; each = all_last IsNamedOnce _ (λ s. s.jobs) ss (λ s e w. record { jobs = w.jobs; tasks = w.tasks }) h.each }
+
+once_order : (at : ℕ) (o : GivenOrder) (ss : List SystemDef) → AreNamedOnce ss → AreNamedOnce (add_order at o ss)
+once_order at orders.Star ss h = once_command _ ss h
+once_order at (orders.Vary n) ss h = h
 
 once_job : (name : List ℕ) (ss : List SystemDef) → job_place (jobs_now ss) name ≡ None → AreNamedOnce ss → AreNamedOnce (add_job name ss)
 unfolding job_place
@@ -145,5 +155,6 @@ once_grow d (stmts.System n) right h = once_system n d.deck.systems right.0.new 
 once_grow d (stmts.Job n) right h = once_job n d.deck.systems right.0.new h
 once_grow d (stmts.Task n) right h = once_task n d.deck.systems right.0.new h
 once_grow d (stmts.Line s) right h = once_line (line_of s) d.deck.systems h
+once_grow d (stmts.Command c) right h = once_order c.at c.order d.deck.systems h
 once_grow d stmts.Schedule right h = h
 once_grow d (stmts.Event s a) right h = once_event (event_of d.deck.systems s a) d.deck h

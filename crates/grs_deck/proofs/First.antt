@@ -15,7 +15,7 @@ use Rattle.deck_scan.specs.Gives.{◌>>=◌, Gives}
 use Rattle.deck_scan.proofs.Texts.{text_of, text_read}
 use Rattle.grs_deck.specs.declared.judge.Draft.{Draft}
 use Rattle.grs_deck.specs.Grow.{grow}
-use Rattle.grs_deck.specs.Reading.{judge, judge_all, no_draft, ended, reading, fault, fault_of}
+use Rattle.grs_deck.specs.Reading.{judge, judge_all, first_draft, ended, reading, fault, fault_of}
 use Rattle.grs_deck.specs.Spells.{Says, SpellsDeck}
 use Rattle.grs_deck.specs.Faults.{FaultyLine, NoSystemSaid, IsFault, IsFaultless, Answers}
 use Rattle.grs_deck.proofs.FitsLaws.{judged}
@@ -74,21 +74,24 @@ pub is_fault : (text : List ℕ) (f : DeckFault) → fault text ≡ Some f → I
 unfolding fault reading lines_or_fault
 is_fault text f h = go (byte_fault text) refl (fault_some _ f h)
   where
-    go : (o : Option DeckFault) → byte_fault text ≡ o → (unless_fault o (lines_of text) >>= λ ls. judge_all no_draft (statements ls) >>= ended) ≡ deck_err f → IsFault text f
+    go : (o : Option DeckFault) → byte_fault text ≡ o → (unless_fault o (lines_of text) >>= λ ls. judge_all (first_draft (statements ls)) (statements ls) >>= ended) ≡ deck_err f → IsFault text f
     go (Some g) is m = inl (is ∙ ap some (deck_err_is g f m))
-    go None is m = by (judge_all no_draft (statements (lines_of text))) refl m
+    go None is m = by (judge_all start (statements (lines_of text))) refl m
       where
+        start : Draft
+        start = first_draft (statements (lines_of text))
+
         spelled : SpellsLines text (lines_of text)
         spelled = (text_of text is).spelled
 
-        by : (r : Result Draft DeckFault) → judge_all no_draft (statements (lines_of text)) ≡ r → (r >>= ended) ≡ deck_err f → IsFault text f
+        by : (r : Result Draft DeckFault) → judge_all start (statements (lines_of text)) ≡ r → (r >>= ended) ≡ deck_err f → IsFault text f
         by (Err g) e k =
             let same = deck_err_is g f k in
-            inr (record { allowed = is; lines = lines_of text; spelled = spelled; fault = inl (all_err (statements (lines_of text)) no_draft f (e ∙ ap refused same)) })
+            inr (record { allowed = is; lines = lines_of text; spelled = spelled; fault = inl (all_err (statements (lines_of text)) start f (e ∙ ap refused same)) })
         by (Ok d) e k = ends (eqb (length d.deck.systems) 0) refl k
           where
             ends : (b : Bool) → eqb (length d.deck.systems) 0 ≡ b → cond b (deck_err (record { line = 0; kind = NoSystem })) (Ok d.deck) ≡ deck_err f → IsFault text f
-            ends true z k = inr (record { allowed = is; lines = lines_of text; spelled = spelled; fault = inr (record { draft = d; says = says (statements (lines_of text)) no_draft d e; none = eqb-true (length d.deck.systems) 0 z; is = sym (deck_err_is (record { line = 0; kind = NoSystem }) f k) }) })
+            ends true z k = inr (record { allowed = is; lines = lines_of text; spelled = spelled; fault = inr (record { draft = d; says = says (statements (lines_of text)) start d e; none = eqb-true (length d.deck.systems) 0 z; is = sym (deck_err_is (record { line = 0; kind = NoSystem }) f k) }) })
             ends false z k = absurd cc
 
 fault_by : (f : DeckFault) (n : ℕ) → f.line ≡ n → record { line = n; kind = f.kind } ≡ f
@@ -97,17 +100,17 @@ fault_by f n e = ap (λ (x : ℕ). made x f.kind) (sym e)
     made : ℕ → Kind → DeckFault
     made n k = record { line = n; kind = k }
 
-line_so : (ls : List TokenLine) (f : DeckFault) → FaultyLine ls no_draft f → (judge_all no_draft ls >>= ended) ≡ deck_err f
+line_so : (ls : List TokenLine) (f : DeckFault) → FaultyLine ls (first_draft ls) f → (judge_all (first_draft ls) ls >>= ended) ≡ deck_err f
 line_so ls f y =
     let j = judged_so y.before y.line f.kind y.least in
     let is : record { line = y.line.at; kind = f.kind } ≡ f = fault_by f y.line.at y.at in
-    let all : judge_all no_draft ls ≡ refused f = ap (judge_all no_draft) y.parts ∙ all_so y.front y.back y.line no_draft y.before f y.says (j ∙ ap refused is) in
+    let all : judge_all (first_draft ls) ls ≡ refused f = ap (judge_all (first_draft ls)) y.parts ∙ all_so y.front y.back y.line (first_draft ls) y.before f y.says (j ∙ ap refused is) in
     rw all refl
 
-none_so : (ls : List TokenLine) (f : DeckFault) → NoSystemSaid ls f → (judge_all no_draft ls >>= ended) ≡ deck_err f
-none_so ls f y = rw (says_again ls no_draft y.draft y.says, eq-eqb (length y.draft.deck.systems) 0 y.none, y.is) refl
+none_so : (ls : List TokenLine) (f : DeckFault) → NoSystemSaid ls f → (judge_all (first_draft ls) ls >>= ended) ≡ deck_err f
+none_so ls f y = rw (says_again ls (first_draft ls) y.draft y.says, eq-eqb (length y.draft.deck.systems) 0 y.none, y.is) refl
 
-lines_so : (ls : List TokenLine) (f : DeckFault) → FaultyLine ls no_draft f ⊎ NoSystemSaid ls f → (judge_all no_draft ls >>= ended) ≡ deck_err f
+lines_so : (ls : List TokenLine) (f : DeckFault) → FaultyLine ls (first_draft ls) f ⊎ NoSystemSaid ls f → (judge_all (first_draft ls) ls >>= ended) ≡ deck_err f
 lines_so ls f (inl y) = line_so ls f y
 lines_so ls f (inr y) = none_so ls f y
 
@@ -115,7 +118,7 @@ lines_so ls f (inr y) = none_so ls f y
 pub only_fault : (text : List ℕ) (f : DeckFault) → IsFault text f → fault text ≡ Some f
 unfolding fault reading lines_or_fault
 only_fault text f (inl h) = rw h refl
-only_fault text f (inr h) = let read : (lines_or_fault text >>= λ ls. judge_all no_draft (statements ls) >>= ended) ≡ deck_err f = rw (text_read text h.lines (text_of text h.allowed).short h.spelled) (lines_so (statements h.lines) f h.fault) in ap fault_of read
+only_fault text f (inr h) = let read : (lines_or_fault text >>= λ ls. judge_all (first_draft (statements ls)) (statements ls) >>= ended) ≡ deck_err f = rw (text_read text h.lines (text_of text h.allowed).short h.spelled) (lines_so (statements h.lines) f h.fault) in ap fault_of read
 
 -- ---- what is answered
 

@@ -13,6 +13,7 @@ use Rattle.grs_base.specs.declared.rnl.RnlEntry.{RnlEntry}
 use Rattle.grs_base.specs.declared.rnl.Lists.{Lists}
 use Rattle.grs_base.specs.declared.line.Line.{Line}
 use Rattle.grs_base.specs.NameLists.{IsListOf, AreLists}
+use Rattle.grs_wire.specs.declared.deck.Desk.{Desk}
 use Rattle.grs_wire.specs.declared.deck.TaskDef.{TaskDef}
 use Rattle.grs_wire.specs.declared.deck.JobDef.{JobDef}
 use Rattle.grs_wire.specs.declared.deck.SystemDef.{SystemDef}
@@ -20,14 +21,16 @@ use Rattle.grs_wire.specs.declared.deck.Event.{Event}
 use Rattle.grs_wire.specs.declared.deck.Deck.{Deck}
 use Rattle.grs_wire.specs.Decks.{task_count, IsWithin, Fits}
 use Rattle.deck_scan.specs.declared.token.TokenLine.{TokenLine}
+use Rattle.deck_form.specs.declared.command.GivenOrder.{GivenOrder}
+use Rattle.deck_form.specs.declared.command.GivenOrder.TheVariants as orders
 use Rattle.deck_form.specs.declared.form.Stmt.{Stmt}
 use Rattle.deck_form.specs.declared.form.Stmt.TheVariants as stmts
 use Rattle.deck_form.specs.Form.{form}
 use Rattle.deck_form.specs.Unbuilt.{is_unbuilt}
 use Rattle.grs_deck.specs.declared.judge.Draft.{Draft}
-use Rattle.grs_deck.specs.Places.{jobs_now, event_of}
+use Rattle.grs_deck.specs.Places.{at_last, desk_now, jobs_now, event_of}
 use Rattle.grs_deck.specs.Judge.{has_bad_name, is_repeated, is_misplaced, is_list_full, is_full, is_unknown, verdict}
-use Rattle.grs_deck.specs.Grow.{on_last, add_job, add_task, add_line, in_jobs, in_tasks, add_entry, in_list, with_event, grow}
+use Rattle.grs_deck.specs.Grow.{on_last, add_command, add_order, add_job, add_task, add_line, in_jobs, in_tasks, add_entry, in_list, with_event, grow}
 use Rattle.grs_deck.specs.Reading.{unless, judge_form, judge}
 use Rattle.grs_deck.proofs.PlacesLaws.{all_head, all_tail}
 
@@ -72,10 +75,10 @@ each_push : (ss : List SystemDef) (s : SystemDef) → Each ss → IsWithin s →
 each_push [] s h w = (w, tt)
 each_push (x ∷ ss) s h w = (h.0, each_push ss s h.1 w)
 
-each_last : (f : SystemDef → SystemDef) (ss : List SystemDef) → Each ss → ((s : SystemDef) → IsWithin s → jobs_now ss ≡ s.jobs → IsWithin (f s)) → Each (on_last f ss)
-each_last f [] h g = tt
-each_last f (s ∷ []) h g = (g s h.0 refl, tt)
-each_last f (s ∷ t ∷ ss) h g = (h.0, each_last f (t ∷ ss) h.1 g)
+each_last : {A : Type 0} (v : SystemDef → List A) (f : SystemDef → SystemDef) (ss : List SystemDef) → Each ss → ((s : SystemDef) → IsWithin s → at_last v ss ≡ v s → IsWithin (f s)) → Each (on_last f ss)
+each_last v f [] h g = tt
+each_last v f (s ∷ []) h g = (g s h.0 refl, tt)
+each_last v f (s ∷ t ∷ ss) h g = (h.0, each_last v f (t ∷ ss) h.1 g)
 
 length-on_last : {A : Type 0} (f : A → A) (xs : List A) → length (on_last f xs) ≡ length xs
 length-on_last f [] = refl
@@ -109,8 +112,20 @@ fits_system ss name h lt =
     let new : IsWithin s = record { desk = omega arith; jobs = omega arith; tasks = omega arith } in
     record { few = omega (arith, length-append ss (s ∷ []), lt); each = each_all (ss ++ s ∷ []) (each_push ss s (all_each ss h.each) new) }
 
+fits_command : (ss : List SystemDef) (c : Desk) → Fits ss → suc (length (desk_now ss)) ≤ 64 → Fits (add_command c ss)
+fits_command ss c h lt = record { few = rw (length-on_last _ ss) h.few; each = each_all (add_command c ss) (each_last (λ s. s.desk) _ ss (all_each ss h.each) one) }
+  where
+    one : (s : SystemDef) → IsWithin s → desk_now ss ≡ s.desk → IsWithin (record s { desk = s.desk ++ c ∷ [] })
+    one s w e =
+        let long : length (desk_now ss) ≡ length s.desk = ap length e in
+        record { desk = omega (arith, length-append s.desk (c ∷ []), long, lt); jobs = w.jobs; tasks = w.tasks }
+
+fits_order : (ss : List SystemDef) (at : ℕ) (o : GivenOrder) → Fits ss → suc (length (desk_now ss)) ≤ 64 → Fits (add_order at o ss)
+fits_order ss at orders.Star h lt = fits_command ss _ h lt
+fits_order ss at (orders.Vary n) h lt = h
+
 fits_job : (ss : List SystemDef) (name : List ℕ) → Fits ss → suc (length (jobs_now ss)) ≤ 64 → Fits (add_job name ss)
-fits_job ss name h lt = record { few = rw (length-on_last _ ss) h.few; each = each_all (add_job name ss) (each_last _ ss (all_each ss h.each) one) }
+fits_job ss name h lt = record { few = rw (length-on_last _ ss) h.few; each = each_all (add_job name ss) (each_last (λ s. s.jobs) _ ss (all_each ss h.each) one) }
   where
     one : (s : SystemDef) → IsWithin s → jobs_now ss ≡ s.jobs → IsWithin (record s { jobs = s.jobs ++ record { name = name; tasks = [] } ∷ [] })
     one s w e =
@@ -119,7 +134,7 @@ fits_job ss name h lt = record { few = rw (length-on_last _ ss) h.few; each = ea
         record { desk = w.desk; jobs = omega (arith, length-append s.jobs (j ∷ []), long, lt); tasks = omega (arith, task_count-append s.jobs (j ∷ []), w.tasks) }
 
 fits_task : (ss : List SystemDef) (name : List ℕ) → Fits ss → suc (task_count (jobs_now ss)) ≤ 64 → Fits (in_jobs (add_task name) ss)
-fits_task ss name h lt = record { few = rw (length-on_last _ ss) h.few; each = each_all (in_jobs (add_task name) ss) (each_last _ ss (all_each ss h.each) one) }
+fits_task ss name h lt = record { few = rw (length-on_last _ ss) h.few; each = each_all (in_jobs (add_task name) ss) (each_last (λ s. s.jobs) _ ss (all_each ss h.each) one) }
   where
     one : (s : SystemDef) → IsWithin s → jobs_now ss ≡ s.jobs → IsWithin (record s { jobs = add_task name s.jobs })
     one s w e =
@@ -127,7 +142,7 @@ fits_task ss name h lt = record { few = rw (length-on_last _ ss) h.few; each = e
         record { desk = w.desk; jobs = rw (length-on_last _ s.jobs) w.jobs; tasks = omega (arith, task_count-add name s.jobs, count, lt) }
 
 fits_line : (ss : List SystemDef) (line : Line) → Fits ss → Fits (in_jobs (in_tasks (add_line line)) ss)
-fits_line ss line h = record { few = rw (length-on_last _ ss) h.few; each = each_all (in_jobs (in_tasks (add_line line)) ss) (each_last _ ss (all_each ss h.each) one) }
+fits_line ss line h = record { few = rw (length-on_last _ ss) h.few; each = each_all (in_jobs (in_tasks (add_line line)) ss) (each_last (λ s. s.jobs) _ ss (all_each ss h.each) one) }
   where
     one : (s : SystemDef) → IsWithin s → jobs_now ss ≡ s.jobs → IsWithin (record s { jobs = in_tasks (add_line line) s.jobs })
     one s w e = record { desk = w.desk; jobs = rw (length-on_last _ s.jobs) w.jobs; tasks = rw (task_count-line line s.jobs) w.tasks }
@@ -144,6 +159,7 @@ fits_grow d (stmts.Job n) full h = fits_job d.deck.systems n h (below 64 (length
 fits_grow d (stmts.Task n) full h = fits_task d.deck.systems n h (below 64 (task_count (jobs_now d.deck.systems)) full)
 fits_grow d (stmts.Rnldef r) full h = h
 fits_grow d (stmts.Line s) full h = fits_line d.deck.systems _ h
+fits_grow d (stmts.Command c) full h = fits_order d.deck.systems c.at c.order h (below 64 (length (desk_now d.deck.systems)) full)
 fits_grow d stmts.Schedule full h = h
 fits_grow d (stmts.Event s a) full h = subst Fits (sym (event_systems (event_of d.deck.systems s a) d.deck)) h
 
@@ -171,6 +187,7 @@ lists_grow d (stmts.System n) full h = h
 lists_grow d (stmts.Job n) full h = h
 lists_grow d (stmts.Task n) full h = h
 lists_grow d (stmts.Line s) full h = h
+lists_grow d (stmts.Command c) full h = h
 lists_grow d stmts.Schedule full h = h
 lists_grow d (stmts.Event s a) full h = subst AreLists (sym (event_lists (event_of d.deck.systems s a) d.deck)) h
 

@@ -16,6 +16,7 @@ use Rattle.grs_base.specs.Lines.{IsDeckLine, is_display}
 use Rattle.grs_base.specs.Limits.{most_lines}
 use Rattle.grs_base.specs.ShortNames.{IsShortName}
 use Rattle.grs_base.specs.NameLists.{IsEntry, AreEntries}
+use Rattle.grs_wire.specs.declared.deck.Desk.{Desk}
 use Rattle.grs_wire.specs.declared.deck.TaskDef.{TaskDef}
 use Rattle.grs_wire.specs.declared.deck.JobDef.{JobDef}
 use Rattle.grs_wire.specs.declared.deck.SystemDef.{SystemDef}
@@ -34,13 +35,15 @@ use Rattle.job_syntax.specs.Spelled.{IsResAsk, IsLineAsk}
 use Rattle.rnl_syntax.specs.declared.operands.Rnldef.{Rnldef}
 use Rattle.rnl_syntax.specs.Operands.{entry_of, has_bad_name as rnldef_has_bad_name}
 use Rattle.rnl_syntax.specs.Spelled.{IsRnldef}
+use Rattle.deck_form.specs.declared.command.GivenOrder.{GivenOrder}
+use Rattle.deck_form.specs.declared.command.GivenOrder.TheVariants as orders
 use Rattle.deck_form.specs.declared.form.Stmt.{Stmt}
 use Rattle.deck_form.specs.declared.form.Stmt.TheVariants as stmts
 use Rattle.deck_form.specs.Spelled.{IsFirst, Spells}
 use Rattle.deck_form.specs.UnbuiltWord.{is_unbuilt_word}
 use Rattle.grs_deck.specs.declared.judge.Draft.{Draft}
 use Rattle.grs_deck.specs.Places.{at_last, jobs_now, tasks_now, event_of}
-use Rattle.grs_deck.specs.Grow.{on_last, add_job, add_task, add_line, in_jobs, in_tasks, with_event, in_list, grow}
+use Rattle.grs_deck.specs.Grow.{on_last, add_command, add_order, add_job, add_task, add_line, in_jobs, in_tasks, with_event, in_list, grow}
 use Rattle.grs_deck.specs.Reading.{no_draft}
 use Rattle.grs_deck.specs.Spells.{IsRight}
 use Rattle.grs_deck.proofs.SpellsLaws.{no_test}
@@ -96,6 +99,13 @@ lines_task name ss = flat_same system_lines _ ss (λ s. flat_same job_lines _ s.
     of_job : (j : JobDef) → flat_map task_lines (j.tasks ++ record { name = name; lines = [] } ∷ []) ≡ flat_map task_lines j.tasks
     of_job j = flat_map-append task_lines j.tasks (record { name = name; lines = [] } ∷ []) ∙ append-nil (flat_map task_lines j.tasks)
 
+lines_command : (c : Desk) (ss : List SystemDef) → all_lines (add_command c ss) ≡ all_lines ss
+lines_command c ss = flat_same system_lines _ ss (λ s. refl)
+
+lines_order : (at : ℕ) (o : GivenOrder) (ss : List SystemDef) → all_lines (add_order at o ss) ≡ all_lines ss
+lines_order at orders.Star ss = lines_command _ ss
+lines_order at (orders.Vary n) ss = refl
+
 lines_job : (name : List ℕ) (ss : List SystemDef) → all_lines (add_job name ss) ≡ all_lines ss
 lines_job name ss = flat_same system_lines _ ss of_system
   where
@@ -118,6 +128,10 @@ system_names s = s.name ∷ flat_map job_names s.jobs
 
 names_system : (name : List ℕ) (ss : List SystemDef) → all_names (ss ++ record { name = name; desk = []; jobs = [] } ∷ []) ≡ all_names ss ++ name ∷ []
 names_system name ss = flat_map-append system_names ss (record { name = name; desk = []; jobs = [] } ∷ [])
+
+names_order : (at : ℕ) (o : GivenOrder) (ss : List SystemDef) → all_names (add_order at o ss) ≡ all_names ss
+names_order at orders.Star ss = flat_same system_names _ ss (λ s. refl)
+names_order at (orders.Vary n) ss = refl
 
 names_job : (name : List ℕ) (ss : List SystemDef) → 0 < length ss → all_names (add_job name ss) ≡ all_names ss ++ name ∷ []
 names_job name ss lt = flat_last system_names _ (λ s. s.jobs) ss (name ∷ []) of_system lt
@@ -211,8 +225,8 @@ pub record Keeps (d : Draft) : Type 0 where
   pub room : length (all_lines d.deck.systems) + d.room ≡ most_lines
   pub entries : AreEntries d.deck.lists
 
-pub keeps_none : Keeps no_draft
-keeps_none = record {
+pub keeps_none : (names : List (List ℕ)) → Keeps (no_draft names)
+keeps_none names = record {
   names = All-nil IsShortName;
   lines = All-nil IsDeckLine;
   displays = refl;
@@ -281,6 +295,9 @@ first_keeps d ts (stmts.Task n) all s right h =
     no_line d (grow d (stmts.Task n)) h (lines_task n d.deck.systems) (room_same d.room) (name_more d n _ h (names_task n d.deck.systems right.0.placed) (s.1, right.0.sized)) h.entries
 first_keeps d ts (stmts.Line x) all s right h =
     line_more d (line_of x) h right.0.placed right.0.room (line_built ts x all s (no_test d (stmts.Line x) right).long) (grow d (stmts.Line x)) refl refl refl
+first_keeps d ts (stmts.Command c) all s right h =
+    let same = names_order c.at c.order d.deck.systems in
+    no_line d (grow d (stmts.Command c)) h (lines_order c.at c.order d.deck.systems) (room_same d.room) (subst (All IsShortName) (sym same) h.names) h.entries
 first_keeps d ts stmts.Schedule all s right h = no_line d (grow d stmts.Schedule) h refl (room_same d.room) h.names h.entries
 first_keeps d ts (stmts.Event n a) all s right h = absurd s
 

@@ -9,5 +9,6 @@ pub mod TokenBytes
 pub mod NameBytes
 pub mod Distinct
 pub mod Growth
+pub mod Opening
 pub mod WholeLaws
 pub mod Samples

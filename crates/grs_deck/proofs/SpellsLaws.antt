@@ -1,7 +1,11 @@
 -- What is read is spelled, and what is spelled is read.
 use Rattle.std.proofs.Common.{◌≡◌, ℕ, ◌<◌, Bool, true, false, cond, not, eqb, leb, List, [], ◌∷◌, length, Option, Some, None, Result, Ok, Err, refl, sym, ap, subst, ◌∙◌, arith}
-use Rattle.std.specs.Prelude.{◌||◌, is_some, is_none}
+use Rattle.std.specs.Prelude.{◌||◌, ◌≢◌, Contains, is_some, is_none}
+use Rattle.std.specs.Str.{bytes_eq}
 use Rattle.std.proofs.lemmas.Bool.{ltb-false, le-ltb, lt-leb, eqb-false, eqb-true, ne_eqb, leb-false, or_parts}
+use Rattle.std.proofs.lemmas.List.Folds.{list_any_at}
+use Rattle.std.proofs.lemmas.Map.Views.{Contains-from_any}
+use Rattle.std.proofs.lemmas.Slice.Eq.{bytes_eq-Decides}
 use Rattle.grs_base.specs.declared.fault.DeckFault.{DeckFault}
 use Rattle.grs_base.specs.declared.fault.Kind.TheVariants.{NoSystem}
 use Rattle.grs_base.specs.declared.fault.ReadError.{ReadError}
@@ -13,26 +17,31 @@ use Rattle.deck_scan.specs.declared.token.TokenLine.{TokenLine}
 use Rattle.deck_scan.specs.Gives.{◌>>=◌, Gives, IsOkUnlessMemory, refused}
 use Rattle.deck_scan.specs.Lengths.{is_bad_qname, is_bad_rname}
 use Rattle.deck_scan.specs.Reading.{lines_or_fault}
+use Rattle.deck_scan.proofs.Taking.{same_bytes}
 use Rattle.deck_scan.proofs.Texts.{bind_ok, read_text, text_read}
 use Rattle.job_syntax.specs.declared.display.Shown.TheVariants as shown
 use Rattle.job_syntax.specs.declared.line_ask.LineAsk.{LineAsk}
 use Rattle.job_syntax.specs.declared.line_ask.LineAsk.TheVariants as asks
 use Rattle.job_syntax.specs.Lines.{are_bad_names, has_bad_name as line_has_bad_name}
+use Rattle.deck_form.specs.declared.command.GivenOrder.{GivenOrder}
+use Rattle.deck_form.specs.declared.command.GivenOrder.TheVariants as orders
 use Rattle.deck_form.specs.declared.event.EventAct.{EventAct}
 use Rattle.deck_form.specs.declared.event.EventAct.TheVariants as acts
 use Rattle.deck_form.specs.declared.form.Stmt.{Stmt}
 use Rattle.deck_form.specs.declared.form.Stmt.TheVariants as stmts
 use Rattle.deck_form.specs.Spelled.{Spells}
 use Rattle.deck_form.specs.Statements.{statements}
+use Rattle.deck_form.specs.SystemNames.{is_named}
 use Rattle.deck_form.proofs.Taken.{form_taken}
 use Rattle.deck_form.proofs.Again.{form_again}
 use Rattle.deck_form.specs.Unbuilt.{is_unbuilt}
 use Rattle.grs_deck.specs.declared.judge.Draft.{Draft}
-use Rattle.grs_deck.specs.Places.{jobs_now, tasks_now, system_place, job_place, task_place, event_of}
-use Rattle.grs_deck.specs.Judge.{is_too_long, list_of, has_long_name, has_bad_name, is_repeated, is_misplaced, is_full, is_unknown, verdict}
+use Rattle.grs_deck.specs.Places.{name_now, desk_now, jobs_now, tasks_now, system_place, job_place, task_place, event_of}
+use Rattle.grs_deck.specs.Judge.{is_too_long, list_of, has_long_name, has_long_order, has_bad_name, is_repeated, is_misplaced, is_full, removes_unknown, is_unknown, verdict}
 use Rattle.grs_deck.specs.Grow.{grow}
-use Rattle.grs_deck.specs.Reading.{judge, judge_all, no_draft, ended, reading, fault, fault_of}
-use Rattle.grs_deck.specs.Spells.{IsShort, IsShortAct, MakeNames, HasNames, IsSized, IsNew, IsPlaced, HasRoom, IsKnown, IsRight, Says, SpellsDeck}
+use Rattle.grs_deck.specs.Reading.{judge, judge_all, first_draft, ended, reading, fault, fault_of}
+use Rattle.grs_deck.specs.Spells.{IsShort, IsShortAct, IsShortOrder, MakeNames, HasNames, IsSized, IsNew, IsPlaced, HasRoom, IsKnownOrder, IsKnown, IsRight, Says, SpellsDeck}
+use Rattle.grs_deck.proofs.Distinct.{differs}
 use Rattle.grs_deck.proofs.FitsLaws.{NoFault, tests_of, judged}
 
 -- ---- tests and facts
@@ -100,6 +109,41 @@ act_short (acts.Leave e) h = refl
 act_short acts.Switch h = refl
 act_short acts.Rest h = refl
 
+short_order : (o : GivenOrder) → has_long_order o ≡ false → IsShortOrder o
+short_order orders.Star h = tt
+short_order (orders.Vary n) h = short_of n h
+
+order_short : (o : GivenOrder) → IsShortOrder o → has_long_order o ≡ false
+order_short orders.Star h = refl
+order_short (orders.Vary n) h = of_short n h
+
+-- ---- names of systems
+
+not_equal : (a b : List ℕ) → b ≢ a → bytes_eq a b ≡ false
+not_equal a b h = go (bytes_eq a b) refl
+  where
+    go : (x : Bool) → bytes_eq a b ≡ x → x ≡ false
+    go true is = absurd (h (sym (same_bytes a b is)))
+    go false is = refl
+
+named_there : (names : List (List ℕ)) (n : List ℕ) → is_named names n ≡ true → Contains names n
+unfolding is_named
+named_there names n h = Contains-from_any same_bytes n names h
+
+there_named : (names : List (List ℕ)) (n : List ℕ) → Contains names n → is_named names n ≡ true
+unfolding is_named
+there_named names n h = list_any_at (bytes_eq n) names h.0 n h.1 ((bytes_eq-Decides n _).1 (sym h.2))
+
+known_order : (d : Draft) (o : GivenOrder) → removes_unknown d o ≡ false → IsKnownOrder d o
+known_order d orders.Star h = tt
+known_order d (orders.Vary n) h =
+    let k = or_parts (bytes_eq (name_now d.deck.systems) n) (not (is_named d.names n)) h in
+    (named_there d.names n (passed (is_named d.names n) k.1), λ e. differs (name_now d.deck.systems) n k.0 (sym e))
+
+order_known : (d : Draft) (o : GivenOrder) → IsKnownOrder d o → removes_unknown d o ≡ false
+order_known d orders.Star h = refl
+order_known d (orders.Vary n) h = both_false (bytes_eq (name_now d.deck.systems) n) (not (is_named d.names n)) (not_equal (name_now d.deck.systems) n h.1) (rw (there_named d.names n h.0) refl)
+
 -- ---- a statement that may stand there
 
 both_names : (q r : List ℕ) → are_bad_names q r ≡ false → MakeNames q r
@@ -126,6 +170,7 @@ sized_by (stmts.System n) h = short_of n h
 sized_by (stmts.Job n) h = short_of n h
 sized_by (stmts.Task n) h = short_of n h
 sized_by (stmts.Line s) h = names_by s h
+sized_by (stmts.Command c) h = short_order c.order h
 sized_by (stmts.Event s a) h = let k = or_parts (is_too_long s) (has_long_name a) h in (short_of s k.0, short_act a k.1)
 sized_by _ h = tt
 
@@ -141,6 +186,9 @@ placed_by d (stmts.Rnldef r) h = none_yet d.deck.systems (eqb-true (length d.dec
 placed_by d (stmts.Job n) h = there (length d.deck.systems) h
 placed_by d (stmts.Task n) h = there (length (jobs_now d.deck.systems)) h
 placed_by d (stmts.Line s) h = there (length (tasks_now (jobs_now d.deck.systems))) h
+placed_by d (stmts.Command c) h =
+    let k = or_parts (eqb (length d.deck.systems) 0) (not (eqb (length (jobs_now d.deck.systems)) 0)) h in
+    (there (length d.deck.systems) k.0, none_yet (jobs_now d.deck.systems) (eqb-true (length (jobs_now d.deck.systems)) 0 (passed (eqb (length (jobs_now d.deck.systems)) 0) k.1)))
 placed_by d stmts.Schedule h = there (length d.deck.systems) h
 placed_by d _ h = tt
 
@@ -150,10 +198,12 @@ room_by d (stmts.System n) h = fewer 8 (length d.deck.systems) h
 room_by d (stmts.Job n) h = fewer 64 (length (jobs_now d.deck.systems)) h
 room_by d (stmts.Task n) h = fewer 64 (task_count (jobs_now d.deck.systems)) h
 room_by d (stmts.Line s) h = there d.room h
+room_by d (stmts.Command c) h = fewer 64 (length (desk_now d.deck.systems)) h
 room_by d _ h = tt
 
 pub known_by : (d : Draft) (st : Stmt) → is_unknown d st ≡ false → IsKnown d st
 known_by d (stmts.Event s a) h = some_of (event_of d.deck.systems s a) h
+known_by d (stmts.Command c) h = known_order d c.order h
 known_by d _ h = tt
 
 pub right_of : (d : Draft) (st : Stmt) → verdict d st ≡ None → IsRight d st
@@ -179,6 +229,7 @@ of_sized (stmts.System n) h = of_short n h
 of_sized (stmts.Job n) h = of_short n h
 of_sized (stmts.Task n) h = of_short n h
 of_sized (stmts.Line s) h = no_bad s h
+of_sized (stmts.Command c) h = order_short c.order h
 of_sized (stmts.Event s a) h = both_false (is_too_long s) (has_long_name a) (of_short s h.0) (act_short a h.1)
 of_sized _ h = refl
 
@@ -194,6 +245,7 @@ of_placed d (stmts.Rnldef r) h = rw h refl
 of_placed d (stmts.Job n) h = there_not (length d.deck.systems) h
 of_placed d (stmts.Task n) h = there_not (length (jobs_now d.deck.systems)) h
 of_placed d (stmts.Line s) h = there_not (length (tasks_now (jobs_now d.deck.systems))) h
+of_placed d (stmts.Command c) h = both_false (eqb (length d.deck.systems) 0) (not (eqb (length (jobs_now d.deck.systems)) 0)) (there_not (length d.deck.systems) h.0) (rw h.1 refl)
 of_placed d stmts.Schedule h = there_not (length d.deck.systems) h
 of_placed d _ h = refl
 
@@ -203,10 +255,12 @@ of_room d (stmts.System n) h = fewer_not 8 (length d.deck.systems) h
 of_room d (stmts.Job n) h = fewer_not 64 (length (jobs_now d.deck.systems)) h
 of_room d (stmts.Task n) h = fewer_not 64 (task_count (jobs_now d.deck.systems)) h
 of_room d (stmts.Line s) h = there_not d.room h
+of_room d (stmts.Command c) h = fewer_not 64 (length (desk_now d.deck.systems)) h
 of_room d _ h = refl
 
 pub of_known : (d : Draft) (st : Stmt) → IsKnown d st → is_unknown d st ≡ false
 of_known d (stmts.Event s a) h = found_there (event_of d.deck.systems s a) h.0 h.1
+of_known d (stmts.Command c) h = order_known d c.order h
 of_known d _ h = refl
 
 -- no test applies to a statement that is right
@@ -260,16 +314,16 @@ ended_there d e h = go (eqb (length d.deck.systems) 0) refl h
 pub reading_spells : (text : List ℕ) (deck : Deck) → reading text ≡ Ok deck → SpellsDeck text deck
 unfolding reading
 reading_spells text deck h =
-    let b = bind_ok (lines_or_fault text) (λ ls. judge_all no_draft (statements ls) >>= ended) deck h in
+    let b = bind_ok (lines_or_fault text) (λ ls. judge_all (first_draft (statements ls)) (statements ls) >>= ended) deck h in
     let t = read_text text b.0 b.1 in
-    let j = bind_ok (judge_all no_draft (statements b.0)) ended deck b.2 in
+    let j = bind_ok (judge_all (first_draft (statements b.0)) (statements b.0)) ended deck b.2 in
     let e = ended_there j.0 deck j.2 in
     record {
       short = t.short;
       lines = b.0;
       spelled = t.spelled;
       draft = j.0;
-      says = says (statements b.0) no_draft j.0 j.1;
+      says = says (statements b.0) (first_draft (statements b.0)) j.0 j.1;
       is = e.1;
       system = subst (λ (x : Deck). 0 < length x.systems) e.1 e.0;
     }
@@ -279,7 +333,7 @@ pub spells_reading : (text : List ℕ) (deck : Deck) → SpellsDeck text deck �
 unfolding reading
 spells_reading text deck h =
     let some : 0 < length h.draft.deck.systems = subst (λ (x : Deck). 0 < length x.systems) (sym h.is) h.system in
-    rw (text_read text h.lines h.short h.spelled, says_again (statements h.lines) no_draft h.draft h.says, there_not (length h.draft.deck.systems) some) (ap no_error h.is)
+    rw (text_read text h.lines h.short h.spelled, says_again (statements h.lines) (first_draft (statements h.lines)) h.draft h.says, there_not (length h.draft.deck.systems) some) (ap no_error h.is)
 
 -- ---- the answers of the reader
 

@@ -5,12 +5,13 @@ use Rattle.grs_base.specs.declared.fault.ReadError.{ReadError}
 use Rattle.deck_scan.specs.Gives.{Gives}
 use Rattle.std.specs.List.{list_all}
 use Rattle.std.proofs.lemmas.Bool.{eqb-false, and_parts}
-use Rattle.std.proofs.lemmas.List.Elements.{All-nil, All-push}
+use Rattle.std.proofs.lemmas.List.Elements.{All-nil, All-push, All-tail}
 use Rattle.std.proofs.lemmas.List.Quantifiers.{position-Some}
 use Rattle.std.proofs.lemmas.Option.{slice_get_within}
 use Rattle.grs_base.specs.declared.resource.SysId.{SysId}
 use Rattle.grs_base.specs.declared.resource.TaskId.{TaskId}
 use Rattle.grs_wire.specs.declared.deck.Desk.{Desk}
+use Rattle.grs_wire.specs.declared.deck.Order.TheVariants.{Star}
 use Rattle.grs_wire.specs.declared.deck.JobDef.{JobDef}
 use Rattle.grs_wire.specs.declared.deck.TaskDef.{TaskDef}
 use Rattle.grs_wire.specs.declared.deck.SystemDef.{SystemDef}
@@ -22,6 +23,8 @@ use Rattle.grs_wire.specs.Decks.{task_count, Fits, IsTaskOf, IsChoiceOf, is_buil
 use Rattle.deck_scan.specs.declared.token.Token.{Token}
 use Rattle.deck_scan.specs.declared.token.TokenLine.{TokenLine}
 use Rattle.job_syntax.specs.Lines.{line_of}
+use Rattle.deck_form.specs.declared.command.GivenOrder.{GivenOrder}
+use Rattle.deck_form.specs.declared.command.GivenOrder.TheVariants as orders
 use Rattle.deck_form.specs.declared.event.EventAct.{EventAct}
 use Rattle.deck_form.specs.declared.event.EventAct.TheVariants as acts
 use Rattle.deck_form.specs.declared.complex.Setup.{Setup}
@@ -29,14 +32,15 @@ use Rattle.deck_form.specs.declared.form.Stmt.{Stmt}
 use Rattle.deck_form.specs.declared.form.Stmt.TheVariants as stmts
 use Rattle.deck_form.specs.Complex.{no_setup}
 use Rattle.deck_form.specs.Statements.{statements}
+use Rattle.deck_form.specs.SystemNames.{system_names}
 use Rattle.deck_form.specs.Unbuilt.{is_unbuilt_act, is_unbuilt}
 use Rattle.deck_scan.specs.Next.{◌>>=◌, Sets}
 use Rattle.deck_form.specs.Spelled.{Operand, Mode, Entries, Limit, IsFreeOperand, set_operand, IsComplex, IsAct, Spells}
 use Rattle.deck_scan.proofs.Taking.{bind_some}
 use Rattle.grs_deck.specs.declared.judge.Draft.{Draft}
 use Rattle.grs_deck.specs.Places.{system_place, job_place, task_place, system_id, system_at, task_in, unless_own, choice_of, event_of}
-use Rattle.grs_deck.specs.Grow.{add_task, add_line, in_jobs, in_tasks, with_event, grow}
-use Rattle.grs_deck.specs.Reading.{no_draft, reading}
+use Rattle.grs_deck.specs.Grow.{add_order, add_task, add_line, in_jobs, in_tasks, with_event, grow}
+use Rattle.grs_deck.specs.Reading.{no_draft, first_draft, reading}
 use Rattle.grs_deck.specs.Spells.{IsRight, Says, SpellsDeck}
 use Rattle.grs_base.specs.Rnl.{no_entries}
 use Rattle.grs_base.specs.declared.rnl.Which.{Which}
@@ -47,7 +51,7 @@ use Rattle.grs_base.specs.Lines.{is_display}
 use Rattle.grs_base.specs.NameLists.{IsListOf, AreLists}
 use Rattle.grs_deck.proofs.FitsLaws.{fits_grow, lists_grow, event_systems}
 use Rattle.grs_deck.proofs.SpellsLaws.{no_test, reading_spells}
-use Rattle.grs_deck.proofs.Distinct.{once_none, once_grow}
+use Rattle.grs_deck.proofs.Distinct.{all_last, once_none, once_grow}
 use Rattle.grs_deck.proofs.TokenBytes.{are_of_bytes, spelled_bytes, statements_bytes}
 use Rattle.grs_deck.proofs.Growth.{Keeps, keeps_none, keeps_grow}
 
@@ -150,7 +154,7 @@ built_is systems id s acts.Take c b e = subst (λ (z : Choice). is_built z ≡ t
 built_is systems id s acts.Settle c b e = subst (λ (z : Choice). is_built z ≡ true) (some_is choices.Settle c e) refl
 built_is systems id s (acts.Tell n) c b e = subst (λ (z : Choice). is_built z ≡ true) (some_is (choices.Tell n) c e) refl
 built_is systems id s (acts.Leave n) c b e = subst (λ (z : Choice). is_built z ≡ true) (some_is (choices.Leave n) c e) refl
-built_is systems id s acts.Switch c b e = absurd cc
+built_is systems id s acts.Switch c b e = subst (λ (z : Choice). is_built z ≡ true) (some_is choices.Switch c e) refl
 built_is systems id s (acts.Purge n) c b e = absurd cc
 built_is systems id s acts.Rest c b e = subst (λ (z : Choice). is_built z ≡ true) (some_is choices.Rest c e) refl
 
@@ -163,45 +167,39 @@ event_is systems entries rest name a e act built h =
 
 -- ---- desks
 
--- nothing is commanded at the desks of these systems
-NoOrders : List SystemDef → Type 0
-NoOrders [] = Unit {0}
-NoOrders (s ∷ ss) = (s.desk ≡ []) × NoOrders ss
+-- nothing but the change to star mode is commanded at a desk
+abbrev IsStar : Desk → Type 0
+IsStar c = c.order ≡ Star
 
-orders-push : (ss : List SystemDef) (s : SystemDef) → NoOrders ss → s.desk ≡ [] → NoOrders (ss ++ s ∷ [])
-unfolding NoOrders
-orders-push [] s h e = (e, tt)
-orders-push (x ∷ ss) s h e = (h.0, orders-push ss s h.1 e)
+abbrev OnlyStar : SystemDef → Type 0
+OnlyStar s = All IsStar s.desk
 
-orders-last : (f : List JobDef → List JobDef) (ss : List SystemDef) → NoOrders ss → NoOrders (in_jobs f ss)
-unfolding NoOrders
-orders-last f [] h = tt
-orders-last f (s ∷ []) h = (h.0, tt)
-orders-last f (s ∷ t ∷ ss) h = (h.0, orders-last f (t ∷ ss) h.1)
+orders-last : (f : List JobDef → List JobDef) (ss : List SystemDef) → All OnlyStar ss → All OnlyStar (in_jobs f ss)
+orders-last f ss h = all_last OnlyStar _ (λ s. s.jobs) ss (λ s e w. w) h
 
-orders_grow : (d : Draft) (st : Stmt) → NoOrders d.deck.systems → NoOrders (grow d st).deck.systems
+orders-more : (at : ℕ) (o : GivenOrder) (ss : List SystemDef) → All OnlyStar ss → All OnlyStar (add_order at o ss)
+orders-more at orders.Star ss h = all_last OnlyStar _ (λ s. s.desk) ss (λ s e w. All-push IsStar s.desk (record { at = at; order = Star }) w refl) h
+orders-more at (orders.Vary n) ss h = h
+
+orders_grow : (d : Draft) (st : Stmt) → All OnlyStar d.deck.systems → All OnlyStar (grow d st).deck.systems
 orders_grow d stmts.Unbuilt h = h
 orders_grow d (stmts.Complex c) h = h
-orders_grow d (stmts.System n) h = orders-push d.deck.systems (record { name = n; desk = []; jobs = [] }) h refl
+orders_grow d (stmts.System n) h = All-push OnlyStar d.deck.systems (record { name = n; desk = []; jobs = [] }) h (All-nil IsStar)
 orders_grow d (stmts.Job n) h = orders-last (λ js. js ++ record { name = n; tasks = [] } ∷ []) d.deck.systems h
 orders_grow d (stmts.Task n) h = orders-last (add_task n) d.deck.systems h
 orders_grow d (stmts.Rnldef r) h = h
 orders_grow d (stmts.Line s) h = orders-last (in_tasks (add_line (line_of s))) d.deck.systems h
+orders_grow d (stmts.Command c) h = orders-more c.at c.order d.deck.systems h
 orders_grow d stmts.Schedule h = h
-orders_grow d (stmts.Event s a) h = subst NoOrders (sym (event_systems (event_of d.deck.systems s a) d.deck)) h
+orders_grow d (stmts.Event s a) h = subst (All OnlyStar) (sym (event_systems (event_of d.deck.systems s a) d.deck)) h
 
-says_orders : (ls : List TokenLine) (d e : Draft) → Says d ls e → NoOrders d.deck.systems → NoOrders e.deck.systems
-says_orders [] d e s h = subst (λ (x : Draft). NoOrders x.deck.systems) s h
+says_orders : (ls : List TokenLine) (d e : Draft) → Says d ls e → All OnlyStar d.deck.systems → All OnlyStar e.deck.systems
+says_orders [] d e s h = subst (λ (x : Draft). All OnlyStar x.deck.systems) s h
 says_orders (l ∷ ls) d e s h = says_orders ls (grow d s.0) e s.3 (orders_grow d s.0 h)
 
-no_orders : NoOrders no_draft.deck.systems
-unfolding NoOrders
-no_orders = tt
-
-are_orders : (systems n : ℕ) (ss : List SystemDef) → NoOrders ss → AreOrders systems n ss
-unfolding NoOrders
+are_orders : (systems n : ℕ) (ss : List SystemDef) → All OnlyStar ss → AreOrders systems n ss
 are_orders systems n [] h = tt
-are_orders systems n (s ∷ ss) h = (subst (λ (desk : List Desk). All (λ (c : Desk). IsOrderOf systems n c.order) desk) (sym h.0) (All-nil (λ (c : Desk). IsOrderOf systems n c.order)), are_orders systems (n + 1) ss h.1)
+are_orders systems n (s ∷ ss) h = (λ k d lt. subst (IsOrderOf systems n) (sym (h 0 s (omega arith) k d lt)) tt, are_orders systems (n + 1) ss (All-tail OnlyStar s ss h))
 
 -- ---- a deck so far
 
@@ -232,11 +230,12 @@ spelled_first d l (stmts.Job n) e h s fits lists = first_keeps d (stmts.Job n) f
 spelled_first d l (stmts.Task n) e h s fits lists = first_keeps d (stmts.Task n) fits lists h.entries h.limit (h.quiet e)
 spelled_first d l (stmts.Rnldef r) e h s fits lists = first_keeps d (stmts.Rnldef r) fits lists h.entries h.limit (h.quiet e)
 spelled_first d l (stmts.Line a) e h s fits lists = first_keeps d (stmts.Line a) fits lists h.entries h.limit (h.quiet e)
+spelled_first d l (stmts.Command c) e h s fits lists = first_keeps d (stmts.Command c) fits lists h.entries h.limit (h.quiet e)
 spelled_first d l stmts.Schedule e h s fits lists = first_keeps d stmts.Schedule fits lists h.entries h.limit (h.quiet e)
 spelled_first d l (stmts.Event n a) e h s fits lists = absurd (let at : Spells false d.deck.entries l (stmts.Event n a) = subst (λ (b : Bool). Spells b d.deck.entries l (stmts.Event n a)) e s in at.1)
 
 -- an event more
-event_more : (d : Draft) (room : ℕ) (n : List ℕ) (a : EventAct) (rest : List Token) (o : Option Event) → event_of d.deck.systems n a ≡ o → d.scheduled ≡ true → IsAct d.deck.entries rest a → is_unbuilt_act a ≡ false → IsDraft d → IsDraft (record { deck = with_event o d.deck; begun = true; scheduled = true; room = room })
+event_more : (d : Draft) (room : ℕ) (n : List ℕ) (a : EventAct) (rest : List Token) (o : Option Event) → event_of d.deck.systems n a ≡ o → d.scheduled ≡ true → IsAct d.deck.entries rest a → is_unbuilt_act a ≡ false → IsDraft d → IsDraft (record { deck = with_event o d.deck; names = d.names; begun = true; scheduled = true; room = room })
 event_more d room n a rest None is e act b h = record { fits = h.fits; entries = h.entries; limit = h.limit; lists = h.lists; events = h.events; quiet = λ k. absurd cc }
 event_more d room n a rest (Some v) is e act b h = record {
   fits = h.fits;
@@ -265,8 +264,8 @@ says_keeps (l ∷ ls) d e s h = says_keeps ls (grow d s.0) e s.3 (step_keeps d l
 no_list : (which : Which) → IsListOf which (no_entries which)
 no_list which = record { which_is = refl; few = omega arith; own = All-nil (λ (e : RnlEntry). e.which ≡ which) }
 
-first_draft : IsDraft no_draft
-first_draft = record { lists = record { incl = no_list Incl; excl = no_list Excl; con = no_list Con }; fits = record { few = omega arith; each = λ k x lt. absurd (omega (arith, lt)) }; entries = refl; limit = refl; events = All-nil (IsEventOf [] 64); quiet = λ e. refl }
+none_read : (names : List (List ℕ)) → IsDraft (no_draft names)
+none_read names = record { lists = record { incl = no_list Incl; excl = no_list Excl; con = no_list Con }; fits = record { few = omega arith; each = λ k x lt. absurd (omega (arith, lt)) }; entries = refl; limit = refl; events = All-nil (IsEventOf [] 64); quiet = λ e. refl }
 
 says_keep : (ls : List TokenLine) (d e : Draft) → list_all are_of_bytes ls ≡ true → Says d ls e → Keeps d → Keeps e
 says_keep [] d e all s h = subst Keeps s h
@@ -286,10 +285,12 @@ lines_of_deck d h =
 -- Each deck that is spelled is whole.
 pub spelled_whole : (text : List ℕ) (d : Deck) → SpellsDeck text d → IsDeck d
 spelled_whole text d h =
-    let w = says_keeps (statements h.lines) no_draft h.draft h.says first_draft in
+    let ss = statements h.lines in
+    let start = first_draft ss in
+    let w = says_keeps ss start h.draft h.says (none_read (system_names ss)) in
     let some : 0 < length h.draft.deck.systems = subst (λ (x : Deck). 0 < length x.systems) (sym h.is) h.system in
-    let k = says_keep (statements h.lines) no_draft h.draft (statements_bytes h.lines (spelled_bytes text h.lines h.spelled)) h.says keeps_none in
-    let made : IsDeck h.draft.deck = record { some = some; fits = w.fits; names = k.names; once = says_once (statements h.lines) no_draft h.draft h.says once_none; orders = are_orders (length h.draft.deck.systems) 0 h.draft.deck.systems (says_orders (statements h.lines) no_draft h.draft h.says no_orders); lines = lines_of_deck h.draft k; named = k.entries; entries = w.entries; limit = w.limit; lists = w.lists; events = w.events } in
+    let k = says_keep ss start h.draft (statements_bytes h.lines (spelled_bytes text h.lines h.spelled)) h.says (keeps_none (system_names ss)) in
+    let made : IsDeck h.draft.deck = record { some = some; fits = w.fits; names = k.names; once = says_once ss start h.draft h.says once_none; orders = are_orders (length h.draft.deck.systems) 0 h.draft.deck.systems (says_orders ss start h.draft h.says (All-nil OnlyStar)); lines = lines_of_deck h.draft k; named = k.entries; entries = w.entries; limit = w.limit; lists = w.lists; events = w.events } in
     subst IsDeck h.is made
 
 pub whole : (text : List ℕ) (r : Result Deck ReadError) → Gives r (reading text) → IfOk r IsDeck

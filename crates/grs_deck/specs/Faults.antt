@@ -14,7 +14,7 @@ use Rattle.deck_form.specs.Spelled.{Spells, IsNoStatement}
 use Rattle.deck_form.specs.Statements.{statements}
 use Rattle.deck_form.specs.Unbuilt.{is_unbuilt}
 use Rattle.grs_deck.specs.declared.judge.Draft.{Draft}
-use Rattle.grs_deck.specs.Reading.{no_draft}
+use Rattle.grs_deck.specs.Reading.{first_draft}
 use Rattle.grs_deck.specs.Spells.{IsSized, IsNew, IsPlaced, HasRoom, IsKnown, Says, SpellsDeck}
 
 -- The number of a kind.
@@ -66,7 +66,7 @@ pub record FaultyLine (ls : List TokenLine) (start : Draft) (f : DeckFault) : Ty
 -- All lines are right, and there is no system.
 pub record NoSystemSaid (ls : List TokenLine) (f : DeckFault) : Type 0 where
   pub draft : Draft
-  pub says : Says no_draft ls draft
+  pub says : Says (first_draft ls) ls draft
   pub none : length draft.deck.systems ≡ 0
   pub is : f ≡ record { line = 0; kind = NoSystem }
 
@@ -75,7 +75,7 @@ pub record FaultOfLines (text : List ℕ) (f : DeckFault) : Type 0 where
   pub allowed : byte_fault text ≡ None
   pub lines : List TokenLine
   pub spelled : SpellsLines text lines
-  pub fault : FaultyLine (statements lines) no_draft f ⊎ NoSystemSaid (statements lines) f
+  pub fault : FaultyLine (statements lines) (first_draft (statements lines)) f ⊎ NoSystemSaid (statements lines) f
 
 -- The fault of length or bytes comes before that of lines.
 abbrev pub IsFault : List ℕ → DeckFault → Type 0

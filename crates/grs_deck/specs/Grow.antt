@@ -6,6 +6,8 @@ use Rattle.grs_base.specs.declared.rnl.Which.{Which}
 use Rattle.grs_base.specs.declared.rnl.Which.TheVariants.{Incl, Excl, Con}
 use Rattle.grs_base.specs.declared.rnl.RnlEntry.{RnlEntry}
 use Rattle.grs_base.specs.declared.rnl.Lists.{Lists}
+use Rattle.grs_wire.specs.declared.deck.Order.TheVariants.{Star}
+use Rattle.grs_wire.specs.declared.deck.Desk.{Desk}
 use Rattle.grs_wire.specs.declared.deck.TaskDef.{TaskDef}
 use Rattle.grs_wire.specs.declared.deck.JobDef.{JobDef}
 use Rattle.grs_wire.specs.declared.deck.SystemDef.{SystemDef}
@@ -13,6 +15,8 @@ use Rattle.grs_wire.specs.declared.deck.Event.{Event}
 use Rattle.grs_wire.specs.declared.deck.Deck.{Deck}
 use Rattle.job_syntax.specs.Lines.{line_of}
 use Rattle.rnl_syntax.specs.Operands.{entry_of}
+use Rattle.deck_form.specs.declared.command.GivenOrder.{GivenOrder}
+use Rattle.deck_form.specs.declared.command.GivenOrder.TheVariants as orders
 use Rattle.deck_form.specs.declared.complex.Setup.{Setup}
 use Rattle.deck_form.specs.declared.form.Stmt.{Stmt}
 use Rattle.deck_form.specs.declared.form.Stmt.TheVariants as stmts
@@ -25,6 +29,15 @@ abbrev pub on_last : {A : Type 0} → (A → A) → List A → List A
 on_last f [] = []
 on_last f (x ∷ []) = f x ∷ []
 on_last f (x ∷ y ∷ ys) = x ∷ on_last f (y ∷ ys)
+
+-- A command more at the desk of the last system.
+abbrev pub add_command : Desk → List SystemDef → List SystemDef
+add_command c systems = on_last (λ s. record s { desk = s.desk ++ c ∷ [] }) systems
+
+-- What is commanded at the desk of the last system, about when. A removal isn't built, and adds nothing.
+abbrev pub add_order : ℕ → GivenOrder → List SystemDef → List SystemDef
+add_order at orders.Star systems = add_command (record { at = at; order = Star }) systems
+add_order at (orders.Vary n) systems = systems
 
 -- A job more in the last system.
 abbrev pub add_job : List ℕ → List SystemDef → List SystemDef
@@ -80,6 +93,7 @@ grow_deck deck (stmts.System n) = record deck { systems = deck.systems ++ record
 grow_deck deck (stmts.Job n) = record deck { systems = add_job n deck.systems }
 grow_deck deck (stmts.Task n) = record deck { systems = in_jobs (add_task n) deck.systems }
 grow_deck deck (stmts.Line s) = with_line (line_of s) deck
+grow_deck deck (stmts.Command c) = record deck { systems = add_order c.at c.order deck.systems }
 grow_deck deck stmts.Schedule = deck
 grow_deck deck (stmts.Event s a) = with_event (event_of deck.systems s a) deck
 
@@ -94,4 +108,4 @@ line_count _ = 0
 
 -- A deck so far with a statement more.
 abbrev pub grow : Draft → Stmt → Draft
-grow d st = record { deck = grow_deck d.deck st; begun = true; scheduled = d.scheduled || is_schedule st; room = d.room - line_count st }
+grow d st = record d { deck = grow_deck d.deck st; begun = true; scheduled = d.scheduled || is_schedule st; room = d.room - line_count st }

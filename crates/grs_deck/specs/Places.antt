@@ -5,6 +5,7 @@ use Rattle.grs_base.specs.declared.resource.SysId.{SysId}
 use Rattle.grs_base.specs.declared.resource.TaskId.{TaskId}
 use Rattle.grs_wire.specs.Decks.{task_count}
 use Rattle.grs_wire.specs.declared.deck.TaskDef.{TaskDef}
+use Rattle.grs_wire.specs.declared.deck.Desk.{Desk}
 use Rattle.grs_wire.specs.declared.deck.JobDef.{JobDef}
 use Rattle.grs_wire.specs.declared.deck.SystemDef.{SystemDef}
 use Rattle.grs_wire.specs.declared.deck.Event.{Event}
@@ -25,6 +26,13 @@ at_last f (x ∷ y ∷ ys) = at_last f (y ∷ ys)
 -- The jobs of the last system.
 abbrev pub jobs_now : List SystemDef → List JobDef
 jobs_now systems = at_last (λ s. s.jobs) systems
+
+-- The name of the last system, and the commands at its desk.
+abbrev pub name_now : List SystemDef → List ℕ
+name_now systems = at_last (λ s. s.name) systems
+
+abbrev pub desk_now : List SystemDef → List Desk
+desk_now systems = at_last (λ s. s.desk) systems
 
 -- The tasks of the last job.
 abbrev pub tasks_now : List JobDef → List TaskDef

@@ -15,6 +15,7 @@ use Rattle.deck_scan.specs.Reading.{lines_or_fault}
 use Rattle.deck_form.specs.declared.form.Stmt.{Stmt}
 use Rattle.deck_form.specs.Form.{form}
 use Rattle.deck_form.specs.Statements.{statements}
+use Rattle.deck_form.specs.SystemNames.{system_names}
 use Rattle.grs_deck.specs.declared.judge.Draft.{Draft}
 use Rattle.grs_deck.specs.Judge.{verdict}
 use Rattle.grs_deck.specs.Grow.{grow}
@@ -32,9 +33,13 @@ no_lists = record { incl = no_entries Incl; excl = no_entries Excl; con = no_ent
 abbrev pub no_deck : Deck
 no_deck = record { star = false; entries = default_entries; limit = default_limit; lists = no_lists; systems = []; events = [] }
 
--- A deck of which nothing was read.
-abbrev pub no_draft : Draft
-no_draft = record { deck = no_deck; begun = false; scheduled = false; room = most_lines }
+-- A deck of which nothing was read, with the names that its SYSTEM statements give.
+abbrev pub no_draft : List (List ℕ) → Draft
+no_draft names = record { deck = no_deck; names = names; begun = false; scheduled = false; room = most_lines }
+
+-- The same, with these statements.
+abbrev pub first_draft : List TokenLine → Draft
+first_draft statements = no_draft (system_names statements)
 
 abbrev pub unless : ℕ → Option Kind → Draft → Result Draft DeckFault
 unless at None d = Ok d
@@ -58,7 +63,7 @@ abbrev pub ended : Draft → Result Deck DeckFault
 ended d = if length d.deck.systems == 0 then refused 0 NoSystem else Ok d.deck
 
 unfoldable pub reading : List ℕ → Result Deck DeckFault
-reading text = lines_or_fault text >>= λ ls. judge_all no_draft (statements ls) >>= ended
+reading text = lines_or_fault text >>= λ ls. judge_all (first_draft (statements ls)) (statements ls) >>= ended
 
 abbrev pub fault_of : Result Deck DeckFault → Option DeckFault
 fault_of (Ok d) = None

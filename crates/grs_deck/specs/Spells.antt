@@ -1,5 +1,5 @@
 -- What a text must be to spell a deck, by cases on its statements.
-use Rattle.std.specs.Prelude.{◌≡◌, ℕ, true, false, ◌<◌, ◌≤◌, List, [], ◌∷◌, length, Option, Some, None}
+use Rattle.std.specs.Prelude.{◌≡◌, ◌≢◌, ℕ, true, false, ◌<◌, ◌≤◌, List, [], ◌∷◌, length, Contains, Option, Some, None}
 use Rattle.grs_base.specs.Names.{is_qname, is_rname}
 use Rattle.grs_wire.specs.declared.deck.Event.{Event}
 use Rattle.grs_wire.specs.declared.deck.Deck.{Deck}
@@ -12,6 +12,8 @@ use Rattle.job_syntax.specs.declared.display.Shown.{Shown}
 use Rattle.job_syntax.specs.declared.display.Shown.TheVariants as shown
 use Rattle.job_syntax.specs.declared.line_ask.LineAsk.{LineAsk}
 use Rattle.job_syntax.specs.declared.line_ask.LineAsk.TheVariants as asks
+use Rattle.deck_form.specs.declared.command.GivenOrder.{GivenOrder}
+use Rattle.deck_form.specs.declared.command.GivenOrder.TheVariants as orders
 use Rattle.deck_form.specs.declared.event.EventAct.{EventAct}
 use Rattle.deck_form.specs.declared.event.EventAct.TheVariants as acts
 use Rattle.deck_form.specs.declared.form.Stmt.{Stmt}
@@ -20,11 +22,11 @@ use Rattle.deck_form.specs.Spelled.{Spells}
 use Rattle.deck_form.specs.Statements.{statements}
 use Rattle.deck_form.specs.Unbuilt.{is_unbuilt}
 use Rattle.grs_deck.specs.declared.judge.Draft.{Draft}
-use Rattle.grs_base.specs.Limits.{most_systems, most_entries, most_name_bytes, most_jobs, most_tasks}
-use Rattle.grs_deck.specs.Places.{jobs_now, tasks_now, system_place, job_place, task_place, event_of}
+use Rattle.grs_base.specs.Limits.{most_systems, most_entries, most_name_bytes, most_commands, most_jobs, most_tasks}
+use Rattle.grs_deck.specs.Places.{name_now, desk_now, jobs_now, tasks_now, system_place, job_place, task_place, event_of}
 use Rattle.grs_deck.specs.Judge.{list_of}
 use Rattle.grs_deck.specs.Grow.{grow}
-use Rattle.grs_deck.specs.Reading.{no_draft}
+use Rattle.grs_deck.specs.Reading.{first_draft}
 
 -- A name of a system, job or task is not too long.
 abbrev pub IsShort : List ℕ → Type 0
@@ -35,6 +37,10 @@ IsShortAct (acts.Task j t) = IsShort j × IsShort t
 IsShortAct (acts.Send j t) = IsShort j × IsShort t
 IsShortAct (acts.Purge n) = IsShort n
 IsShortAct _ = Unit {0}
+
+abbrev pub IsShortOrder : GivenOrder → Type 0
+IsShortOrder orders.Star = Unit {0}
+IsShortOrder (orders.Vary n) = IsShort n
 
 -- The bytes make a qname, as they are written, and an rname.
 abbrev pub MakeNames : List ℕ → List ℕ → Type 0
@@ -66,6 +72,7 @@ IsSized (stmts.System n) = IsShort n
 IsSized (stmts.Job n) = IsShort n
 IsSized (stmts.Task n) = IsShort n
 IsSized (stmts.Line s) = HasNames s
+IsSized (stmts.Command c) = IsShortOrder c.order
 IsSized (stmts.Event s a) = IsShort s × IsShortAct a
 IsSized _ = Unit {0}
 
@@ -76,28 +83,37 @@ IsNew d (stmts.Job n) = job_place (jobs_now d.deck.systems) n ≡ None
 IsNew d (stmts.Task n) = task_place (tasks_now (jobs_now d.deck.systems)) n ≡ None
 IsNew d _ = Unit {0}
 
--- It stands at its place: COMPLEX is first, and an RNLDEF stands before each system; a job stands behind a system, a
--- task behind a job, a task line behind a task, SCHEDULE behind a system.
+-- It stands at its place: COMPLEX is first, and an RNLDEF stands before each system; a command stands behind a system and
+-- before its first job, a job behind a system, a task behind a job, a task line behind a task, SCHEDULE behind a system.
 abbrev pub IsPlaced : Draft → Stmt → Type 0
 IsPlaced d (stmts.Complex c) = d.begun ≡ false
 IsPlaced d (stmts.Rnldef r) = d.deck.systems ≡ []
 IsPlaced d (stmts.Job n) = 0 < length d.deck.systems
 IsPlaced d (stmts.Task n) = 0 < length (jobs_now d.deck.systems)
 IsPlaced d (stmts.Line s) = 0 < length (tasks_now (jobs_now d.deck.systems))
+IsPlaced d (stmts.Command c) = (0 < length d.deck.systems) × (jobs_now d.deck.systems ≡ [])
 IsPlaced d stmts.Schedule = 0 < length d.deck.systems
 IsPlaced d _ = Unit {0}
 
--- There is room for it: in its name list, among the systems, the jobs and the tasks of its system, the task lines.
+-- There is room for it: in its name list, among the systems, the commands, the jobs and the tasks of its system, the task
+-- lines.
 abbrev pub HasRoom : Draft → Stmt → Type 0
 HasRoom d (stmts.Rnldef r) = length (list_of r.which d.deck.lists).entries < most_entries
 HasRoom d (stmts.System n) = length d.deck.systems < most_systems
 HasRoom d (stmts.Job n) = length (jobs_now d.deck.systems) < most_jobs
 HasRoom d (stmts.Task n) = task_count (jobs_now d.deck.systems) < most_tasks
 HasRoom d (stmts.Line s) = 0 < d.room
+HasRoom d (stmts.Command c) = length (desk_now d.deck.systems) < most_commands
 HasRoom d _ = Unit {0}
 
--- The names of an event line were given.
+-- A removal is of another system of the deck, whose SYSTEM statement may stand further on.
+abbrev pub IsKnownOrder : Draft → GivenOrder → Type 0
+IsKnownOrder d orders.Star = Unit {0}
+IsKnownOrder d (orders.Vary n) = Contains d.names n × (n ≢ name_now d.deck.systems)
+
+-- The names of an event line were given, and that of a removal is.
 abbrev pub IsKnown : Draft → Stmt → Type 0
+IsKnown d (stmts.Command c) = IsKnownOrder d c.order
 IsKnown d (stmts.Event s a) = (e : Event) × (event_of d.deck.systems s a ≡ Some e)
 IsKnown d _ = Unit {0}
 
@@ -125,6 +141,6 @@ pub record SpellsDeck (text : List ℕ) (deck : Deck) : Type 0 where
   pub lines : List TokenLine
   pub spelled : SpellsLines text lines
   pub draft : Draft
-  pub says : Says no_draft (statements lines) draft
+  pub says : Says (first_draft (statements lines)) (statements lines) draft
   pub is : draft.deck ≡ deck
   pub system : 0 < length deck.systems

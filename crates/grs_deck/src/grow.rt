@@ -4,13 +4,13 @@ ghost use Rattle.grs_base.specs.NameLists.{AreLists};
 ghost use Rattle.grs_wire.specs.Decks.{Fits};
 ghost use Rattle.grs_deck.specs.Judge.{has_bad_name, is_list_full, is_crowded};
 ghost use Rattle.grs_deck.specs.Places.{event_in};
-ghost use Rattle.grs_deck.specs.Grow.{with_entry, add_job, add_task, add_line, in_jobs, in_tasks, with_setup, grow_deck};
+ghost use Rattle.grs_deck.specs.Grow.{with_entry, add_command, add_order, add_job, add_task, add_line, in_jobs, in_tasks, with_setup, grow_deck};
 
 use crate::defaults::{DEFAULT_ENTRIES, DEFAULT_LIMIT};
-use deck_form::{Setup, Stmt};
+use deck_form::{GivenOrder, Setup, Stmt};
 use deck_scan::GivenName;
 use grs_base::{Line, List, Lists, NoMemory, RnlEntry, Which};
-use grs_wire::{Deck, Event, JobDef, Name, SystemDef, TaskDef};
+use grs_wire::{Deck, Desk, Event, JobDef, Name, Order, SystemDef, TaskDef};
 use job_syntax::line_of;
 use rnl_syntax::entry_of;
 use std::alloc::Global;
@@ -25,6 +25,39 @@ fn push_entry(lists: &mut Lists, entry: RnlEntry) -> Result<(), NoMemory>
         Which::Incl => lists.incl.push(entry),
         Which::Excl => lists.excl.push(entry),
         Which::Con => lists.con.push(entry),
+    }
+}
+
+/// Adds a command to the desk of the last system.
+fn push_command(systems: &mut List<SystemDef>, command: Desk) -> Result<(), NoMemory>
+    ensures { OnOk result (systems.new ≡ add_command command systems.old) }
+{
+    match systems.pop() {
+        None => Ok(()),
+        Some(mut s) => {
+            s.desk.push(command)?;
+            systems.push(s)
+        }
+    }
+}
+
+/// Adds what is commanded to the desk of the last system.
+fn push_order(
+    systems: &mut List<SystemDef>,
+    at: u32,
+    order: &GivenOrder<'_>,
+) -> Result<(), NoMemory>
+    ensures { OnOk result (systems.new ≡ add_order at order.now systems.old) }
+{
+    match order {
+        GivenOrder::Star => push_command(
+            systems,
+            Desk {
+                at,
+                order: Order::Star,
+            },
+        ),
+        GivenOrder::Vary(_) => Ok(()),
     }
 }
 
@@ -177,6 +210,7 @@ pub fn grow_deck(
             let line = line_of(alloc, line_ask)?;
             push_system_line(&mut deck.systems, line)
         }
+        Stmt::Command(command) => push_order(&mut deck.systems, command.at, &command.order),
         Stmt::Schedule => Ok(()),
         Stmt::Event { .. } => match event {
             None => Ok(()),

@@ -1,20 +1,29 @@
 //! What is wrong with a statement, where a deck has been read so far. Each test is one kind of fault.
-ghost use Rattle.std.specs.Prelude.{◌≡◌, is_some};
+ghost use Rattle.std.specs.Prelude.{◌≡◌, IfOk, is_some};
 ghost use Rattle.grs_wire.specs.Decks.{Fits};
 ghost use Rattle.grs_deck.specs.Places.{event_in};
-ghost use Rattle.grs_deck.specs.Judge.{is_too_long, has_long_name, has_bad_name, is_repeated, is_idle, is_misplaced, is_list_full, is_full, is_unknown, verdict};
+ghost use Rattle.grs_deck.specs.Judge.{is_too_long, has_long_name, has_long_order, has_bad_name, is_repeated, is_idle, is_away, is_misplaced, is_list_full, is_full, removes_unknown, is_unknown, verdict};
 
-use crate::places::{job_place, jobs_now, system_place, task_count, task_place, tasks_now};
-use deck_form::{EventAct, Stmt, is_unbuilt};
+use crate::places::{
+    desk_now, job_place, jobs_now, name_now, system_place, task_count, task_place, tasks_now,
+};
+use deck_form::{EventAct, GivenOrder, Stmt, SystemNames, is_unbuilt};
 use grs_base::{
-    Kind, Lists, MOST_ENTRIES, MOST_JOBS, MOST_NAME_BYTES, MOST_SYSTEMS, MOST_TASKS, Which,
+    Kind, Lists, MOST_ENTRIES, MOST_JOBS, MOST_NAME_BYTES, MOST_SYSTEMS, MOST_TASKS, NoMemory,
+    Which,
 };
 use grs_wire::{Deck, Event, SystemDef};
+use std::alloc::Global;
+
+/// The most commands at the desk of a system.
+const MOST_COMMANDS: usize = 64;
 
 /// A deck so far.
 #[derive(Drop)]
-pub struct Draft {
+pub struct Draft<'t> {
     pub deck: Deck,
+    /// The names that SYSTEM statements give, also those further on.
+    pub names: SystemNames<'t>,
     /// Whether any statement was read.
     pub begun: bool,
     /// Whether SCHEDULE was read.
@@ -40,6 +49,15 @@ fn has_long_name(act: &EventAct<'_>) -> bool
     }
 }
 
+fn has_long_order(order: &GivenOrder<'_>) -> bool
+    ensures { result ≡ has_long_order order.now }
+{
+    match order {
+        GivenOrder::Star => false,
+        GivenOrder::Vary(name) => is_too_long(name.bytes()),
+    }
+}
+
 fn has_bad_name(st: &Stmt<'_>) -> bool
     ensures { result ≡ has_bad_name st.now }
 {
@@ -49,6 +67,7 @@ fn has_bad_name(st: &Stmt<'_>) -> bool
         Stmt::Task(n) => is_too_long(n.bytes()),
         Stmt::Rnldef(rnldef) => rnl_syntax::has_bad_name(rnldef),
         Stmt::Line(line_ask) => job_syntax::has_bad_name(line_ask),
+        Stmt::Command(command) => has_long_order(&command.order),
         Stmt::Event { system, act } => is_too_long(system.bytes()) || has_long_name(act),
         _ => false,
     }
@@ -63,7 +82,7 @@ fn is_there(place: Option<usize>) -> bool
     }
 }
 
-fn is_repeated(draft: &Draft, st: &Stmt<'_>) -> bool
+fn is_repeated(draft: &Draft<'_>, st: &Stmt<'_>) -> bool
     ensures { result ≡ is_repeated draft.now st.now }
 {
     let systems = draft.deck.systems.as_slice();
@@ -82,7 +101,14 @@ fn is_idle(systems: &[SystemDef]) -> bool
     tasks_now(jobs_now(systems)).len() == 0
 }
 
-fn is_misplaced(draft: &Draft, st: &Stmt<'_>) -> bool
+/// Whether no system stands whose desk a command could belong to, or a job of it stands already.
+fn is_away(systems: &[SystemDef]) -> bool
+    ensures { result ≡ is_away systems.now }
+{
+    systems.len() == 0 || jobs_now(systems).len() != 0
+}
+
+fn is_misplaced(draft: &Draft<'_>, st: &Stmt<'_>) -> bool
     ensures { result ≡ is_misplaced draft.now st.now }
 {
     let systems = draft.deck.systems.as_slice();
@@ -94,6 +120,7 @@ fn is_misplaced(draft: &Draft, st: &Stmt<'_>) -> bool
         Stmt::Job(_) => systems.len() == 0,
         Stmt::Task(_) => jobs_now(systems).len() == 0,
         Stmt::Line(_) => is_idle(systems),
+        Stmt::Command(_) => is_away(systems),
         Stmt::Schedule => systems.len() == 0,
         Stmt::Event { .. } => false,
     }
@@ -111,7 +138,7 @@ fn is_list_full(lists: &Lists, which: Which) -> bool
     MOST_ENTRIES <= entries
 }
 
-fn is_full(draft: &Draft, st: &Stmt<'_>) -> bool
+fn is_full(draft: &Draft<'_>, st: &Stmt<'_>) -> bool
     requires { Fits draft.now.deck.systems }
     ensures { result ≡ is_full draft.now st.now }
 {
@@ -122,26 +149,51 @@ fn is_full(draft: &Draft, st: &Stmt<'_>) -> bool
         Stmt::Job(_) => MOST_JOBS <= jobs_now(systems).len(),
         Stmt::Task(_) => MOST_TASKS <= task_count(jobs_now(systems)),
         Stmt::Line(_) => draft.room == 0,
+        Stmt::Command(_) => MOST_COMMANDS <= desk_now(systems).len(),
         _ => false,
     }
 }
 
-/// Whether a statement says a name that none gave, where `event` is the event that it is. `_draft` is there for the
-/// contract.
-fn is_unknown(_draft: &Draft, st: &Stmt<'_>, event: Option<Event>) -> bool
-    requires { event ≡ event_in _draft.now.deck.systems st.now }
-    ensures { result ≡ is_unknown _draft.now st.now }
+/// Whether the removal is commanded of the system at whose desk that is, or of one that the deck doesn't have.
+fn removes_unknown(
+    draft: &Draft<'_>,
+    alloc: Global,
+    order: &GivenOrder<'_>,
+) -> Result<bool, NoMemory>
+    ensures { IfOk result (λ unknown. unknown ≡ removes_unknown draft.now order.now) }
+{
+    match order {
+        GivenOrder::Star => Ok(false),
+        GivenOrder::Vary(name) => {
+            if name_now(draft.deck.systems.as_slice()) == name.bytes() {
+                return Ok(true);
+            }
+            Ok(!draft.names.has(alloc, name.bytes())?)
+        }
+    }
+}
+
+/// Whether a statement says a name that none gives, or that may not stand there, where `event` is the event that it is.
+pub fn is_unknown(
+    draft: &Draft<'_>,
+    alloc: Global,
+    st: &Stmt<'_>,
+    event: Option<Event>,
+) -> Result<bool, NoMemory>
+    requires { event ≡ event_in draft.now.deck.systems st.now }
+    ensures { IfOk result (λ unknown. unknown ≡ is_unknown draft.now st.now) }
 {
     match st {
-        Stmt::Event { .. } => event.is_none(),
-        _ => false,
+        Stmt::Event { .. } => Ok(event.is_none()),
+        Stmt::Command(command) => removes_unknown(draft, alloc, &command.order),
+        _ => Ok(false),
     }
 }
 
-/// The least kind that applies to a statement of the right form, where `event` is the event that it is.
-pub fn verdict(draft: &Draft, st: &Stmt<'_>, event: Option<Event>) -> Option<Kind>
+/// The least kind that applies to a statement of the right form, where `unknown` tells whether it says an unknown name.
+pub fn verdict(draft: &Draft<'_>, st: &Stmt<'_>, unknown: bool) -> Option<Kind>
     requires systems { Fits draft.now.deck.systems }
-    requires event { event ≡ event_in draft.now.deck.systems st.now }
+    requires unknown { unknown ≡ is_unknown draft.now st.now }
     ensures { result ≡ verdict draft.now st.now }
 {
     if has_bad_name(st) {
@@ -152,7 +204,7 @@ pub fn verdict(draft: &Draft, st: &Stmt<'_>, event: Option<Event>) -> Option<Kin
         Some(Kind::OutOfPlace)
     } else if is_full(draft, st) {
         Some(Kind::TooMany)
-    } else if is_unknown(draft, st, event) {
+    } else if unknown {
         Some(Kind::UnknownName)
     } else if is_unbuilt(st) {
         Some(Kind::NotBuilt)

@@ -3,11 +3,11 @@
 ghost use Rattle.std.specs.Prelude.{◌≡◌, ◌<◌, ◌≤◌, length, IfSome};
 ghost use Rattle.grs_base.specs.Limits.{most_tasks};
 ghost use Rattle.grs_wire.specs.Decks.{task_count, IsWithin, Fits};
-ghost use Rattle.grs_deck.specs.Places.{system_place, job_place, task_place, jobs_now, tasks_now, system_at, task_in, choice_of, event_of, event_in, seen};
+ghost use Rattle.grs_deck.specs.Places.{system_place, job_place, task_place, name_now, desk_now, jobs_now, tasks_now, system_at, task_in, choice_of, event_of, event_in, seen};
 
 use deck_form::{EventAct, Stmt};
 use grs_base::{SysId, TaskId};
-use grs_wire::{Choice, Event, JobDef, SystemDef, TaskDef};
+use grs_wire::{Choice, Desk, Event, JobDef, SystemDef, TaskDef};
 
 /// Where the first system of this name stands.
 #[tactic(auto, unfolding(crate::specs::Places::system_place))]
@@ -34,6 +34,26 @@ pub fn task_place(tasks: &[TaskDef], name: &[u8]) -> Option<usize>
     ensures within { IfSome result (λ i. i < length tasks.now) }
 {
     tasks.iter().position(|t| t.name.as_slice() == name)
+}
+
+/// The name of the last system.
+pub fn name_now(systems: &[SystemDef]) -> &[u8]
+    ensures { result.now ≡ name_now systems.now }
+{
+    match systems.split_last() {
+        None => &[],
+        Some((s, _)) => s.name.as_slice(),
+    }
+}
+
+/// The commands at the desk of the last system.
+pub fn desk_now(systems: &[SystemDef]) -> &[Desk]
+    ensures { result.now ≡ desk_now systems.now }
+{
+    match systems.split_last() {
+        None => &[],
+        Some((s, _)) => s.desk.as_slice(),
+    }
 }
 
 /// The jobs of the last system.

@@ -13,9 +13,9 @@ ghost use Rattle.grs_deck.specs.Reading.{judge_statement, judge, judge_all, ende
 
 use crate::defaults::{DEFAULT_ENTRIES, DEFAULT_LIMIT};
 use crate::grow::grow_deck;
-use crate::judge::{Draft, verdict};
+use crate::judge::{Draft, is_unknown, verdict};
 use crate::places::event_in;
-use deck_form::{Statements, Stmt, statement};
+use deck_form::{Statements, Stmt, SystemNames, statement};
 use deck_scan::{Lines, TokenLine, refused};
 use grs_base::{Kind, List, Lists, MOST_LINES, NoMemory, ReadError};
 use grs_wire::{Deck, Event};
@@ -42,7 +42,7 @@ fn line_count(st: &Stmt<'_>) -> u32
 
 /// Adds what a statement without a fault says, where `event` is the event that it is.
 fn grow(
-    draft: &mut Draft,
+    draft: &mut Draft<'_>,
     alloc: Global,
     st: &Stmt<'_>,
     event: Option<Event>,
@@ -60,13 +60,19 @@ fn grow(
 }
 
 /// Takes a statement of the right form. The event that it is, if it is one, is looked up once.
-fn take_statement(draft: &mut Draft, alloc: Global, at: u32, st: &Stmt<'_>) -> Result<(), ReadError>
+fn take_statement(
+    draft: &mut Draft<'_>,
+    alloc: Global,
+    at: u32,
+    st: &Stmt<'_>,
+) -> Result<(), ReadError>
     requires systems { Fits draft.old.deck.systems }
     requires lists { AreLists draft.old.deck.lists }
     ensures { Took result draft.new (judge_statement draft.old at st.now) }
 {
     let event = event_in(draft.deck.systems.as_slice(), st);
-    match verdict(draft, st, event) {
+    let unknown = is_unknown(draft, alloc, st, event)?;
+    match verdict(draft, st, unknown) {
         Some(kind) => Err(refused(at, kind)),
         None => {
             grow(draft, alloc, st, event)?;
@@ -77,7 +83,7 @@ fn take_statement(draft: &mut Draft, alloc: Global, at: u32, st: &Stmt<'_>) -> R
 
 /// Takes a line.
 #[tactic(auto, unfolding(crate::specs::Reading::judge))]
-fn take_line(draft: &mut Draft, alloc: Global, line: &TokenLine<'_>) -> Result<(), ReadError>
+fn take_line(draft: &mut Draft<'_>, alloc: Global, line: &TokenLine<'_>) -> Result<(), ReadError>
     requires systems { Fits draft.old.deck.systems }
     requires lists { AreLists draft.old.deck.lists }
     ensures { Took result draft.new (judge draft.old line.now) }
@@ -88,9 +94,9 @@ fn take_line(draft: &mut Draft, alloc: Global, line: &TokenLine<'_>) -> Result<(
     }
 }
 
-/// A deck of which nothing was read.
-fn start(alloc: Global) -> Draft
-    ensures { result ≡ no_draft }
+/// A deck of which nothing was read, with the names that its SYSTEM statements give.
+fn start<'t>(alloc: Global, names: SystemNames<'t>) -> Draft<'t>
+    ensures { result ≡ no_draft names.entry }
 {
     Draft {
         deck: Deck {
@@ -101,6 +107,7 @@ fn start(alloc: Global) -> Draft
             systems: List::new(alloc),
             events: List::new(alloc),
         },
+        names,
         begun: false,
         scheduled: false,
         room: MOST_LINES,
@@ -108,10 +115,14 @@ fn start(alloc: Global) -> Draft
 }
 
 /// Takes statements in order, up to the first with a fault. Each is let go before the next one is read.
-fn take_all(alloc: Global, statements: Statements<'_>) -> Result<Draft, ReadError>
-    ensures { Gives result (judge_all no_draft statements.entry) }
+fn take_all<'t>(
+    alloc: Global,
+    names: SystemNames<'t>,
+    statements: Statements<'t>,
+) -> Result<Draft<'t>, ReadError>
+    ensures { Gives result (judge_all (no_draft names.entry) statements.entry) }
 {
-    let mut draft = start(alloc);
+    let mut draft = start(alloc, names);
     let mut rest = statements;
     while let Some(line) = rest.next(alloc)? {
         take_line(&mut draft, alloc, &line)?;
@@ -120,8 +131,8 @@ fn take_all(alloc: Global, statements: Statements<'_>) -> Result<Draft, ReadErro
 }
 
 /// Wants a system.
-fn end(draft: Draft) -> Result<Deck, ReadError>
-    ensures { Gives result (ended draft) }
+fn end(draft: Draft<'_>) -> Result<Deck, ReadError>
+    ensures { Gives result (ended draft.entry) }
 {
     if draft.deck.systems.len() == 0 {
         Err(refused(0, Kind::NoSystem))
@@ -136,7 +147,7 @@ fn read_all(alloc: Global, text: &[u8]) -> Result<Deck, ReadError>
     ensures { Gives result (reading text.now) }
 {
     let lines = Lines::new(text)?;
-    let draft = take_all(alloc, Statements::new(lines))?;
+    let draft = take_all(alloc, SystemNames::new(text), Statements::new(lines))?;
     end(draft)
 }
 

@@ -92,9 +92,8 @@ IsChoiceOf systems entries s id (choices.Leave e) = e < entries
 IsChoiceOf systems entries s id (choices.Purge other) = (other.0 < length systems) × (other.0 ≢ id.0)
 IsChoiceOf systems entries s id _ = Unit {0}
 
--- Whether what a system does is built: all but the change to star mode and the removal of another system.
+-- Whether what a system does is built: all but the removal of another system.
 abbrev pub is_built : Choice → Bool
-is_built choices.Switch = false
 is_built (choices.Purge other) = false
 is_built _ = true
 

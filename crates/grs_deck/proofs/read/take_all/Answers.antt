@@ -21,10 +21,10 @@ loop-draft-smaller c =
 pub returns-in_err-take_line : goal.returns-in_err-take_line
 returns-in_err-take_line c =
     let p = err_from_is_err_and c.from_residual-in_err-take_line.result c.from_residual-in_err-take_line.ensures.1 in
-    let reads : judge_all c.loop-draft.draft c.loop-draft.rest ≡ judge_all no_draft c.args.statements = c.loop-draft.invariant.reads ∙ ap (λ (d : Draft). judge_all d c.args.statements) c.start-draft.ensures in
+    let reads : judge_all c.loop-draft.draft c.loop-draft.rest ≡ judge_all (no_draft c.args.names) c.args.statements = c.loop-draft.invariant.reads ∙ ap (λ (d : Draft). judge_all d c.args.statements) c.start-draft.ensures in
     rw (p.1, p.2) (fails c.in_err-take_line.field-0.0 c.loop-draft.draft c.loop-draft.rest c.next.new.self c.in-Some.line _ (one_next c.in_ok-line.field-0 c.in-Some.line c.loop-draft.rest c.next.new.self c.in-Some.is c.in_ok-line.ensures) c.in_err-take_line.ensures reads)
 
 pub returns : goal.returns
 returns c =
-    let reads : judge_all c.loop-draft.draft c.loop-draft.rest ≡ judge_all no_draft c.args.statements = c.loop-draft.invariant.reads ∙ ap (λ (d : Draft). judge_all d c.args.statements) c.start-draft.ensures in
+    let reads : judge_all c.loop-draft.draft c.loop-draft.rest ≡ judge_all (no_draft c.args.names) c.args.statements = c.loop-draft.invariant.reads ∙ ap (λ (d : Draft). judge_all d c.args.statements) c.start-draft.ensures in
     is_done c.loop-draft.draft c.loop-draft.rest _ (none_next c.in_ok-line.field-0 c.loop-draft.rest c.next.new.self c.in_default.is c.in_ok-line.ensures) reads
