@@ -52,7 +52,7 @@ some-system p (x ∷ t) h = go (p x.0) refl h (some-system p t)
     go false e f more = let a = more f in (a.0, or_right (p x.0 && (x.1.task.system.0 == a.0)) (list_any (λ y. p y.0 && (y.1.task.system.0 == a.0)) t) a.1)
 
 -- a resource of an entry is of one that there is
-entry-within : (entries e : ℕ) (r : Res) → 0 < entries → is_entry e (entry_of_res entries r) ≡ true → e < entries
+pub entry-within : (entries e : ℕ) (r : Res) → 0 < entries → is_entry e (entry_of_res entries r) ≡ true → e < entries
 entry-within entries e (Step s j q r) some h = absurd (cc)
 entry-within entries e (System s q r) some h = absurd (cc)
 entry-within entries e (Systems q r) some h = subst (λ k. k < entries) (eqb-true (slice_of q r % entries) e h) (mod_below (slice_of q r) entries some)

@@ -1,2 +1,3 @@
 pub mod Migrate
+pub mod Groups
 pub mod Laws

@@ -4,6 +4,7 @@
 //! MODE=STAR; how entries get their managers and elements their ranks is this project's own.
 #![tactic(auto)]
 
+mod groups;
 pub mod laws;
 mod roles;
 mod words;

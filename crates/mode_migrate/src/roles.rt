@@ -4,9 +4,11 @@ ghost use Rattle.std.specs.List.{range_with_len, flat_map, list_all};
 ghost use Rattle.grs_base.specs.Limits.{last_number};
 ghost use Rattle.grs_wire.specs.LockWords.{is_manager};
 ghost use Rattle.lock_structure.specs.RankedRows.{ranks_of};
-ghost use Rattle.mode_migrate.specs.Migrate.{has_elements, manager_by, managed_by, interested_by, numbered_in, ranked_by, part_of};
+ghost use Rattle.mode_migrate.specs.Migrate.{managed_by, interested_by, numbered_from, ranked_by, part_of};
+ghost use Rattle.mode_migrate.specs.Groups.{group_at, is_among, manager_of};
 
-use crate::words::{has_elements, is_of, manager};
+use crate::groups::{group, grouped, is_of};
+use crate::words::{is_among, manager};
 use grs_base::{LAST_NUMBER, List, NoMemory, Queues, Row, SysId};
 use queue_table::Table;
 use std::alloc::Global;
@@ -42,13 +44,13 @@ fn numbers(alloc: Global, first: u64, count: usize) -> Result<List<u64>, NoMemor
 fn add_row(
     alloc: Global,
     ranked: &mut List<(Row, List<u64>)>,
-    row: &Row,
+    row: Row,
     next: u64,
 ) -> Result<u64, NoMemory>
     requires next { next ≤ last_number + 1 }
     requires small { list_all (λ n. nat_le n last_number) (ranks_of ranked.old) ≡ true }
-    ensures rows { OnOk result (ranked.new ≡ ranked.old ++ (row.now, range_with_len next (length row.now.elems)) ∷ []) }
-    ensures next { IfOk result (λ after. after ≡ next + length row.now.elems) }
+    ensures rows { OnOk result (ranked.new ≡ ranked.old ++ (row, range_with_len next (length row.elems)) ∷ []) }
+    ensures next { IfOk result (λ after. after ≡ next + length row.elems) }
     ensures last { IfOk result (λ after. after ≤ last_number + 1) }
     ensures small { OnOk result (list_all (λ n. nat_le n last_number) (ranks_of ranked.new) ≡ true) }
 {
@@ -57,8 +59,7 @@ fn add_row(
         return Err(NoMemory);
     }
     let ranks = numbers(alloc, next, count)?;
-    let copy = row.copy(alloc)?;
-    ranked.push((copy, ranks))?;
+    ranked.push((row, ranks))?;
     Ok(next + count as u64)
 }
 
@@ -66,48 +67,36 @@ fn add_row(
 fn add_entry(
     alloc: Global,
     ranked: &mut List<(Row, List<u64>)>,
-    rows: &[Row],
-    entries: u32,
-    entry: u32,
+    rows: List<Row>,
 ) -> Result<(), NoMemory>
-    requires entries { entries ≢ 0 }
     requires small { list_all (λ n. nat_le n last_number) (ranks_of ranked.old) ≡ true }
-    ensures rows { OnOk result (ranked.new ≡ ranked.old ++ numbered_in entries entry rows.now) }
+    ensures rows { OnOk result (ranked.new ≡ ranked.old ++ numbered_from 1 rows) }
     ensures small { OnOk result (list_all (λ n. nat_le n last_number) (ranks_of ranked.new) ≡ true) }
 {
     let mut next = 1;
-    for row in rows {
-        if is_of(row, entries, entry) {
-            next = add_row(alloc, ranked, row, next)?;
-        }
+    for row in rows.into_vec() {
+        next = add_row(alloc, ranked, row, next)?;
     }
     Ok(())
 }
 
 /// The rows of all lock entries with their ranks.
-#[tactic(auto, using(crate::proofs::Ranges::ranges))]
-fn ranked_rows(
-    alloc: Global,
-    rows: &[Row],
-    entries: u32,
-) -> Result<List<(Row, List<u64>)>, NoMemory>
-    requires { entries ≢ 0 }
-    ensures rows { IfOk result (λ ranked. ranked ≡ flat_map (λ e. numbered_in entries e rows.now) (range_with_len 0 entries)) }
+fn ranked_rows(alloc: Global, groups: Vec<List<Row>>) -> Result<List<(Row, List<u64>)>, NoMemory>
+    ensures rows { IfOk result (λ ranked. ranked ≡ flat_map (numbered_from 1) groups.items) }
     ensures small { IfOk result (λ ranked. list_all (λ n. nat_le n last_number) (ranks_of ranked) ≡ true) }
 {
     let mut ranked = List::new(alloc);
-    for entry in 0..entries {
-        add_entry(alloc, &mut ranked, rows, entries, entry)?;
+    for rows in groups {
+        add_entry(alloc, &mut ranked, rows)?;
     }
     Ok(ranked)
 }
 
-/// Whether a system manages a lock entry.
-fn manages(rows: &[Row], entries: u32, entry: u32, system: SysId) -> bool
-    requires { entries ≢ 0 }
-    ensures { result ≡ is_manager (manager_by entries entry rows.now) system }
+/// Whether a system manages a lock entry with these rows.
+fn manages(rows: &[Row], system: SysId) -> bool
+    ensures { result ≡ is_manager (manager_of rows.now) system }
 {
-    match manager(rows, entries, entry) {
+    match manager(rows) {
         Some(least) => least.0 == system.0,
         None => false,
     }
@@ -124,16 +113,16 @@ fn push_if(list: &mut List<u32>, entry: u32, passes: bool) -> Result<(), NoMemor
 #[tactic(auto, using(crate::proofs::Ranges::ranges))]
 fn managed_entries(
     alloc: Global,
-    rows: &[Row],
+    groups: &Vec<List<Row>>,
     entries: u32,
     system: SysId,
 ) -> Result<List<u32>, NoMemory>
-    requires { entries ≢ 0 }
-    ensures { IfOk result (λ managed. managed ≡ filter (λ e. is_manager (manager_by entries e rows.now) system) (range_with_len 0 entries)) }
+    requires { length groups.now.items ≡ entries }
+    ensures { IfOk result (λ managed. managed ≡ filter (λ e. is_manager (manager_of (group_at groups.now.items e)) system) (range_with_len 0 entries)) }
 {
     let mut managed = List::new(alloc);
     for entry in 0..entries {
-        push_if(&mut managed, entry, manages(rows, entries, entry, system))?;
+        push_if(&mut managed, entry, manages(group(groups, entry), system))?;
     }
     Ok(managed)
 }
@@ -142,20 +131,16 @@ fn managed_entries(
 #[tactic(auto, using(crate::proofs::Ranges::ranges))]
 fn interesting_entries(
     alloc: Global,
-    rows: &[Row],
+    groups: &Vec<List<Row>>,
     entries: u32,
     system: SysId,
 ) -> Result<List<u32>, NoMemory>
-    requires { entries ≢ 0 }
-    ensures { IfOk result (λ interest. interest ≡ filter (λ e. has_elements entries e rows.now system.0) (range_with_len 0 entries)) }
+    requires { length groups.now.items ≡ entries }
+    ensures { IfOk result (λ interest. interest ≡ filter (λ e. is_among (group_at groups.now.items e) system.0) (range_with_len 0 entries)) }
 {
     let mut interest = List::new(alloc);
     for entry in 0..entries {
-        push_if(
-            &mut interest,
-            entry,
-            has_elements(rows, entries, entry, system),
-        )?;
+        push_if(&mut interest, entry, is_among(group(groups, entry), system))?;
     }
     Ok(interest)
 }
@@ -164,6 +149,7 @@ fn interesting_entries(
 /// least system that has elements, and has interest in all in which it has any. The elements on resources of an entry are
 /// ranked 1, 2 and so on, resources by name and the elements of one in the order of its list; all systems rank them
 /// alike. NoMemory comes where there is none for the copies, or an element would have a rank above `LAST_NUMBER`.
+#[tactic(auto, using(crate::proofs::GroupLaws::roles))]
 pub fn roles_of<Q: Queues>(
     alloc: Global,
     table: &Table<Q>,
@@ -176,10 +162,10 @@ pub fn roles_of<Q: Queues>(
     ensures ranked { IfOk result (λ roles. roles.ranked ≡ ranked_by entries table.now.elements) }
     ensures small { IfOk result (λ roles. list_all (λ n. nat_le n last_number) (ranks_of roles.ranked) ≡ true) }
 {
-    let rows = table.rows(alloc)?;
-    let managed = managed_entries(alloc, rows.as_slice(), entries, system)?;
-    let interest = interesting_entries(alloc, rows.as_slice(), entries, system)?;
-    let ranked = ranked_rows(alloc, rows.as_slice(), entries)?;
+    let groups = grouped(alloc, table.rows(alloc)?, entries)?;
+    let managed = managed_entries(alloc, &groups, entries, system)?;
+    let interest = interesting_entries(alloc, &groups, entries, system)?;
+    let ranked = ranked_rows(alloc, groups)?;
     Ok(Roles {
         managed,
         interest,

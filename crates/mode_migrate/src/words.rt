@@ -1,29 +1,20 @@
 //! The lock words that a table leads to.
 ghost use Rattle.std.specs.Prelude.{◌≡◌, ◌≢◌, ◌<◌, cond, map, IfOk};
-ghost use Rattle.std.specs.List.{list_any, range_with_len};
+ghost use Rattle.std.specs.List.{list_any};
 ghost use Rattle.grs_base.specs.Limits.{most_systems};
 ghost use Rattle.grs_wire.specs.LockWords.{manager_number};
 ghost use Rattle.grs_wire.specs.Masks.{with_also};
-ghost use Rattle.mode_migrate.specs.Migrate.{row_is_of, is_by, has_elements, or_this, interest_by, manager_by, word_by, table_words};
+ghost use Rattle.mode_migrate.specs.Migrate.{is_by, or_this, table_words};
+ghost use Rattle.mode_migrate.specs.Groups.{is_among, interest_of, manager_of, word_of};
 
-use grs_base::{List, MOST_SYSTEMS, NoMemory, Queues, Res, Row, SysId, entry_of, slice_of};
+use crate::groups::grouped;
+use grs_base::{List, MOST_SYSTEMS, NoMemory, Queues, Row, SysId};
 use grs_wire::masks::with_system;
 use queue_table::Table;
 use std::alloc::Global;
 
 /// So many sets of systems can stand in the lowest bits of a lock word, below the manager's number plus one.
 const SETS: u32 = 256;
-
-/// Whether a row is of a resource of a lock entry.
-pub(crate) fn is_of(row: &Row, entries: u32, entry: u32) -> bool
-    requires { entries ≢ 0 }
-    ensures { result ≡ row_is_of entries entry row.now }
-{
-    match &row.res {
-        Res::Systems { q, r } => entry_of(slice_of(q, r), entries) == entry,
-        _ => false,
-    }
-}
 
 /// Whether a task of the system has an element in a row.
 fn has_elem(row: &Row, system: SysId) -> bool
@@ -35,16 +26,11 @@ fn has_elem(row: &Row, system: SysId) -> bool
         .any(|elem| elem.task.system.0 == system.0)
 }
 
-/// Whether the system has an element on a resource of a lock entry.
-pub(crate) fn has_elements(rows: &[Row], entries: u32, entry: u32, system: SysId) -> bool
-    requires { entries ≢ 0 }
-    ensures { result ≡ has_elements entries entry rows.now system.0 }
+/// Whether the system has an element in one of these rows.
+pub(crate) fn is_among(rows: &[Row], system: SysId) -> bool
+    ensures { result ≡ is_among rows.now system.0 }
 {
-    let mut found = false;
-    for row in rows {
-        found = found || is_of(row, entries, entry) && has_elem(row, system);
-    }
-    found
+    rows.iter().any(|row| has_elem(row, system))
 }
 
 /// The set, with the system where it passes.
@@ -72,30 +58,28 @@ fn or_this(found: Option<SysId>, system: SysId, passes: bool) -> Option<SysId>
     }
 }
 
-/// The systems that have interest in a lock entry.
-fn interest(rows: &[Row], entries: u32, entry: u32) -> u32
-    requires { entries ≢ 0 }
-    ensures set { result ≡ interest_by entries entry rows.now }
+/// The systems that have interest in a lock entry with these rows.
+fn interest(rows: &[Row]) -> u32
+    ensures set { result ≡ interest_of rows.now }
     ensures small { result < 256 }
 {
     let mut set = 0;
     for s in 0..MOST_SYSTEMS {
         let system = SysId(s as u8);
-        let passes = has_elements(rows, entries, entry, system);
+        let passes = is_among(rows, system);
         set = with_if(set, system, passes);
     }
     set
 }
 
-/// The system that manages a lock entry, if anyone has elements there.
-pub(crate) fn manager(rows: &[Row], entries: u32, entry: u32) -> Option<SysId>
-    requires { entries ≢ 0 }
-    ensures { result ≡ manager_by entries entry rows.now }
+/// The system that manages a lock entry with these rows, if anyone has elements there.
+pub(crate) fn manager(rows: &[Row]) -> Option<SysId>
+    ensures { result ≡ manager_of rows.now }
 {
     let mut least = None;
     for s in 0..MOST_SYSTEMS {
         let system = SysId(s as u8);
-        let passes = has_elements(rows, entries, entry, system);
+        let passes = is_among(rows, system);
         least = or_this(least, system, passes);
     }
     least
@@ -112,25 +96,22 @@ fn manager_number(manager: Option<SysId>) -> u32
     }
 }
 
-/// The word of a lock entry.
+/// The word of a lock entry with these rows.
 #[tactic(auto, unfolding(grs_wire::specs::LockWords::lock_word))]
-fn word(rows: &[Row], entries: u32, entry: u32) -> u32
-    requires { entries ≢ 0 }
-    ensures { result ≡ word_by entries entry rows.now }
+fn word(rows: &[Row]) -> u32
+    ensures { result ≡ word_of rows.now }
 {
-    let number = manager_number(manager(rows, entries, entry));
-    interest(rows, entries, entry) + SETS * number
+    let number = manager_number(manager(rows));
+    interest(rows) + SETS * number
 }
 
 /// The words of all lock entries.
-#[tactic(auto, using(crate::proofs::Ranges::ranges))]
-fn words(alloc: Global, rows: &[Row], entries: u32) -> Result<List<u32>, NoMemory>
-    requires { entries ≢ 0 }
-    ensures { IfOk result (λ words. words ≡ map (λ e. word_by entries e rows.now) (range_with_len 0 entries)) }
+fn words(alloc: Global, groups: &[List<Row>]) -> Result<List<u32>, NoMemory>
+    ensures { IfOk result (λ words. words ≡ map word_of groups.now) }
 {
-    let mut words = List::new(alloc);
-    for entry in 0..entries {
-        words.push(word(rows, entries, entry))?;
+    let mut words = List::with_room(alloc, groups.len())?;
+    for rows in groups {
+        words.push(word(rows.as_slice()))?;
     }
     Ok(words)
 }
@@ -146,6 +127,6 @@ pub fn words_of<Q: Queues>(
     requires { entries ≢ 0 }
     ensures { IfOk result (λ words. words ≡ table_words entries table.now.elements) }
 {
-    let rows = table.rows(alloc)?;
-    words(alloc, rows.as_slice(), entries)
+    let groups = grouped(alloc, table.rows(alloc)?, entries)?;
+    words(alloc, groups.as_slice())
 }

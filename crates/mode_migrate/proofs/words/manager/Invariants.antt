@@ -1,6 +1,7 @@
 use Rattle.std.proofs.Common.{◌≡◌}
-use Rattle.mode_migrate.specs.Migrate.{least_below, has_elements}
+use Rattle.mode_migrate.specs.Migrate.{least_below}
+use Rattle.mode_migrate.specs.Groups.{is_among}
 use Rattle.mode_migrate.proofs.words.manager.Given as goal
 
 abbrev pub invariant-loop-s : goal.invariant-loop-s
-invariant-loop-s l = l.least ≡ least_below l.s (has_elements l.entries l.entry l.rows)
+invariant-loop-s l = l.least ≡ least_below l.s (is_among l.rows)

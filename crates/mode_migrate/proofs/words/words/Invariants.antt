@@ -1,7 +1,6 @@
-use Rattle.std.proofs.Common.{◌≡◌, map}
-use Rattle.std.specs.List.{range_with_len}
-use Rattle.mode_migrate.specs.Migrate.{word_by}
+use Rattle.std.proofs.Common.{◌≡◌, map, take}
+use Rattle.mode_migrate.specs.Groups.{word_of}
 use Rattle.mode_migrate.proofs.words.words.Given as goal
 
-abbrev pub invariant-loop-entry : goal.invariant-loop-entry
-invariant-loop-entry l = l.words ≡ map (λ e. word_by l.entries e l.rows) (range_with_len 0 l.entry)
+abbrev pub invariant-loop-rows : goal.invariant-loop-rows
+invariant-loop-rows l = l.words ≡ map word_of (take l.rows-index l.groups)
