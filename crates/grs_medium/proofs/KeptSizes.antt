@@ -120,4 +120,8 @@ may_call_behind m c call d other h may = let k = keeps_both m c call h in (subst
 pub keeps_words : (m : MediumState) (c : SysId) (call : Call) → ActFits m c call.act → length (medium_after m c call).words ≡ length m.words
 keeps_words m c call h = (keeps_both m c call h).0
 
+-- and the systems
+pub keeps_systems : (m : MediumState) (c : SysId) (call : Call) → ActFits m c call.act → systems_of (medium_after m c call) ≡ systems_of m
+keeps_systems m c call h = (keeps_both m c call h).1
+
 pub ruleset sizes = (keeps_words)

@@ -5,3 +5,4 @@ pub mod code
 pub mod samples
 pub mod star
 pub mod move
+pub mod rest

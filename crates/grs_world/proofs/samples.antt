@@ -5,3 +5,4 @@ pub mod Samples
 pub mod AgreeSamples
 pub mod StarSamples
 pub mod SwitchSamples
+pub mod RestSamples

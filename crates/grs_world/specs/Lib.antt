@@ -8,3 +8,4 @@ pub mod Running
 pub mod Done
 pub mod Interest
 pub mod Changing
+pub mod AtRest

@@ -7,4 +7,5 @@ pub mod laws;
 mod summary;
 mod world;
 
+pub use summary::{task_end, units_of};
 pub use world::{RunLog, World, replay};

@@ -46,10 +46,7 @@ fn add_units(units: &mut List<(SysId, u16, u32)>, node: &Node<'_>) -> Result<(),
 }
 
 /// The units that the tasks of these systems reserve, each with its count.
-pub(crate) fn units_of(
-    alloc: Global,
-    nodes: &[Node<'_>],
-) -> Result<List<(SysId, u16, u32)>, NoMemory>
+pub fn units_of(alloc: Global, nodes: &[Node<'_>]) -> Result<List<(SysId, u16, u32)>, NoMemory>
     ensures { IfOk result (λ units. units ≡ units_of (nodes_of nodes.now)) }
 {
     let mut units = List::new(alloc);
@@ -72,7 +69,7 @@ fn end_at(node: &Node<'_>, task: TaskId) -> TaskEnd
 
 /// The end of a task. One that isn't there is open.
 #[tactic(auto, using(crate::proofs::code::Nodes::nodes))]
-pub(crate) fn task_end(nodes: &[Node<'_>], task: TaskId) -> TaskEnd
+pub fn task_end(nodes: &[Node<'_>], task: TaskId) -> TaskEnd
     ensures { result ≡ task_end (nodes_of nodes.now) task }
 {
     match nodes.get(task.system.0 as usize) {

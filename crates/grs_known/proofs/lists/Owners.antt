@@ -35,7 +35,7 @@ is_among-pick p [] t = grind arith
 is_among-pick p (e ∷ es) t = grind (arith, is_among-pick p es t, same_task-exact t e.task)
 
 -- who became owner: who owns afterwards and didn't before
-is_among-became : (before after : List Elem) (asker t : TaskId) → is_among t (became_owners before after asker) ≡ ((not (owns before t) && not (same_task asker t)) && owns after t)
+pub is_among-became : (before after : List Elem) (asker t : TaskId) → is_among t (became_owners before after asker) ≡ ((not (owns before t) && not (same_task asker t)) && owns after t)
 is_among-became before after asker t = is_among-pick (λ u. not (owns before u) && not (same_task asker u)) (take (owners after) after) t ∙ ap (λ b. (not (owns before t) && not (same_task asker t)) && b) (sym (owns-any after t))
 
 pub became-owns : (before after : List Elem) (asker t : TaskId) → is_among t (became_owners before after asker) ≡ true → owns after t ≡ true

@@ -35,7 +35,7 @@ owns_shared-push : (es : List Elem) (t : TaskId) (c : Ctl) → has_task es t ≡
 owns_shared-push [] t c h = grind (arith, same_task-itself t)
 owns_shared-push (e ∷ es) t c h = grind (arith, h, owns_shared-push es t c)
 
-owns-push : (es : List Elem) (t : TaskId) (c : Ctl) → has_task es t ≡ false → owns (es ++ record { task = t; ctl = c } ∷ []) t ≡ can_have es c
+pub owns-push : (es : List Elem) (t : TaskId) (c : Ctl) → has_task es t ≡ false → owns (es ++ record { task = t; ctl = c } ∷ []) t ≡ can_have es c
 owns-push [] t E h = grind (arith, same_task-itself t)
 owns-push [] t S h = grind (arith, same_task-itself t)
 owns-push (e ∷ es) t E h = grind (arith, h, owns_shared-push es t E)

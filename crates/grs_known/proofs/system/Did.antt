@@ -32,7 +32,7 @@ pub record Did (v w : TasksView) (t : TaskId) (x : TaskState) (T : List ToldLine
 pub did-none : (v : TasksView) (t : TaskId) → Did v v t (state_of v t) v.told
 did-none v t = record { changed = changed-none v t; state = refl; told = refl }
 
-did-state : (v w : TasksView) (t : TaskId) (x : TaskState) (T : List ToldLine) (f : TaskState → TaskState) → is_task v t ≡ true → Did v w t x T → Did v (with_state w t f) t (f x) T
+pub did-state : (v w : TasksView) (t : TaskId) (x : TaskState) (T : List ToldLine) (f : TaskState → TaskState) → is_task v t ≡ true → Did v w t x T → Did v (with_state w t f) t (f x) T
 did-state v w t x T f here d = record {
   changed = changed-then v w (with_state w t f) t d.changed (changed-state w t f);
   state = state_of-same w t f (d.changed.here t ∙ here) ∙ ap f d.state;

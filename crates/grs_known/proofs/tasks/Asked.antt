@@ -3,7 +3,7 @@ use Rattle.std.proofs.Common.{◌≡◌, ◌-◌, ◌+◌, ℕ, zero, suc, Bool,
 use Rattle.std.specs.Prelude.{slice_get, unwrap_or}
 use Rattle.std.specs.List.{list_any, list_all}
 use Rattle.std.proofs.Math.Seq.{drop-length}
-use Rattle.std.proofs.lemmas.Bool.{and_parts, and_from, not-true, or_right}
+use Rattle.std.proofs.lemmas.Bool.{and_parts, and_from, cases_Bool, not-true, or_right}
 use Rattle.std.proofs.lemmas.Bool.Decides.{nat_tests}
 use Rattle.std.proofs.lemmas.Option.{slice_get_within}
 use Rattle.grs_base.specs.Same.{same_task}
@@ -87,6 +87,15 @@ codes-after T t k verb C08 h = all-more (is_code_before t (suc k)) T _ (codes_la
 codes-after T t k verb C14 h = all-more (is_code_before t (suc k)) T _ (codes_later t k T h) (or_right (not (same_task t t)) _ (lt_suc k))
 codes-after T t k verb C18 h = all-more (is_code_before t (suc k)) T _ (codes_later t k T h) (or_right (not (same_task t t)) _ (lt_suc k))
 codes-after T t k verb (End n) h = all-more (is_code_before t (suc k)) T _ (codes_later t k T h) (or_right (not (same_task t t)) _ (lt_suc k))
+
+-- no ECB of a line after all those posted was posted
+pub unposted-new : (t : TaskId) (k : ℕ) (T : List ToldLine) → list_all (is_post_before t k) T ≡ true → list_any (is_post_of t k) T ≡ false
+unposted-new t k [] h = refl
+unposted-new t k (Coded u j part verb code ∷ T) h = unposted-new t k T h
+unposted-new t k (Post u j ∷ T) h = grind (arith, nat_tests, h, unposted-new t k T, cases_Bool (same_task t u))
+unposted-new t k (Ended u code ∷ T) h = unposted-new t k T h
+unposted-new t k (Shown u j verb code rows ∷ T) h = unposted-new t k T h
+unposted-new t k (Desk j said ∷ T) h = unposted-new t k T h
 
 -- a conjunction of which the second part is kept
 and_kept : (a b c : Bool) → (b ≡ true → c ≡ true) → (a && b) ≡ true → (a && c) ≡ true
@@ -214,6 +223,7 @@ module _ (ls : List Meaning) (p : Past) (T : List ToldLine) (leaving : Res → B
       is_last = refl;
       of_line = of_new_line;
       waits = e;
+      unposted = unposted-new t (suc n) T k.before.posts;
     }
     phase_new verb C00 e = record { going = record { no_code = ended_new C00 e; no_end = no_end-after T t t (suc n) verb C00 k.before.phase.going.no_end }; free = λ w. absurd (cc); passed = passed_new }
     phase_new verb C04 e = record { going = record { no_code = ended_new C04 e; no_end = no_end-after T t t (suc n) verb C04 k.before.phase.going.no_end }; free = λ w. absurd (cc); passed = passed_new }

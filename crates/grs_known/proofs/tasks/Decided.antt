@@ -35,18 +35,9 @@ use Rattle.grs_known.specs.Past.{has_own, Fits, made_exclusive, own_by_effect, o
 use Rattle.grs_known.specs.Told.{entry_of_line, queued_last, tells_control, is_code_of, is_post_of}
 use Rattle.grs_known.proofs.tasks.Invariant.{Each, key, has_res, is_distinct, IsEntryOn, IsEcb, IsRec, IsDue, IsTask, is_post_before}
 use Rattle.grs_known.proofs.tasks.Keys.{has_res-own, has_own-other, has_own-exclusive, keys-push, distinct-push, keys-exclusive, distinct-on_record, keys-without, distinct-without, other-without, each-without, each-push, each-exclusive}
-use Rattle.grs_known.proofs.tasks.Asked.{told_after, Asks, recs-asked, of_new_line, latest_new, task-asked}
+use Rattle.grs_known.proofs.tasks.Asked.{told_after, unposted-new, Asks, recs-asked, of_new_line, latest_new, task-asked}
 use Rattle.grs_known.proofs.lists.Truths.{no_truth, false_by}
 use Rattle.grs_known.proofs.lists.Facts.{list_any-push, any-last, none-more}
-
--- no ECB of a line after all those posted was posted
-unposted-new : (t : TaskId) (k : ℕ) (T : List ToldLine) → list_all (is_post_before t k) T ≡ true → list_any (is_post_of t k) T ≡ false
-unposted-new t k [] h = refl
-unposted-new t k (Coded u j part verb code ∷ T) h = unposted-new t k T h
-unposted-new t k (Post u j ∷ T) h = grind (arith, nat_tests, h, unposted-new t k T, cases_Bool (same_task t u))
-unposted-new t k (Ended u code ∷ T) h = unposted-new t k T h
-unposted-new t k (Shown u j verb code rows ∷ T) h = unposted-new t k T h
-unposted-new t k (Desk j said ∷ T) h = unposted-new t k T h
 
 -- a task without a record of a resource gets one
 unrecorded : (xs : List Rec) (r : Res) → has_res r xs ≡ false → record_of xs r ≡ None

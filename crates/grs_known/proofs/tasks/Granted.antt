@@ -1,8 +1,8 @@
 -- A task that is told control: what holds of it afterwards, and that the lines agree.
 use Rattle.std.proofs.Common.{◌≡◌, ◌-◌, ◌+◌, ℕ, suc, Bool, true, false, not, ◌||◌, List, [], ◌∷◌, ◌++◌, map, length, take, Option, Some, None, refl, ap, sym, ◌∙◌, subst, arith, inl, inr}
-use Rattle.std.specs.Prelude.{slice_get, IfSome, nat_lt}
+use Rattle.std.specs.Prelude.{slice_get, IfSome, nat_lt, ◌==◌}
 use Rattle.std.specs.List.{list_any, list_all}
-use Rattle.std.proofs.lemmas.Bool.{and_from, lt-ltb, or_left, or_right}
+use Rattle.std.proofs.lemmas.Bool.{and_from, and_right, eqb-true, lt-ltb, or_left, or_right}
 use Rattle.std.proofs.lemmas.Bool.Decides.{nat_tests}
 use Rattle.std.proofs.lemmas.Option.{same_Some}
 use Rattle.grs_base.specs.Same.{same_res, same_task}
@@ -11,7 +11,7 @@ use Rattle.grs_base.specs.State.{State, list_of}
 use Rattle.grs_base.specs.declared.resource.Res.{Res}
 use Rattle.grs_base.specs.declared.resource.Row.{Row}
 use Rattle.grs_base.specs.declared.resource.TaskId.{TaskId}
-use Rattle.grs_base.specs.declared.decision.Code.TheVariants.{C00, Wait}
+use Rattle.grs_base.specs.declared.decision.Code.TheVariants.{C00, C04, Wait}
 use Rattle.grs_legal.specs.declared.meaning.Meaning.{Meaning}
 use Rattle.grs_legal.specs.declared.meaning.Meaning.TheVariants as lines
 use Rattle.grs_base.proofs.SameLaws.{same_res-exact, same_res-itself, same_task-itself}
@@ -31,14 +31,14 @@ use Rattle.task_state.specs.declared.state.Phase.TheVariants as phases
 use Rattle.task_state.specs.declared.state.TaskState.{TaskState}
 use Rattle.task_state.specs.View.{on_record}
 use Rattle.task_state.specs.Replies.{is_held}
-use Rattle.grs_known.specs.Told.{entry_of_line, queued_last, tells_control, is_code_before, is_end_of, TellsEnq, TellsWait, Posts, LineAgrees}
+use Rattle.grs_known.specs.Told.{is_post_of, entry_of_line, queued_last, tells_control, is_code_before, is_end_of, TellsEnq, TellsWait, Posts, LineAgrees}
 use Rattle.grs_known.proofs.lists.Entries.{asked_at-grows}
 use Rattle.grs_known.proofs.lists.Lines.{asks-same, passed-more}
 use Rattle.grs_known.proofs.tasks.Invariant.{key, has_res, Each, IsEntryOn, IsEcb, IsRec, IsDue, WaitsFor, also, with_control, may_pass, owns_entry, Passed, IsWaitFor, IsInPhase, IsTask, is_post_before, has_ended, code_bound}
 use Rattle.grs_known.proofs.tasks.Others.{recs-told, phase-told, passed-control, phase-control}
 use Rattle.grs_known.proofs.tasks.Records.{recs-marked, keys-told, distinct-told, recs-coded, recs-posted}
 use Rattle.grs_known.proofs.tasks.Keys.{has_res-own, each-kept}
-use Rattle.grs_known.proofs.lists.Truths.{no_truth}
+use Rattle.grs_known.proofs.lists.Truths.{false_by, no_truth}
 use Rattle.grs_known.proofs.lists.Facts.{all-kept, all-more, none-more, take-more}
 
 -- A line agrees with each history of which a past speaks, or speaks where one resource is concerned.
@@ -116,6 +116,23 @@ owned-also p xs r keys has owned q o = go (p.owns q) (owned q) o
     go true f e = f refl
     go false f e = sym (has_res-own q xs p.own keys) ∙ ap (λ z. has_res z xs) (same_res-exact q r e) ∙ has
 
+-- an ECB's line isn't the one by whose answer its task is held
+ecb-waits : (g : HistEntry) → IsEcb (Some g) → code_of g ≡ Wait → ⊥
+ecb-waits (Enq u q c ret code) ecb waits = absurd (let f : C04 ≡ Wait = sym ecb.1 ∙ waits in cc)
+ecb-waits (Deq u q have code) ecb waits = absurd ecb
+ecb-waits (Release u q) ecb waits = absurd ecb
+ecb-waits (Look u place filter rows) ecb waits = absurd ecb
+ecb-waits (Remove by target) ecb waits = absurd ecb
+
+held-apart : (ls : List Meaning) (p : Past) (T : List ToldLine) (t : TaskId) (n k : ℕ) (q : Phase) → is_held q ≡ true → IsInPhase ls p T t n q → IsEcb (entry_of_line ls p.asked k) → is_post_of t n (Post t k) ≡ false
+held-apart ls p T t n k phases.HeldAnswer e h ecb = and_right (same_task t t) (k == n) (false_by (k == n) (λ same. absurd (ecb-waits h.last (subst IsEcb (ap (entry_of_line ls p.asked) (eqb-true k n same) ∙ h.of_line) ecb) h.waits)))
+held-apart ls p T t n k phases.Ready e h ecb = absurd (cc)
+held-apart ls p T t n k phases.ToSend e h ecb = absurd (cc)
+held-apart ls p T t n k phases.Sent e h ecb = absurd (cc)
+held-apart ls p T t n k (phases.HeldLine r) e h ecb = absurd (cc)
+held-apart ls p T t n k (phases.Ending c) e h ecb = absurd (cc)
+held-apart ls p T t n k phases.Ended e h ecb = absurd (cc)
+
 -- A task that is told control of resource r, of which it has the record y.
 module _ (ls : List Meaning) (p : Past) (T : List ToldLine) (leaving : Res → Bool) (t : TaskId) (r : Res) (y : Rec) (same : same_res r y.res ≡ true) where
   on_entry : (o : Option HistEntry) → IsEntryOn y.res o → IsEntryOn r o
@@ -179,7 +196,7 @@ module _ (ls : List Meaning) (p : Past) (T : List ToldLine) (leaving : Res → B
           records = recs-posted ls p.asked T p.owns leaving t r y.line on (latest-on ls p.asked T p.owns leaving t r y x.line x.phase same rec) x.line x.phase x.records h.records;
           codes = all-more (is_code_before t (code_bound x.phase x.line)) T _ h.codes refl;
           posts = all-more (is_post_before t (suc x.line)) T _ h.posts (or_right (not (same_task t t)) _ (lt-ltb y.line (suc x.line) (omega (arith, rec.high))));
-          phase = phase-told ls (with_control r p) T t x.line x.phase (Post t y.line) refl (phase-control r p ls T t x.line x.phase h.phase);
+          phase = phase-told ls (with_control r p) T t x.line x.phase (Post t y.line) refl (λ e. held-apart ls p T t x.line y.line x.phase e h.phase due.ecb) (phase-control r p ls T t x.line x.phase h.phase);
           emptied = λ e. absurd (grind (arith, e, going));
         },
         λ limit P s. (

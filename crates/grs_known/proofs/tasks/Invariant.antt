@@ -180,6 +180,7 @@ pub record IsHeld (ls : List Meaning) (p : Past) (T : List ToldLine) (t : TaskId
   pub is_last : p.last ≡ Some last
   pub of_line : entry_of_line ls p.asked line ≡ Some last
   pub waits : code_of last ≡ Wait
+  pub unposted : list_any (is_post_of t line) T ≡ false
 
 -- a WAIT line for this resource
 abbrev pub IsWaitFor : Res → Option Meaning → Type 0

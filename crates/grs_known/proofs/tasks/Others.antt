@@ -15,6 +15,7 @@ use Rattle.grs_wire.specs.declared.told.ToldLine.{ToldLine}
 use Rattle.grs_wire.specs.declared.told.ToldLine.TheVariants.{Coded, Shown, Post, Ended, Desk}
 use Rattle.grs_legal.specs.Legal.{passed_behind}
 use Rattle.grs_known.specs.Past.{has_own, Past}
+use Rattle.task_state.specs.Replies.{is_held}
 use Rattle.task_state.specs.declared.state.Rec.{Rec}
 use Rattle.task_state.specs.declared.state.Phase.{Phase}
 use Rattle.task_state.specs.declared.state.Phase.TheVariants as phases
@@ -53,7 +54,7 @@ module _ (r : Res) (p : Past) where
   phase-control ls T t line phases.Ready h = record { going = h.going; free = free-control h.free; passed = passed-control ls line h.passed }
   phase-control ls T t line phases.ToSend h = h
   phase-control ls T t line phases.Sent h = h
-  phase-control ls T t line phases.HeldAnswer h = record { going = h.going; passed = passed-control ls line h.passed; last = h.last; is_last = h.is_last; of_line = h.of_line; waits = h.waits }
+  phase-control ls T t line phases.HeldAnswer h = record { going = h.going; passed = passed-control ls line h.passed; last = h.last; is_last = h.is_last; of_line = h.of_line; waits = h.waits; unposted = h.unposted }
   phase-control ls T t line (phases.HeldLine q) h = record { going = h.going; free = free-control h.free; begun = h.begun; at = h.at; passed = passed-control ls (line - 1) h.passed }
   phase-control ls T t line (phases.Ending c) h = record { no_end = h.no_end; code = h.code; free = free-control h.free; all_lines = λ e. ((h.all_lines e).0, passed-control ls line (h.all_lines e).1) }
   phase-control ls T t line phases.Ended h = h
@@ -115,14 +116,14 @@ other-end_of t (Ended u code) apart = apart
 other-end_of t (Shown u j verb code rows) apart = refl
 other-end_of t (Desk j said) apart = refl
 
-pub phase-told : (ls : List Meaning) (p : Past) (T : List ToldLine) (t : TaskId) (line : ℕ) (x : Phase) (l : ToldLine) → is_end_of t l ≡ false → IsInPhase ls p T t line x → IsInPhase ls p (T ++ l ∷ []) t line x
-phase-told ls p T t line phases.Ready l e h = record { going = record { no_code = h.going.no_code; no_end = none-more (is_end_of t) T l h.going.no_end e }; free = h.free; passed = h.passed }
-phase-told ls p T t line phases.ToSend l e h = none-more (is_end_of t) T l h e
-phase-told ls p T t line phases.Sent l e h = none-more (is_end_of t) T l h e
-phase-told ls p T t line phases.HeldAnswer l e h = record { going = record { no_code = h.going.no_code; no_end = none-more (is_end_of t) T l h.going.no_end e }; passed = h.passed; last = h.last; is_last = h.is_last; of_line = h.of_line; waits = h.waits }
-phase-told ls p T t line (phases.HeldLine r) l e h = record { going = record { no_code = h.going.no_code; no_end = none-more (is_end_of t) T l h.going.no_end e }; free = h.free; begun = h.begun; at = h.at; passed = h.passed }
-phase-told ls p T t line (phases.Ending c) l e h = record { no_end = none-more (is_end_of t) T l h.no_end e; code = h.code; free = h.free; all_lines = h.all_lines }
-phase-told ls p T t line phases.Ended l e h = h
+pub phase-told : (ls : List Meaning) (p : Past) (T : List ToldLine) (t : TaskId) (line : ℕ) (x : Phase) (l : ToldLine) → is_end_of t l ≡ false → (is_held x ≡ true → is_post_of t line l ≡ false) → IsInPhase ls p T t line x → IsInPhase ls p (T ++ l ∷ []) t line x
+phase-told ls p T t line phases.Ready l e k h = record { going = record { no_code = h.going.no_code; no_end = none-more (is_end_of t) T l h.going.no_end e }; free = h.free; passed = h.passed }
+phase-told ls p T t line phases.ToSend l e k h = none-more (is_end_of t) T l h e
+phase-told ls p T t line phases.Sent l e k h = none-more (is_end_of t) T l h e
+phase-told ls p T t line phases.HeldAnswer l e k h = record { going = record { no_code = h.going.no_code; no_end = none-more (is_end_of t) T l h.going.no_end e }; passed = h.passed; last = h.last; is_last = h.is_last; of_line = h.of_line; waits = h.waits; unposted = none-more (is_post_of t line) T l h.unposted (k refl) }
+phase-told ls p T t line (phases.HeldLine r) l e k h = record { going = record { no_code = h.going.no_code; no_end = none-more (is_end_of t) T l h.going.no_end e }; free = h.free; begun = h.begun; at = h.at; passed = h.passed }
+phase-told ls p T t line (phases.Ending c) l e k h = record { no_end = none-more (is_end_of t) T l h.no_end e; code = h.code; free = h.free; all_lines = h.all_lines }
+phase-told ls p T t line phases.Ended l e k h = h
 
 due-told : (ls : List Meaning) (E : List HistEntry) (T : List ToldLine) (t : TaskId) (k : ℕ) (l : ToldLine) → is_post_of t k l ≡ false → IsDue ls E T t k → IsDue ls E (T ++ l ∷ []) t k
 due-told ls E T t k l e h = record { ecb = h.ecb; coded = any-more (is_code_of t k) T l h.coded; unposted = none-more (is_post_of t k) T l h.unposted e }
@@ -155,6 +156,6 @@ task-told ls p T leaving t x l apart h = record {
   records = recs-told ls p.asked T p.owns leaving t x.line x.phase l x.records (λ k. other-post_of t k l apart) h.records;
   codes = all-more (is_code_before t _) T l h.codes (other-code_before t _ l apart);
   posts = all-more (is_post_before t _) T l h.posts (other-post_before t _ l apart);
-  phase = phase-told ls p T t x.line x.phase l (other-end_of t l apart) h.phase;
+  phase = phase-told ls p T t x.line x.phase l (other-end_of t l apart) (λ e. other-post_of t x.line l apart) h.phase;
   emptied = h.emptied;
 }

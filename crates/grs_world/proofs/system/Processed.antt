@@ -51,16 +51,16 @@ use Rattle.grs_known.proofs.system.Outstanding.{asked-good}
 abbrev pub after_read : NodeState → Req → NodeState
 after_read n q = let side : Side = process (record { tasks = n.tasks; shared = n.shared }) q in record n { tasks = side.tasks; shared = side.shared }
 
-read-tasks : (n : NodeState) (q : Req) → (after_read n q).tasks ≡ tell_new (answer_own n.tasks q (answer_to n.shared q.task q.want)) (res_wanted q.want) (new_owners n.shared q.task q.want)
+pub read-tasks : (n : NodeState) (q : Req) → (after_read n q).tasks ≡ tell_new (answer_own n.tasks q (answer_to n.shared q.task q.want)) (res_wanted q.want) (new_owners n.shared q.task q.want)
 unfolding process
 read-tasks n q = refl
 
-read-shared : (n : NodeState) (q : Req) → (after_read n q).shared ≡ after_want n.shared q.task q.want
+pub read-shared : (n : NodeState) (q : Req) → (after_read n q).shared ≡ after_want n.shared q.task q.want
 unfolding process
 read-shared n q = refl
 
 -- the tasks among which a request of the system's own was answered
-answers-own : (v : TasksView) (q : Req) (answer : Answer) (a : Asked) → is_task v q.task ≡ true → is_sent (state_of v q.task).phase ≡ true → (state_of v q.task).outstanding ≡ Some a → a.req ≡ q →
+pub answers-own : (v : TasksView) (q : Req) (answer : Answer) (a : Asked) → is_task v q.task ≡ true → is_sent (state_of v q.task).phase ≡ true → (state_of v q.task).outstanding ≡ Some a → a.req ≡ q →
     answer_own v q answer ≡ replied (recalled v q.task q.want) q.task q.want a.unit answer
 unfolding answer_own tell_answer_any tell_answer
 answers-own v q answer a here sent opened is =
@@ -70,7 +70,7 @@ answers-own v q answer a here sent opened is =
     ∙ ap (λ o. tell_answer_any v q.task answer o) opened
     ∙ ap (λ (z : Req). replied (recalled v q.task z.want) q.task z.want a.unit answer) is
 
-answers-none : (v : TasksView) (q : Req) (answer : Answer) → is_task v q.task ≡ false → answer_own v q answer ≡ v
+pub answers-none : (v : TasksView) (q : Req) (answer : Answer) → is_task v q.task ≡ false → answer_own v q answer ≡ v
 unfolding answer_own
 answers-none v q answer away = ap (λ b. cond (b && (is_sent (state_of v q.task).phase && is_asked q.want (state_of v q.task).outstanding)) (tell_answer_any v q.task answer (state_of v q.task).outstanding) v) away
 

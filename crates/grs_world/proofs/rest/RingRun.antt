@@ -1,0 +1,197 @@
+-- As long as a run is in ring mode, each system's records go on with its lists, and each request that was sent stands in the
+-- message.
+use Rattle.std.proofs.Common.{◌≡◌, ◌≢◌, ◌<◌, ◌≤◌, ℕ, zero, suc, Bool, true, false, cond, List, [], ◌∷◌, ◌++◌, length, map, take, Option, Some, None, refl, ap, sym, ◌∙◌, subst, arith, append-nil}
+use Rattle.std.specs.Prelude.{◌==◌, ◌⊎◌, get_or, is_some, set, slice_get}
+use Rattle.std.specs.List.{list_all}
+use Rattle.std.proofs.lemmas.Bool.{and_from, and_parts}
+use Rattle.grs_base.specs.Limits.{most_additions}
+use Rattle.grs_base.specs.declared.resource.SysId.{SysId}
+use Rattle.grs_base.specs.declared.resource.TaskId.{TaskId}
+use Rattle.grs_legal.specs.Asks.{lines_of}
+use Rattle.grs_legal.specs.declared.meaning.Meaning.{Meaning}
+use Rattle.grs_medium.specs.Medium.{MediumState, live}
+use Rattle.grs_node.specs.Node.{NodeState, finish_quiet, first_node, is_of_deck, is_to_send, may_go, only, put_in, read_entries, task_step}
+use Rattle.grs_wire.specs.Masks.{has}
+use Rattle.grs_wire.specs.Unseen.{unseen}
+use Rattle.grs_wire.specs.declared.deck.Choice.TheVariants as choices
+use Rattle.grs_wire.specs.declared.deck.Deck.{Deck}
+use Rattle.grs_wire.specs.declared.deck.Event.{Event}
+use Rattle.grs_wire.specs.declared.medium.RingEntry.{RingEntry}
+use Rattle.grs_wire.specs.declared.request.Req.{Req}
+use Rattle.rsa_message.specs.Message.{Message, cleared, stamped, turned_open}
+use Rattle.task_state.specs.View.{TasksView, is_sent, is_task, new_task, new_tasks, state_of}
+use Rattle.task_state.specs.declared.state.TaskState.{TaskState}
+use Rattle.task_state.proofs.ViewLaws.{is_task-system}
+use Rattle.grs_known.proofs.known.Histories.{AllAsk, IsHistory, asks-behind}
+use Rattle.grs_known.proofs.lists.Facts.{all-behind, some_of, take-none, take-taken}
+use Rattle.grs_known.proofs.lists.Owners.{is_among}
+use Rattle.grs_known.proofs.lists.Truths.{no_truth}
+use Rattle.grs_known.proofs.system.Ours.{IsOurs}
+use Rattle.grs_known.proofs.system.Says.{askers, is_home_at, own_requests}
+use Rattle.grs_known.specs.Items.{RunItem, goes_round, items, rounds}
+use Rattle.grs_world.proofs.message.Stands.{Bodies}
+use Rattle.grs_world.proofs.move.Sound.{GoodRun, every_run, in_ring, in_star}
+use Rattle.grs_world.proofs.rest.Lists.{Matches}
+use Rattle.grs_world.proofs.rest.Ring.{IsRead, distinct-at, is_local, kept-all, kept-put}
+use Rattle.grs_base.specs.State.{is_systems}
+use Rattle.grs_world.proofs.rest.Steps.{AllDate, date-task}
+use Rattle.grs_world.proofs.rest.Tasks.{local-read, local-task}
+use Rattle.grs_world.proofs.rest.Unseen.{own-among, requests_of, waits-elsewhere, waits-new}
+use Rattle.grs_world.proofs.rest.UpToDate.{IsUpToDate}
+use Rattle.grs_world.proofs.run.Each.{each_run}
+use Rattle.grs_world.proofs.run.Growing.{asks-rounds, fixeds}
+use Rattle.grs_world.proofs.run.InRing.{Came, IsRing, changed, each_came, nothing, star-stays, turn, went_on}
+use Rattle.grs_world.proofs.run.Messages.{given-later}
+use Rattle.grs_world.proofs.run.Reading.{ReadTo, all-rounds, read-entries, read_all, reading}
+use Rattle.grs_world.proofs.run.Runs.{GoodWorld, by_node}
+use Rattle.grs_world.proofs.run.Sound.{first_is}
+use Rattle.grs_world.proofs.system.AtNode.{Seen}
+use Rattle.grs_world.specs.Decks.{FitsStar, may_be_star}
+use Rattle.grs_world.specs.World.{Turnout, World, counted, first_world, happens, placed, run}
+
+-- the requests that a system has still to process
+abbrev pub still_of : ℕ → List RingEntry → List Req
+still_of s es = requests_of (unseen (record { 0 = s }) es)
+
+abbrev pub AllRead : Deck → World → Type 0
+AllRead deck w = (s : ℕ) (n : NodeState) → slice_get w.nodes s ≡ Some n → IsRead deck s n (still_of s w.medium.message.entries)
+
+-- more requests are there
+pub read-more : (deck : Deck) (s : ℕ) (n : NodeState) (qs qs' : List Req) → ((t : TaskId) → t.system.0 ≡ s → is_among t (askers qs) ≡ true → is_among t (askers qs') ≡ true) → IsRead deck s n qs → IsRead deck s n qs'
+read-more deck s n qs qs' k h = record { own = h.own; shared = h.shared; sent = λ t ls ours e. k t ours.home (h.sent t ls ours e); boxed = h.boxed; date = h.date }
+
+-- a first part of what passes
+front-all : (p : Req → Bool) (k : ℕ) (qs : List Req) → list_all p qs ≡ true → list_all p (take k qs) ≡ true
+front-all p zero qs h = ap (list_all p) (take-none qs)
+front-all p (suc k) [] h = refl
+front-all p (suc k) (q ∷ qs) h = let both = and_parts (p q) (list_all p qs) h in and_from (p q) (list_all p (take k qs)) both.0 (front-all p k qs both.1)
+
+-- ---- one event
+module _ (deck : Deck) (es : List Event) (w : World) (g : GoodWorld deck es w) (c : SysId) (n : NodeState) (at : slice_get w.nodes c.0 ≡ Some n) (alone : n.star ≡ None) (h : AllRead deck w) where
+  abbrev P : List RunItem
+  P = items w.fixed
+
+  seen : Seen deck c.0 P (g.before c.0) (g.later c.0) (own_requests c.0 (g.later c.0)) n
+  seen = (g.systems c.0 n at).1
+
+  alive : has (live w.medium) c.0 ≡ true
+  alive = (g.systems c.0 n at).0
+
+  -- a task goes on
+  read-task : (t : TaskId) → may_go deck n t ≡ true → IsRead deck c.0 (finish_quiet deck n (choices.Task t)).node (still_of c.0 w.medium.message.entries)
+  unfolding may_go finish_quiet
+  read-task t may = subst (λ o. IsRead deck c.0 (task_step deck.limit n t o).node (still_of c.0 w.medium.message.entries)) (sym lines.1) (local-read deck c.0 (task_step deck.limit n t (Some lines.0)).node (still_of c.0 w.medium.message.entries)
+      (local-task deck c.0 n (still_of c.0 w.medium.message.entries) alone (h c.0 n at) t lines.0 ours (distinct-at deck c.0 P (g.before c.0) (g.later c.0) (own_requests c.0 (g.later c.0)) n seen t lines.0 ours))
+      (date-task deck n (h c.0 n at).date t lines.0 lines.1 here))
+    where
+      both : (is_task n.tasks t ≡ true) × (is_of_deck deck t ≡ true)
+      both = let k = and_parts (is_task n.tasks t) _ may in (k.0, (and_parts (is_of_deck deck t) _ k.1).0)
+
+      here : is_task n.tasks t ≡ true
+      here = both.0
+
+      lines : (ls : List Meaning) × (lines_of deck t ≡ Some ls)
+      lines = some_of (lines_of deck t) both.1
+
+      ours : IsOurs deck c.0 n.tasks t lines.0
+      ours = record { lines = lines.1; home = sym (is_task-system n.tasks t here) ∙ seen.good.system; here = here }
+
+  -- ---- its Turn
+  given : Bodies (fixeds (g.later c.0)) (unseen c w.medium.message.entries)
+  given = given-later w.medium c g.before (g.later c.0) P (g.whole c.0) alive g.message
+
+  all-due : rounds P ≡ g.before c.0 ++ (g.later c.0 ++ [])
+  all-due = g.whole c.0 ∙ ap (λ xs. g.before c.0 ++ xs) (sym (append-nil (g.later c.0)))
+
+  seen-due : Seen deck c.0 P (g.before c.0) (g.later c.0 ++ []) (own_requests c.0 (g.later c.0)) n
+  seen-due = subst (λ xs. Seen deck c.0 P (g.before c.0) xs (own_requests c.0 (g.later c.0)) n) (sym (append-nil (g.later c.0))) seen
+
+  reads : ReadTo deck c.0 P g.history [] (g.before c.0 ++ g.later c.0) n (read_all n (g.later c.0))
+  reads = reading deck c.0 P g.history [] (g.later c.0) (g.before c.0) n all-due seen-due
+
+  node_is : read_entries deck n (unseen c w.medium.message.entries) ≡ read_all n (g.later c.0)
+  node_is = read-entries deck n (g.later c.0) (unseen c w.medium.message.entries) (asks-behind deck (g.before c.0) (g.later c.0) (subst (AllAsk deck) (g.whole c.0) (asks-rounds deck P g.history.asks)))
+      (all-behind (λ x. goes_round x.fixed) (g.before c.0) (g.later c.0) (ap (list_all (λ x. goes_round x.fixed)) (sym (g.whole c.0)) ∙ all-rounds P)) given
+
+  read-due : IsRead deck c.0 (read_all n (g.later c.0)) []
+  read-due = kept-all deck c.0 P g.history [] (g.later c.0) (g.before c.0) n all-due seen-due
+      (read-more deck c.0 n (still_of c.0 w.medium.message.entries) (own_requests c.0 (g.later c.0)) (λ t home k. own-among c.0 t home (g.later c.0) (unseen c w.medium.message.entries) given k) (h c.0 n at))
+
+  abbrev out : List Req
+  out = take most_additions n.outbox
+
+  abbrev entries_now : List RingEntry
+  entries_now = (turned_open w.medium.message c (take most_additions n.outbox) (live w.medium) w.medium.rest).entries
+
+  taken : take (length (take most_additions n.outbox)) (read_all n (g.later c.0)).outbox ≡ take most_additions n.outbox
+  taken = ap (take (length out)) reads.outbox ∙ take-taken most_additions n.outbox
+
+  read-turn : IsRead deck c.0 (put_in (read_entries deck n (unseen c w.medium.message.entries)) (length (take most_additions n.outbox))).node (still_of c.0 entries_now)
+  read-turn = subst (λ m. IsRead deck c.0 (put_in m (length out)).node (still_of c.0 entries_now)) (sym node_is)
+      (read-more deck c.0 (put_in (read_all n (g.later c.0)) (length out)).node (take (length out) (read_all n (g.later c.0)).outbox) (still_of c.0 entries_now)
+      (λ t home k. waits-new c (live w.medium) alive t w.medium.message.next (cleared c w.medium.message.entries) out (ap (λ qs. is_among t (askers qs)) (sym taken) ∙ k))
+      (kept-put deck c.0 (read_all n (g.later c.0)) (length out) (front-all (λ q. is_home_at deck c.0 q.task) (length out) (read_all n (g.later c.0)).outbox reads.seen.homes) reads.seen.good.here read-due))
+
+  -- ---- whatever came of it
+  others-read : (entries : List RingEntry) → ((u : ℕ) → u ≢ c.0 → (t : TaskId) → is_among t (askers (still_of u w.medium.message.entries)) ≡ true → is_among t (askers (still_of u entries)) ≡ true) → (k : NodeState) → IsRead deck c.0 k (still_of c.0 entries) →
+      (u : ℕ) (m : NodeState) → slice_get (set w.nodes c.0 k) u ≡ Some m → IsRead deck u m (still_of u entries)
+  others-read entries more k own = by_node w.nodes c.0 n k at (λ u m. IsRead deck u m (still_of u entries)) own (λ u m ne there. read-more deck u m (still_of u w.medium.message.entries) (still_of u entries) (λ t home z. more u ne t z) (h u m there))
+
+  pub read-came : (o : Turnout) → Came deck w c n o → o.medium.star ≡ false → AllRead deck (placed w c n o)
+  unfolding placed
+  read-came o (nothing flags) mode = others-read w.medium.message.entries (λ u ne t k. k) n (h c.0 n at)
+  read-came o (went_on t may) mode = others-read w.medium.message.entries (λ u ne t k. k) (finish_quiet deck n (choices.Task t)).node (read-task t may)
+  read-came o (turn flags here) mode = others-read entries_now (λ u ne t k. waits-elsewhere c (record { 0 = u }) ne t w.medium.message.entries (stamped w.medium.message.next c (live w.medium) out) k) _ read-turn
+  read-came o (changed next idle) mode = absurd (cc)
+
+-- ---- the first world
+first-at : (n i : ℕ) → get_or (new_tasks n) i new_task ≡ new_task
+first-at zero i = refl
+first-at (suc n) zero = refl
+first-at (suc n) (suc i) = first-at n i
+
+first-state : (deck : Deck) (s : ℕ) (t : TaskId) → state_of (first_node deck s).tasks t ≡ new_task
+unfolding first_node state_of
+first-state deck s t = first-at _ t.task
+
+first-read : (deck : Deck) (s : ℕ) (qs : List Req) → IsRead deck s (first_node deck s) qs
+unfolding first_node
+first-read deck s qs = record {
+  own = λ t ls ours. subst (λ (x : TaskState). Matches is_local [] t x.records) (sym (first-state deck s t)) (record { same = λ r in_it. refl; told = λ r in_it own. absurd (cc) });
+  shared = λ t ls ours. subst (λ (x : TaskState). Matches is_systems [] t x.records) (sym (first-state deck s t)) (record { same = λ r in_it. refl; told = λ r in_it own. absurd (cc) });
+  sent = λ t ls ours e. absurd (let f : false ≡ true = sym (ap (λ (x : TaskState). is_sent x.phase) (first-state deck s t)) ∙ e in cc);
+  boxed = λ t ls ours e. absurd (let f : false ≡ true = sym (ap (λ (x : TaskState). is_to_send x.phase) (first-state deck s t)) ∙ e in cc);
+  date = λ t ls lines here. subst (IsUpToDate ls [] t) (sym (first-state deck s t)) (record { closed = λ e. refl; wanted = tt; held = refl; coded = λ k low in_it asks. absurd (omega (arith, low, in_it)); units = tt });
+}
+
+first_of : (deck : Deck) (s : ℕ) (n : NodeState) → slice_get (first_world deck).nodes s ≡ Some n → n ≡ first_node deck s
+unfolding first_world
+first_of deck s n at = first_is deck s n at
+
+star-of : (w : World) (c : SysId) (n : NodeState) (o : Turnout) → (placed w c n o).medium.star ≡ false → o.medium.star ≡ false
+unfolding placed
+star-of w c n o z = z
+
+-- ---- every list of events
+pub ring_read : (deck : Deck) → (may_be_star deck ≡ true → FitsStar deck) → (es : List Event) → (run deck es).medium.star ≡ false → AllRead deck (run deck es)
+ring_read deck fits = each_run deck (λ es (w : World). w.medium.star ≡ false → AllRead deck w) begun step
+  where
+    begun : (first_world deck).medium.star ≡ false → AllRead deck (first_world deck)
+    begun mode s n at = subst (λ (k : NodeState). IsRead deck s k (still_of s (first_world deck).medium.message.entries)) (sym (first_of deck s n at)) (first-read deck s _)
+
+    step : (es : List Event) (e : Event) → ((run deck es).medium.star ≡ false → AllRead deck (run deck es)) → (happens deck (run deck es) e).medium.star ≡ false → AllRead deck (happens deck (run deck es) e)
+    step es e more mode = go (run deck es).medium.star refl (every_run deck fits es)
+      where
+        w : World
+        w = run deck es
+
+        go : (b : Bool) → (run deck es).medium.star ≡ b → GoodRun deck es (run deck es) → AllRead deck (happens deck (run deck es) e)
+        go true at good = absurd (let both : true ≡ false = sym (star-stays deck w e at) ∙ mode in cc)
+        go false at (in_star f g told d) = absurd (let both : true ≡ false = sym g.whole.roles.mode ∙ at in cc)
+        go false at (in_ring begins ring g d) = each_came deck w e (λ x. x.medium.star ≡ false → AllRead deck x) ring (λ z. counted-read (more at)) (λ n o there came z. by_placed n o there came z) mode
+          where
+            counted-read : AllRead deck (run deck es) → AllRead deck (counted (run deck es))
+            counted-read k = k
+
+            by_placed : (n : NodeState) (o : Turnout) → slice_get (run deck es).nodes e.system.0 ≡ Some n → Came deck (run deck es) e.system n o → (placed (run deck es) e.system n o).medium.star ≡ false → AllRead deck (placed (run deck es) e.system n o)
+            by_placed n o there came z = read-came deck es w g e.system n there (ring.alone e.system.0 n there) (more at) o came (star-of w e.system n o z)
