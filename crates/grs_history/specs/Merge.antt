@@ -76,6 +76,10 @@ told_behind n (x ∷ xs) = told_in (n + 1) x ++ told_behind (n + 1) xs
 abbrev pub shown : List Step → Merged
 shown xs = record { events = map event_of xs; hist = answered (flat_map fixed_in xs); told = told_behind 0 xs }
 
--- what the logs of all systems show in the order of a journal
+-- what the steps of all systems show in the order of a journal
+abbrev pub merged_steps : List JEntry → List (List StepDone) → Merged
+merged_steps journal logs = shown (in_order journal logs)
+
+-- and logs by their steps
 abbrev pub merged : List JEntry → List NodeLog → Merged
-merged journal logs = shown (in_order journal (map (λ l. l.steps) logs))
+merged journal logs = merged_steps journal (map (λ l. l.steps) logs)

@@ -6,6 +6,6 @@ mod order;
 mod queues;
 mod replies;
 
-pub use order::{Merged, merge};
+pub use order::{Merged, merge, merge_steps};
 pub use queues::queues_after;
 pub use replies::answers;

@@ -127,17 +127,17 @@ impl Merging {
     fn begin<'l>(
         &mut self,
         alloc: Global,
-        logs: &'l [NodeLog],
+        logs: &[&'l [StepDone]],
     ) -> Result<Vec<&'l [StepDone]>, NoMemory>
         requires systems { length logs.now ≤ most_systems }
         requires few { length self.old.merged.events ≤ last_number }
-        ensures leads { OnOk result (Leads self.old.table.elements self.old.merged (merges.quiet_fronts 0 (map (λ l. l.steps) logs.now)) self.new.table.elements self.new.merged) }
-        ensures rests { IfOk result (λ rests. map (λ r. r.now) rests.items ≡ map merges.without_front (map (λ l. l.steps) logs.now)) }
+        ensures leads { OnOk result (Leads self.old.table.elements self.old.merged (merges.quiet_fronts 0 (map (λ l. l.now) logs.now)) self.new.table.elements self.new.merged) }
+        ensures rests { IfOk result (λ rests. map (λ r. r.now) rests.items ≡ map merges.without_front (map (λ l. l.now) logs.now)) }
         ensures few { length self.new.merged.events ≤ last_number }
     {
         let mut rests = Vec::new(alloc);
-        for (number, log) in logs.iter().enumerate() {
-            let steps = log.steps.as_slice();
+        for (number, steps) in logs.iter().enumerate() {
+            let steps = *steps;
             let (front, rest) = steps.split_at(quiet_count(steps));
             self.add_all(alloc, SysId(number as u8), front)?;
             if rests.push(rest).is_err() {
@@ -170,14 +170,14 @@ impl Merging {
     }
 }
 
-/// The events of the logs in one order: those that the journal has in its order, and behind each the quiet ones that its
-/// system made before its next one of the journal. Before all stand the quiet ones that came before any of the journal, system by
-/// system. The logs stand in the order of their systems, and a log has as many journalled steps as the journal has entries of
-/// its system. The replies in the history are those of the plain lists at its place; what was told is what the logs say. There is no
-/// memory for more than 2^57 events.
-pub fn merge(alloc: Global, journal: &[JEntry], logs: &[NodeLog]) -> Result<Merged, NoMemory>
+/// The events of at most eight logs that are lent, as `merge` puts them in order.
+pub fn merge_steps(
+    alloc: Global,
+    journal: &[JEntry],
+    logs: &[&[StepDone]],
+) -> Result<Merged, NoMemory>
     requires { length logs.now ≤ most_systems }
-    ensures merged { IfOk result (λ m. m ≡ merges.merged journal.now logs.now) }
+    ensures merged { IfOk result (λ m. m ≡ merges.merged_steps journal.now (map (λ l. l.now) logs.now)) }
     ensures few { IfOk result (λ m. length m.events ≤ last_number) }
 {
     let mut merging = Merging {
@@ -193,4 +193,23 @@ pub fn merge(alloc: Global, journal: &[JEntry], logs: &[NodeLog]) -> Result<Merg
         merging.go_on(alloc, &mut rests, entry.system)?;
     }
     Ok(merging.merged)
+}
+
+/// The events of the logs in one order: those that the journal has in its order, and behind each the quiet ones that its
+/// system made before its next one of the journal. Before all stand the quiet ones that came before any of the journal, system by
+/// system. The logs, eight at most, stand in the order of their systems, and a log is to have as many journalled steps as the
+/// journal has entries of its system. The replies in the history are those of the plain lists at its place; what was told is what the logs say. There is no
+/// memory for more than 2^57 events.
+pub fn merge(alloc: Global, journal: &[JEntry], logs: &[NodeLog]) -> Result<Merged, NoMemory>
+    requires { length logs.now ≤ most_systems }
+    ensures merged { IfOk result (λ m. m ≡ merges.merged journal.now logs.now) }
+    ensures few { IfOk result (λ m. length m.events ≤ last_number) }
+{
+    let mut lent = Vec::new(alloc);
+    for log in logs {
+        if lent.push(log.steps.as_slice()).is_err() {
+            return Err(NoMemory);
+        }
+    }
+    merge_steps(alloc, journal, lent.as_slice())
 }
