@@ -1,6 +1,6 @@
 -- A journal of calls: which calls are entered, the medium that a journal leads to, which journals are right, and the
 -- part of one system.
-use Rattle.std.specs.Prelude.{◌≡◌, ℕ, Bool, true, false, ◌||◌, ◌==◌, List, [], ◌∷◌, ◌++◌, filter}
+use Rattle.std.specs.Prelude.{◌≡◌, ◌^◌, ℕ, Bool, true, false, ◌||◌, ◌==◌, List, [], ◌∷◌, ◌++◌, filter}
 use Rattle.grs_base.specs.declared.resource.SysId.{SysId}
 use Rattle.grs_wire.specs.declared.medium.Call.{Call}
 use Rattle.grs_wire.specs.declared.medium.JEntry.{JEntry}
@@ -8,6 +8,14 @@ use Rattle.grs_wire.specs.declared.medium.Reply.{Reply}
 use Rattle.grs_wire.specs.declared.medium.Reply.TheVariants.{Stale, Already, NoSuch, InStar, Sole, Left}
 use Rattle.grs_medium.specs.Apply.{reply_to, medium_after, changes, MayCall}
 use Rattle.grs_medium.specs.Medium.{MediumState}
+
+-- How many numbers of a holder the word tells apart: 0 for nobody, and else a system's number and one. And a length that no
+-- journal comes to: so many times the holders are past the word, which has 64 bits.
+abbrev pub holders : ℕ
+holders = 64
+
+abbrev pub no_length : ℕ
+no_length = 2 ^ 58
 
 -- replies that are entered also where the medium stays as it was, since a system acts on them
 abbrev pub is_acted_on : Reply → Bool

@@ -9,7 +9,7 @@ use Rattle.grs_base.specs.declared.resource.SysId.{SysId}
 use Rattle.grs_wire.specs.declared.medium.JEntry.{JEntry}
 use Rattle.grs_medium.specs.Medium.{MediumState, first_medium}
 use Rattle.grs_medium.specs.Room.{MediumValue}
-use Rattle.grs_bus.specs.Journal.{after_all, AreRight, entries_of, Begins}
+use Rattle.grs_bus.specs.Journal.{holders, after_all, AreRight, entries_of, Begins}
 use Rattle.grs_bus.specs.Seats.{SeatValue}
 use Rattle.grs_bus.specs.declared.slot.Slot.{Slot}
 use Rattle.grs_bus.specs.declared.view.Past.{Past}
@@ -101,9 +101,9 @@ pub record IsKept (first : MediumValue) (s : State Slot View) : Type 0 where
   pub holder : ℕ
   -- how many seats there are
   pub count : ℕ
-  pub word : s.words ≡ (length journal * 64 + holder) ∷ []
-  pub small : holder < 64
-  pub few : count < 64
+  pub word : s.words ≡ (length journal * holders + holder) ∷ []
+  pub small : holder < holders
+  pub few : count < holders
   pub right : AreRight first.state journal
   -- who has no seat has no entry
   pub new_systems : (n : ℕ) → count ≤ n → entries_of n journal ≡ []

@@ -2,7 +2,7 @@
 use Rattle.std.specs.Prelude.{◌≡◌, ◌≢◌, ℕ, ◌+◌, ◌*◌, ◌⊎◌, List, [], ◌∷◌, ◌++◌, length, true, false}
 use Rattle.atomic_table.specs.Table.{Me, Step}
 use Rattle.grs_wire.specs.declared.medium.JEntry.{JEntry}
-use Rattle.grs_bus.specs.Journal.{after_all, AreRight, entries_of, Begins}
+use Rattle.grs_bus.specs.Journal.{holders, after_all, AreRight, entries_of, Begins}
 use Rattle.grs_bus.specs.Rule.{changed, IsSettled}
 use Rattle.grs_bus.specs.declared.slot.Slot.{Slot}
 use Rattle.grs_bus.specs.declared.view.View.{View}
@@ -26,7 +26,7 @@ pub record Took (old : ℕ) (m m' : Me Slot View) : Type 0 where
   pub right : AreRight m.0.first.state journal
   -- the seat's own are the journal's entries of its system
   pub own : m.0.own ≡ entries_of m.0.system.0 journal
-  pub size : length journal * 64 ≡ old
+  pub size : length journal * holders ≡ old
 
 -- the word is taken where it was the one that was awaited
 abbrev pub took : Step Slot → Me Slot View → ℕ → Me Slot View → Type 0

@@ -10,15 +10,17 @@ use grs_medium::Medium;
 use std::alloc::Global;
 use std::marker::Model;
 use std::snapshot::Snapshot;
+use std::sync::atomic::AtomicU64;
 
 /// A seat's place at the table.
 pub type Place = atomic_table::Seat<Slot, View>;
 
 /// One medium and the journal of its calls, which the seats of several threads call in turn. Contracts see which bus
-/// it is, and its medium at the start.
+/// it is, and its medium at the start. `sleepers` counts the threads that sleep until the word is given back, or are about to.
 #[derive(Drop)]
 pub struct Bus {
     pub(crate) table: Table<Slot, View, Snapshot<Medium>, InTurn, Global>,
+    pub(crate) sleepers: AtomicU64,
 }
 
 impl Model for Bus {

@@ -1,6 +1,7 @@
 //! One call: the word is taken, the slot is worked on, and the word is given back.
-ghost use Rattle.std.specs.Prelude.{◌≡◌, ◌<◌, ◌+◌, ◌^◌, [], true, false, IfOk, OnErr, MatchResult, length};
+ghost use Rattle.std.specs.Prelude.{◌≡◌, ◌<◌, ◌+◌, [], true, false, IfOk, OnErr, MatchResult, length};
 ghost use Rattle.grs_medium.specs.Apply.{MayCall};
+ghost use Rattle.grs_bus.specs.Journal.{no_length};
 ghost use Rattle.grs_bus.specs.Places.{Rests, IsSamePlace, Holds};
 ghost use Rattle.grs_bus.specs.Seats.{IsSameSeat, IsAnswered, IsRefused};
 ghost use Rattle.grs_bus.specs.Slots.{Answers, IsUnchanged};
@@ -11,8 +12,31 @@ use crate::steps::{GiveBack, Take};
 use grs_base::{NoMemory, SysId};
 use grs_wire::{Call, Reply};
 use std::sync::Wait;
+use std::sync::atomic::Ordering;
+
+/// How many numbers of a holder the word tells apart: 0 for nobody, and else a system's number and one. The journal's
+/// length stands above it.
+const HOLDERS: u64 = 64;
+
+/// A thread that waits for the word to change looks at its low 32 bits.
+const LOOKED_AT: u64 = 1 << 32;
 
 impl Bus {
+    // Sleeps until the word may have changed. Whoever changes it either sees that somebody sleeps, or has changed it before
+    // this thread could fall asleep.
+    fn sleep<R: Wait>(&self, rt: &R, word: u64) {
+        self.sleepers.fetch_add(1, Ordering::SeqCst);
+        self.table.shared.park(rt, 0, (word % LOOKED_AT) as u32);
+        self.sleepers.fetch_sub(1, Ordering::SeqCst);
+    }
+
+    // Wakes one thread that sleeps. Where none does the system isn't asked, which costs as much as a short call.
+    fn wake(&self) {
+        if self.sleepers.load(Ordering::SeqCst) > 0 {
+            self.table.shared.wake_one(0);
+        }
+    }
+
     // Waits until no seat has the word, and takes it: the word as it was.
     fn take<R: Wait>(&self, rt: &R, place: &mut Place, system: SysId) -> u64
         requires table { place.old.table_id ≡ self.now.table }
@@ -23,13 +47,13 @@ impl Bus {
         let shared = &self.table.shared;
         for _ in rt.forever() {
             let word = shared.peek(0);
-            if word % 64 == 0 {
+            if word % HOLDERS == 0 {
                 let held = word + u64::from(system.0) + 1;
                 if shared.compare_exchange::<Take>(place, 0, word, held) == word {
                     return word;
                 }
             } else {
-                shared.park(rt, 0, (word % (1 << 32)) as u32);
+                self.sleep(rt, word);
             }
         }
         unreachable!()
@@ -46,7 +70,7 @@ impl Bus {
         requires holds { Holds place.old.me (λ slot. MayCall slot.medium.state system call) }
         ensures same { IsSamePlace place.old place.new }
         ensures view { place.new.me.0 ≡ place.old.me.0 }
-        ensures answer { Holds place.old.me (λ old. Holds place.new.me (λ new. MatchResult result.0 (λ told. Answers system call old new told) (λ _. IsUnchanged old new) × (result.1 ≡ length new.journal.items) × (length old.journal.items < 2 ^ 58 → result.1 < 2 ^ 58))) }
+        ensures answer { Holds place.old.me (λ old. Holds place.new.me (λ new. MatchResult result.0 (λ told. Answers system call old new told) (λ _. IsUnchanged old new) × (result.1 ≡ length new.journal.items) × (length old.journal.items < no_length → result.1 < no_length))) }
     {
         let slot = place.slot_mut(&self.table.shared, 0);
         let answer = slot.answer(system, call);
@@ -56,19 +80,21 @@ impl Bus {
     // Gives the word back, with the journal's length, and wakes one seat that waits for it.
     fn give_back(&self, place: &mut Place, count: u64)
         requires table { place.old.table_id ≡ self.now.table }
-        requires holds { (place.old.me.0.spent ≡ false) × (place.old.me.0.holding ≡ true) × (count < 2 ^ 58) }
+        requires holds { (place.old.me.0.spent ≡ false) × (place.old.me.0.holding ≡ true) × (count < no_length) }
         requires home { Holds place.old.me (λ slot. MayComeHome place.old.me.0 slot × (count ≡ length slot.journal.items)) }
         ensures same { IsSamePlace place.old place.new }
         ensures gave { Holds place.old.me (λ slot. place.new.me ≡ (given_back place.old.me.0 slot.journal.items, [])) }
     {
-        self.table.shared.store::<GiveBack>(place, 0, count * 64);
-        self.table.shared.wake_one(0);
+        self.table
+            .shared
+            .store::<GiveBack>(place, 0, count * HOLDERS);
+        self.wake();
     }
 
     /// Waits until no other seat has the word, takes it, makes the call, and gives the word back: the medium's reply,
     /// and whether the call was entered into the journal. It is entered where it changes the medium, and where its
     /// reply is Stale, Already, NoSuch, InStar, Sole or Left. All memory is taken before the medium changes, so on
-    /// NoMemory neither the medium nor the journal has changed.
+    /// NoMemory neither the medium nor the journal has changed. An entry past the 2^57th is answered NoMemory too.
     pub fn call<R: Wait>(
         &self,
         rt: &R,

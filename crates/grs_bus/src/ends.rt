@@ -16,9 +16,11 @@ use grs_medium::Medium;
 use grs_wire::JEntry;
 use std::alloc::Global;
 use std::snapshot::Snapshot;
+use std::sync::atomic::AtomicU64;
 
 impl Bus {
-    /// A bus over the medium, with a seat for each of so many systems, in their order.
+    /// A bus over the medium, with a seat for each of its systems, of which there are one to eight, in their order. Without memory
+    /// for the bus and its seats there is none.
     pub fn new(alloc: Global, medium: Medium, systems: u32) -> Result<(Bus, List<Seat>), NoMemory>
         requires some { 0 < systems }
         requires few { systems ≤ most_systems }
@@ -39,7 +41,8 @@ impl Bus {
             Ok(made) => made,
             Err(Refused { slots: _ }) => return Err(NoMemory),
         };
-        let bus = Bus { table };
+        let sleepers = AtomicU64::new(0);
+        let bus = Bus { table, sleepers };
         let seats = bus.deal(alloc, place, systems)?;
         Ok((bus, seats))
     }
@@ -88,7 +91,7 @@ impl Bus {
             system: _,
         } = rest.remove(0);
         self.gather(&mut lead, rest);
-        let Bus { table } = self;
+        let Bus { table, sleepers: _ } = self;
         let mut closed = table.close_with(lead);
         let Slot {
             medium,

@@ -1,7 +1,7 @@
 //! The medium with its journal: what a seat that has the word works on.
-ghost use Rattle.std.specs.Prelude.{◌≡◌, ◌<◌, ◌^◌, IfOk, OnErr, vec_len};
+ghost use Rattle.std.specs.Prelude.{◌≡◌, ◌<◌, IfOk, OnErr, vec_len};
 ghost use Rattle.grs_medium.specs.Apply.{MayCall};
-ghost use Rattle.grs_bus.specs.Journal.{is_acted_on};
+ghost use Rattle.grs_bus.specs.Journal.{is_acted_on, no_length};
 ghost use Rattle.grs_bus.specs.Slots.{Answers, IsUnchanged};
 
 use grs_base::{NoMemory, SysId};
@@ -43,7 +43,7 @@ impl Slot {
         requires { MayCall self.old.medium.state caller call }
         ensures ok { IfOk result (λ told. Answers caller call self.old self.new told) }
         ensures err { OnErr result (IsUnchanged self.old self.new) }
-        ensures short { vec_len self.old.journal < 2 ^ 58 → vec_len self.new.journal < 2 ^ 58 }
+        ensures short { vec_len self.old.journal < no_length → vec_len self.new.journal < no_length }
     {
         let (reply, changes) = self.medium.preview(caller, &call)?;
         if !(changes || is_acted_on(&reply)) {

@@ -6,7 +6,7 @@ use Rattle.grs_bus.specs.declared.slot.Slot.{Slot}
 use Rattle.grs_bus.specs.declared.view.View.{View}
 use Rattle.grs_bus.proofs.JournalLaws.{none_removed}
 use Rattle.grs_bus.proofs.EndLaws.{IsLed, led, IsClosed, closed_as}
-use Rattle.grs_bus.proofs.bus.Bus.close.Goals.{After-lead-1, After-gather, After-from_vec}
+use Rattle.grs_bus.proofs.bus.Bus.close.Goals.{After-lead-1, After-gather, After-drop-self-inside}
 use Rattle.grs_bus.proofs.bus.Bus.close.Goals as goal
 
 led_by : (c : After-lead-1) → IsLed c.args.self c.args.seats c.remove.result c.remove.new.self.items
@@ -30,7 +30,7 @@ led_again c = led c.args.self c.args.seats c.into_vec-rest.result.items c.remove
 pub close_with-closed-requires : goal.close_with-closed-requires
 close_with-closed-requires c = c.gather.ensures.same.0 ∙ (ap (λ (v : SeatValue). v.bus.table) c.lead.view_is ∙ (ap (λ (b : BusValue). b.table) (led_again c).bus ∙ sym (ap (λ (b : BusValue). b.table) c.self.view_is)))
 
-told : (c : After-from_vec) → IsClosed c.args.self.first c.args.seats c.take-medium.result.medium.state c.from_vec.result
+told : (c : After-drop-self-inside) → IsClosed c.args.self.first c.args.seats c.take-medium.result.medium.state c.from_vec.result
 told c =
     let l = led c.args.self c.args.seats c.into_vec-rest.result.items c.remove.new.self.items c.remove.result c.into_vec-rest.ensures c.requires
     (λ some. at_index c.into_vec-rest.result.items 0 c.remove.result some c.remove.ensures.value) c.remove.ensures.items in
