@@ -16,5 +16,7 @@ pub mod Elements
 pub mod Worlds
 pub mod Settling
 pub mod Sending
+pub mod Heard
 pub mod steps
+pub mod hearing
 pub mod Sound

@@ -1,6 +1,6 @@
 -- What holds of a run that ends at rest: nothing is lost. Each owner of a live system was told, each reply has its line, whoever
 -- hasn't ended waits, and the units are reserved that owners reserved.
-use Rattle.std.specs.Prelude.{◌≡◌, ◌≢◌, ◌<◌, ◌+◌, ◌-◌, ℕ, Bool, true, false, not, cond, ◌&&◌, ◌||◌, ◌==◌, List, [], ◌∷◌, length, map, Option, Some, None, slice_get}
+use Rattle.std.specs.Prelude.{◌≡◌, ◌≢◌, ◌<◌, ◌+◌, ◌-◌, ℕ, Bool, true, false, not, cond, ◌&&◌, ◌||◌, ◌==◌, List, [], ◌∷◌, length, take, filter, Option, Some, None, is_some, slice_get}
 use Rattle.std.specs.List.{list_any, count_by, range_with_len}
 use Rattle.grs_base.specs.Lists.{owns, has_task}
 use Rattle.grs_base.specs.Same.{same_res}
@@ -12,16 +12,17 @@ use Rattle.grs_base.specs.declared.resource.Res.{Res}
 use Rattle.grs_base.specs.declared.resource.SysId.{SysId}
 use Rattle.grs_base.specs.declared.resource.TaskId.{TaskId}
 use Rattle.grs_known.specs.Told.{entry_of_line, queued_last, tells_control, is_code_of}
-use Rattle.grs_legal.specs.Asks.{lines_of}
-use Rattle.grs_legal.specs.Legal.{line_entries, entries_of, last_entry, passed_lines}
+use Rattle.grs_legal.specs.Asks.{asks_of, lines_of}
+use Rattle.grs_legal.specs.Legal.{end_among, line_entries, entries_of, last_entry}
 use Rattle.grs_legal.specs.declared.meaning.Meaning.{Meaning}
 use Rattle.grs_legal.specs.declared.meaning.Meaning.TheVariants as lines
-use Rattle.grs_wire.specs.History.{code_of, replay}
+use Rattle.grs_wire.specs.History.{replay}
 use Rattle.grs_wire.specs.declared.deck.Deck.{Deck}
 use Rattle.grs_wire.specs.declared.deck.Event.{Event}
 use Rattle.grs_wire.specs.declared.history.HistEntry.{HistEntry}
 use Rattle.grs_wire.specs.declared.history.HistEntry.TheVariants.{Enq, Deq, Release, Look, Remove}
 use Rattle.grs_wire.specs.declared.seen.TaskEnd.TheVariants.{Ended, Waits}
+use Rattle.grs_wire.specs.declared.told.ToldLine.{ToldLine}
 use Rattle.grs_world.specs.Agree.{lines_of_told}
 use Rattle.grs_world.specs.Running.{is_live, at_rest, task_end, units_of}
 use Rattle.grs_world.specs.World.{run, hist, told}
@@ -40,11 +41,12 @@ abbrev pub OwnersAreTold : Deck → List Event → Type 0
 OwnersAreTold deck es = (t : TaskId) (ls : List Meaning) (r : Res) → IsThere deck es t ls → owns (list_of (lists_after deck es) r) t ≡ true
     → list_any (tells_control t ls (line_entries t (hist deck es)) r) (lines_of_told (told deck es)) ≡ true
 
--- whether an entry is told by a code line that doesn't wait for control: an ENQ that wasn't answered WAIT, or a DEQ
+-- whether a code is WAIT
 abbrev pub is_waiting : Code → Bool
 is_waiting Wait = true
 is_waiting code = false
 
+-- whether an entry has a code line without waiting for control: an ENQ that wasn't answered WAIT, or a DEQ
 abbrev pub is_coded : HistEntry → Bool
 is_coded (Enq t r c ret code) = not (is_waiting code)
 is_coded (Deq t r have code) = not (is_waiting code)
@@ -66,22 +68,43 @@ waits_on r (Some (Release t q)) = false
 waits_on r (Some (Look t place filter rows)) = false
 waits_on r (Some (Remove by target)) = false
 
--- whether a line waits for control of a resource
-abbrev pub waits_at : Res → Meaning → Bool
-waits_at r (lines.Wait q) = same_res r q
-waits_at r (lines.Enq q c ret unit) = false
-waits_at r (lines.Deq q have) = false
-waits_at r lines.Nothing = false
+-- whether a line is a WAIT line
+abbrev pub is_wait : Option Meaning → Bool
+is_wait (Some (lines.Wait q)) = true
+is_wait _ = false
 
--- whether a task of these lines, behind this history, goes on only where it owns a resource: its last entry waits for it,
--- or a WAIT line does that it has to pass before it asks again
-abbrev pub goes_on_with : TaskId → List Meaning → List HistEntry → Res → Bool
-goes_on_with t ls hist r = waits_on r (last_entry (entries_of t hist)) || list_any (waits_at r) (passed_lines t ls hist)
+-- whether a line is a WAIT line for this resource
+abbrev pub waits_at : Res → Option Meaning → Bool
+waits_at r (Some (lines.Wait q)) = same_res r q
+waits_at r _ = false
+
+-- whether the line of this number is a WAIT line that has no code line among what was told
+abbrev pub is_uncoded : TaskId → List Meaning → List ToldLine → ℕ → Bool
+is_uncoded t ls lines_told k = is_wait (slice_get ls (k - 1)) && not (list_any (is_code_of t k) lines_told)
+
+-- the number of a task's first WAIT line that has no code line
+abbrev pub first_uncoded : TaskId → List Meaning → List ToldLine → Option ℕ
+first_uncoded t ls lines_told = slice_get (filter (is_uncoded t ls lines_told) (range_with_len 1 (length ls))) 0
+
+-- whether the line of this number is the next of a task that has these entries: the lines before it asked for them, and none
+-- of them ended the task
+abbrev pub is_next : List Meaning → List HistEntry → ℕ → Bool
+is_next ls entries k = not (is_some (end_among entries)) && (length (asks_of (take (k - 1) ls)) == length entries)
+
+-- whether a task that has these entries stands at the line of this number, and waits there for control of a resource
+abbrev pub stands_at : Res → List Meaning → List HistEntry → Option ℕ → Bool
+stands_at r ls entries None = false
+stands_at r ls entries (Some k) = waits_at r (slice_get ls (k - 1)) && is_next ls entries k
+
+-- whether a task goes on only where it owns a resource: its last entry waits for it, or its first WAIT line without a code
+-- line does, and that is its next
+abbrev pub goes_on_with : TaskId → List Meaning → List HistEntry → List ToldLine → Res → Bool
+goes_on_with t ls hist lines_told r = waits_on r (last_entry (entries_of t hist)) || stands_at r ls (line_entries t hist) (first_uncoded t ls lines_told)
 
 -- A task waits for an element that it has and doesn't own, without which it doesn't go on, and is shown to wait.
 pub record IsWaiting (deck : Deck) (es : List Event) (t : TaskId) (ls : List Meaning) : Type 0 where
   pub res : Res
-  pub held : goes_on_with t ls (hist deck es) res ≡ true
+  pub held : goes_on_with t ls (hist deck es) (lines_of_told (told deck es)) res ≡ true
   pub queued : has_task (list_of (lists_after deck es) res) t ≡ true
   pub waits : owns (list_of (lists_after deck es) res) t ≡ false
   pub shown : task_end (run deck es).nodes t ≡ Waits
@@ -92,11 +115,12 @@ TasksWait deck es = (t : TaskId) (ls : List Meaning) → IsThere deck es t ls �
 
 -- ---- units
 
--- whether a line reserves a unit in hardware
+-- whether a unit is this one, if there is one
 abbrev pub is_unit : ℕ → Option ℕ → Bool
 is_unit u None = false
 is_unit u (Some v) = u == v
 
+-- whether a line reserves this unit in hardware
 abbrev pub reserves : ℕ → Option Meaning → Bool
 reserves u (Some (lines.Enq r c ret unit)) = is_unit u unit
 reserves u _ = false
@@ -105,6 +129,7 @@ reserves u _ = false
 abbrev pub queued_with : ℕ → List Meaning → List HistEntry → Res → Bool
 queued_with u ls entries r = list_any (λ k. queued_last ls entries r k && reserves u (slice_get ls (k - 1))) (range_with_len 1 (length ls))
 
+-- the same, where the deck may lack the task
 abbrev pub queued_with_by : ℕ → Option (List Meaning) → List HistEntry → Res → Bool
 queued_with_by u None entries r = false
 queued_with_by u (Some ls) entries r = queued_with u ls entries r
@@ -120,17 +145,18 @@ abbrev pub unit_count : SysId → ℕ → List (SysId × ℕ × ℕ) → ℕ
 unit_count s u [] = 0
 unit_count s u (c ∷ cs) = cond ((c.0.0 == s.0) && (c.1 == u)) (c.2 + unit_count s u cs) (unit_count s u cs)
 
--- A unit's count is that of the owners which a RESERVE of the unit queued.
+-- A unit's count on a live system is that of the owners of its tasks which a RESERVE of the unit queued.
 abbrev pub UnitsAreReserved : Deck → List Event → Type 0
 UnitsAreReserved deck es = (s : SysId) (u : ℕ) → is_live (run deck es) s ≡ true
     → unit_count s u (units_of (run deck es).nodes) ≡ count_by (is_reserve deck (hist deck es) s u) (lists_after deck es)
 
--- Nothing is lost where a run ends at rest.
+-- Nothing is lost in a run: owners and replies are told, who hasn't ended waits, and units are reserved.
 pub record NothingIsLost (deck : Deck) (es : List Event) : Type 0 where
   pub owners : OwnersAreTold deck es
   pub replies : RepliesAreTold deck es
   pub tasks : TasksWait deck es
   pub units : UnitsAreReserved deck es
 
+-- Where a run is at rest, nothing is lost.
 abbrev pub RestsInTheEnd : Deck → List Event → Type 0
 RestsInTheEnd deck es = at_rest deck (run deck es) ≡ true → NothingIsLost deck es

@@ -1,16 +1,16 @@
 //! The laws of a run: each function's contract is one, and there is nothing to run.
 ghost use Rattle.std.specs.Prelude.{◌≡◌, true, false, List};
+ghost use Rattle.grs_wire.specs.Decks.{IsDeck};
 ghost use Rattle.grs_wire.specs.declared.deck.Deck.{Deck};
 ghost use Rattle.grs_wire.specs.declared.deck.Event.{Event};
 ghost use Rattle.grs_world.specs.Agree.{Sound};
-ghost use Rattle.grs_world.specs.AtRest.{OwnersAreTold, RepliesAreTold, TasksWait};
+ghost use Rattle.grs_world.specs.AtRest.{RestsInTheEnd};
 ghost use Rattle.grs_world.specs.Changing.{ChangesFixNothing};
 ghost use Rattle.grs_world.specs.Interest.{WordsGoWithSystems};
 ghost use Rattle.grs_world.specs.Kept.{KeptArePlaces, ManagersKeepWell};
 ghost use Rattle.grs_world.specs.Laps.{ComesBackLast, ProcessedLast, AnsweredLast};
 ghost use Rattle.grs_world.specs.Tables.{TablesAreFronts};
 ghost use Rattle.grs_world.specs.Decks.{FitsStar, may_be_star};
-ghost use Rattle.grs_world.specs.Running.{at_rest};
 ghost use Rattle.grs_world.specs.World.{run};
 
 /// Every run is sound, in ring mode and in star mode and where it changes from the one to the other, at whatever event: its
@@ -70,11 +70,11 @@ pub fn answers_come_last()
     ensures told { (deck : Deck) → deck.star ≡ false → (may_be_star deck ≡ true → FitsStar deck) → (events : List Event) (next : Event) → AnsweredLast deck events next }
 {}
 
-/// Where a run is in ring mode and at rest, nothing is left untold: each owner was told control of its element, each entry of a
-/// task's line that wasn't answered WAIT has its code line, and a task that hasn't ended waits for an element that it doesn't
-/// own, without which it doesn't go on. Nothing is said of units, nor of a run that has changed to star mode.
-pub fn told_at_rest()
-    ensures owners { (deck : Deck) → (may_be_star deck ≡ true → FitsStar deck) → (events : List Event) → (run deck events).medium.star ≡ false → at_rest deck (run deck events) ≡ true → OwnersAreTold deck events }
-    ensures replies { (deck : Deck) → (may_be_star deck ≡ true → FitsStar deck) → (events : List Event) → (run deck events).medium.star ≡ false → at_rest deck (run deck events) ≡ true → RepliesAreTold deck events }
-    ensures tasks { (deck : Deck) → (may_be_star deck ≡ true → FitsStar deck) → (events : List Event) → (run deck events).medium.star ≡ false → at_rest deck (run deck events) ≡ true → TasksWait deck events }
+/// Where a run of a deck that can be read ends at rest, in ring mode or in star mode, nothing is lost on the live systems: each
+/// of their tasks that owns a resource was told control of it, each of these tasks' ENQs and DEQs that wasn't answered WAIT has
+/// its code line, a task of theirs that hasn't ended is shown to wait and has an element that it doesn't own, for which its last
+/// entry waits or the WAIT line at which it stands, and each of their units is reserved as often as their tasks own a resource
+/// on which a RESERVE of the unit queued them.
+pub fn rests_in_the_end()
+    ensures { (deck : Deck) → IsDeck deck → (events : List Event) → RestsInTheEnd deck events }
 {}

@@ -114,7 +114,7 @@ module _ (deck : Deck) (s : ℕ) (P before later : List RunItem) (out : List Req
       let r = box-res xs q qs at in
       ap (λ w. one_by_one w qs) (look-none v q.task q.want r.0 r.1) ∙ looks-none v (xs ++ q ∷ []) qs (at ∙ sym (append_assoc xs (q ∷ []) qs))
 
-  box-none : one_by_one n.tasks n.outbox ≡ n.tasks
+  pub box-none : one_by_one n.tasks n.outbox ≡ n.tasks
   box-none = looks-none n.tasks [] n.outbox refl
 
 -- ---- a system that has processed all of the message, and whose tasks have none of what was fixed since

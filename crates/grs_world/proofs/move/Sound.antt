@@ -132,11 +132,11 @@ first_run deck fits = go deck.star refl
 pub every_run : (deck : Deck) → (may_be_star deck ≡ true → FitsStar deck) → (es : List Event) → GoodRun deck es (run deck es)
 every_run deck fits = each_run deck (GoodRun deck) (first_run deck fits) (λ es e g. next_good deck fits es e g)
 
-good_history : (deck : Deck) (es : List Event) (w : World) → GoodRun deck es w → IsHistory deck (items w.fixed)
+pub good_history : (deck : Deck) (es : List Event) (w : World) → GoodRun deck es w → IsHistory deck (items w.fixed)
 good_history deck es w (in_ring begins ring g d) = g.history
 good_history deck es w (in_star f g told d) = g.whole.right
 
-good_told : (deck : Deck) (es : List Event) (w : World) → GoodRun deck es w → GoodTold deck es w
+pub good_told : (deck : Deck) (es : List Event) (w : World) → GoodRun deck es w → GoodTold deck es w
 good_told deck es w (in_ring begins ring g d) = g.told
 good_told deck es w (in_star f g told d) = told
 

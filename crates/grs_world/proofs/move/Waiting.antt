@@ -251,7 +251,7 @@ module _ (deck : Deck) (w : World) (g : IsChanging deck w) (c : SysId) (n : Node
           }
 
   -- ---- its Turn at the closed message: it comes to what was shown of it
-  given : has (live w.medium) c.0 ≡ true → Bodies (fixeds (g.due c.0)) (unseen c w.medium.message.entries)
+  pub given : has (live w.medium) c.0 ≡ true → Bodies (fixeds (g.due c.0)) (unseen c w.medium.message.entries)
   given alive = given-due w.medium c g.before (g.due c.0) g.log (g.parts c.0) alive g.message
 
   asked-due : AllAsk deck (g.due c.0)
@@ -265,7 +265,7 @@ module _ (deck : Deck) (w : World) (g : IsChanging deck w) (c : SysId) (n : Node
   pub reads : has (live w.medium) c.0 ≡ true → read_entries deck n (unseen c w.medium.message.entries) ≡ read_all n (g.due c.0)
   reads alive = read-entries deck n (g.due c.0) (unseen c w.medium.message.entries) asked-due round-due (given alive)
 
-  comes-to : has (live w.medium) c.0 ≡ true → change_to_star deck (read_entries deck n (unseen c w.medium.message.entries)) ≡ k
+  pub comes-to : has (live w.medium) c.0 ≡ true → change_to_star deck (read_entries deck n (unseen c w.medium.message.entries)) ≡ k
   comes-to alive = ap (change_to_star deck) (reads alive) ∙ sym is
 
   turn-done : (change_to_star deck (read_entries deck n (unseen c w.medium.message.entries))).done ≡ n.done

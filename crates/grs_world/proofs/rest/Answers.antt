@@ -1,5 +1,5 @@
 -- A task whose own request is answered stays up to date.
-use Rattle.std.proofs.Common.{◌≡◌, ◌≢◌, ◌<◌, ◌≤◌, ◌-◌, ℕ, suc, Bool, true, false, cond, not, ◌&&◌, ◌||◌, List, [], ◌∷◌, ◌++◌, Option, Some, None, refl, ap, sym, ◌∙◌, subst, arith}
+use Rattle.std.proofs.Common.{◌≡◌, ◌≢◌, ◌-◌, ℕ, Bool, true, false, cond, List, [], ◌∷◌, ◌++◌, Option, Some, None, refl, sym, subst, arith}
 use Rattle.std.specs.Prelude.{◌==◌, slice_get}
 use Rattle.std.specs.List.{list_any}
 use Rattle.std.proofs.lemmas.Bool.{and_from, eq-eqb, eqb-true, eqb-false}
@@ -19,8 +19,8 @@ use Rattle.grs_wire.specs.declared.told.ToldLine.{ToldLine}
 use Rattle.grs_wire.specs.declared.told.ToldLine.TheVariants.{Coded}
 use Rattle.grs_wire.specs.declared.told.Verb.{Verb}
 use Rattle.grs_wire.specs.declared.told.Verb.TheVariants as verbs
-use Rattle.task_state.specs.Replies.{is_changed, is_granted, is_held, is_queued, phase_after, phase_asking, recalled, replied, tell_answer}
-use Rattle.task_state.specs.View.{TasksView, code_in, is_task, on_record, record_of, state_of, with_last, with_last_by, with_outstanding, with_phase, without_first}
+use Rattle.task_state.specs.Replies.{is_changed, is_granted, is_queued, phase_after, phase_asking, recalled, replied, tell_answer}
+use Rattle.task_state.specs.View.{TasksView, code_in, is_task, on_record, record_of, state_of, with_last, with_last_by, with_phase, without_first}
 use Rattle.task_state.specs.declared.state.Asked.{Asked}
 use Rattle.task_state.specs.declared.state.Phase.{Phase}
 use Rattle.task_state.specs.declared.state.Phase.TheVariants as phases
@@ -29,38 +29,65 @@ use Rattle.task_state.specs.declared.state.TaskState.{TaskState}
 use Rattle.grs_known.proofs.lists.Facts.{any-more, any-last}
 use Rattle.grs_known.proofs.system.Asking.{line_asked}
 use Rattle.grs_known.proofs.system.Did.{Did, did-after_code_deq, did-after_code_enq, did-after_code_release, did-none, did-outstanding, did-phase}
-use Rattle.grs_known.proofs.tasks.Asked.{any-after, by_code, told_after}
+use Rattle.grs_known.proofs.tasks.Asked.{any-after, told_after}
 use Rattle.grs_known.proofs.tasks.Decided.{enq_records}
-use Rattle.grs_known.proofs.tasks.Invariant.{Each, is_unsent}
+use Rattle.grs_known.proofs.tasks.Invariant.{Each, is_waiting}
 use Rattle.grs_known.proofs.tasks.Keys.{each-exclusive, each-push, each-without}
-use Rattle.grs_world.proofs.rest.UpToDate.{AreCoded, HasUnit, IsUpToDate, IsWanted, IsWantedBy, done_by, is_asking, is_code_at, is_kept, is_placed, unit_of}
+use Rattle.grs_world.proofs.rest.UpToDate.{AreCoded, HasUnit, IsUpToDate, IsWanted, IsWantedBy, done_by, is_code_at, is_kept, is_placed, unit_of}
 
 -- ---- what is told after a code
-coded-line : (ls : List Meaning) (T : List ToldLine) (t u : TaskId) (n : ℕ) (verb : Verb) (c : Code) → is_placed t u ≡ true → AreCoded ls T t (n - 1) → AreCoded ls (T ++ Coded u n 0 verb c ∷ []) t n
+pub coded-line : (ls : List Meaning) (T : List ToldLine) (t u : TaskId) (n : ℕ) (verb : Verb) (c : Code) → is_placed t u ≡ true → AreCoded ls T t (n - 1) → AreCoded ls (T ++ Coded u n 0 verb c ∷ []) t n
 coded-line ls T t u n verb c place h k low in_it asks = go (k == n) refl
   where
     go : (b : Bool) → (k == n) ≡ b → list_any (is_code_at t k) (T ++ Coded u n 0 verb c ∷ []) ≡ true
     go true e = any-last (is_code_at t k) T _ (and_from (is_placed t u) (n == k) place (eq-eqb n k (sym (eqb-true k n e))))
     go false e = let ne : k ≢ n = eqb-false k n e in any-more (is_code_at t k) T _ (h k low (omega (arith, in_it, ne)) asks)
 
+-- whether a task in this phase may be answered at once: it is at its lines, or ending
+abbrev pub is_free : Phase → Bool
+is_free phases.Ready = true
+is_free (phases.Ending c) = true
+is_free phases.HeldAnswer = false
+is_free (phases.HeldLine r) = false
+is_free phases.ToSend = false
+is_free phases.Sent = false
+is_free phases.Ended = false
+
+free-kept : (p : Phase) (xs : List Rec) → is_free p ≡ true → is_kept p xs ≡ true
+free-kept phases.Ready xs e = refl
+free-kept (phases.Ending c) xs e = refl
+free-kept phases.HeldAnswer xs e = absurd (cc)
+free-kept (phases.HeldLine r) xs e = absurd (cc)
+free-kept phases.ToSend xs e = absurd (cc)
+free-kept phases.Sent xs e = absurd (cc)
+free-kept phases.Ended xs e = absurd (cc)
+
+free-not : (p : Phase) → is_free p ≡ true → is_waiting p ≡ false
+free-not phases.Ready e = refl
+free-not (phases.Ending c) e = refl
+free-not phases.HeldAnswer e = absurd (cc)
+free-not (phases.HeldLine r) e = absurd (cc)
+free-not phases.ToSend e = absurd (cc)
+free-not phases.Sent e = absurd (cc)
+free-not phases.Ended e = absurd (cc)
+
+-- what holds of the phase after a code, and of what is told then: the task is held by its answer, or free and told the code
+by_phase : (Q : Phase → List ToldLine → Type 0) (T : List ToldLine) (u : TaskId) (n : ℕ) (verb : Verb) → Q phases.HeldAnswer T → ((c : Code) (p : Phase) → is_free p ≡ true → Q p (T ++ Coded u n 0 verb c ∷ [])) → (c : Code) → Q (phase_after c) (told_after T u n verb c)
+by_phase Q T u n verb held free Wait = held
+by_phase Q T u n verb held free C00 = free C00 phases.Ready refl
+by_phase Q T u n verb held free C04 = free C04 phases.Ready refl
+by_phase Q T u n verb held free C08 = free C08 phases.Ready refl
+by_phase Q T u n verb held free C14 = free C14 phases.Ready refl
+by_phase Q T u n verb held free C18 = free C18 phases.Ready refl
+by_phase Q T u n verb held free (End m) = free (End m) (phases.Ending m) refl
+
 -- lines up to that of the answer
 coded-after : (ls : List Meaning) (T : List ToldLine) (t u : TaskId) (n : ℕ) (verb : Verb) (c : Code) → is_placed t u ≡ true → AreCoded ls T t (n - 1) → AreCoded ls (told_after T u n verb c) t (done_by None (phase_after c) n)
-coded-after ls T t u n verb Wait place h = h
-coded-after ls T t u n verb C00 place h = coded-line ls T t u n verb C00 place h
-coded-after ls T t u n verb C04 place h = coded-line ls T t u n verb C04 place h
-coded-after ls T t u n verb C08 place h = coded-line ls T t u n verb C08 place h
-coded-after ls T t u n verb C14 place h = coded-line ls T t u n verb C14 place h
-coded-after ls T t u n verb C18 place h = coded-line ls T t u n verb C18 place h
-coded-after ls T t u n verb (End m) place h = coded-line ls T t u n verb (End m) place h
+coded-after ls T t u n verb c place h = by_phase (λ p U. AreCoded ls U t (done_by None p n)) T u n verb h
+    (λ d p free. subst (λ b. AreCoded ls (T ++ Coded u n 0 verb d ∷ []) t (cond b (n - 1) n)) (sym (free-not p free)) (coded-line ls T t u n verb d place h)) c
 
-kept-after : (c : Code) (xs : List Rec) → is_kept (phase_after c) xs ≡ true
-kept-after Wait xs = refl
-kept-after C00 xs = refl
-kept-after C04 xs = refl
-kept-after C08 xs = refl
-kept-after C14 xs = refl
-kept-after C18 xs = refl
-kept-after (End m) xs = refl
+kept-after : (t : TaskId) (c : Code) (xs : List Rec) → is_kept (phase_after c) xs ≡ true
+kept-after t c xs = by_phase (λ p U. is_kept p xs ≡ true) [] t 0 verbs.Enq refl (λ d p free. free-kept p xs free) c
 
 -- ---- records
 units-last : (ls : List Meaning) (xs : List Rec) (y : Rec) → Each (HasUnit ls) xs → HasUnit ls y → Each (HasUnit ls) (with_last xs y)
@@ -97,34 +124,6 @@ IsCoded (Deq r have) (CodedBy code) = Unit {0}
 IsCoded (Release r) (CodedBy code) = Unit {0}
 IsCoded w a = ⊥
 
--- whether a task in this phase may be answered at once: it is at its lines, or ending
-abbrev pub is_free : Phase → Bool
-is_free phases.Ready = true
-is_free (phases.Ending c) = true
-is_free phases.HeldAnswer = false
-is_free (phases.HeldLine r) = false
-is_free phases.ToSend = false
-is_free phases.Sent = false
-is_free phases.Ended = false
-
-free-kept : (p : Phase) (xs : List Rec) → is_free p ≡ true → is_kept p xs ≡ true
-free-kept phases.Ready xs e = refl
-free-kept (phases.Ending c) xs e = refl
-free-kept phases.HeldAnswer xs e = absurd (cc)
-free-kept (phases.HeldLine r) xs e = absurd (cc)
-free-kept phases.ToSend xs e = absurd (cc)
-free-kept phases.Sent xs e = absurd (cc)
-free-kept phases.Ended xs e = absurd (cc)
-
-free-not : (p : Phase) → is_free p ≡ true → (is_held p || is_unsent p) ≡ false
-free-not phases.Ready e = refl
-free-not (phases.Ending c) e = refl
-free-not phases.HeldAnswer e = absurd (cc)
-free-not (phases.HeldLine r) e = absurd (cc)
-free-not phases.ToSend e = absurd (cc)
-free-not phases.Sent e = absurd (cc)
-free-not phases.Ended e = absurd (cc)
-
 -- A task at this place asks this as it stands at x, where these lines were told: nothing else is outstanding, and it is done
 -- with all lines before.
 pub record IsDue (ls : List Meaning) (T : List ToldLine) (t : TaskId) (x : TaskState) (w : Want) (unit : Option ℕ) : Type 0 where
@@ -154,7 +153,7 @@ module _ (ls : List Meaning) (v v0 : TasksView) (t u : TaskId) (place : is_place
     date = record {
       closed = λ e. d.closed;
       wanted = subst (IsWantedBy ls x.line) (sym d.closed) tt;
-      held = kept-after code _;
+      held = kept-after t code _;
       coded = subst (λ o. AreCoded ls (told_after v.told u x.line verbs.Enq code) t (done_by o (phase_after code) x.line)) (sym d.closed) (coded-after ls v.told t u x.line verbs.Enq code place d.coded);
       units = units-enq ls r c unit ret code x.line x.records d.units d.wanted;
     };
@@ -167,7 +166,7 @@ module _ (ls : List Meaning) (v v0 : TasksView) (t u : TaskId) (place : is_place
     date = record {
       closed = λ e. d.closed;
       wanted = subst (IsWantedBy ls x.line) (sym d.closed) tt;
-      held = kept-after code _;
+      held = kept-after t code _;
       coded = subst (λ o. AreCoded ls (told_after v.told u x.line verbs.Deq code) t (done_by o (phase_after code) x.line)) (sym d.closed) (coded-after ls v.told t u x.line verbs.Deq code place d.coded);
       units = units-without ls (is_granted code) r x.records d.units;
     };

@@ -1,6 +1,6 @@
 -- Where nothing goes on and nothing is outstanding, owners and replies were told.
-use Rattle.std.proofs.Common.{◌≡◌, ◌≢◌, ◌<◌, ◌≤◌, ◌-◌, ◌+◌, ℕ, zero, suc, Bool, true, false, cond, not, ◌&&◌, ◌||◌, List, [], ◌∷◌, ◌++◌, length, map, take, Option, Some, None, refl, ap, sym, ◌∙◌, subst, arith, leb, leb-true, leb-false, length-append}
-use Rattle.std.specs.Prelude.{◌==◌, filter, is_some, nat_lt, slice_get}
+use Rattle.std.proofs.Common.{◌≡◌, ◌≢◌, ◌<◌, ◌≤◌, ◌-◌, ◌+◌, ℕ, zero, suc, Bool, true, false, cond, not, ◌&&◌, ◌||◌, List, [], ◌∷◌, ◌++◌, length, take, Option, Some, None, refl, ap, sym, ◌∙◌, subst, arith, leb, leb-true, leb-false, length-append}
+use Rattle.std.specs.Prelude.{◌==◌, is_some, nat_lt, slice_get}
 use Rattle.std.specs.List.{list_any, list_all}
 use Rattle.std.proofs.lemmas.Bool.{and_from, and_parts, eq-eqb, eqb-true, eqb-false, ltb-true, or_left, or_right}
 use Rattle.std.proofs.lemmas.Map.Views.{any-filter_same}
@@ -10,11 +10,10 @@ use Rattle.grs_base.specs.Same.{same_res, same_task}
 use Rattle.grs_base.specs.State.{list_of}
 use Rattle.grs_base.specs.declared.decision.Code.TheVariants.{Wait}
 use Rattle.grs_base.specs.declared.resource.Res.{Res}
-use Rattle.grs_base.specs.declared.resource.SysId.{SysId}
 use Rattle.grs_base.specs.declared.resource.TaskId.{TaskId}
 use Rattle.grs_base.proofs.SameLaws.{same_res-exact, same_task-exact, same_task-itself, same_res-itself}
 use Rattle.grs_legal.specs.Asks.{asks_in, asks_of, is_silent, lines_of}
-use Rattle.grs_legal.specs.Legal.{line_entries, end_among, entries_of, last_entry, passed_behind, passed_lines}
+use Rattle.grs_legal.specs.Legal.{line_entries, end_among, entries_of, last_entry}
 use Rattle.grs_legal.specs.declared.meaning.Meaning.{Meaning}
 use Rattle.grs_node.specs.Node.{NodeState, goes_on}
 use Rattle.grs_wire.specs.History.{answered, code_of, replay, is_by}
@@ -31,22 +30,21 @@ use Rattle.task_state.specs.declared.state.Phase.{Phase}
 use Rattle.task_state.specs.declared.state.Phase.TheVariants as phases
 use Rattle.task_state.specs.declared.state.Rec.{Rec}
 use Rattle.task_state.specs.declared.state.TaskState.{TaskState}
-use Rattle.task_state.proofs.ViewLaws.{is_task-system}
 use Rattle.grs_known.proofs.known.Histories.{IsHistory, replayed}
 use Rattle.grs_known.proofs.known.ItemLaws.{items_are_history, entries_are_of_items}
 use Rattle.grs_known.proofs.known.Knows.{knows-closed, speaks-known, known-all}
 use Rattle.grs_known.proofs.lists.Facts.{slice_get-past, some_of, take-none, all-filter}
 use Rattle.grs_known.proofs.lists.Truths.{no_truth, false_by}
-use Rattle.grs_known.proofs.system.Asking.{Opens, unasked, unasked-none}
+use Rattle.grs_known.proofs.system.Asking.{Opens, unasked-none}
 use Rattle.grs_known.proofs.system.Good.{IsGood}
-use Rattle.grs_known.proofs.system.Ours.{IsHere, IsOurs, same_place}
-use Rattle.grs_known.proofs.system.Says.{is_home_at, is_line_of}
+use Rattle.grs_known.proofs.system.Ours.{IsHere, IsOurs}
+use Rattle.grs_known.proofs.system.Says.{is_line_of}
 use Rattle.grs_known.proofs.tasks.Invariant.{Each, IsHeld, IsInPhase, IsRec, IsTask, is_unsent, IsHeldLine, IsWaitFor, code_bound, has_res}
 use Rattle.grs_known.specs.Items.{RunItem, history, items, lists, mine}
 use Rattle.grs_known.specs.Past.{Past, Speaks, past_of, has_own}
 use Rattle.grs_known.specs.Told.{AgreesOf, asked_at, entry_of_line, is_code_of, tells_control, is_code_before}
 use Rattle.grs_node.specs.Log.{end_in}
-use Rattle.grs_wire.specs.declared.seen.TaskEnd.TheVariants.{Ended, Waits}
+use Rattle.grs_wire.specs.declared.seen.TaskEnd.TheVariants.{Ended}
 use Rattle.grs_wire.specs.declared.seen.TaskEnd.TheVariants as ends
 use Rattle.grs_legal.specs.declared.meaning.Meaning.TheVariants as lines
 use Rattle.grs_known.proofs.known.Knowing.{all_is_known}
@@ -55,15 +53,15 @@ use Rattle.grs_known.proofs.lists.Own.{has_task-own}
 use Rattle.grs_known.proofs.tasks.Keys.{has_res-own}
 use Rattle.grs_known.specs.Known.{learned}
 use Rattle.grs_world.proofs.rest.Control.{is_unmarked}
-use Rattle.grs_world.proofs.rest.Held.{WaitsOn, all-well, no-tells, none-earlier, not-both, passes-at, unmarked-has, waits-among, waits_well}
+use Rattle.grs_world.proofs.rest.Held.{WaitsOn, all-well, first-found, no-tells, none-earlier, not-both, uncoded, unmarked-has, waits-among, waits_well}
 use Rattle.grs_world.specs.Running.{end_at, task_end}
 use Rattle.grs_world.proofs.rest.Marks.{is_marked}
 use Rattle.grs_world.proofs.rest.Steps.{AllDate, one-task}
-use Rattle.grs_world.proofs.rest.UpToDate.{done_by, is_asking, is_code_at, is_placed, is_kept}
+use Rattle.grs_world.proofs.rest.UpToDate.{done_by, has_code, is_code_at, is_placed, is_kept}
 use Rattle.grs_world.proofs.run.Runs.{GoodTold}
 use Rattle.grs_world.specs.Agree.{AgreesBy, AllAgree, lines_of_told, moment}
-use Rattle.grs_world.specs.AtRest.{IsThere, OwnersAreTold, RepliesAreTold, is_coded, is_waiting, lists_after, IsWaiting, TasksWait, waits_at, waits_on}
-use Rattle.grs_world.specs.World.{World, hist, run}
+use Rattle.grs_world.specs.AtRest.{IsThere, OwnersAreTold, RepliesAreTold, is_coded, is_waiting, lists_after, IsWaiting, TasksWait, first_uncoded, is_next, is_uncoded, is_wait, stands_at, waits_at, waits_on}
+use Rattle.grs_world.specs.World.{hist, run}
 
 -- System s, where these items were fixed: nothing goes on by itself and nothing is outstanding, and who owns by all items is
 -- marked.
@@ -76,13 +74,18 @@ pub record IsStill (deck : Deck) (s : ℕ) (P : List RunItem) (n : NodeState) : 
   pub date : AllDate deck n.tasks
 
 -- ---- lists
-more-asks : (a b : ℕ) → a ≤ b → (ls : List Meaning) → length (asks_of (take a ls)) ≤ length (asks_of (take b ls))
+pub more-asks : (a b : ℕ) → a ≤ b → (ls : List Meaning) → length (asks_of (take a ls)) ≤ length (asks_of (take b ls))
 more-asks zero b l ls = subst (λ (xs : List Meaning). length (asks_of xs) ≤ length (asks_of (take b ls))) (sym (take-none ls)) (omega arith)
 more-asks (suc a) zero l ls = absurd (omega (arith, l))
 more-asks (suc a) (suc b) l [] = omega arith
 more-asks (suc a) (suc b) l (m ∷ ls) =
     let h = more-asks a b (omega (arith, l)) ls in
     omega (arith, h, length-append (asks_in m) (asks_of (take a ls)), length-append (asks_in m) (asks_of (take b ls)))
+
+-- whether a line is there and asks something
+abbrev is_asking : Option Meaning → Bool
+is_asking None = false
+is_asking (Some l) = not (is_silent l)
 
 -- an entry of a line is there: the line asks, and its place is one of the entries
 of-line : (ls : List Meaning) (E : List HistEntry) (k : ℕ) (h : HistEntry) → entry_of_line ls E k ≡ Some h → (is_asking (slice_get ls (k - 1)) ≡ true) × (length (asks_of (take (k - 1) ls)) < length E)
@@ -115,6 +118,30 @@ marked-tells ls E T has leaving t line p r (x ∷ xs) h none m = go (same_res r 
     go true e false f k more = more k
     go false e c f k more = more k
 
+-- what a line asks is answered by a code
+asking-code : (o : Option Meaning) → is_asking o ≡ true → has_code o ≡ true
+asking-code None e = absurd (cc)
+asking-code (Some (lines.Enq r c ret unit)) e = refl
+asking-code (Some (lines.Deq r have)) e = refl
+asking-code (Some (lines.Wait r)) e = absurd (cc)
+asking-code (Some lines.Nothing) e = absurd (cc)
+
+-- and so is a WAIT line
+wait-code : (o : Option Meaning) → is_wait o ≡ true → has_code o ≡ true
+wait-code None e = absurd (cc)
+wait-code (Some (lines.Enq r c ret unit)) e = absurd (cc)
+wait-code (Some (lines.Deq r have)) e = absurd (cc)
+wait-code (Some (lines.Wait r)) e = refl
+wait-code (Some lines.Nothing) e = absurd (cc)
+
+-- a WAIT line asks nothing
+wait-silent : (r : Res) (o : Option Meaning) → IsWaitFor r o → is_asking o ≡ true → ⊥
+wait-silent r None w e = w
+wait-silent r (Some (lines.Enq q c ret unit)) w e = w
+wait-silent r (Some (lines.Deq q have)) w e = w
+wait-silent r (Some (lines.Wait q)) w e = absurd (cc)
+wait-silent r (Some lines.Nothing) w e = w
+
 -- ---- lines
 tells-home : (t : TaskId) (ls : List Meaning) (E : List HistEntry) (r : Res) (l : ToldLine) → tells_control t ls E r l ≡ true → is_line_of t.system.0 l ≡ true
 tells-home t ls E r (told.Coded u k part verb code) e = home t u (and_parts (same_task t u) _ e).0
@@ -128,6 +155,13 @@ tells-home t ls E r (told.Post u k) e = home t u (and_parts (same_task t u) _ e)
     home t u f = eq-eqb u.system.0 t.system.0 (ap (λ (z : TaskId). z.system.0) (sym (same_task-exact t u f)))
 tells-home t ls E r (told.Ended u code) e = absurd (cc)
 tells-home t ls E r (told.Desk k said) e = absurd (cc)
+
+code_of-home : (t : TaskId) (k : ℕ) (l : ToldLine) → is_code_of t k l ≡ true → is_line_of t.system.0 l ≡ true
+code_of-home t k (told.Coded u j part verb code) e = ap (λ (z : TaskId). z.system.0 == t.system.0) (sym (same_task-exact t u (and_parts (same_task t u) (j == k) e).0)) ∙ eq-eqb t.system.0 t.system.0 refl
+code_of-home t k (told.Shown u j verb code rows) e = ap (λ (z : TaskId). z.system.0 == t.system.0) (sym (same_task-exact t u (and_parts (same_task t u) (j == k) e).0)) ∙ eq-eqb t.system.0 t.system.0 refl
+code_of-home t k (told.Post u j) e = absurd (cc)
+code_of-home t k (told.Ended u code) e = absurd (cc)
+code_of-home t k (told.Desk j said) e = absurd (cc)
 
 code-home : (t : TaskId) (k : ℕ) (l : ToldLine) → is_code_at t k l ≡ true → is_line_of t.system.0 l ≡ true
 code-home t k (told.Coded u j part verb code) e = placed-home t u (and_parts (is_placed t u) (j == k) e).0
@@ -229,9 +263,17 @@ module _ (deck : Deck) (es : List Event) (right : IsHistory deck (items (run dec
     task_is : IsTask ls p found.0.tasks.told (λ r. false) t (state_of found.0.tasks t)
     task_is = subst (λ o. IsTask ls p n.tasks.told (λ r. is_leaving r o) t y) idle (subst (λ x. IsTask ls p n.tasks.told (λ r. is_leaving r y.outstanding) t x) (unasked-none y idle) here_is.task)
 
-    -- its system's lines are told
+    -- its system's lines are told, and no others of it
+    told-same : (q : ToldLine → Bool) → ((l : ToldLine) → q l ≡ true → is_line_of t.system.0 l ≡ true) → list_any q (lines_of_told (run deck es).told) ≡ list_any q found.0.tasks.told
+    told-same q home = sym (any-filter_same q (is_line_of t.system.0) true home (lines_of_told (run deck es).told)) ∙ (ap (list_any q) (sym (g.lines t.system.0 n found.1)) ∙ any-filter_same q (is_line_of t.system.0) true home n.tasks.told)
+
     all-told : (q : ToldLine → Bool) → ((l : ToldLine) → q l ≡ true → is_line_of t.system.0 l ≡ true) → list_any q found.0.tasks.told ≡ true → list_any q (lines_of_told (run deck es).told) ≡ true
-    all-told q home h = sym (any-filter_same q (is_line_of t.system.0) true home (lines_of_told (run deck es).told)) ∙ (ap (list_any q) (sym (g.lines t.system.0 n found.1)) ∙ (any-filter_same q (is_line_of t.system.0) true home n.tasks.told ∙ h))
+    all-told q home h = told-same q home ∙ h
+
+    -- each line up to the one that it is done with has its code line
+    code-told : (j m : ℕ) → done_by None (state_of found.0.tasks t).phase (state_of found.0.tasks t).line ≡ m → 0 < j → j ≤ m → has_code (slice_get ls (j - 1)) ≡ true → list_any (is_code_of t j) (lines_of_told (run deck es).told) ≡ true
+    code-told j m is low l has = code-exact deck n.tasks t ls there.lines ours.here es [] (run deck es).told j g.agree
+        (all-told (is_code_at t j) (code-home t j) ((k.date t ls there.lines ours.here).coded j low (subst (λ o. j ≤ done_by o y.phase y.line) (sym idle) (subst (λ i. j ≤ i) (sym is) l)) has))
 
     -- an owner was told
     owner-told : (r : Res) → owns (list_of (lists_after deck es) r) t ≡ true → list_any (tells_control t ls (line_entries t (hist deck es)) r) (lines_of_told (run deck es).told) ≡ true
@@ -241,7 +283,7 @@ module _ (deck : Deck) (es : List Event) (right : IsHistory deck (items (run dec
 
     -- a reply was told
     reply-told : (j : ℕ) (h : HistEntry) → 0 < j → entry_of_line ls (line_entries t (hist deck es)) j ≡ Some h → is_coded h ≡ true → list_any (is_code_of t j) (lines_of_told (run deck es).told) ≡ true
-    reply-told j h low at coded = code-exact deck n.tasks t ls there.lines ours.here es [] (run deck es).told j g.agree (all-told (is_code_at t j) (code-home t j) (by_phase y.phase refl))
+    reply-told j h low at coded = by_phase y.phase refl
       where
         at_past : entry_of_line ls p.asked j ≡ Some h
         at_past = subst (λ E. entry_of_line ls E j ≡ Some h) entries_are at
@@ -259,22 +301,28 @@ module _ (deck : Deck) (es : List Event) (right : IsHistory deck (items (run dec
             go false e = let past : j - 1 < y.line = leb-false y.line (j - 1) e in omega (arith, past)
             go true e = absurd (omega (arith, more-asks y.line (j - 1) (leb-true y.line (j - 1) e) ls, (of-line ls p.asked j h at_past).1, count))
 
-        date : (m : ℕ) → done_by None (state_of found.0.tasks t).phase (state_of found.0.tasks t).line ≡ m → j ≤ m → list_any (is_code_at t j) found.0.tasks.told ≡ true
-        date m is l = (k.date t ls there.lines ours.here).coded j low (subst (λ o. j ≤ done_by o y.phase y.line) (sym idle) (subst (λ i. j ≤ i) (sym is) l)) asks
+        date : (m : ℕ) → done_by None (state_of found.0.tasks t).phase (state_of found.0.tasks t).line ≡ m → j ≤ m → list_any (is_code_of t j) (lines_of_told (run deck es).told) ≡ true
+        date m is l = code-told j m is low l (asking-code (slice_get ls (j - 1)) asks)
 
-        by_phase : (q : Phase) → (state_of found.0.tasks t).phase ≡ q → list_any (is_code_at t j) found.0.tasks.told ≡ true
+        by_phase : (q : Phase) → (state_of found.0.tasks t).phase ≡ q → list_any (is_code_of t j) (lines_of_told (run deck es).told) ≡ true
         by_phase phases.Ready e = absurd (let f : true ≡ false = sym (ap goes_on e) ∙ (k.calm t ls ours).0 in cc)
         by_phase (phases.Ending c) e = absurd (let f : true ≡ false = sym (ap goes_on e) ∙ (k.calm t ls ours).0 in cc)
         by_phase phases.ToSend e = absurd (let f : true ≡ false = sym (ap is_unsent e) ∙ (k.calm t ls ours).1 in cc)
         by_phase phases.Sent e = absurd (let f : true ≡ false = sym (ap is_unsent e) ∙ (k.calm t ls ours).1 in cc)
-        by_phase (phases.HeldLine r) e = date y.line (ap (λ q. done_by None q y.line) e) within
+        by_phase (phases.HeldLine r) e = date (y.line - 1) (ap (λ q. done_by None q y.line) e) (omega (arith, within, low, apart))
+          where
+            hl : IsHeldLine ls p found.0.tasks.told t (state_of found.0.tasks t).line r
+            hl = subst (IsInPhase ls p n.tasks.told t y.line) e task_is.phase
+
+            apart : j ≢ (state_of found.0.tasks t).line
+            apart same = wait-silent r (slice_get ls (j - 1)) (subst (λ i. IsWaitFor r (slice_get ls (i - 1))) (sym same) hl.at) asks
         by_phase phases.Ended e = date y.line (ap (λ q. done_by None q y.line) e) within
         by_phase phases.HeldAnswer e = go (j == y.line) refl
           where
             held : IsHeld ls p found.0.tasks.told t (state_of found.0.tasks t).line
             held = subst (IsInPhase ls p n.tasks.told t y.line) e task_is.phase
 
-            go : (b : Bool) → (j == (state_of found.0.tasks t).line) ≡ b → list_any (is_code_at t j) found.0.tasks.told ≡ true
+            go : (b : Bool) → (j == (state_of found.0.tasks t).line) ≡ b → list_any (is_code_of t j) (lines_of_told (run deck es).told) ≡ true
             go false f = let ne : j ≢ y.line = eqb-false j y.line f in date (y.line - 1) (ap (λ q. done_by None q y.line) e) (omega (arith, within, ne, low))
             go true f =
                 let same : Some held.last ≡ Some h = sym held.of_line ∙ (ap (entry_of_line ls p.asked) (sym (eqb-true j y.line f)) ∙ at_past) in
@@ -297,7 +345,7 @@ module _ (deck : Deck) (es : List Event) (right : IsHistory deck (items (run dec
     held_line : (r : Res) → (state_of found.0.tasks t).phase ≡ phases.HeldLine r → IsWaiting deck es t ls
     held_line r e = record {
       res = r;
-      held = or_right (waits_on r (last_entry (entries_of t (hist deck es)))) (list_any (waits_at r) (passed_lines t ls (hist deck es))) passes;
+      held = or_right (waits_on r (last_entry (entries_of t (hist deck es)))) (stands_at r ls (line_entries t (hist deck es)) (first_uncoded t ls (lines_of_told (run deck es).told))) stands;
       queued = has_element r (unmarked-has r y.records unmarked);
       waits = unowned r (λ m. not-both r y.records task_is.distinct m unmarked);
       shown = end_is ∙ ap end_in e;
@@ -309,33 +357,48 @@ module _ (deck : Deck) (es : List Event) (right : IsHistory deck (items (run dec
         hl : IsHeldLine ls p found.0.tasks.told t (state_of found.0.tasks t).line r
         hl = subst (IsInPhase ls p n.tasks.told t y.line) e task_is.phase
 
-        line_at : (o : Option Meaning) → IsWaitFor r o → (l : Meaning) × (o ≡ Some l) × (is_silent l ≡ true) × (asks_in l ≡ []) × (waits_at r l ≡ true)
+        line_at : (o : Option Meaning) → IsWaitFor r o → (l : Meaning) × (o ≡ Some l) × (asks_in l ≡ []) × (waits_at r o ≡ true) × (is_wait o ≡ true)
         line_at None w = absurd w
         line_at (Some (lines.Enq q ctl ret unit)) w = absurd w
         line_at (Some (lines.Deq q have)) w = absurd w
         line_at (Some lines.Nothing) w = absurd w
-        line_at (Some (lines.Wait q)) w = (lines.Wait q, refl, refl, refl, subst (λ z. same_res r z ≡ true) (sym w) (same_res-itself r))
+        line_at (Some (lines.Wait q)) w = (lines.Wait q, refl, refl, subst (λ z. same_res r z ≡ true) (sym w) (same_res-itself r), refl)
 
-        found_line : (l : Meaning) × (slice_get ls ((state_of found.0.tasks t).line - 1) ≡ Some l) × (is_silent l ≡ true) × (asks_in l ≡ []) × (waits_at r l ≡ true)
+        found_line : (l : Meaning) × (slice_get ls ((state_of found.0.tasks t).line - 1) ≡ Some l) × (asks_in l ≡ []) × (waits_at r (slice_get ls ((state_of found.0.tasks t).line - 1)) ≡ true) × (is_wait (slice_get ls ((state_of found.0.tasks t).line - 1)) ≡ true)
         found_line = line_at (slice_get ls (y.line - 1)) hl.at
 
         count : length p.asked ≡ length (asks_of (take ((state_of found.0.tasks t).line - 1) ls))
         count =
             let back : y.line - 1 + 1 ≡ y.line = omega (arith, hl.begun) in
-            task_is.count (k.calm t ls ours).1 ∙ (ap (λ m. length (asks_of (take m ls))) (sym back) ∙ ap (λ xs. length xs) (asks-same ls (y.line - 1) found_line.0 found_line.1 found_line.3))
+            task_is.count (k.calm t ls ours).1 ∙ (ap (λ m. length (asks_of (take m ls))) (sym back) ∙ ap (λ xs. length xs) (asks-same ls (y.line - 1) found_line.0 found_line.1 found_line.2))
 
-        core : list_any (waits_at r) (passed_behind (length p.asked) ls) ≡ true
-        core = subst (λ m. list_any (waits_at r) (passed_behind m ls) ≡ true) (sym count) (passes-at (waits_at r) ls (y.line - 1) found_line.0 found_line.1 found_line.2 found_line.4)
+        -- it has no code line, and each WAIT line before has one
+        none_yet : list_any (is_code_of t (state_of found.0.tasks t).line) (lines_of_told (run deck es).told) ≡ false
+        none_yet = told-same (is_code_of t y.line) (code_of-home t y.line) ∙ uncoded t y.line n.tasks.told (subst (λ q. list_all (is_code_before t (code_bound q y.line)) n.tasks.told ≡ true) e task_is.codes)
 
-        passes : list_any (waits_at r) (passed_lines t ls (hist deck es)) ≡ true
-        passes = subst (λ E. list_any (waits_at r) (cond (is_some (end_among E)) [] (passed_behind (length E) ls)) ≡ true) (sym entries_are)
-            (subst (λ o. list_any (waits_at r) (cond (is_some o) [] (passed_behind (length p.asked) ls)) ≡ true) (sym hl.going.no_code) core)
+        before : (j : ℕ) → 1 ≤ j → j < (state_of found.0.tasks t).line → is_uncoded t ls (lines_of_told (run deck es).told) j ≡ false
+        before j low l = go (is_wait (slice_get ls (j - 1))) refl
+          where
+            go : (b : Bool) → is_wait (slice_get ls (j - 1)) ≡ b → (b && not (list_any (is_code_of t j) (lines_of_told (run deck es).told))) ≡ false
+            go false f = refl
+            go true f = ap not (code-told j (y.line - 1) (ap (λ q. done_by None q y.line) e) (omega (arith, low)) (omega (arith, l)) (wait-code (slice_get ls (j - 1)) f))
+
+        first : first_uncoded t ls (lines_of_told (run deck es).told) ≡ Some (state_of found.0.tasks t).line
+        first = first-found (is_uncoded t ls (lines_of_told (run deck es).told)) 1 (length ls) y.line (omega (arith, hl.begun)) (omega (arith, slice_get_within ls (y.line - 1) found_line.0 found_line.1))
+            (and_from (is_wait (slice_get ls (y.line - 1))) (not (list_any (is_code_of t y.line) (lines_of_told (run deck es).told))) found_line.4 (ap not none_yet)) before
+
+        next : is_next ls p.asked (state_of found.0.tasks t).line ≡ true
+        next = and_from (not (is_some (end_among p.asked))) (length (asks_of (take (y.line - 1) ls)) == length p.asked) (ap (λ o. not (is_some o)) hl.going.no_code) (eq-eqb _ _ (sym count))
+
+        stands : stands_at r ls (line_entries t (hist deck es)) (first_uncoded t ls (lines_of_told (run deck es).told)) ≡ true
+        stands = subst (λ o. stands_at r ls (line_entries t (hist deck es)) o ≡ true) (sym first)
+            (subst (λ E. (waits_at r (slice_get ls (y.line - 1)) && is_next ls E y.line) ≡ true) (sym entries_are) (and_from (waits_at r (slice_get ls (y.line - 1))) (is_next ls p.asked y.line) found_line.3 next))
 
     -- by its last answer
     held_answer : (state_of found.0.tasks t).phase ≡ phases.HeldAnswer → IsWaiting deck es t ls
     held_answer e = record {
       res = w.res;
-      held = or_left (waits_on w.res (last_entry (entries_of t (hist deck es)))) (list_any (waits_at w.res) (passed_lines t ls (hist deck es))) (ap (waits_on w.res) last_is ∙ w.waits);
+      held = or_left (waits_on w.res (last_entry (entries_of t (hist deck es)))) (stands_at w.res ls (line_entries t (hist deck es)) (first_uncoded t ls (lines_of_told (run deck es).told))) (ap (waits_on w.res) last_is ∙ w.waits);
       queued = has_element w.res (has_res-own w.res y.records p.own task_is.keys ∙ w.has);
       waits = unowned w.res (λ m. no_truth (list_any (tells_control t ls p.asked w.res) n.tasks.told) (marked-tells ls p.asked n.tasks.told p.owns (λ q. false) t y.line y.phase w.res y.records task_is.records (λ q. refl) m) none_told);
       shown = end_is ∙ ap end_in e;

@@ -1,10 +1,10 @@
 -- What telling control of a resource does to a task, case by case: it is marked on record, and a line tells it, unless the
 -- task is about to give the resource up; and who waits for just that goes on.
-use Rattle.std.proofs.Common.{◌≡◌, ◌≢◌, ℕ, suc, Bool, true, false, cond, not, ◌&&◌, ◌||◌, List, [], ◌∷◌, ◌++◌, Option, Some, None, refl, ap, sym, ◌∙◌, subst, arith}
+use Rattle.std.proofs.Common.{◌≡◌, ℕ, suc, Bool, true, false, cond, not, ◌&&◌, ◌||◌, List, [], ◌∷◌, ◌++◌, Option, Some, None, refl, ap, sym, ◌∙◌, subst, arith}
 use Rattle.std.specs.Prelude.{◌==◌, slice_get}
 use Rattle.std.specs.List.{list_any}
 use Rattle.std.proofs.lemmas.Bool.{and_parts, cases_Bool, eqb-true, or_left, or_right}
-use Rattle.grs_base.specs.Same.{same_res, same_task}
+use Rattle.grs_base.specs.Same.{same_res}
 use Rattle.grs_base.specs.declared.resource.Res.{Res}
 use Rattle.grs_base.specs.declared.resource.TaskId.{TaskId}
 use Rattle.grs_base.specs.declared.decision.Code.TheVariants.{C00}
@@ -17,7 +17,7 @@ use Rattle.task_state.specs.declared.state.Rec.{Rec}
 use Rattle.task_state.specs.declared.state.Phase.{Phase}
 use Rattle.task_state.specs.declared.state.Phase.TheVariants as phases
 use Rattle.task_state.specs.declared.state.TaskState.{TaskState}
-use Rattle.task_state.specs.View.{TasksView, is_task, state_of, with_state, with_phase, with_told, telling, record_of, record_place, on_record}
+use Rattle.task_state.specs.View.{TasksView, is_task, state_of, with_phase, with_told, telling, record_of, record_place, on_record}
 use Rattle.task_state.specs.Replies.{is_leaving, is_held, is_held_for, tell_control, tell_untold, tell_line, passes_wait}
 use Rattle.grs_known.proofs.lists.Facts.{any-more}
 use Rattle.grs_known.proofs.lists.Truths.{no_truth}

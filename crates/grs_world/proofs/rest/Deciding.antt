@@ -1,15 +1,12 @@
 -- A request is decided by lists, and told of: the records of a system's tasks go on with its lists.
-use Rattle.std.proofs.Common.{◌≡◌, ◌≢◌, ℕ, suc, Bool, true, false, cond, not, ◌&&◌, ◌||◌, List, [], ◌∷◌, ◌++◌, Option, Some, None, refl, ap, sym, ◌∙◌, subst, arith}
-use Rattle.std.specs.Prelude.{◌==◌}
-use Rattle.std.proofs.lemmas.Bool.{eqb-true, eqb-false}
-use Rattle.grs_base.specs.Lists.{deq_code, standing_of}
+use Rattle.std.proofs.Common.{◌≡◌, ℕ, Bool, true, false, cond, List, Option, Some, refl, ap, sym, ◌∙◌, subst}
 use Rattle.grs_base.specs.Same.{same_res, same_task}
-use Rattle.grs_base.specs.State.{State, list_of, enq_code, deq_reply}
+use Rattle.grs_base.specs.State.{State, enq_code, deq_reply}
 use Rattle.grs_base.specs.declared.decision.Code.{Code}
 use Rattle.grs_base.specs.declared.decision.Code.TheVariants.{C00, C04, C08, C14, C18, Wait, End}
 use Rattle.grs_base.specs.declared.resource.Res.{Res}
 use Rattle.grs_base.specs.declared.resource.TaskId.{TaskId}
-use Rattle.grs_base.proofs.SameLaws.{same_res-exact, same_task-exact, same_task-itself}
+use Rattle.grs_base.proofs.SameLaws.{same_res-exact, same_task-exact}
 use Rattle.grs_legal.specs.declared.meaning.Meaning.{Meaning}
 use Rattle.grs_wire.specs.Wants.{after_want, answer_to, new_owners, res_wanted}
 use Rattle.grs_wire.specs.declared.deck.Deck.{Deck}
@@ -32,7 +29,6 @@ use Rattle.grs_known.proofs.tasks.Decided.{enq_records}
 use Rattle.grs_known.proofs.tasks.Invariant.{has_res, is_distinct}
 use Rattle.grs_world.proofs.rest.Lists.{Matches, enq-elsewhere, has-without, marked-without, matches-deq, matches-enq, matches-other, matches-records, matches-release}
 use Rattle.grs_world.proofs.rest.Marks.{is_marked}
-use Rattle.grs_world.proofs.rest.Places.{state_at}
 use Rattle.grs_world.proofs.rest.ToldAll.{ToldAll, told-all}
 
 -- A test of phases that no answer gives, but the wait for one.

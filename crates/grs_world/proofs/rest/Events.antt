@@ -1,8 +1,7 @@
 -- Each task of a system stays up to date in every event of the system.
-use Rattle.std.proofs.Common.{◌≡◌, ◌≢◌, ◌<◌, ◌≤◌, ◌-◌, ◌+◌, ℕ, suc, Bool, true, false, cond, not, ◌&&◌, ◌||◌, List, [], ◌∷◌, ◌++◌, Option, Some, None, refl, ap, sym, ◌∙◌, subst, arith}
-use Rattle.std.specs.Prelude.{◌==◌, is_some, slice_get, take, drop}
-use Rattle.std.specs.List.{list_all, list_any}
-use Rattle.std.proofs.lemmas.Bool.{and_parts, and_from, cases_Bool}
+use Rattle.std.proofs.Common.{◌≡◌, ◌-◌, ◌+◌, ℕ, Bool, true, false, cond, not, ◌&&◌, ◌||◌, List, [], ◌∷◌, ◌++◌, Option, Some, None, refl, ap, sym, ◌∙◌, subst, arith}
+use Rattle.std.specs.List.{list_all}
+use Rattle.std.proofs.lemmas.Bool.{and_parts, and_from}
 use Rattle.grs_base.specs.Same.{same_res}
 use Rattle.grs_base.specs.State.{State}
 use Rattle.grs_base.specs.declared.resource.Elem.{Elem}
@@ -10,13 +9,11 @@ use Rattle.grs_base.specs.declared.resource.Res.{Res}
 use Rattle.grs_base.specs.declared.resource.TaskId.{TaskId}
 use Rattle.grs_legal.specs.Asks.{lines_of}
 use Rattle.grs_legal.specs.declared.meaning.Meaning.{Meaning}
-use Rattle.grs_node.specs.Change.{one_by_one, with_first_look, with_list_ranks, with_rank_by, with_ranks}
-use Rattle.grs_node.specs.Node.{NodeState, all_sent, is_of_deck, process_removal, read_entries, read_entry, with_side}
+use Rattle.grs_node.specs.Change.{with_list_ranks, with_rank_by, with_ranks}
+use Rattle.grs_node.specs.Node.{NodeState, all_sent, is_of_deck, read_entries, read_entry}
 use Rattle.grs_wire.specs.Wants.{answer_to, new_owners, res_wanted}
 use Rattle.grs_wire.specs.contracts.request.WantPartialEq.TheImpl.{eq-value as same_want}
 use Rattle.grs_wire.specs.declared.deck.Deck.{Deck}
-use Rattle.grs_wire.specs.declared.medium.Mail.{Mail}
-use Rattle.grs_wire.specs.declared.medium.Mail.TheVariants.{Request as Requests, Answered, Granted}
 use Rattle.grs_wire.specs.declared.medium.RingBody.{RingBody}
 use Rattle.grs_wire.specs.declared.medium.RingBody.TheVariants.{Request, Remove}
 use Rattle.grs_wire.specs.declared.medium.RingEntry.{RingEntry}
@@ -29,22 +26,21 @@ use Rattle.grs_wire.specs.declared.told.ToldLine.{ToldLine}
 use Rattle.grs_wire.proofs.WantLaws.{by_test}
 use Rattle.lock_structure.specs.RankedRows.{RankedRow}
 use Rattle.ring_mode.specs.Ring.{Side, answer_own, is_asked, is_for_all, process, process_entry, side_of}
-use Rattle.star_client.specs.Client.{after_mail, can_get, has_effect, has_sent, is_awaited, tell_answer_any_ranked, tell_answer_ranked, unrecorded, with_rank_of}
-use Rattle.task_state.specs.Replies.{is_held, tell_answer, tell_answer_any, tell_new}
+use Rattle.star_client.specs.Client.{can_get, tell_answer_ranked, unrecorded, with_rank_of}
+use Rattle.task_state.specs.Replies.{tell_answer, tell_answer_any}
 use Rattle.task_state.specs.View.{TasksView, is_sent, is_task, on_record, state_of, telling, with_phase, with_rank}
 use Rattle.task_state.specs.declared.state.Asked.{Asked}
 use Rattle.task_state.specs.declared.state.Phase.{Phase}
 use Rattle.task_state.specs.declared.state.Phase.TheVariants as phases
 use Rattle.task_state.specs.declared.state.Rec.{Rec}
-use Rattle.task_state.specs.declared.state.TaskState.{TaskState}
 use Rattle.task_state.proofs.ViewLaws.{is_task-state, is_task-telling, state_of-telling, told-telling}
 use Rattle.grs_known.proofs.lists.Facts.{any-more, some_of}
-use Rattle.grs_known.proofs.system.Did.{Did, did-none, did-phase, did-state, did-telling}
-use Rattle.grs_known.proofs.tasks.Invariant.{Each, is_unsent}
-use Rattle.grs_world.proofs.rest.Answers.{IsAnswered, IsCoded, answer-told}
+use Rattle.grs_known.proofs.system.Did.{Did, did-none, did-phase, did-state}
+use Rattle.grs_known.proofs.tasks.Invariant.{Each, is_waiting}
+use Rattle.grs_world.proofs.rest.Answers.{IsCoded, answer-told}
 use Rattle.grs_world.proofs.rest.Control.{is_unmarked}
-use Rattle.grs_world.proofs.rest.Steps.{AllDate, date-control, date-did, date-new, date-own, placed-here}
-use Rattle.grs_world.proofs.rest.UpToDate.{AreCoded, HasUnit, IsUpToDate, IsWanted, IsWantedBy, done_by, is_code_at, is_kept, is_placed, more-told}
+use Rattle.grs_world.proofs.rest.Steps.{AllDate, date-did, date-new, date-own, placed-here}
+use Rattle.grs_world.proofs.rest.UpToDate.{AreCoded, HasUnit, IsUpToDate, IsWanted, IsWantedBy, done_by, is_kept, more-told}
 
 -- ---- the answer to an outstanding request
 -- a task of the deck that has this outstanding gets its answer
@@ -100,7 +96,7 @@ date-entries deck (e ∷ es) n h = date-entries deck es (read_entry deck n e.bod
 -- ---- a request was sent
 coded-less : (ls : List Meaning) (T : List ToldLine) (t : TaskId) (o : Option Asked) (p : Phase) (n : ℕ) → AreCoded ls T t (done_by o p n) → AreCoded ls T t (done_by o phases.Sent n)
 coded-less ls T t (Some a) p n h = h
-coded-less ls T t None p n h = go (is_held p || is_unsent p) h
+coded-less ls T t None p n h = go (is_waiting p) h
   where
     go : (b : Bool) → AreCoded ls T t (cond b (n - 1) n) → AreCoded ls T t (n - 1)
     go true k = k
@@ -175,7 +171,7 @@ date-ranks deck [] v h = h
 date-ranks deck (x ∷ xs) v h = date-ranks deck xs (with_list_ranks v x.0.res x.0.elems x.1) (date-list_ranks deck x.0.res x.0.elems x.1 v h)
 
 -- ---- mail
-can_get-coded : (ls : List Meaning) (n : ℕ) (w : Want) (unit : Option ℕ) (answer : Answer) → can_get w answer ≡ true → IsWanted ls n w unit → IsCoded w answer
+pub can_get-coded : (ls : List Meaning) (n : ℕ) (w : Want) (unit : Option ℕ) (answer : Answer) → can_get w answer ≡ true → IsWanted ls n w unit → IsCoded w answer
 can_get-coded ls n (Enq r c ret full) unit (CodedBy code) e k = tt
 can_get-coded ls n (Enq r c ret full) unit (Rows rows) e k = absurd (cc)
 can_get-coded ls n (Deq r have) unit (CodedBy code) e k = tt
@@ -197,30 +193,6 @@ date-ranked deck v u a answer rank h of_deck here asks is = go (unrecorded v u (
     go : (o : Option Res) → AllDate deck (with_rank_of (tell_answer v u a answer) u o rank)
     go None = date-answer deck v u a answer h of_deck here asks is
     go (Some r) = date-rank deck (tell_answer v u a answer) u r rank (date-answer deck v u a answer h of_deck here asks is) (here-answer deck v u a answer h of_deck here asks is)
-
-pub date-answered : (deck : Deck) (v : TasksView) (u : TaskId) (answer : Answer) (rank : ℕ) → AllDate deck v → is_of_deck deck u ≡ true → AllDate deck (after_mail v (Answered u answer rank))
-unfolding after_mail
-date-answered deck v u answer rank h of_deck = by_test (AllDate deck) (has_effect v u answer rank) _ v answers (λ e. h)
-  where
-    answers : has_effect v u answer rank ≡ true → AllDate deck (tell_answer_any_ranked v u answer rank (state_of v u).outstanding)
-    answers e = go (state_of v u).outstanding refl
-      where
-        here : is_task v u ≡ true
-        here = (and_parts (is_task v u) (is_sent (state_of v u).phase) (and_parts (has_sent v u) _ e).0).0
-
-        awaited : is_awaited answer (state_of v u).outstanding ≡ true
-        awaited = (and_parts _ (is_awaited answer (state_of v u).outstanding) (and_parts (has_sent v u) _ e).1).1
-
-        go : (o : Option Asked) → (state_of v u).outstanding ≡ o → AllDate deck (tell_answer_any_ranked v u answer rank o)
-        go None f = h
-        go (Some a) f =
-            let lines = some_of (lines_of deck u) of_deck in
-            let wanted : IsWantedBy lines.0 (state_of v u).line (Some a) = subst (IsWantedBy lines.0 (state_of v u).line) f (h u lines.0 lines.1 here).wanted in
-            date-ranked deck v u a answer rank h of_deck here f (can_get-coded lines.0 (state_of v u).line a.req.want a.unit answer (ap (is_awaited answer) (sym f) ∙ awaited) wanted)
-
-pub date-granted : (deck : Deck) (v : TasksView) (u : TaskId) (r : Res) → AllDate deck v → AllDate deck (after_mail v (Granted u r))
-unfolding after_mail
-date-granted deck v u r h = date-control deck v r u h
 
 -- ---- a line that is no task's
 pub date-telling : (deck : Deck) (v : TasksView) (l : ToldLine) → AllDate deck v → AllDate deck (telling v l)

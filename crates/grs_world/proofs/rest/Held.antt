@@ -2,14 +2,14 @@
 -- it owns that resource.
 use Rattle.std.proofs.Common.{◌≡◌, ◌≢◌, ◌<◌, ◌≤◌, ◌-◌, ◌+◌, ℕ, zero, suc, Bool, true, false, cond, not, ◌&&◌, ◌||◌, List, [], ◌∷◌, ◌++◌, length, take, drop, Option, Some, None, refl, ap, sym, ◌∙◌, subst, arith}
 use Rattle.std.specs.Prelude.{◌==◌, filter, nat_lt, slice_get}
-use Rattle.std.specs.List.{list_all, list_any}
-use Rattle.std.proofs.lemmas.Bool.{and_from, and_parts, and_right, cases_Bool, eqb-true, eqb-false, le-ltb, ltb-true, or_left, or_parts, or_right}
+use Rattle.std.specs.List.{list_all, list_any, range_with_len}
+use Rattle.std.proofs.lemmas.Bool.{and_from, and_parts, and_right, cases_Bool, eqb-true, eqb-false, ltb-true, or_left, or_parts, or_right}
 use Rattle.std.proofs.lemmas.List.Folds.{list_all-append}
 use Rattle.grs_base.specs.Same.{same_res, same_task}
-use Rattle.grs_base.specs.Lists.{deq_code, enq_decision, has_task, standing_of, can_have}
+use Rattle.grs_base.specs.Lists.{deq_code, enq_decision, standing_of, can_have}
 use Rattle.grs_base.specs.State.{State, list_of}
 use Rattle.grs_base.specs.declared.decision.Code.{Code}
-use Rattle.grs_base.specs.declared.decision.Code.TheVariants.{C00, C04, C08, C14, C18, Wait, End}
+use Rattle.grs_base.specs.declared.decision.Code.TheVariants.{Wait}
 use Rattle.grs_base.specs.declared.decision.Effect.TheVariants.{Append, MakeExclusive, Nothing}
 use Rattle.grs_base.specs.declared.decision.Standing.{Standing}
 use Rattle.grs_base.specs.declared.resource.Ctl.{Ctl}
@@ -18,10 +18,9 @@ use Rattle.grs_base.specs.declared.resource.Ret.{Ret}
 use Rattle.grs_base.specs.declared.resource.SysId.{SysId}
 use Rattle.grs_base.specs.declared.resource.TaskId.{TaskId}
 use Rattle.grs_base.proofs.SameLaws.{same_res-exact, same_res-itself}
-use Rattle.grs_legal.specs.Asks.{asks_in, asks_of, is_silent}
-use Rattle.grs_legal.specs.Legal.{last_entry, passed_behind}
+use Rattle.grs_legal.specs.Asks.{asks_of, is_silent}
+use Rattle.grs_legal.specs.Legal.{last_entry}
 use Rattle.grs_legal.specs.declared.meaning.Meaning.{Meaning}
-use Rattle.grs_legal.specs.declared.meaning.Meaning.TheVariants as lines
 use Rattle.grs_wire.specs.History.{code_of, entries_for, fixed_entries, look_entries}
 use Rattle.grs_wire.specs.declared.history.HistEntry.{HistEntry}
 use Rattle.grs_wire.specs.declared.history.HistEntry.TheVariants as entries
@@ -33,15 +32,15 @@ use Rattle.grs_wire.specs.declared.told.ToldLine.{ToldLine}
 use Rattle.grs_wire.specs.declared.told.ToldLine.TheVariants as told
 use Rattle.task_state.specs.Replies.{is_changed, is_queued}
 use Rattle.task_state.specs.declared.state.Rec.{Rec}
-use Rattle.grs_known.proofs.lists.Facts.{any-last, list_any-push, take-none}
-use Rattle.grs_known.proofs.lists.Truths.{false_by, no_truth}
+use Rattle.grs_known.proofs.lists.Facts.{any-last}
+use Rattle.grs_known.proofs.lists.Truths.{no_truth}
 use Rattle.grs_known.proofs.tasks.Invariant.{has_res, is_distinct, is_post_before}
 use Rattle.grs_known.specs.Items.{AllMade, RunItem, history, lists}
 use Rattle.grs_known.specs.Past.{has_own, own_after, own_by_effect, own_told}
-use Rattle.grs_known.specs.Told.{asked_at, entries_behind, entry_of_line, is_code_before, is_control, is_post_of, queued_last, queues, queues_at, tells_control}
+use Rattle.grs_known.specs.Told.{asked_at, entries_behind, entry_of_line, is_code_before, is_code_of, is_control, is_post_of, queued_last, queues, queues_at, tells_control}
 use Rattle.grs_world.proofs.rest.Control.{is_unmarked}
 use Rattle.grs_world.proofs.rest.Marks.{is_marked}
-use Rattle.grs_world.specs.AtRest.{is_waiting, waits_at, waits_on}
+use Rattle.grs_world.specs.AtRest.{is_waiting, waits_on}
 
 -- ---- who is answered WAIT is queued
 abbrev pub waits_well : HistEntry → Bool
@@ -189,35 +188,37 @@ not-both r (x ∷ xs) d m u = go (same_res r x.res) refl x.told m u (and_parts (
     go true e false a b d more = alone e d.0 (marked-has r xs a)
     go false e c a b d more = more d.1 a b
 
--- such a line is passed before the task asks again
-pub passes-at : (q : Meaning → Bool) (ls : List Meaning) (n : ℕ) (l : Meaning) → slice_get ls n ≡ Some l → is_silent l ≡ true → q l ≡ true → list_any q (passed_behind (length (asks_of (take n ls))) ls) ≡ true
-passes-at q [] n l at quiet h = absurd (cc)
-passes-at q (m ∷ ls) zero l at quiet h =
-    let same : m ≡ l = cc in
-    subst (λ xs. list_any q (passed_behind (length (asks_of xs)) (m ∷ ls)) ≡ true) (sym (take-none (m ∷ ls)))
-    (subst (λ b. list_any q (cond b (m ∷ passed_behind 0 ls) []) ≡ true) (sym (ap is_silent same ∙ quiet)) (or_left (q m) (list_any q (passed_behind 0 ls)) (ap q same ∙ h)))
-passes-at q (m ∷ ls) (suc n) l at quiet h = by_line m (passes-at q ls n l at quiet h)
+-- its line has no code yet
+pub uncoded : (t : TaskId) (n : ℕ) (T : List ToldLine) → list_all (is_code_before t n) T ≡ true → list_any (is_code_of t n) T ≡ false
+uncoded t n [] h = refl
+uncoded t n (l ∷ T) h = let both = and_parts (is_code_before t n l) (list_all (is_code_before t n) T) h in grind (arith, by_line l both.0, uncoded t n T both.1)
   where
-    c : ℕ
-    c = length (asks_of (take n ls))
-
-    silent : (k : ℕ) → (z : Meaning) → is_silent z ≡ true → length (asks_in z) ≡ 0 → list_any q (passed_behind k ls) ≡ true → list_any q (passed_behind k (z ∷ ls)) ≡ true
-    silent zero z e none more = subst (λ b. list_any q (cond b (z ∷ passed_behind 0 ls) []) ≡ true) (sym e) (or_right (q z) (list_any q (passed_behind 0 ls)) more)
-    silent (suc k) z e none more = subst (λ i. list_any q (cond (nat_lt (suc k) i) [] (passed_behind (suc k - i) ls)) ≡ true) (sym none) (subst (λ b. list_any q (cond b [] (passed_behind (suc k - 0) ls)) ≡ true) (sym (le-ltb (suc k) 0 (omega arith)))
-        (subst (λ i. list_any q (passed_behind i ls) ≡ true) (less_none (suc k)) more))
+    apart : (z : Bool) (k : ℕ) → (not z || nat_lt k n) ≡ true → (z && (k == n)) ≡ false
+    apart false k e = refl
+    apart true k e = by_number (k == n) refl
       where
-        less_none : (i : ℕ) → i ≡ i - 0
-        less_none i = omega arith
+        by_number : (b : Bool) → (k == n) ≡ b → b ≡ false
+        by_number false f = refl
+        by_number true f = let below : k < n = ltb-true k n e in let same : k ≡ n = eqb-true k n f in absurd (omega (arith, below, same))
 
-    asking : (z : Meaning) → length (asks_in z) ≡ 1 → list_any q (passed_behind (length (asks_of (take n ls))) ls) ≡ true → list_any q (passed_behind (suc (length (asks_of (take n ls)))) (z ∷ ls)) ≡ true
-    asking z one more = subst (λ i. list_any q (cond (nat_lt (suc c) i) [] (passed_behind (suc c - i) ls)) ≡ true) (sym one) (subst (λ b. list_any q (cond b [] (passed_behind (suc c - 1) ls)) ≡ true) (sym (le-ltb (suc c) 1 (omega arith)))
-        (subst (λ i. list_any q (passed_behind i ls) ≡ true) (less_one c) more))
-      where
-        less_one : (i : ℕ) → i ≡ suc i - 1
-        less_one i = omega arith
+    by_line : (l : ToldLine) → is_code_before t n l ≡ true → is_code_of t n l ≡ false
+    by_line (told.Coded u k part verb code) e = apart (same_task t u) k e
+    by_line (told.Shown u k verb code rows) e = apart (same_task t u) k e
+    by_line (told.Post u k) e = refl
+    by_line (told.Ended u code) e = refl
+    by_line (told.Desk k said) e = refl
 
-    by_line : (z : Meaning) → list_any q (passed_behind (length (asks_of (take n ls))) ls) ≡ true → list_any q (passed_behind (length (asks_in z ++ asks_of (take n ls))) (z ∷ ls)) ≡ true
-    by_line (lines.Enq r ctl ret unit) more = asking (lines.Enq r ctl ret unit) refl more
-    by_line (lines.Deq r have) more = asking (lines.Deq r have) refl more
-    by_line (lines.Wait r) more = silent c (lines.Wait r) refl refl more
-    by_line lines.Nothing more = silent c lines.Nothing refl refl more
+-- the first of these numbers that is so
+pub first-found : (q : ℕ → Bool) (a n k : ℕ) → a ≤ k → k < a + n → q k ≡ true → ((j : ℕ) → a ≤ j → j < k → q j ≡ false) → slice_get (filter q (range_with_len a n)) 0 ≡ Some k
+first-found q a zero k low high is none = absurd (omega (arith, low, high))
+first-found q a (suc n) k low high is none = go (a == k) refl (λ past. first-found q (a + 1) n k past (omega (arith, high)) is (λ j after below. none j (omega (arith, after)) below))
+  where
+    at_head : (b : Bool) → q a ≡ b → b ≡ true → a ≡ k → slice_get (filter q (a ∷ range_with_len (a + 1) n)) 0 ≡ Some k
+    at_head b e f same = subst (λ c. slice_get (cond c (a ∷ filter q (range_with_len (a + 1) n)) (filter q (range_with_len (a + 1) n))) 0 ≡ Some k) (sym (e ∙ f)) (ap Some same)
+
+    go : (b : Bool) → (a == k) ≡ b → (a + 1 ≤ k → slice_get (filter q (range_with_len (a + 1) n)) 0 ≡ Some k) → slice_get (filter q (a ∷ range_with_len (a + 1) n)) 0 ≡ Some k
+    go true e more = let same : a ≡ k = eqb-true a k e in at_head (q a) refl (ap q same ∙ is) same
+    go false e more =
+        let ne : a ≢ k = eqb-false a k e in
+        let below : a < k = omega (arith, low, ne) in
+        subst (λ c. slice_get (cond c (a ∷ filter q (range_with_len (a + 1) n)) (filter q (range_with_len (a + 1) n))) 0 ≡ Some k) (sym (none a (omega arith) below)) (more (omega (arith, below)))

@@ -1,16 +1,15 @@
 -- The records of a task go with its elements in lists: it has one just where it has the other, and who owns there is marked.
 -- A request that is decided by the lists, and told of as the service tells it, keeps that.
-use Rattle.std.proofs.Common.{◌≡◌, ◌≢◌, ℕ, suc, Bool, true, false, cond, not, ◌&&◌, ◌||◌, List, [], ◌∷◌, ◌++◌, Option, Some, None, refl, ap, sym, ◌∙◌, subst, arith}
+use Rattle.std.proofs.Common.{◌≡◌, ℕ, Bool, true, false, cond, ◌&&◌, ◌||◌, List, [], ◌∷◌, ◌++◌, Option, Some, None, refl, ap, sym, ◌∙◌, subst, arith}
 use Rattle.std.specs.List.{list_any}
-use Rattle.std.proofs.lemmas.Bool.{and_parts, and_from, cases_Bool, or_left, or_right}
-use Rattle.grs_base.specs.Lists.{can_have, decide_enq, deq_code, enq_decision, has_task, is_owner, list_after, list_exclusive, list_without, owns, standing_of}
+use Rattle.std.proofs.lemmas.Bool.{and_from, cases_Bool, or_left, or_right}
+use Rattle.grs_base.specs.Lists.{can_have, decide_enq, deq_code, enq_decision, has_task, is_owner, list_after, list_without, owns, standing_of}
 use Rattle.grs_base.specs.Same.{same_res, same_task}
 use Rattle.grs_base.specs.State.{State, list_of, enq_code, without}
 use Rattle.grs_base.specs.declared.decision.Code.{Code}
 use Rattle.grs_base.specs.declared.decision.Effect.{Effect}
 use Rattle.grs_base.specs.declared.decision.Effect.TheVariants.{Nothing, Append, MakeExclusive}
 use Rattle.grs_base.specs.declared.decision.Standing.{Standing}
-use Rattle.grs_base.specs.declared.decision.Standing.TheVariants.{Exclusive, OnlyShared, AmongShared, Waits, Absent}
 use Rattle.grs_base.specs.declared.resource.Ctl.{Ctl}
 use Rattle.grs_base.specs.declared.resource.Ctl.TheVariants as ctls
 use Rattle.grs_base.specs.declared.resource.Elem.{Elem}
@@ -43,13 +42,6 @@ use Rattle.grs_world.proofs.rest.Marks.{is_marked}
 pub record Matches (p : Res → Bool) (s : State) (t : TaskId) (xs : List Rec) : Type 0 where
   pub same : (r : Res) → p r ≡ true → has_res r xs ≡ has_task (list_of s r) t
   pub told : (r : Res) → p r ≡ true → owns (list_of s r) t ≡ true → is_marked r xs ≡ true
-
--- the lists are the same
-pub matches-lists : (p : Res → Bool) (s z : State) (t : TaskId) (xs : List Rec) → ((r : Res) → p r ≡ true → list_of s r ≡ list_of z r) → Matches p s t xs → Matches p z t xs
-matches-lists p s z t xs e h = record {
-  same = λ r in_it. h.same r in_it ∙ ap (λ es. has_task es t) (e r in_it);
-  told = λ r in_it own. h.told r in_it (ap (λ es. owns es t) (e r in_it) ∙ own);
-}
 
 -- the records are as good
 pub matches-records : (p : Res → Bool) (s : State) (t : TaskId) (xs ys : List Rec) → ((r : Res) → p r ≡ true → has_res r ys ≡ has_res r xs) → ((r : Res) → p r ≡ true → is_marked r xs ≡ true → is_marked r ys ≡ true) → Matches p s t xs → Matches p s t ys

@@ -1,12 +1,12 @@
 -- A system of the ring, by its own lists and its table: who owns by them is marked, and who has sent a request has it among
 -- what the system has still to process.
-use Rattle.std.proofs.Common.{◌≡◌, ◌≢◌, ℕ, suc, Bool, true, false, cond, not, ◌&&◌, ◌||◌, List, [], ◌∷◌, ◌++◌, Option, Some, None, refl, ap, sym, ◌∙◌, subst, append-nil, append_assoc, take-append-drop}
-use Rattle.std.specs.Prelude.{◌==◌, take, drop, slice_get, get_or, set, is_some, zero}
+use Rattle.std.proofs.Common.{◌≡◌, ◌≢◌, ℕ, suc, Bool, true, false, cond, not, ◌||◌, List, [], ◌∷◌, ◌++◌, Option, Some, None, refl, ap, sym, ◌∙◌, subst, append_assoc, take-append-drop}
+use Rattle.std.specs.Prelude.{◌==◌, take, drop, get_or, set, is_some, zero}
 use Rattle.std.specs.List.{list_all}
 use Rattle.std.proofs.lemmas.Bool.{and_parts, eqb-true, eqb-false, or_left, or_right}
-use Rattle.grs_base.specs.Lists.{has_task, owns}
+use Rattle.grs_base.specs.Lists.{owns}
 use Rattle.grs_base.specs.Same.{same_task}
-use Rattle.grs_base.specs.State.{State, is_systems, list_of}
+use Rattle.grs_base.specs.State.{is_systems}
 use Rattle.grs_base.specs.declared.resource.Res.{Res}
 use Rattle.grs_base.specs.declared.resource.TaskId.{TaskId}
 use Rattle.grs_base.proofs.SameLaws.{same_task-exact, same_task-itself}
@@ -21,18 +21,17 @@ use Rattle.grs_wire.specs.declared.request.Want.{Want}
 use Rattle.grs_wire.specs.declared.request.Want.TheVariants.{Enq, Deq, Release, Look}
 use Rattle.ring_mode.specs.Ring.{answer_own}
 use Rattle.task_state.specs.Replies.{phase_asking, recalled, replied, tell_new}
-use Rattle.task_state.specs.View.{TasksView, code_in, is_sent, is_task, new_task, state_of, with_outstanding, with_phase, with_state}
+use Rattle.task_state.specs.View.{TasksView, code_in, is_sent, is_task, new_task, state_of, with_phase, with_state}
 use Rattle.task_state.specs.declared.state.Asked.{Asked}
 use Rattle.task_state.specs.declared.state.Phase.{Phase}
 use Rattle.task_state.specs.declared.state.Phase.TheVariants as phases
-use Rattle.task_state.specs.declared.state.Rec.{Rec}
 use Rattle.task_state.specs.declared.state.TaskState.{TaskState}
 use Rattle.task_state.proofs.ViewLaws.{is_task-state, is_task-system}
 use Rattle.grs_known.proofs.known.Histories.{IsAsk, IsHistory, AllAsk, asks-behind, goes-ask}
 use Rattle.grs_known.proofs.lists.Facts.{all-kept, all-middle, some_of}
 use Rattle.grs_known.proofs.lists.Owners.{is_among}
 use Rattle.grs_known.proofs.lists.Truths.{false_by, no_truth}
-use Rattle.grs_known.proofs.system.Asking.{IsReq, are_sent, records-unasked, unasked}
+use Rattle.grs_known.proofs.system.Asking.{IsReq, are_sent, records-unasked}
 use Rattle.grs_known.proofs.system.Did.{Did, did-none, did-outstanding, did-phase}
 use Rattle.grs_known.proofs.system.Ours.{IsOurs, IsHere, same_place}
 use Rattle.grs_known.proofs.system.Says.{askers, is_home_at, own_asked, own_requests}
@@ -44,7 +43,7 @@ use Rattle.grs_world.proofs.rest.Steps.{AllDate, date-new}
 use Rattle.grs_world.proofs.rest.Lists.{Matches}
 use Rattle.grs_world.proofs.run.Growing.{asks-rounds}
 use Rattle.grs_world.proofs.run.Reading.{all-rounds, read_all, read_item}
-use Rattle.grs_world.proofs.system.AtNode.{Seen, not-ours, opens_of}
+use Rattle.grs_world.proofs.system.AtNode.{Seen, opens_of}
 use Rattle.grs_world.proofs.system.Processed.{Reads, after_read, answers-none, answers-own, read, read-shared, read-tasks}
 use Rattle.grs_world.proofs.system.Puts.{home-task}
 

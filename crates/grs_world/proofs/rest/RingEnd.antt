@@ -1,16 +1,14 @@
 -- A run that is in ring mode and at rest: nothing is outstanding any more, and the tables are the history's.
-use Rattle.std.proofs.Common.{◌≡◌, ◌≢◌, ◌<◌, ◌+◌, ℕ, zero, suc, Bool, true, false, cond, not, ◌&&◌, ◌||◌, List, [], ◌∷◌, ◌++◌, length, map, Option, Some, None, refl, ap, sym, ◌∙◌, subst, arith, append-nil}
-use Rattle.std.specs.Prelude.{◌==◌, get_or, nat_lt, slice_get}
+use Rattle.std.proofs.Common.{◌≡◌, ◌<◌, ◌+◌, ℕ, zero, suc, Bool, true, false, not, ◌&&◌, ◌||◌, List, [], ◌∷◌, ◌++◌, length, map, Some, refl, ap, sym, ◌∙◌, subst, arith, append-nil}
+use Rattle.std.specs.Prelude.{◌==◌, get_or, slice_get}
 use Rattle.std.specs.List.{list_any}
-use Rattle.std.proofs.lemmas.Bool.{and_parts, eqb-true, ltb-true, or_parts}
-use Rattle.std.proofs.lemmas.Option.{same_Some}
+use Rattle.std.proofs.lemmas.Bool.{and_parts, eqb-true, or_parts}
 use Rattle.grs_base.specs.Lists.{owns}
 use Rattle.grs_base.specs.State.{is_systems, list_of}
 use Rattle.grs_base.specs.declared.resource.Res.{Res}
 use Rattle.grs_base.specs.declared.resource.TaskId.{TaskId}
-use Rattle.grs_legal.specs.Asks.{lines_of}
 use Rattle.grs_legal.specs.declared.meaning.Meaning.{Meaning}
-use Rattle.grs_medium.specs.Medium.{MediumState, medium_at_end}
+use Rattle.grs_medium.specs.Medium.{medium_at_end}
 use Rattle.grs_node.specs.Node.{NodeState, goes_on, is_pending, is_to_send}
 use Rattle.grs_wire.specs.Masks.{has}
 use Rattle.grs_wire.specs.Unseen.{unseen}
@@ -24,35 +22,31 @@ use Rattle.task_state.specs.declared.state.Phase.{Phase}
 use Rattle.task_state.specs.declared.state.Phase.TheVariants as phases
 use Rattle.task_state.specs.declared.state.TaskState.{TaskState}
 use Rattle.task_state.proofs.ViewLaws.{is_task-place}
-use Rattle.grs_known.proofs.known.Histories.{may_have, owns-may}
+use Rattle.grs_known.proofs.known.Histories.{owns-may}
 use Rattle.grs_known.proofs.lists.Owners.{is_among}
 use Rattle.grs_known.proofs.lists.Parts.{is_res_of, list_of-part}
-use Rattle.grs_known.proofs.lists.Truths.{false_by, no_truth, or_other}
+use Rattle.grs_known.proofs.lists.Truths.{or_other}
 use Rattle.grs_known.proofs.ring.Reading.{table-is}
 use Rattle.grs_known.proofs.system.Asking.{held-none}
 use Rattle.grs_known.proofs.system.Ours.{IsOurs}
 use Rattle.grs_known.proofs.system.Says.{askers, own_requests}
 use Rattle.grs_known.proofs.tasks.Invariant.{is_unsent}
 use Rattle.grs_known.specs.Items.{RunItem, items, lists, rounds}
-use Rattle.grs_world.proofs.message.Stands.{Bodies, none, more}
-use Rattle.grs_world.proofs.move.Sound.{GoodRun, every_run, in_ring, in_star}
-use Rattle.grs_world.proofs.rest.AtEnd.{IsStill, owners-told, replies-told, tasks-wait}
+use Rattle.grs_world.proofs.message.Stands.{Bodies, more}
+use Rattle.grs_world.proofs.rest.AtEnd.{IsStill}
 use Rattle.grs_world.proofs.rest.Marks.{is_marked}
-use Rattle.grs_world.proofs.rest.Ring.{IsRead, is_local}
 use Rattle.grs_world.proofs.rest.Unseen.{requests_of}
-use Rattle.grs_world.proofs.rest.RingRun.{AllRead, ring_read, still_of}
+use Rattle.grs_world.proofs.rest.RingRun.{AllRead, still_of}
 use Rattle.grs_world.proofs.run.Growing.{fixeds}
 use Rattle.grs_world.proofs.run.InRing.{IsRing}
 use Rattle.grs_world.proofs.run.Messages.{given-later}
-use Rattle.grs_world.proofs.run.Runs.{GoodTold, GoodWorld}
+use Rattle.grs_world.proofs.run.Runs.{GoodWorld}
 use Rattle.grs_world.proofs.system.AtNode.{Seen, opens_of}
-use Rattle.grs_world.specs.AtRest.{OwnersAreTold, RepliesAreTold, TasksWait}
-use Rattle.grs_world.specs.Decks.{FitsStar, may_be_star}
 use Rattle.grs_world.specs.Running.{at_rest, none_pending}
 use Rattle.grs_world.specs.World.{World, run}
 
 -- ---- nothing is pending
-pending-at : (deck : Deck) (k : ℕ) (ns : List NodeState) (s : ℕ) (n : NodeState) → none_pending 0 k (map (is_pending deck) ns) ≡ true → slice_get ns s ≡ Some n → is_pending deck n ≡ false
+pub pending-at : (deck : Deck) (k : ℕ) (ns : List NodeState) (s : ℕ) (n : NodeState) → none_pending 0 k (map (is_pending deck) ns) ≡ true → slice_get ns s ≡ Some n → is_pending deck n ≡ false
 pending-at deck k [] s n h at = absurd (cc)
 pending-at deck k (m ∷ ns) zero n h at =
     let same : m ≡ n = cc in
@@ -64,17 +58,17 @@ pending-at deck k (m ∷ ns) zero n h at =
     free false false e f = refl
 pending-at deck k (m ∷ ns) (suc s) n h at = pending-at deck (k + 1) ns s n (and_parts (has 0 k || not (is_pending deck m)) _ h).1 at
 
-none-at : (p : TaskState → Bool) (xs : List TaskState) (i : ℕ) (d : TaskState) → list_any p xs ≡ false → i < length xs → p (get_or xs i d) ≡ false
+pub none-at : (p : TaskState → Bool) (xs : List TaskState) (i : ℕ) (d : TaskState) → list_any p xs ≡ false → i < length xs → p (get_or xs i d) ≡ false
 none-at p [] i d h l = absurd (omega (arith, l))
 none-at p (x ∷ xs) zero d h l = (or_parts (p x) (list_any p xs) h).0
 none-at p (x ∷ xs) (suc i) d h l = none-at p xs i d (or_parts (p x) (list_any p xs) h).1 (omega (arith, l))
 
 -- no task here goes on
-calm-at : (v : TasksView) (t : TaskId) → list_any (λ x. goes_on x.phase) v.tasks ≡ false → is_task v t ≡ true → goes_on (state_of v t).phase ≡ false
+pub calm-at : (v : TasksView) (t : TaskId) → list_any (λ x. goes_on x.phase) v.tasks ≡ false → is_task v t ≡ true → goes_on (state_of v t).phase ≡ false
 unfolding state_of
 calm-at v t h here = none-at (λ x. goes_on x.phase) v.tasks t.task new_task h (is_task-place v t here)
 
-no_length : {X : Type 0} (xs : List X) → (length xs == 0) ≡ true → xs ≡ []
+pub no_length : {X : Type 0} (xs : List X) → (length xs == 0) ≡ true → xs ≡ []
 no_length [] h = refl
 no_length (x ∷ xs) h = absurd (omega (arith, eqb-true (length (x ∷ xs)) 0 h))
 
@@ -163,19 +157,3 @@ module _ (deck : Deck) (es : List Event) (w : World) (ring : IsRing deck w) (g :
       marked = marked_at;
       date = (h s n at).date;
     }
-
--- ---- so nothing is left untold
--- a run that is in ring mode, where it is at rest
-pub record ToldInRing (deck : Deck) (es : List Event) : Type 0 where
-  pub owners : OwnersAreTold deck es
-  pub replies : RepliesAreTold deck es
-  pub tasks : TasksWait deck es
-
-pub told_in_ring : (deck : Deck) → (may_be_star deck ≡ true → FitsStar deck) → (es : List Event) → (run deck es).medium.star ≡ false → at_rest deck (run deck es) ≡ true → ToldInRing deck es
-told_in_ring deck fits es mode rest = go (every_run deck fits es)
-  where
-    go : GoodRun deck es (run deck es) → ToldInRing deck es
-    go (in_star f g told d) = absurd (let no : true ≡ false = sym g.whole.roles.mode ∙ mode in cc)
-    go (in_ring begins ring g d) =
-        let still = still-ring deck es (run deck es) ring g (ring_read deck fits es mode) rest in
-        record { owners = owners-told deck es g.history g.told still; replies = replies-told deck es g.history g.told still; tasks = tasks-wait deck es g.history g.told still }

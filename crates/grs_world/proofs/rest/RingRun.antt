@@ -1,16 +1,14 @@
 -- As long as a run is in ring mode, each system's records go on with its lists, and each request that was sent stands in the
 -- message.
-use Rattle.std.proofs.Common.{◌≡◌, ◌≢◌, ◌<◌, ◌≤◌, ℕ, zero, suc, Bool, true, false, cond, List, [], ◌∷◌, ◌++◌, length, map, take, Option, Some, None, refl, ap, sym, ◌∙◌, subst, arith, append-nil}
-use Rattle.std.specs.Prelude.{◌==◌, ◌⊎◌, get_or, is_some, set, slice_get}
+use Rattle.std.proofs.Common.{◌≡◌, ◌≢◌, ℕ, zero, suc, Bool, true, false, List, [], ◌∷◌, ◌++◌, length, take, Some, None, refl, ap, sym, ◌∙◌, subst, arith, append-nil}
+use Rattle.std.specs.Prelude.{get_or, set, slice_get}
 use Rattle.std.specs.List.{list_all}
 use Rattle.std.proofs.lemmas.Bool.{and_from, and_parts}
 use Rattle.grs_base.specs.Limits.{most_additions}
 use Rattle.grs_base.specs.declared.resource.SysId.{SysId}
 use Rattle.grs_base.specs.declared.resource.TaskId.{TaskId}
-use Rattle.grs_legal.specs.Asks.{lines_of}
-use Rattle.grs_legal.specs.declared.meaning.Meaning.{Meaning}
-use Rattle.grs_medium.specs.Medium.{MediumState, live}
-use Rattle.grs_node.specs.Node.{NodeState, finish_quiet, first_node, is_of_deck, is_to_send, may_go, only, put_in, read_entries, task_step}
+use Rattle.grs_medium.specs.Medium.{live}
+use Rattle.grs_node.specs.Node.{NodeState, finish_quiet, first_node, is_to_send, may_go, put_in, read_entries}
 use Rattle.grs_wire.specs.Masks.{has}
 use Rattle.grs_wire.specs.Unseen.{unseen}
 use Rattle.grs_wire.specs.declared.deck.Choice.TheVariants as choices
@@ -18,15 +16,12 @@ use Rattle.grs_wire.specs.declared.deck.Deck.{Deck}
 use Rattle.grs_wire.specs.declared.deck.Event.{Event}
 use Rattle.grs_wire.specs.declared.medium.RingEntry.{RingEntry}
 use Rattle.grs_wire.specs.declared.request.Req.{Req}
-use Rattle.rsa_message.specs.Message.{Message, cleared, stamped, turned_open}
-use Rattle.task_state.specs.View.{TasksView, is_sent, is_task, new_task, new_tasks, state_of}
+use Rattle.rsa_message.specs.Message.{cleared, stamped, turned_open}
+use Rattle.task_state.specs.View.{is_sent, new_task, new_tasks, state_of}
 use Rattle.task_state.specs.declared.state.TaskState.{TaskState}
-use Rattle.task_state.proofs.ViewLaws.{is_task-system}
-use Rattle.grs_known.proofs.known.Histories.{AllAsk, IsHistory, asks-behind}
-use Rattle.grs_known.proofs.lists.Facts.{all-behind, some_of, take-none, take-taken}
+use Rattle.grs_known.proofs.known.Histories.{AllAsk, asks-behind}
+use Rattle.grs_known.proofs.lists.Facts.{all-behind, take-none, take-taken}
 use Rattle.grs_known.proofs.lists.Owners.{is_among}
-use Rattle.grs_known.proofs.lists.Truths.{no_truth}
-use Rattle.grs_known.proofs.system.Ours.{IsOurs}
 use Rattle.grs_known.proofs.system.Says.{askers, is_home_at, own_requests}
 use Rattle.grs_known.specs.Items.{RunItem, goes_round, items, rounds}
 use Rattle.grs_world.proofs.message.Stands.{Bodies}
@@ -34,13 +29,12 @@ use Rattle.grs_world.proofs.move.Sound.{GoodRun, every_run, in_ring, in_star}
 use Rattle.grs_world.proofs.rest.Lists.{Matches}
 use Rattle.grs_world.proofs.rest.Ring.{IsRead, distinct-at, is_local, kept-all, kept-put}
 use Rattle.grs_base.specs.State.{is_systems}
-use Rattle.grs_world.proofs.rest.Steps.{AllDate, date-task}
-use Rattle.grs_world.proofs.rest.Tasks.{local-read, local-task}
+use Rattle.grs_world.proofs.rest.Tasks.{read-task}
 use Rattle.grs_world.proofs.rest.Unseen.{own-among, requests_of, waits-elsewhere, waits-new}
 use Rattle.grs_world.proofs.rest.UpToDate.{IsUpToDate}
 use Rattle.grs_world.proofs.run.Each.{each_run}
 use Rattle.grs_world.proofs.run.Growing.{asks-rounds, fixeds}
-use Rattle.grs_world.proofs.run.InRing.{Came, IsRing, changed, each_came, nothing, star-stays, turn, went_on}
+use Rattle.grs_world.proofs.run.InRing.{Came, changed, each_came, nothing, star-stays, turn, went_on}
 use Rattle.grs_world.proofs.run.Messages.{given-later}
 use Rattle.grs_world.proofs.run.Reading.{ReadTo, all-rounds, read-entries, read_all, reading}
 use Rattle.grs_world.proofs.run.Runs.{GoodWorld, by_node}
@@ -78,23 +72,9 @@ module _ (deck : Deck) (es : List Event) (w : World) (g : GoodWorld deck es w) (
   alive = (g.systems c.0 n at).0
 
   -- a task goes on
-  read-task : (t : TaskId) → may_go deck n t ≡ true → IsRead deck c.0 (finish_quiet deck n (choices.Task t)).node (still_of c.0 w.medium.message.entries)
-  unfolding may_go finish_quiet
-  read-task t may = subst (λ o. IsRead deck c.0 (task_step deck.limit n t o).node (still_of c.0 w.medium.message.entries)) (sym lines.1) (local-read deck c.0 (task_step deck.limit n t (Some lines.0)).node (still_of c.0 w.medium.message.entries)
-      (local-task deck c.0 n (still_of c.0 w.medium.message.entries) alone (h c.0 n at) t lines.0 ours (distinct-at deck c.0 P (g.before c.0) (g.later c.0) (own_requests c.0 (g.later c.0)) n seen t lines.0 ours))
-      (date-task deck n (h c.0 n at).date t lines.0 lines.1 here))
-    where
-      both : (is_task n.tasks t ≡ true) × (is_of_deck deck t ≡ true)
-      both = let k = and_parts (is_task n.tasks t) _ may in (k.0, (and_parts (is_of_deck deck t) _ k.1).0)
-
-      here : is_task n.tasks t ≡ true
-      here = both.0
-
-      lines : (ls : List Meaning) × (lines_of deck t ≡ Some ls)
-      lines = some_of (lines_of deck t) both.1
-
-      ours : IsOurs deck c.0 n.tasks t lines.0
-      ours = record { lines = lines.1; home = sym (is_task-system n.tasks t here) ∙ seen.good.system; here = here }
+  goes-read : (t : TaskId) → may_go deck n t ≡ true → IsRead deck c.0 (finish_quiet deck n (choices.Task t)).node (still_of c.0 w.medium.message.entries)
+  unfolding finish_quiet
+  goes-read t may = read-task deck c.0 n (still_of c.0 w.medium.message.entries) alone seen.good.system (distinct-at deck c.0 P (g.before c.0) (g.later c.0) (own_requests c.0 (g.later c.0)) n seen) t may (h c.0 n at)
 
   -- ---- its Turn
   given : Bodies (fixeds (g.later c.0)) (unseen c w.medium.message.entries)
@@ -106,14 +86,14 @@ module _ (deck : Deck) (es : List Event) (w : World) (g : GoodWorld deck es w) (
   seen-due : Seen deck c.0 P (g.before c.0) (g.later c.0 ++ []) (own_requests c.0 (g.later c.0)) n
   seen-due = subst (λ xs. Seen deck c.0 P (g.before c.0) xs (own_requests c.0 (g.later c.0)) n) (sym (append-nil (g.later c.0))) seen
 
-  reads : ReadTo deck c.0 P g.history [] (g.before c.0 ++ g.later c.0) n (read_all n (g.later c.0))
+  pub reads : ReadTo deck c.0 P g.history [] (g.before c.0 ++ g.later c.0) n (read_all n (g.later c.0))
   reads = reading deck c.0 P g.history [] (g.later c.0) (g.before c.0) n all-due seen-due
 
-  node_is : read_entries deck n (unseen c w.medium.message.entries) ≡ read_all n (g.later c.0)
+  pub node_is : read_entries deck n (unseen c w.medium.message.entries) ≡ read_all n (g.later c.0)
   node_is = read-entries deck n (g.later c.0) (unseen c w.medium.message.entries) (asks-behind deck (g.before c.0) (g.later c.0) (subst (AllAsk deck) (g.whole c.0) (asks-rounds deck P g.history.asks)))
       (all-behind (λ x. goes_round x.fixed) (g.before c.0) (g.later c.0) (ap (list_all (λ x. goes_round x.fixed)) (sym (g.whole c.0)) ∙ all-rounds P)) given
 
-  read-due : IsRead deck c.0 (read_all n (g.later c.0)) []
+  pub read-due : IsRead deck c.0 (read_all n (g.later c.0)) []
   read-due = kept-all deck c.0 P g.history [] (g.later c.0) (g.before c.0) n all-due seen-due
       (read-more deck c.0 n (still_of c.0 w.medium.message.entries) (own_requests c.0 (g.later c.0)) (λ t home k. own-among c.0 t home (g.later c.0) (unseen c w.medium.message.entries) given k) (h c.0 n at))
 
@@ -140,7 +120,7 @@ module _ (deck : Deck) (es : List Event) (w : World) (g : GoodWorld deck es w) (
   pub read-came : (o : Turnout) → Came deck w c n o → o.medium.star ≡ false → AllRead deck (placed w c n o)
   unfolding placed
   read-came o (nothing flags) mode = others-read w.medium.message.entries (λ u ne t k. k) n (h c.0 n at)
-  read-came o (went_on t may) mode = others-read w.medium.message.entries (λ u ne t k. k) (finish_quiet deck n (choices.Task t)).node (read-task t may)
+  read-came o (went_on t may) mode = others-read w.medium.message.entries (λ u ne t k. k) (finish_quiet deck n (choices.Task t)).node (goes-read t may)
   read-came o (turn flags here) mode = others-read entries_now (λ u ne t k. waits-elsewhere c (record { 0 = u }) ne t w.medium.message.entries (stamped w.medium.message.next c (live w.medium) out) k) _ read-turn
   read-came o (changed next idle) mode = absurd (cc)
 
@@ -150,11 +130,11 @@ first-at zero i = refl
 first-at (suc n) zero = refl
 first-at (suc n) (suc i) = first-at n i
 
-first-state : (deck : Deck) (s : ℕ) (t : TaskId) → state_of (first_node deck s).tasks t ≡ new_task
+pub first-state : (deck : Deck) (s : ℕ) (t : TaskId) → state_of (first_node deck s).tasks t ≡ new_task
 unfolding first_node state_of
 first-state deck s t = first-at _ t.task
 
-first-read : (deck : Deck) (s : ℕ) (qs : List Req) → IsRead deck s (first_node deck s) qs
+pub first-read : (deck : Deck) (s : ℕ) (qs : List Req) → IsRead deck s (first_node deck s) qs
 unfolding first_node
 first-read deck s qs = record {
   own = λ t ls ours. subst (λ (x : TaskState). Matches is_local [] t x.records) (sym (first-state deck s t)) (record { same = λ r in_it. refl; told = λ r in_it own. absurd (cc) });
@@ -164,7 +144,7 @@ first-read deck s qs = record {
   date = λ t ls lines here. subst (IsUpToDate ls [] t) (sym (first-state deck s t)) (record { closed = λ e. refl; wanted = tt; held = refl; coded = λ k low in_it asks. absurd (omega (arith, low, in_it)); units = tt });
 }
 
-first_of : (deck : Deck) (s : ℕ) (n : NodeState) → slice_get (first_world deck).nodes s ≡ Some n → n ≡ first_node deck s
+pub first_of : (deck : Deck) (s : ℕ) (n : NodeState) → slice_get (first_world deck).nodes s ≡ Some n → n ≡ first_node deck s
 unfolding first_world
 first_of deck s n at = first_is deck s n at
 

@@ -1,21 +1,19 @@
 -- Each task of a system stays up to date, whatever the system does.
-use Rattle.std.proofs.Common.{◌≡◌, ◌≢◌, ◌<◌, ◌≤◌, ◌-◌, ◌+◌, ℕ, suc, Bool, true, false, cond, not, ◌&&◌, ◌||◌, List, [], ◌∷◌, ◌++◌, Option, Some, None, refl, ap, sym, ◌∙◌, subst, arith, add-one}
+use Rattle.std.proofs.Common.{◌≡◌, ◌≢◌, ◌-◌, ◌+◌, ℕ, suc, Bool, true, false, cond, not, ◌&&◌, ◌||◌, List, [], ◌∷◌, ◌++◌, Option, Some, None, refl, ap, sym, ◌∙◌, subst, arith}
 use Rattle.std.specs.Prelude.{◌==◌, slice_get, is_some}
-use Rattle.std.specs.List.{list_all, list_any}
-use Rattle.std.proofs.lemmas.Bool.{and_from, and_parts, eq-eqb, eqb-true, eqb-false, or_left}
+use Rattle.std.specs.List.{list_any}
+use Rattle.std.proofs.lemmas.Bool.{and_parts, and_from, eq-eqb, eqb-true, eqb-false, or_left}
 use Rattle.grs_base.specs.Same.{same_res}
-use Rattle.grs_base.specs.declared.decision.Code.{Code}
 use Rattle.grs_base.specs.declared.decision.Code.TheVariants.{C00, C08}
 use Rattle.grs_base.specs.declared.resource.Res.{Res}
 use Rattle.grs_base.specs.declared.resource.TaskId.{TaskId}
 use Rattle.grs_base.specs.State.{State}
-use Rattle.grs_legal.specs.Asks.{is_silent, lines_of}
+use Rattle.grs_legal.specs.Asks.{lines_of}
 use Rattle.grs_legal.specs.declared.meaning.Meaning.{Meaning}
 use Rattle.grs_legal.specs.declared.meaning.Meaning.TheVariants as lines
-use Rattle.grs_node.specs.Node.{NodeState, Step, ask, decide, end_step, finish_quiet, only, phase_step, post, ready_step, take_line, task_step, wait, with_tasks, has_most}
+use Rattle.grs_node.specs.Node.{NodeState, Step, ask, decide, end_step, phase_step, post, ready_step, take_line, task_step, wait, with_tasks, goes_on, has_most, is_of_deck, may_go}
 use Rattle.grs_wire.specs.Wants.{answer_to, new_owners, res_wanted}
 use Rattle.grs_wire.specs.declared.deck.Deck.{Deck}
-use Rattle.grs_wire.specs.declared.request.Req.{Req}
 use Rattle.grs_wire.specs.declared.request.Want.{Want}
 use Rattle.grs_wire.specs.declared.request.Want.TheVariants.{Enq, Deq, Release, Look}
 use Rattle.grs_wire.specs.declared.told.ToldLine.{ToldLine}
@@ -23,26 +21,25 @@ use Rattle.grs_wire.specs.declared.told.ToldLine.TheVariants as told
 use Rattle.grs_wire.specs.declared.told.Verb.TheVariants as verbs
 use Rattle.grs_wire.proofs.WantLaws.{by_test}
 use Rattle.ring_mode.specs.Ring.{is_for_all}
-use Rattle.task_state.specs.Replies.{is_held, replied, tell_all, tell_code, tell_control, tell_new, tell_untold}
-use Rattle.task_state.specs.View.{TasksView, code_in, is_task, record_of, record_place, state_of, telling, with_line, with_outstanding, with_phase}
+use Rattle.task_state.specs.Replies.{replied, tell_all, tell_code, tell_control, tell_new, tell_untold}
+use Rattle.task_state.specs.View.{TasksView, is_task, record_of, record_place, state_of, telling, with_line, with_outstanding, with_phase}
 use Rattle.task_state.specs.declared.state.Asked.{Asked}
 use Rattle.task_state.specs.declared.state.Phase.{Phase}
 use Rattle.task_state.specs.declared.state.Phase.TheVariants as phases
 use Rattle.task_state.specs.declared.state.Rec.{Rec}
 use Rattle.task_state.specs.declared.state.TaskState.{TaskState}
 use Rattle.task_state.proofs.ViewLaws.{is_task-system}
-use Rattle.grs_known.proofs.lists.Facts.{any-more}
+use Rattle.grs_known.proofs.lists.Facts.{any-more, some_of}
 use Rattle.grs_known.proofs.lists.Truths.{no_truth}
-use Rattle.grs_known.proofs.system.Asking.{line_asked}
 use Rattle.grs_base.proofs.SameLaws.{same_task-exact}
-use Rattle.grs_known.proofs.system.Ours.{same_place}
+use Rattle.grs_known.proofs.system.Ours.{IsOurs, same_place}
 use Rattle.grs_known.proofs.system.Did.{Did, did-code, did-line, did-none, did-outstanding, did-phase, did-telling}
 use Rattle.grs_known.proofs.tasks.Asked.{any-after, told_after}
-use Rattle.grs_known.proofs.tasks.Invariant.{Each, is_unsent}
-use Rattle.grs_world.proofs.rest.Answers.{IsAnswered, IsCoded, IsDue, UnitIs, answered, is_free}
+use Rattle.grs_known.proofs.tasks.Invariant.{Each, is_unsent, is_waiting}
+use Rattle.grs_world.proofs.rest.Answers.{IsCoded, IsDue, answered, coded-line, is_free}
 use Rattle.grs_world.proofs.rest.Control.{controlled, hears-grows, is_unmarked}
 use Rattle.grs_world.proofs.rest.Places.{state_at}
-use Rattle.grs_world.proofs.rest.UpToDate.{AreCoded, HasUnit, IsUpToDate, IsWanted, IsWantedBy, done_by, hears-date, is_asking, is_code_at, is_kept, is_placed, more-told, unit_of}
+use Rattle.grs_world.proofs.rest.UpToDate.{AreCoded, HasUnit, IsUpToDate, IsWanted, IsWantedBy, done_by, has_code, hears-date, is_code_at, is_kept, is_placed, more-told, unit_of}
 
 -- ---- all tasks of a system
 -- each task of the deck that is here is up to date
@@ -93,6 +90,14 @@ date-own deck v w u ms x T lines here did grows date h t ls at there = go (t.tas
         let ne : t.task ≢ u.task = eqb-false t.task u.task e in
         subst (λ U. IsUpToDate ls U t (state_of w t)) (sym did.told) (subst (λ y. IsUpToDate ls T t y) (sym (did.changed.others t ne)) (more-told ls v.told T t (state_of v t) grows (h t ls at was)))
 
+-- who may go on is a task of the deck at this system
+pub going-ours : (deck : Deck) (s : ℕ) (n : NodeState) → n.tasks.system ≡ s → (t : TaskId) → may_go deck n t ≡ true → (ls : List Meaning) × IsOurs deck s n.tasks t ls
+unfolding may_go
+going-ours deck s n system t may =
+    let going = and_parts (is_task n.tasks t) (is_of_deck deck t && goes_on (state_of n.tasks t).phase) may in
+    let lines = some_of (lines_of deck t) (and_parts (is_of_deck deck t) (goes_on (state_of n.tasks t).phase) going.1).0 in
+    (lines.0, record { lines = lines.1; home = sym (is_task-system n.tasks t going.0) ∙ system; here = going.0 })
+
 -- ---- control is told
 pub date-control : (deck : Deck) (v : TasksView) (r : Res) (u : TaskId) → AllDate deck v → AllDate deck (tell_control v r u)
 unfolding tell_control
@@ -121,15 +126,15 @@ codes-answer s t (Deq r have) e = tt
 codes-answer s t (Release r) e = tt
 codes-answer s t (Look first count f) e = absurd (cc)
 
--- no line more asks
-coded-silent : (ls : List Meaning) (T : List ToldLine) (t : TaskId) (n : ℕ) → is_asking (slice_get ls n) ≡ false → AreCoded ls T t n → AreCoded ls T t (suc n)
+-- a line more, which has no code
+coded-silent : (ls : List Meaning) (T : List ToldLine) (t : TaskId) (n : ℕ) → has_code (slice_get ls n) ≡ false → AreCoded ls T t n → AreCoded ls T t (suc n)
 coded-silent ls T t n quiet h k low in_it asks = go (k == suc n) refl
   where
     go : (b : Bool) → (k == suc n) ≡ b → list_any (is_code_at t k) T ≡ true
     go true e =
         let same : k ≡ suc n = eqb-true k (suc n) e in
         let at : k - 1 ≡ n = omega (arith, same) in
-        no_truth (is_asking (slice_get ls n)) (ap (λ i. is_asking (slice_get ls i)) (sym at) ∙ asks) quiet
+        no_truth (has_code (slice_get ls n)) (ap (λ i. has_code (slice_get ls i)) (sym at) ∙ asks) quiet
     go false e = let ne : k ≢ suc n = eqb-false k (suc n) e in h k low (omega (arith, in_it, ne)) asks
 
 found-unmarked : (xs : List Rec) (r : Res) (y : Rec) → record_of xs r ≡ Some y → y.told ≡ false → is_unmarked r xs ≡ true
@@ -183,7 +188,7 @@ module _ (deck : Deck) (n : NodeState) (h : AllDate deck n.tasks) (u : TaskId) (
     closed = (h u ms at here).closed (ap is_unsent ready)
 
     done : AreCoded ms n.tasks.told u (state_of n.tasks u).line
-    done = subst (λ p. AreCoded ms v.told u (cond (is_held p || is_unsent p) (y.line - 1) y.line)) ready (subst (λ o. AreCoded ms v.told u (done_by o y.phase y.line)) closed (h u ms at here).coded)
+    done = subst (λ p. AreCoded ms v.told u (cond (is_waiting p) (y.line - 1) y.line)) ready (subst (λ o. AreCoded ms v.told u (done_by o y.phase y.line)) closed (h u ms at here).coded)
 
     abbrev x1 : TaskState
     x1 = record (state_of n.tasks u) { line = suc (state_of n.tasks u).line }
@@ -194,35 +199,35 @@ module _ (deck : Deck) (n : NodeState) (h : AllDate deck n.tasks) (u : TaskId) (
     back : (k : ℕ) → suc k - 1 ≡ k
     back k = omega arith
 
-    -- a line that asks nothing was taken: more may be told of it
-    date-silent : (w : TasksView) (z : TaskState) (T : List ToldLine) → Did n.tasks w u z T → ((p : ToldLine → Bool) → list_any p n.tasks.told ≡ true → list_any p T ≡ true) → is_asking (slice_get ms (state_of n.tasks u).line) ≡ false →
-        z.line ≡ suc (state_of n.tasks u).line → z.outstanding ≡ None → is_held z.phase ≡ false → z.records ≡ (state_of n.tasks u).records → is_kept z.phase z.records ≡ true → AllDate deck w
-    date-silent w z T did grows quiet line shut free recs held = date-own deck v w u ms z T at here did grows (record {
+    -- a line that asks nothing was taken, and its code was told if it has one
+    date-silent : (w : TasksView) (z : TaskState) (T : List ToldLine) → Did n.tasks w u z T → ((p : ToldLine → Bool) → list_any p n.tasks.told ≡ true → list_any p T ≡ true) → AreCoded ms T u (done_by None z.phase z.line) →
+        z.outstanding ≡ None → z.records ≡ (state_of n.tasks u).records → is_kept z.phase z.records ≡ true → AllDate deck w
+    date-silent w z T did grows coded shut recs held = date-own deck v w u ms z T at here did grows (record {
       closed = λ e. shut;
       wanted = subst (IsWantedBy ms z.line) (sym shut) tt;
       held = held;
-      coded = λ k low in_it asks. grows (is_code_at u k) (coded-silent ms v.told u y.line quiet done k low (omega (arith, in_it, done_to z shut free, line)) asks);
+      coded = subst (λ o. AreCoded ms T u (done_by o z.phase z.line)) (sym shut) coded;
       units = subst (Each (HasUnit ms)) (sym recs) (h u ms at here).units;
     }) h
-      where
-        done_to : (q : TaskState) → q.outstanding ≡ None → is_held q.phase ≡ false → done_by q.outstanding q.phase q.line ≤ q.line
-        done_to q o f = subst (λ i. done_by i q.phase q.line ≤ q.line) (sym o) (go (is_held q.phase || is_unsent q.phase))
-          where
-            go : (b : Bool) → cond b (q.line - 1) q.line ≤ q.line
-            go true = omega arith
-            go false = omega arith
 
-    date-wait : (r : Res) → slice_get ms (state_of n.tasks u).line ≡ Some (lines.Wait r) → (o : Option Rec) → record_of (state_of (with_line n.tasks u) u).records r ≡ o → AllDate deck (wait (with_line n.tasks u) u r o)
+    -- it is done with that line
+    done_next : (T : List ToldLine) → AreCoded ms T u (suc (state_of n.tasks u).line) → AreCoded ms T u (done_by None (state_of n.tasks u).phase (suc (state_of n.tasks u).line))
+    done_next T coded = subst (λ p. AreCoded ms T u (cond (is_waiting p) (suc y.line - 1) (suc y.line))) (sym ready) coded
+
+    done_back : AreCoded ms n.tasks.told u (suc (state_of n.tasks u).line - 1)
+    done_back = subst (λ k. AreCoded ms v.told u k) (sym (back y.line)) done
+
+    date-wait : (r : Res) → (o : Option Rec) → record_of (state_of (with_line n.tasks u) u).records r ≡ o → AllDate deck (wait (with_line n.tasks u) u r o)
     unfolding wait
-    date-wait r next None e =
-        date-silent (tell_code (with_line v u) u verbs.Wait C08) x1 (told_after v.told u x1.line verbs.Wait C08) (did-code v (with_line v u) u x1 v.told here did-next verbs.Wait C08) (λ p k. any-after p v.told u x1.line verbs.Wait C08 k) (ap is_asking next) refl closed (ap is_held ready) refl (ap (λ p. is_kept p y.records) ready)
-    date-wait r next (Some z) e = go z.told refl
+    date-wait r None e =
+        date-silent (tell_code (with_line v u) u verbs.Wait C08) x1 (told_after v.told u x1.line verbs.Wait C08) (did-code v (with_line v u) u x1 v.told here did-next verbs.Wait C08) (λ p k. any-after p v.told u x1.line verbs.Wait C08 k) (done_next (told_after v.told u x1.line verbs.Wait C08) (coded-line ms v.told u u (suc y.line) verbs.Wait C08 place_own done_back)) closed refl (ap (λ p. is_kept p y.records) ready)
+    date-wait r (Some z) e = go z.told refl
       where
         go : (b : Bool) → z.told ≡ b → AllDate deck (cond b (tell_code (with_line v u) u verbs.Wait C00) (with_phase (with_line v u) u (phases.HeldLine r)))
-        go true f = date-silent (tell_code (with_line v u) u verbs.Wait C00) x1 (told_after v.told u x1.line verbs.Wait C00) (did-code v (with_line v u) u x1 v.told here did-next verbs.Wait C00) (λ p k. any-after p v.told u x1.line verbs.Wait C00 k) (ap is_asking next) refl closed (ap is_held ready) refl (ap (λ p. is_kept p y.records) ready)
+        go true f = date-silent (tell_code (with_line v u) u verbs.Wait C00) x1 (told_after v.told u x1.line verbs.Wait C00) (did-code v (with_line v u) u x1 v.told here did-next verbs.Wait C00) (λ p k. any-after p v.told u x1.line verbs.Wait C00 k) (done_next (told_after v.told u x1.line verbs.Wait C00) (coded-line ms v.told u u (suc y.line) verbs.Wait C00 place_own done_back)) closed refl (ap (λ p. is_kept p y.records) ready)
         go false f =
             let w = with_phase (with_line v u) u (phases.HeldLine r) in
-            date-silent w (record x1 { phase = phases.HeldLine r }) v.told (did-phase v (with_line v u) u x1 v.told here did-next (phases.HeldLine r)) (λ p k. k) (ap is_asking next) refl closed refl refl
+            date-silent w (record x1 { phase = phases.HeldLine r }) v.told (did-phase v (with_line v u) u x1 v.told here did-next (phases.HeldLine r)) (λ p k. k) done_back closed refl
             (found-unmarked y.records r z (ap (λ (q : TaskState). record_of q.records r) (sym did-next.state) ∙ e) f)
 
     date-line : (l : Meaning) → slice_get ms (state_of n.tasks u).line ≡ Some l → AllDate deck (take_line deck.limit (with_tasks n (with_line n.tasks u)) u l).node.tasks
@@ -244,8 +249,8 @@ module _ (deck : Deck) (n : NodeState) (h : AllDate deck n.tasks) (u : TaskId) (
       units = (h u ms at here).units;
       phase = ap is_free ready;
     }) refl (λ wide. (omega arith, wide))
-    date-line (lines.Wait r) next = date-wait r next (record_of (state_of (with_line v u) u).records r) refl
-    date-line lines.Nothing next = date-silent (with_line v u) x1 v.told did-next (λ p k. k) (ap is_asking next) refl closed (ap is_held ready) refl (ap (λ p. is_kept p y.records) ready)
+    date-line (lines.Wait r) next = date-wait r (record_of (state_of (with_line v u) u).records r) refl
+    date-line lines.Nothing next = date-silent (with_line v u) x1 v.told did-next (λ p k. k) (done_next v.told (coded-silent ms v.told u y.line (ap has_code next) done)) closed refl (ap (λ p. is_kept p y.records) ready)
 
   -- one that is ending, and stands as x
   module _ (v0 : TasksView) (x : TaskState) (did : Did n.tasks v0 u x n.tasks.told) (c : ℕ) (ending : is_free x.phase ≡ true) (closed : x.outstanding ≡ None) (done : AreCoded ms n.tasks.told u x.line) (units : Each (HasUnit ms) x.records) where
@@ -278,7 +283,7 @@ module _ (deck : Deck) (n : NodeState) (h : AllDate deck n.tasks) (u : TaskId) (
       let k = h u ms at here in
       let shut : (state_of v u).outstanding ≡ None = k.closed (ap is_unsent e) in
       date-end v (state_of v u) (did-none v u) c (ap is_free e) shut
-      (subst (λ p. AreCoded ms v.told u (cond (is_held p || is_unsent p) ((state_of v u).line - 1) (state_of v u).line)) e (subst (λ o. AreCoded ms v.told u (done_by o (state_of v u).phase (state_of v u).line)) shut k.coded)) k.units (state_of v u).records
+      (subst (λ p. AreCoded ms v.told u (cond (is_waiting p) ((state_of v u).line - 1) (state_of v u).line)) e (subst (λ o. AreCoded ms v.told u (done_by o (state_of v u).phase (state_of v u).line)) shut k.coded)) k.units (state_of v u).records
   date-phase phases.HeldAnswer e = h
   date-phase (phases.HeldLine r) e = h
   date-phase phases.ToSend e = h

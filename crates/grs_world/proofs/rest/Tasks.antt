@@ -1,9 +1,9 @@
 -- A task of a system of the ring goes on by itself: its records go on with the system's own lists, and nothing else is sent.
-use Rattle.std.proofs.Common.{◌≡◌, ◌≢◌, ℕ, suc, Bool, true, false, cond, not, ◌&&◌, ◌||◌, List, [], ◌∷◌, ◌++◌, Option, Some, None, refl, ap, sym, ◌∙◌, subst}
-use Rattle.std.specs.Prelude.{◌==◌, is_none, is_some, slice_get}
-use Rattle.std.proofs.lemmas.Bool.{and_parts, or_left, or_right}
+use Rattle.std.proofs.Common.{◌≡◌, ℕ, suc, Bool, true, false, cond, not, ◌||◌, List, [], ◌∷◌, ◌++◌, Option, Some, None, refl, ap, sym, ◌∙◌, subst}
+use Rattle.std.specs.Prelude.{is_some, slice_get}
+use Rattle.std.proofs.lemmas.Bool.{or_left, or_right}
 use Rattle.grs_base.specs.Same.{same_task}
-use Rattle.grs_base.specs.State.{State, is_systems}
+use Rattle.grs_base.specs.State.{is_systems}
 use Rattle.grs_base.specs.declared.resource.Res.{Res}
 use Rattle.grs_base.specs.declared.resource.TaskId.{TaskId}
 use Rattle.grs_base.specs.declared.decision.Code.TheVariants.{C00, C08}
@@ -11,19 +11,19 @@ use Rattle.grs_base.proofs.SameLaws.{same_task-exact, same_task-itself}
 use Rattle.grs_legal.specs.Asks.{lines_of}
 use Rattle.grs_legal.specs.declared.meaning.Meaning.{Meaning}
 use Rattle.grs_legal.specs.declared.meaning.Meaning.TheVariants as lines
-use Rattle.grs_node.specs.Node.{NodeState, Step, ask, decide, end_step, has_most, is_to_send, only, outbox_with, phase_step, post, ready_step, take_line, task_step, wait, with_tasks}
+use Rattle.grs_node.specs.Node.{NodeState, Step, ask, decide, end_step, has_most, is_to_send, may_go, outbox_with, phase_step, post, ready_step, take_line, task_step, wait, with_tasks}
 use Rattle.grs_wire.specs.Wants.{after_want, answer_to, new_owners, res_wanted}
 use Rattle.grs_wire.specs.declared.deck.Deck.{Deck}
 use Rattle.grs_wire.specs.declared.request.Req.{Req}
 use Rattle.grs_wire.specs.declared.request.Want.{Want}
-use Rattle.grs_wire.specs.declared.request.Want.TheVariants.{Enq, Deq, Release, Look}
+use Rattle.grs_wire.specs.declared.request.Want.TheVariants.{Enq, Deq, Release}
 use Rattle.grs_wire.specs.declared.told.ToldLine.{ToldLine}
 use Rattle.grs_wire.specs.declared.told.ToldLine.TheVariants as told
 use Rattle.grs_wire.specs.declared.told.Verb.TheVariants as verbs
 use Rattle.grs_wire.proofs.WantLaws.{by_test}
 use Rattle.ring_mode.specs.Ring.{is_for_all}
 use Rattle.task_state.specs.Replies.{replied, tell_code, tell_new}
-use Rattle.task_state.specs.View.{TasksView, code_in, is_sent, is_task, record_of, state_of, telling, with_line, with_outstanding, with_phase}
+use Rattle.task_state.specs.View.{TasksView, is_sent, record_of, state_of, telling, with_line, with_outstanding, with_phase}
 use Rattle.task_state.specs.declared.state.Asked.{Asked}
 use Rattle.task_state.specs.declared.state.Phase.{Phase}
 use Rattle.task_state.specs.declared.state.Phase.TheVariants as phases
@@ -34,12 +34,11 @@ use Rattle.grs_known.proofs.lists.Truths.{no_truth}
 use Rattle.grs_known.proofs.system.Did.{Did, did-code, did-line, did-none, did-outstanding, did-phase, did-telling}
 use Rattle.grs_known.proofs.system.Ours.{IsOurs, same_place}
 use Rattle.grs_known.proofs.system.Says.{askers}
-use Rattle.grs_known.proofs.tasks.Asked.{told_after}
 use Rattle.grs_known.proofs.tasks.Invariant.{is_distinct}
 use Rattle.grs_world.proofs.rest.Deciding.{AllKept, IsQuiet, own-kept}
 use Rattle.grs_world.proofs.rest.Lists.{Matches}
 use Rattle.grs_world.proofs.rest.Ring.{IsRead, is_local, quiet-sent, quiet-to_send}
-use Rattle.grs_world.proofs.rest.Steps.{AllDate}
+use Rattle.grs_world.proofs.rest.Steps.{AllDate, date-task, going-ours}
 
 -- what is said of it but that its lines are told
 pub record IsLocal (deck : Deck) (s : ℕ) (n : NodeState) (qs : List Req) : Type 0 where
@@ -48,7 +47,7 @@ pub record IsLocal (deck : Deck) (s : ℕ) (n : NodeState) (qs : List Req) : Typ
   pub sent : (t : TaskId) (ls : List Meaning) → IsOurs deck s n.tasks t ls → is_sent (state_of n.tasks t).phase ≡ true → is_among t (askers qs) ≡ true
   pub boxed : (t : TaskId) (ls : List Meaning) → IsOurs deck s n.tasks t ls → is_to_send (state_of n.tasks t).phase ≡ true → is_among t (askers n.outbox) ≡ true
 
-pub local-read : (deck : Deck) (s : ℕ) (n : NodeState) (qs : List Req) → IsLocal deck s n qs → AllDate deck n.tasks → IsRead deck s n qs
+local-read : (deck : Deck) (s : ℕ) (n : NodeState) (qs : List Req) → IsLocal deck s n qs → AllDate deck n.tasks → IsRead deck s n qs
 local-read deck s n qs h date = record { own = h.own; shared = h.shared; sent = h.sent; boxed = h.boxed; date = date }
 
 among-last : (t : TaskId) (xs : List Req) (q : Req) → same_task t q.task ≡ true → is_among t (askers (xs ++ q ∷ [])) ≡ true
@@ -189,5 +188,13 @@ module _ (deck : Deck) (s : ℕ) (n : NodeState) (qs : List Req) (alone : n.star
   local-phase phases.Sent e = same
   local-phase phases.Ended e = same
 
-  pub local-task : IsLocal deck s (task_step deck.limit n u (Some ms)).node qs
+  local-task : IsLocal deck s (task_step deck.limit n u (Some ms)).node qs
   local-task = local-phase (state_of v u).phase refl
+
+-- what a task does that goes on, where no task's records have a resource twice
+pub read-task : (deck : Deck) (s : ℕ) (n : NodeState) (qs : List Req) → n.star ≡ None → n.tasks.system ≡ s → ((t : TaskId) (ls : List Meaning) → IsOurs deck s n.tasks t ls → is_distinct (state_of n.tasks t).records ≡ true) → (t : TaskId) → may_go deck n t ≡ true →
+    IsRead deck s n qs → IsRead deck s (task_step deck.limit n t (lines_of deck t)).node qs
+read-task deck s n qs alone system distinct t may h =
+    let ours = going-ours deck s n system t may in
+    subst (λ o. IsRead deck s (task_step deck.limit n t o).node qs) (sym ours.1.lines)
+    (local-read deck s (task_step deck.limit n t (Some ours.0)).node qs (local-task deck s n qs alone h t ours.0 ours.1 (distinct t ours.0 ours.1)) (date-task deck n h.date t ours.0 ours.1.lines ours.1.here))

@@ -1,18 +1,14 @@
 -- A task is up to date with what its system knows, whatever the other systems and the medium do: each of its lines that is
 -- answered has its code line, and who is held at a WAIT line has still to be told control. This needs nothing of the run.
-use Rattle.std.proofs.Common.{◌≡◌, ◌≢◌, ◌<◌, ◌≤◌, ◌-◌, ℕ, suc, Bool, true, false, cond, not, ◌&&◌, ◌||◌, List, [], ◌∷◌, ◌++◌, Option, Some, None, refl, ap, sym, ◌∙◌, subst, arith}
+use Rattle.std.proofs.Common.{◌≡◌, ◌≢◌, ◌<◌, ◌≤◌, ◌-◌, ℕ, Bool, true, false, cond, ◌&&◌, List, [], ◌∷◌, ◌++◌, Option, Some, None, refl, ap, sym, subst, arith}
 use Rattle.std.specs.Prelude.{◌==◌, slice_get}
 use Rattle.std.specs.List.{list_any}
 use Rattle.std.proofs.lemmas.Bool.{and_from, eq-eqb, eqb-true, eqb-false}
-use Rattle.grs_base.specs.Same.{same_res}
 use Rattle.grs_base.specs.declared.resource.Res.{Res}
 use Rattle.grs_base.specs.declared.resource.TaskId.{TaskId}
 use Rattle.grs_base.specs.declared.decision.Code.TheVariants.{C00}
-use Rattle.grs_base.proofs.SameLaws.{same_res-exact}
-use Rattle.grs_legal.specs.Asks.{is_silent}
 use Rattle.grs_legal.specs.declared.meaning.Meaning.{Meaning}
 use Rattle.grs_legal.specs.declared.meaning.Meaning.TheVariants as lines
-use Rattle.grs_wire.specs.Wants.{res_wanted}
 use Rattle.grs_wire.specs.declared.request.Want.{Want}
 use Rattle.grs_wire.specs.declared.request.Want.TheVariants.{Enq, Deq, Release, Look}
 use Rattle.grs_wire.specs.declared.told.Verb.TheVariants as verbs
@@ -29,8 +25,8 @@ use Rattle.task_state.specs.declared.state.TaskState.{TaskState}
 use Rattle.grs_known.proofs.lists.Facts.{any-more, any-last}
 use Rattle.grs_known.proofs.lists.Truths.{no_truth}
 use Rattle.grs_known.proofs.system.Asking.{line_asked}
-use Rattle.grs_known.proofs.tasks.Invariant.{Each, is_unsent}
-use Rattle.grs_world.proofs.rest.Control.{Hears, none, given, coded, posted, passed, hears-grows, marks, told_rec, is_unmarked, unmarked-still, each-marks}
+use Rattle.grs_known.proofs.tasks.Invariant.{Each, is_unsent, is_waiting}
+use Rattle.grs_world.proofs.rest.Control.{Hears, none, given, coded, posted, passed, told_rec, is_unmarked, unmarked-still, each-marks}
 
 -- ---- what is told and asked
 -- whether two tasks are at the same place of the same system, as a system tells its tasks apart
@@ -45,10 +41,13 @@ is_code_at t k (Post u j) = false
 is_code_at t k (Ended u code) = false
 is_code_at t k (Desk j said) = false
 
--- whether a line is there and asks something
-abbrev pub is_asking : Option Meaning → Bool
-is_asking None = false
-is_asking (Some l) = not (is_silent l)
+-- whether a line is there and is answered by a code
+abbrev pub has_code : Option Meaning → Bool
+has_code None = false
+has_code (Some (lines.Enq r c ret unit)) = true
+has_code (Some (lines.Deq r have)) = true
+has_code (Some (lines.Wait r)) = true
+has_code (Some lines.Nothing) = false
 
 -- the unit that a line reserves
 abbrev pub unit_of : Option Meaning → Option ℕ
@@ -58,9 +57,9 @@ unit_of (Some (lines.Deq r have)) = None
 unit_of (Some (lines.Wait r)) = None
 unit_of (Some lines.Nothing) = None
 
--- the line at which a task is done with what its lines ask: all up to it are answered
+-- the line up to which all of a task's lines are done
 abbrev pub done_by : Option Asked → Phase → ℕ → ℕ
-done_by None p line = cond (is_held p || is_unsent p) (line - 1) line
+done_by None p line = cond (is_waiting p) (line - 1) line
 done_by (Some a) p line = line_asked a.req.want line
 
 -- An outstanding request is for a resource of the whole complex, and reserves the unit of its line.
@@ -84,9 +83,9 @@ is_kept phases.Ready xs = true
 is_kept (phases.Ending c) xs = true
 is_kept phases.Ended xs = true
 
--- each line up to this one that asks has its code line
+-- each line up to this one that is answered by a code has its code line
 abbrev pub AreCoded : List Meaning → List ToldLine → TaskId → ℕ → Type 0
-AreCoded ls T t n = (k : ℕ) → 0 < k → k ≤ n → is_asking (slice_get ls (k - 1)) ≡ true → list_any (is_code_at t k) T ≡ true
+AreCoded ls T t n = (k : ℕ) → 0 < k → k ≤ n → has_code (slice_get ls (k - 1)) ≡ true → list_any (is_code_at t k) T ≡ true
 
 -- a record reserves the unit of its line
 abbrev pub HasUnit : List Meaning → Rec → Type 0
@@ -128,8 +127,8 @@ kept-marks phases.Ready r xs apart h = refl
 kept-marks (phases.Ending c) r xs apart h = refl
 kept-marks phases.Ended r xs apart h = refl
 
-held-unsent : (p : Phase) → is_held p ≡ true → is_unsent p ≡ false
-held-unsent phases.HeldAnswer e = refl
+held-unsent : (p : Phase) → is_held p ≡ true → (is_unsent p ≡ false) × (is_waiting p ≡ true)
+held-unsent phases.HeldAnswer e = (refl, refl)
 held-unsent phases.Ready e = absurd (cc)
 held-unsent phases.ToSend e = absurd (cc)
 held-unsent phases.Sent e = absurd (cc)
@@ -137,7 +136,7 @@ held-unsent (phases.HeldLine q) e = absurd (cc)
 held-unsent (phases.Ending c) e = absurd (cc)
 held-unsent phases.Ended e = absurd (cc)
 
-held_for-unsent : (r : Res) (p : Phase) → is_held_for r p ≡ true → (is_unsent p ≡ false) × (is_held p ≡ false)
+held_for-unsent : (r : Res) (p : Phase) → is_held_for r p ≡ true → (is_unsent p ≡ false) × (is_waiting p ≡ true)
 held_for-unsent r (phases.HeldLine q) e = (refl, refl)
 held_for-unsent r phases.HeldAnswer e = absurd (cc)
 held_for-unsent r phases.Ready e = absurd (cc)
@@ -145,10 +144,6 @@ held_for-unsent r phases.ToSend e = absurd (cc)
 held_for-unsent r phases.Sent e = absurd (cc)
 held_for-unsent r (phases.Ending c) e = absurd (cc)
 held_for-unsent r phases.Ended e = absurd (cc)
-
-unheld-unsent : (a b : Bool) → a ≡ false → b ≡ false → (a || b) ≡ false
-unheld-unsent false b e f = f
-unheld-unsent true b e f = absurd (cc)
 
 -- lines up to one that is held, and it
 coded-next : (ls : List Meaning) (T : List ToldLine) (t : TaskId) (n : ℕ) (l : ToldLine) → AreCoded ls T t (n - 1) → is_code_at t n l ≡ true → AreCoded ls (T ++ l ∷ []) t n
@@ -176,13 +171,14 @@ hears-date ls t u r x T y U place (given l) h = record {
     go true e = kept-free x.phase x.records (on_record r told_rec x.records) e h.held
     go false e = no_truth (is_leaving r x.outstanding) l (ap (is_leaving r) (h.closed e))
 hears-date ls t u r x T y U place (coded a) h =
-    let closed : x.outstanding ≡ None = h.closed (held-unsent x.phase a) in
+    let free = held-unsent x.phase a in
+    let closed : x.outstanding ≡ None = h.closed free.0 in
     record {
       closed = λ e. closed;
       wanted = h.wanted;
       held = refl;
       coded = subst (λ o. AreCoded ls (T ++ Coded u x.line 0 verbs.Enq C00 ∷ []) t (done_by o phases.Ready x.line)) (sym closed)
-          (coded-next ls T t x.line (Coded u x.line 0 verbs.Enq C00) (subst (λ b. AreCoded ls T t (cond (b || is_unsent x.phase) (x.line - 1) x.line)) a (subst (λ o. AreCoded ls T t (done_by o x.phase x.line)) closed h.coded)) (placed-itself t u place x.line));
+          (coded-next ls T t x.line (Coded u x.line 0 verbs.Enq C00) (subst (λ b. AreCoded ls T t (cond b (x.line - 1) x.line)) free.1 (subst (λ o. AreCoded ls T t (done_by o x.phase x.line)) closed h.coded)) (placed-itself t u place x.line));
       units = units-marks ls r x.records h.units;
     }
 hears-date ls t u r x T y U place (posted k a) h = record {
@@ -195,11 +191,12 @@ hears-date ls t u r x T y U place (posted k a) h = record {
 hears-date ls t u r x T y U place (passed k a) h =
     let free = held_for-unsent r x.phase a in
     let closed : x.outstanding ≡ None = h.closed free.0 in
+    let before : AreCoded ls T t (x.line - 1) = subst (λ b. AreCoded ls T t (cond b (x.line - 1) x.line)) free.1 (subst (λ o. AreCoded ls T t (done_by o x.phase x.line)) closed h.coded) in
     record {
       closed = λ e. closed;
       wanted = h.wanted;
       held = refl;
       coded = subst (λ o. AreCoded ls ((T ++ Post u k ∷ []) ++ Coded u x.line 0 verbs.Wait C00 ∷ []) t (done_by o phases.Ready x.line)) (sym closed)
-          (λ j low in_it asks. any-more (is_code_at t j) (T ++ Post u k ∷ []) _ (any-more (is_code_at t j) T _ (subst (λ b. AreCoded ls T t (cond b (x.line - 1) x.line)) (unheld-unsent (is_held x.phase) (is_unsent x.phase) free.1 free.0) (subst (λ o. AreCoded ls T t (done_by o x.phase x.line)) closed h.coded) j low in_it asks)));
+          (coded-next ls (T ++ Post u k ∷ []) t x.line (Coded u x.line 0 verbs.Wait C00) (λ j low in_it asks. any-more (is_code_at t j) T _ (before j low in_it asks)) (placed-itself t u place x.line));
       units = units-marks ls r x.records h.units;
     }

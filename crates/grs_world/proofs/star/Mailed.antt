@@ -54,6 +54,15 @@ use Rattle.grs_world.proofs.star.Systems.{gives, gives_want, gives-none, is_plai
 pub took-request : (deck : Deck) (words : List ℕ) (T : List RunItem) (s : ℕ) (n : NodeState) (e : ℕ) (from : SysId) (q : Req) (ms : List Mail) (later : List RunItem) (out : List Req) (o : Option StarPart) → IsSystem deck words T s n (Request e from q ∷ ms) later out → IsSystem deck words T s (record n { star = o }) ms later out
 took-request deck words T s n e from q ms later out o h = record { at = h.at; late = h.late; sent = h.sent; near = h.near; coming = h.coming; answered = h.answered; fits = h.fits.1 }
 
+-- who is among the requests that were sent stands as having sent
+pub sent-among : (t : TaskId) (p : Phase) (qs : List Req) → are_sent t p qs ≡ true → is_among t (askers qs) ≡ true → is_sent p ≡ true
+sent-among t p [] h e = absurd (cc)
+sent-among t p (q ∷ qs) h e = go (same_task t q.task) h e (sent-among t p qs)
+  where
+    go : (b : Bool) → ((not b || is_sent p) && are_sent t p qs) ≡ true → (b || is_among t (askers qs)) ≡ true → (are_sent t p qs ≡ true → is_among t (askers qs) ≡ true → is_sent p ≡ true) → is_sent p ≡ true
+    go true f g more = (and_parts (is_sent p) (are_sent t p qs) f).0
+    go false f g more = more f g
+
 one-same : (o p : Option RunItem) → one o ≡ one p → o ≡ p
 one-same None None e = refl
 one-same None (Some y) e = absurd (cc)
@@ -108,14 +117,6 @@ module _ (deck : Deck) (words : List ℕ) (T : List RunItem) (right : IsHistory 
   gets S t (Deq r have) e = same_code-itself (standing_of (list_of S r) t) have
   gets S t (Release r) e = refl
   gets S t (Look first count f) e = absurd (cc)
-
-  sent-among : (t : TaskId) (p : Phase) (qs : List Req) → are_sent t p qs ≡ true → is_among t (askers qs) ≡ true → is_sent p ≡ true
-  sent-among t p [] h e = absurd (cc)
-  sent-among t p (q ∷ qs) h e = go (same_task t q.task) h e (sent-among t p qs)
-    where
-      go : (b : Bool) → ((not b || is_sent p) && are_sent t p qs) ≡ true → (b || is_among t (askers qs)) ≡ true → (are_sent t p qs ≡ true → is_among t (askers qs) ≡ true → is_sent p ≡ true) → is_sent p ≡ true
-      go true f g more = (and_parts (is_sent p) (are_sent t p qs) f).0
-      go false f g more = more f g
 
   among-others : (t u : TaskId) (qs : List Req) → same_task u t ≡ false → is_among u (askers (without_asker t qs)) ≡ is_among u (askers qs)
   among-others t u [] apart = refl

@@ -59,7 +59,7 @@ interest-within p x h = go (slice_get p.interest x) refl (unwrap_or-slice_get p.
     go (Some b) e f = slice_get_within p.interest x b e
 
 -- ---- one entry changed
-kept-set : (es : List (Option Managed)) (x e : ℕ) (o : Option Managed) → x < length es → kept_at (slice_set es x o) e ≡ cond (e == x) o (kept_at es e)
+pub kept-set : (es : List (Option Managed)) (x e : ℕ) (o : Option Managed) → x < length es → kept_at (slice_set es x o) e ≡ cond (e == x) o (kept_at es e)
 kept-set es x e o inside = unwrap_or-slice_get (slice_set es x o) e None ∙ go (e == x) refl
   where
     go : (b : Bool) → (e == x) ≡ b → slice_index_or (slice_set es x o) e None ≡ cond b o (kept_at es e)

@@ -1,8 +1,8 @@
 -- A system sends a request of its own task to the manager of its entry, or decides it as that manager.
 use Rattle.std.proofs.Common.{◌≡◌, ◌≢◌, ◌<◌, ◌||◌, ◌&&◌, inl, inr, ℕ, Bool, true, false, cond, List, [], ◌∷◌, ◌++◌, length, Option, Some, None, refl, ap, sym, ◌∙◌, subst, arith, append_assoc}
-use Rattle.std.specs.Prelude.{◌==◌, slice_get, unwrap_or}
+use Rattle.std.specs.Prelude.{◌==◌, is_some, slice_get, unwrap_or}
 use Rattle.std.specs.List.{All}
-use Rattle.std.proofs.lemmas.Bool.{eqb-true, eqb-false, eq-eqb, or_left, or_right}
+use Rattle.std.proofs.lemmas.Bool.{and_parts, eqb-true, eqb-false, eq-eqb, or_left, or_right}
 use Rattle.std.proofs.lemmas.List.{get_or-set_same, get_or-set_other}
 use Rattle.std.proofs.lemmas.Option.{slice_get_within, same_Some}
 use Rattle.contention_mgr.specs.Manager.{entry_wanted}
@@ -45,7 +45,7 @@ use Rattle.grs_known.proofs.lists.Facts.{slice_get-past}
 use Rattle.grs_known.proofs.lists.Owners.{is_among}
 use Rattle.grs_known.proofs.lists.Truths.{false_by, no_truth}
 use Rattle.grs_known.proofs.lists.Placed.{put_here, put_other}
-use Rattle.grs_world.specs.World.{World}
+use Rattle.grs_world.specs.World.{World, placed}
 use Rattle.grs_known.proofs.told.News.{ToldNews, told-news, still-told}
 use Rattle.grs_known.proofs.system.Askers.{apart-push}
 use Rattle.grs_known.proofs.system.Ours.{IsOurs}
@@ -58,8 +58,12 @@ use Rattle.grs_world.proofs.star.Runs.{word_past}
 use Rattle.grs_world.proofs.star.Systems.{IsSystem, Keeps, Away, near_at, requests_in, system-other, system-requested, system-words}
 use Rattle.grs_world.proofs.star.Under.{res-entry}
 use Rattle.grs_world.proofs.star.Worlds.{IsIn, IsHand, AllHands, Hands, IsWhole, in_hands, items-none, items-one, whole-placed, none_fixed, fixes-own}
+use Rattle.grs_world.proofs.star.Heard.{StaysHeard}
+use Rattle.grs_world.proofs.star.hearing.Sent.{heard-sent}
 use Rattle.grs_world.proofs.star.steps.Outcome.{IsOutcome}
 use Rattle.grs_world.proofs.run.Desks.{tells_tasks}
+use Rattle.grs_world.proofs.rest.StarTasks.{dated-by, keeps-decided, keeps-sent}
+use Rattle.grs_legal.specs.Asks.{lines_of}
 
 -- ---- the words grow
 -- By other words each manager manages what it did, and what matters to a system stays.
@@ -278,10 +282,10 @@ module _ (deck : Deck) (w : World) (g : IsWhole deck w) (c : SysId) (n : NodeSta
               apart = apart-push (in_hands v (inbox w.medium m)) q h.apart none_there;
             })
 
-    pub outcome-sent : (p p' : StarPart) → n.star ≡ Some p → p'.held ≡ p.held →
+    pub outcome-sent : (p p' : StarPart) → n.star ≡ Some p → p'.held ≡ p.held → p'.manager ≡ p.manager →
         IsStep deck w c n (record { medium = sent_on; step = record { node = record n { tasks = with_phase n.tasks t phases.Sent; star = Some p' }; fixed = [] } }) →
         IsOutcome deck w g c n (record { medium = sent_on; step = record { node = record n { tasks = with_phase n.tasks t phases.Sent; star = Some p' }; fixed = [] } })
-    outcome-sent p p' star held step = record {
+    outcome-sent p p' star held manager step = record {
       stays =
           let own_box : inbox sent_on c.0 ≡ inbox w.medium c.0 = other_box c.0 (λ e. apart (sym e)) in
           whole-placed deck w g c n at (record { medium = sent_on; step = record { node = record n { tasks = with_phase n.tasks t phases.Sent; star = Some p' }; fixed = [] } }) step T (items-none w.fixed c) g.later out' other_out none_fixed
@@ -294,6 +298,8 @@ module _ (deck : Deck) (w : World) (g : IsWhole deck w) (c : SysId) (n : NodeSta
           (subst (λ hs. Hands deck words (length w.nodes) g.later out' c.0 (hs ++ requests_in (inbox sent_on c.0))) (sym held) (hands_others c.0 n p at star)))
           (λ m k v ne found known. hands_others m k v found known);
       news = tells_tasks (still-told (told-phase n.tasks t phases.Sent)) refl refl;
+      heard = heard-sent deck w g c n at words flags t home ours.here a entry of_entry s apart below p p' star held manager;
+      dated = λ h. dated-by deck c.0 n (record n { tasks = with_phase n.tasks t phases.Sent; star = Some p' }) refl h (keeps-sent deck n.tasks t ours.here h.date);
     }
 
   -- ---- it decides it as the manager of its entry
@@ -315,9 +321,10 @@ module _ (deck : Deck) (w : World) (g : IsWhole deck w) (c : SysId) (n : NodeSta
     hands_same m k v found known = hands-grow deck w.medium.words words grow (length w.nodes) g.later g.out g.out (λ u z h. h) m (in_hands v (inbox w.medium m)) (g.hands m k v found known)
 
     pub outcome-decided : ((u : TaskId) → is_among u ts ≡ true → owns (list_of (lists (T ++ item ∷ [])) r) u ≡ true) →
+        (IsWhole deck (placed w c n (record { medium = record w.medium { words = words; rest = flags }; step = record { node = decided; fixed = fixing.Asked (request_of t a) ∷ [] } })) → StaysHeard deck w c n (record { medium = record w.medium { words = words; rest = flags }; step = record { node = decided; fixed = fixing.Asked (request_of t a) ∷ [] } })) →
         IsStep deck w c n (record { medium = record w.medium { words = words; rest = flags }; step = record { node = decided; fixed = fixing.Asked (request_of t a) ∷ [] } }) →
         IsOutcome deck w g c n (record { medium = record w.medium { words = words; rest = flags }; step = record { node = decided; fixed = fixing.Asked (request_of t a) ∷ [] } })
-    outcome-decided owned step =
+    outcome-decided owned heard step =
         let h = system-grown c.0 n at in
         let m = may-follow deck words T g.right c.0 n (inbox w.medium c.0) (g.later c.0) (g.out c.0) h t ls ours home a is free c in
         let z = system-decided deck words T g.right c.0 n (inbox w.medium c.0) (g.later c.0) (g.out c.0) h t ls ours home a is free c entry of_entry managing r wanted ts rank (Some p') owned in
@@ -332,6 +339,8 @@ module _ (deck : Deck) (w : World) (g : IsWhole deck w) (c : SysId) (n : NodeSta
               (subst (λ hs. Hands deck words (length w.nodes) g.later g.out c.0 (hs ++ requests_in (inbox w.medium c.0))) (sym held) (hands_same c.0 n p at star)))
               (λ k y v ne found known. hands_same k y v found known);
           news = tells_tasks (subst (λ U. ToldNews deck c.0 (history U) n.tasks.told decided.tasks.told) (sym (items-one w.fixed c (fixing.Asked q))) (told-news z.told)) refl refl;
+          heard = heard;
+          dated = λ d. dated-by deck c.0 n decided refl d (keeps-decided deck n.tasks t a (lists T) rank ts (and_parts (t.system.0 == c.0) (is_some (lines_of deck t)) home).1 ours.here is d.date);
         }
       where
         near : (v : Res) → res_wanted a.req.want ≡ Some v → All IsManaged words → is_near_res deck words v t ≡ true

@@ -49,7 +49,7 @@ no_mail zero s = refl
 no_mail (suc k) zero = refl
 no_mail (suc k) (suc s) = no_mail k s
 
-first_inbox : (deck : Deck) (s : ℕ) → inbox (first_medium (length deck.systems) deck.entries deck.star) s ≡ []
+pub first_inbox : (deck : Deck) (s : ℕ) → inbox (first_medium (length deck.systems) deck.entries deck.star) s ≡ []
 first_inbox deck s = no_mail (length deck.systems) s
 
 first_system : (deck : Deck) (s : ℕ) → IsSystem deck (replicate deck.entries 0) [] s (first_node deck s) [] [] []

@@ -4,6 +4,8 @@ use Rattle.std.specs.Prelude.{slice_get}
 use Rattle.grs_world.proofs.star.steps.Outcome.{Comes, ComesOf, comes-called, comes-idle}
 use Rattle.grs_world.proofs.star.Worlds.{Hands, IsWhole, in_hands, items-none, none_fixed, whole-placed}
 use Rattle.grs_world.proofs.star.Systems.{IsSystem}
+use Rattle.grs_world.proofs.star.hearing.Gentle.{Gentle, gentle-line_told}
+use Rattle.grs_world.proofs.star.hearing.Quiet.{heard-still}
 use Rattle.grs_world.specs.World.{World, carry_out, chosen}
 use Rattle.grs_world.proofs.system.Desks.{desk-at, desk-told}
 use Rattle.grs_world.proofs.run.Desks.{tells_already}
@@ -23,6 +25,7 @@ use Rattle.rsa_message.specs.Message.{first_number}
 use Rattle.grs_wire.specs.Unseen.{unseen}
 use Rattle.grs_medium.specs.Medium.{inbox}
 use Rattle.grs_medium.specs.Apply.{row, switch_ring, switch_row}
+use Rattle.grs_world.proofs.rest.StarTasks.{IsDated, dated-by, keeps-telling}
 
 module _ (deck : Deck) (w : World) (g : IsWhole deck w) (c : SysId) (n : NodeState) (at : slice_get w.nodes c.0 ≡ Some n) where
   abbrev T : List RunItem
@@ -44,10 +47,24 @@ module _ (deck : Deck) (w : World) (g : IsWhole deck w) (c : SysId) (n : NodeSta
   unfolding desk_told
   done-more = refl
 
+  calm : Gentle n.tasks (desk_told n saids.StarAlready).tasks
+  unfolding desk_told
+  calm = gentle-line_told n.tasks _
+
+  same_star : (desk_told n saids.StarAlready).star ≡ n.star
+  unfolding desk_told
+  same_star = refl
+
+  own_dated : IsDated deck c.0 n → IsDated deck c.0 (desk_told n saids.StarAlready)
+  unfolding desk_told
+  own_dated h = dated-by deck c.0 n _ refl h (keeps-telling deck n.tasks _ h.date)
+
   outcome-desk : next_order deck n ≡ Some orders.Star → Comes deck w g c n (record { medium = w.medium; step = only (desk_told n saids.StarAlready) })
   outcome-desk next step = record {
     stays = whole-placed deck w g c n at (record { medium = w.medium; step = only after }) step T (items-none w.fixed c) g.later g.out (λ u ne. refl) none_fixed g.right g.near own (λ s k ne found. g.system s k found) hands-own (λ m k p ne found is. g.hands m k p found is);
     news = tells_already next (desk-told n saids.StarAlready) done-more g.roles.mode g.roles.mode;
+    heard = heard-still deck w g c n at w.medium refl after calm same_star;
+    dated = own_dated;
   }
 
   desk-finished : next_order deck n ≡ Some orders.Star → ComesOf deck w g c n at choices.Switch (replies.Already, w.medium)

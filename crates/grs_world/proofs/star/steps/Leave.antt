@@ -41,6 +41,7 @@ use Rattle.grs_world.proofs.star.Members.{IsMember, IsStep, all_lists, has_manag
 use Rattle.grs_world.proofs.star.Settling.{asker-away}
 use Rattle.grs_world.proofs.star.Systems.{IsSystem, near_at, system-words}
 use Rattle.grs_world.proofs.star.Worlds.{Hands, IsHand, IsWhole, in_hands, items-none, whole-placed, none_fixed}
+use Rattle.grs_world.proofs.star.hearing.Quiet.{heard-left}
 use Rattle.grs_world.proofs.star.steps.Outcome.{Comes, ComesBy, ComesOf, IsOutcome, comes-called, comes-finished, comes-needs, comes-none, comes-quiet}
 use Rattle.grs_world.proofs.star.steps.Words.{hands-words, others-keep}
 use Rattle.grs_world.proofs.run.Desks.{tells_tasks}
@@ -71,6 +72,9 @@ module _ (deck : Deck) (some : 0 < deck.entries) (w : World) (g : IsWhole deck w
     idle =
         let busy : Bool = list_any (is_busy_in p x) n.tasks.tasks in
         not-true busy (and_parts (not busy) (is_done_with p x) (and_parts (has_interest p x) (not busy && is_done_with p x) free).1).0
+
+    done : is_done_with p x ≡ true
+    done = (and_parts (not (list_any (is_busy_in p x) n.tasks.tasks)) (is_done_with p x) (and_parts (has_interest p x) (not (list_any (is_busy_in p x) n.tasks.tasks) && is_done_with p x) free).1).1
 
     there : x < length words
     there = there_leave deck some w c inside n at g.roles me x free
@@ -135,6 +139,8 @@ module _ (deck : Deck) (some : 0 < deck.entries) (w : World) (g : IsWhole deck w
               (hands-words deck words words' (length w.nodes) g.later g.out c.0 (λ q h. same-role h.entry (alone q h) ∙ h.managed) (in_hands p (inbox w.medium c.0)) (g.hands c.0 n p at me.star)))
               (λ m k v ne found star. hands-words deck words words' (length w.nodes) g.later g.out m (λ q h. step.moves.managers h.entry m ne ∙ h.managed) (in_hands v (inbox w.medium m)) (g.hands m k v found star));
           news = tells_tasks (still-told refl) refl refl;
+          heard = heard-left deck w g c n at x done (left flags) refl;
+          dated = λ h. record { date = h.date; own = h.own };
         }
 
       comes-left : ComesOf deck w g c n at (choices.Leave x) (replies.Left, cond (leave_changes (word_at words x) c) (record w.medium { words = words'; rest = awake w.medium c }) w.medium)

@@ -20,13 +20,20 @@ use Rattle.grs_world.proofs.star.Elements.{AreNear}
 use Rattle.grs_world.proofs.star.Members.{IsStep, all_lists}
 use Rattle.grs_world.proofs.star.Systems.{IsSystem}
 use Rattle.grs_world.proofs.star.Worlds.{IsWhole, Hands, in_hands, items-none, whole-placed, StaysWhole, none_fixed}
+use Rattle.grs_world.proofs.star.Heard.{StaysHeard}
+use Rattle.grs_world.proofs.star.hearing.Gentle.{Gentle, gentle-none}
+use Rattle.grs_world.proofs.star.hearing.Quiet.{heard-still}
 use Rattle.grs_world.proofs.run.Desks.{EventTells, tells_tasks}
 use Rattle.grs_world.proofs.run.InRing.{heard}
+use Rattle.grs_world.proofs.rest.StarTasks.{IsDated}
 
--- The world stays whole, and what the system tells agrees with the history.
+-- The world stays whole, what the system tells agrees with the history, what is still to be heard stays so, and the system's tasks
+-- stay up to date.
 pub record IsOutcome (deck : Deck) (w : World) (g : IsWhole deck w) (c : SysId) (n : NodeState) (o : Turnout) : Type 0 where
   pub stays : StaysWhole deck w g c (placed w c n o)
   pub news : EventTells deck c (history (items (w.fixed ++ fixed_by c o.step.fixed))) n o.step.node w.medium.star o.medium.star
+  pub heard : IsWhole deck (placed w c n o) → StaysHeard deck w c n o
+  pub dated : IsDated deck c.0 n → IsDated deck c.0 o.step.node
 
 -- as far as it is a step of words, roles and lists
 abbrev pub Comes : (deck : Deck) (w : World) → IsWhole deck w → SysId → NodeState → Turnout → Type 0
@@ -44,6 +51,8 @@ module _ (deck : Deck) (w : World) (g : IsWhole deck w) (c : SysId) (n : NodeSta
         (λ p star. hands_at c.0 n p at (ap (λ (z : NodeState). z.star) (sym same) ∙ star))
         (λ s j p ne found star. hands_at s j p found star);
     news = tells_tasks (still-told (ap (λ (z : NodeState). z.tasks.told) same)) (ap (λ (z : NodeState). z.done) same) (step.mode ∙ sym g.roles.mode);
+    heard = heard-still deck w g c n at m boxes k (subst (λ (z : NodeState). Gentle n.tasks z.tasks) (sym same) (gentle-none n.tasks)) (ap (λ (z : NodeState). z.star) same);
+    dated = λ h. subst (IsDated deck c.0) (sym same) h;
   }
     where
       system_at : (s : ℕ) (j : NodeState) → slice_get w.nodes s ≡ Some j → IsSystem deck m.words (items w.fixed) s j (inbox m s) (g.later s) (g.out s)

@@ -1,9 +1,9 @@
 -- A request of one of its tasks is sent: it is decided by the system itself, where it manages the entry or nobody does, or
 -- goes to the manager of its entry.
-use Rattle.std.proofs.Common.{◌≡◌, ◌<◌, ◌||◌, ◌&&◌, ℕ, Bool, true, false, not, cond, List, [], ◌∷◌, ◌++◌, length, Option, Some, None, refl, ap, sym, ◌∙◌, subst, arith}
+use Rattle.std.proofs.Common.{suc, ◌≤◌, ◌≡◌, ◌<◌, ◌||◌, ◌&&◌, ℕ, Bool, true, false, not, cond, List, [], ◌∷◌, ◌++◌, length, Option, Some, None, refl, ap, sym, ◌∙◌, subst, arith}
 use Rattle.std.specs.Prelude.{◌==◌, is_some, slice_get}
 use Rattle.std.proofs.lemmas.Bool.{and_parts, eqb-false, eq-eqb, and_from}
-use Rattle.contention_mgr.specs.Manager.{plain, items_of, kept_for, entry_wanted, after_request}
+use Rattle.contention_mgr.specs.Manager.{Managed, managed_at, plain, items_of, kept_for, entry_wanted, after_request}
 use Rattle.grs_base.specs.Lists.{owns}
 use Rattle.grs_base.specs.Same.{same_task}
 use Rattle.grs_base.specs.State.{State, list_of}
@@ -60,6 +60,8 @@ use Rattle.grs_world.proofs.star.Sending.{WordsGrow, outcome-sent, outcome-decid
 use Rattle.grs_world.proofs.star.Systems.{IsSystem, here}
 use Rattle.grs_world.proofs.star.Under.{under, entry-same, answer-under, owners-under}
 use Rattle.grs_world.proofs.star.Worlds.{IsWhole}
+use Rattle.grs_world.proofs.star.hearing.Decided.{heard-decided}
+use Rattle.grs_world.proofs.star.hearing.Gains.{beginning-next, beginning-untold, untold_of}
 use Rattle.grs_world.proofs.star.steps.Outcome.{Comes, ComesBy, ComesOf, comes-needs, comes-none, comes-called, comes-finished}
 use Rattle.grs_known.proofs.lists.Alike.{Alike, answer-alike, owners-alike}
 
@@ -163,13 +165,14 @@ module _ (deck : Deck) (some : 0 < deck.entries) (w : World) (g : IsWhole deck w
         inside_words = let k = want-within deck.entries a.req.want x some of_entry in omega (arith, k, g.roles.words)
 
         -- it is decided by these words and this part, which manages the entry
-        decided : (ws : List ℕ) (flags : ℕ) (grow : WordsGrow w.medium.words ws) (q : StarPart) → IsPart deck ws (all_lists w) c.0 q → manages q x ≡ true → q.held ≡ p.held →
+        decided : (ws : List ℕ) (flags : ℕ) (grow : WordsGrow w.medium.words ws) (q : StarPart) → IsPart deck ws (all_lists w) c.0 q → manages q x ≡ true → q.held ≡ p.held → ((v : Res) (u : TaskId) → untold_of p.manager v u ≡ true → untold_of q.manager v u ≡ true) → ((k : ℕ) → ((i : ℕ) (z : Managed) → managed_at p.manager i ≡ Some z → z.next ≤ suc k) → (i : ℕ) (z : Managed) → managed_at q.manager i ≡ Some z → z.next ≤ suc k) →
             Comes deck w g c n (record { medium = record w.medium { words = ws; rest = flags }; step = with_star n (decide_own n.tasks q t a) })
         unfolding decide_own
-        decided ws flags grow q fits mine held =
+        decided ws flags grow q fits mine held begins low =
             subst (λ (v : TasksView). Comes deck w g c n (record { medium = record w.medium { words = ws; rest = flags }; step = with_star n (record { tasks = v; part = record q { manager = after_request q.manager t a.req.want }; fixed = fixing.Asked (request_of t a) ∷ [] }) }))
             (decides-as deck ws L c.0 q fits x mine n.tasks t a resource.0 resource.1 of_entry)
-            (outcome-decided deck w g c n at ws grow flags t lines.0 lines.1 home a is free x of_entry (sym (fits.roles x) ∙ mine) resource.0 resource.1 (new_owners L t a.req.want) (rank_of q (request_of t a)) p (record q { manager = after_request q.manager t a.req.want }) me.star held owned)
+            (outcome-decided deck w g c n at ws grow flags t lines.0 lines.1 home a is free x of_entry (sym (fits.roles x) ∙ mine) resource.0 resource.1 (new_owners L t a.req.want) (rank_of q (request_of t a)) p (record q { manager = after_request q.manager t a.req.want }) me.star held owned
+            (heard-decided deck w g c n at ws flags t home a free x of_entry (sym (fits.roles x) ∙ mine) resource.0 resource.1 (rank_of q (request_of t a)) p q me.star fits held begins low))
 
         -- the system manages the entry itself
         alone : manages p x ≡ true → ComesBy deck w g c n at (choices.Send t) Alone
@@ -177,7 +180,7 @@ module _ (deck : Deck) (some : 0 < deck.entries) (w : World) (g : IsWhole deck w
         alone mine =
             subst (λ o. Comes deck w g c n (record { medium = w.medium; step = send_own n t o })) (sym me.star)
             (subst (λ o. Comes deck w g c n (record { medium = w.medium; step = with_star n (own_step n.tasks p t o) })) (sym is)
-            (decided words w.medium.rest (words-stay words) p me.fits mine refl))
+            (decided words w.medium.rest (words-stay words) p me.fits mine refl (λ v u h. h) (λ k h. h)))
 
         -- another system manages it, or nobody does
         module _ (not_mine : manages p x ≡ false) where
@@ -190,20 +193,32 @@ module _ (deck : Deck) (some : 0 < deck.entries) (w : World) (g : IsWhole deck w
           joined-is : manages_word w.medium c x ≡ false → joined w.medium c x ≡ record w.medium { words = submitted_words w.medium.words x c; rest = awake w.medium c }
           joined-is e = ap (λ b. cond b w.medium (record w.medium { words = now; rest = awake w.medium c })) e
 
+          -- nothing is kept of an entry that the system doesn't manage
+          none_kept : managed_at p.manager x ≡ None
+          none_kept = by_kept (managed_at p.manager x) refl not_mine
+            where
+              by_kept : (o : Option Managed) → managed_at p.manager x ≡ o → is_some (managed_at p.manager x) ≡ false → managed_at p.manager x ≡ None
+              by_kept None e f = e
+              by_kept (Some m) e f = absurd (let bad : true ≡ false = sym (ap is_some e) ∙ f in cc)
+
+          there : x < length p.manager.entries
+          there = let k = want-within deck.entries a.req.want x some of_entry in omega (arith, k, me.fits.entries)
+
           sole : manager_at w.medium.words x ≡ None → Comes deck w g c n (record { medium = record w.medium { words = submitted_words w.medium.words x c; rest = awake w.medium c }; step = finish_star deck n (Some p) (choices.Send t) replies.Sole })
           unfolding finish_star
           sole nobody =
               let fits = begun_part deck some w c inside n at g.roles me x (want-within deck.entries a.req.want x some of_entry) nobody in
               subst (λ o. Comes deck w g c n (record { medium = record w.medium { words = now; rest = awake w.medium c }; step = with_star n (begin_at n.tasks p t o (entry_asked p o)) })) (sym is)
               (subst (λ o. Comes deck w g c n (record { medium = record w.medium { words = now; rest = awake w.medium c }; step = with_star n (begin_at n.tasks p t (Some a) o) })) (sym asks)
-              (decided now (awake w.medium c) grow (begun p x) fits (fits.roles x ∙ submit-first words x c inside_words inside g.roles.managed nobody) refl))
+              (decided now (awake w.medium c) grow (begun p x) fits (fits.roles x ∙ submit-first words x c inside_words inside g.roles.managed nobody) refl
+              (λ v u h. beginning-untold p.manager x there none_kept v u h) (λ k h. beginning-next p.manager x there k h)))
 
           sends : (s : SysId) → manager_at w.medium.words x ≡ Some s → (s.0 == c.0) ≡ false →
               Comes deck w g c n (record { medium = record w.medium { words = submitted_words w.medium.words x c; inboxes = with_mail w.medium.inboxes s.0 (mails.Request x c (request_of t a)); rest = awake w.medium c }; step = finish_star deck n (Some p) (choices.Send t) replies.Sent })
           unfolding finish_star
           sends s manager apart =
               subst (λ o. Comes deck w g c n (record { medium = record w.medium { words = now; inboxes = with_mail w.medium.inboxes s.0 (mails.Request x c (request_of t a)); rest = awake w.medium c }; step = with_star n (sent_to n.tasks p t o) })) (sym (ap (entry_asked p) is ∙ asks))
-              (outcome-sent deck w g c n at now grow (awake w.medium c) t lines.0 lines.1 home a is free x of_entry (submit-near words x c inside_words inside g.roles.managed) s (manager-here words x s manager) (eqb-false s.0 c.0 apart) p (with_interest p x true) me.star refl)
+              (outcome-sent deck w g c n at now grow (awake w.medium c) t lines.0 lines.1 home a is free x of_entry (submit-near words x c inside_words inside g.roles.managed) s (manager-here words x s manager) (eqb-false s.0 c.0 apart) p (with_interest p x true) me.star refl refl)
 
           by_route : (o : Option SysId) → manager_at w.medium.words x ≡ o → ComesOf deck w g c n at (choices.Send t) (submit_on w.medium c x (request_of t a) (route_by o c))
           unfolding finish finish_call

@@ -38,9 +38,11 @@ use Rattle.grs_world.proofs.star.Settling.{follows-now, hand, manager-after, sam
 use Rattle.grs_world.proofs.star.Systems.{gives_want}
 use Rattle.grs_world.proofs.star.Under.{under, answer-under, entry-same, owners-under, res-entry}
 use Rattle.grs_world.proofs.star.Worlds.{IsHand, IsWhole, items-one}
+use Rattle.grs_world.proofs.star.hearing.Settled.{heard-settled}
 use Rattle.grs_world.proofs.star.steps.Outcome.{Comes, ComesBy, ComesOf, comes-called, comes-finished, comes-needs, comes-none}
 use Rattle.grs_known.proofs.lists.Alike.{Alike, answer-alike, owners-alike}
 use Rattle.grs_world.proofs.run.Desks.{tells_tasks}
+use Rattle.grs_world.proofs.rest.StarTasks.{dated-by, keeps-new}
 
 -- what gives something up puts nothing into a list
 rank-plain : (o : Option Managed) (t : TaskId) (w : Want) → gives_want w ≡ true → rank_for o t w ≡ 0
@@ -122,6 +124,8 @@ module _ (deck : Deck) (w : World) (g : IsWhole deck w) (c : SysId) (n : NodeSta
     by-history step = record {
       stays = whole-settled deck w g c n at p me.star q (drop 1 p.held) held (rank_of p q) (rank-plain _ q.task q.want) (awake w.medium c) follow.ask.res wanted (owners_by p q) own of_entry after refl _ node-is step;
       news = tells_tasks news refl refl;
+      heard = heard-settled deck w g c n at p me.star me.fits q (drop 1 p.held) held its follow.ask.res wanted same-owners (awake w.medium c);
+      dated = λ h. dated-by deck c.0 n (with_star n (settled_first n.tasks p q)).node refl h (keeps-new deck n.tasks (res_wanted q.want) (owners_by p q) h.date);
     }
 
     comes-settled : serves p q ≡ true → ComesOf deck w g c n at choices.Settle (row w.medium c (acts.Settle q.task.system (mails.Answered q.task (answer_for p q) (rank_of p q))))

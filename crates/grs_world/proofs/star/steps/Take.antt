@@ -32,17 +32,21 @@ use Rattle.grs_known.specs.Parts.{put_at}
 use Rattle.grs_known.proofs.lists.Owners.{is_among}
 use Rattle.grs_known.proofs.lists.Truths.{no_truth, false_by, task_swap}
 use Rattle.grs_known.proofs.lists.Placed.{put_here, put_other}
-use Rattle.grs_world.specs.World.{World, Turnout, chosen}
+use Rattle.grs_world.specs.World.{World, Turnout, chosen, placed}
 use Rattle.grs_known.proofs.told.News.{ToldNews, told-news}
 use Rattle.grs_known.proofs.system.Says.{askers, stand_apart, none}
 use Rattle.grs_world.proofs.star.Answering.{others_of, without_asker, mine-others}
 use Rattle.grs_world.proofs.star.Mailed.{TookAnswer, learns, leaves, took-request, took-control, took-answer, strange-answer, strange-control}
-use Rattle.grs_world.proofs.star.Members.{IsMember, all_lists}
+use Rattle.grs_world.proofs.star.Heard.{StaysHeard}
+use Rattle.grs_world.proofs.star.Members.{IsMember, IsPart, all_lists}
+use Rattle.grs_world.proofs.star.hearing.Taken.{heard-answered, heard-control, heard-dropped, heard-held, heard-missed, heard-strange}
 use Rattle.grs_world.proofs.star.OwnEvents.{Goes}
 use Rattle.grs_world.proofs.star.Systems.{IsSystem, is_late, late-none, requests_in}
 use Rattle.grs_world.proofs.star.Worlds.{IsIn, IsHand, AllHands, Hands, IsWhole, in_hands, items-none, whole-placed, none_fixed}
 use Rattle.grs_world.proofs.star.steps.Outcome.{Comes, ComesOf, comes-quiet, comes-needs, comes-called, comes-finished}
 use Rattle.grs_world.proofs.run.Desks.{tells_tasks}
+use Rattle.grs_world.proofs.rest.StarTasks.{Keeps, dated-by, keeps-control, keeps-mail, keeps-none}
+use Rattle.grs_world.proofs.rest.Steps.{AllDate}
 
 -- ---- a request of a task that isn't answered stays in whose hands it is
 in-filter : (f : Req → Bool) (q : Req) (qs : List Req) → f q ≡ true → IsIn q qs → IsIn q (filter f qs)
@@ -126,8 +130,8 @@ module _ (deck : Deck) (w : World) (g : IsWhole deck w) (c : SysId) (n : NodeSta
   took-mail : (later : ℕ → List RunItem) (out : ℕ → List Req) → ((s : ℕ) → s ≢ c.0 → later s ≡ g.later s) → ((s : ℕ) → s ≢ c.0 → out s ≡ g.out s) →
       ((m : ℕ) (qs : List Req) → AllHands deck w.medium.words (length w.nodes) g.later g.out m qs → AllHands deck w.medium.words (length w.nodes) later out m qs) → (v : TasksView) (q : StarPart) →
       Goes deck w.medium.words T c.0 (record n { tasks = v; star = Some q }) rest (later c.0) (out c.0) n.tasks.told → Hands deck w.medium.words (length w.nodes) g.later g.out c.0 (in_hands q rest) →
-      Comes deck w g c n (to v q)
-  took-mail later out same_later same_out stay v q goes own step = record {
+      (IsWhole deck (placed w c n (to v q)) → StaysHeard deck w c n (to v q)) → (AllDate deck n.tasks → Keeps deck n.tasks v) → Comes deck w g c n (to v q)
+  took-mail later out same_later same_out stay v q goes own heard keeps step = record {
     stays = whole-placed deck w g c n at (to v q) step T (items-none w.fixed c) later out same_out none_fixed g.right g.near
         (subst (λ ms. IsSystem deck w.medium.words T c.0 (record n { tasks = v; star = Some q }) ms (later c.0) (out c.0)) (sym own_box) goes.system)
         (λ s k ne found. subst (λ ms. IsSystem deck w.medium.words T s k ms (later s) (out s)) (sym (other_box s ne))
@@ -137,6 +141,8 @@ module _ (deck : Deck) (w : World) (g : IsWhole deck w) (c : SysId) (n : NodeSta
         (subst (λ ms. Hands deck w.medium.words (length w.nodes) later out c.0 (in_hands q ms)) (sym own_box) (kept c.0 (in_hands q rest) own)))
         (λ m k p ne found star. subst (λ ms. Hands deck w.medium.words (length w.nodes) later out m (in_hands p ms)) (sym (other_box m ne)) (kept m (in_hands p (inbox w.medium m)) (g.hands m k p found star)));
     news = tells_tasks (subst (λ U. ToldNews deck c.0 (history U) n.tasks.told v.told) (sym (items-none w.fixed c)) (told-news goes.told)) refl refl;
+    heard = heard;
+    dated = λ h. dated-by deck c.0 n (record n { tasks = v; star = Some q }) refl h (keeps h.date);
   }
     where
       kept : (m : ℕ) (qs : List Req) → Hands deck w.medium.words (length w.nodes) g.later g.out m qs → Hands deck w.medium.words (length w.nodes) later out m qs
@@ -144,19 +150,19 @@ module _ (deck : Deck) (w : World) (g : IsWhole deck w) (c : SysId) (n : NodeSta
 
   -- the same is open afterwards
   took-same : (v : TasksView) (q : StarPart) → Goes deck w.medium.words T c.0 (record n { tasks = v; star = Some q }) rest (g.later c.0) (g.out c.0) n.tasks.told →
-      Hands deck w.medium.words (length w.nodes) g.later g.out c.0 (in_hands q rest) → Comes deck w g c n (to v q)
-  took-same v q goes own step = took-mail g.later g.out (λ s ne. refl) (λ s ne. refl) (λ m qs h. h) v q goes own step
+      Hands deck w.medium.words (length w.nodes) g.later g.out c.0 (in_hands q rest) → (IsWhole deck (placed w c n (to v q)) → StaysHeard deck w c n (to v q)) → (AllDate deck n.tasks → Keeps deck n.tasks v) → Comes deck w g c n (to v q)
+  took-same v q goes own heard keeps step = took-mail g.later g.out (λ s ne. refl) (λ s ne. refl) (λ m qs h. h) v q goes own heard keeps step
 
   -- the answer to a task's request was learned
   took-learned : (t : TaskId) (v : TasksView) (q : StarPart) → is_late t (g.later c.0) ≡ true →
       Goes deck w.medium.words T c.0 (record n { tasks = v; star = Some q }) rest (others_of t (g.later c.0)) (without_asker t (g.out c.0)) n.tasks.told →
-      Hands deck w.medium.words (length w.nodes) g.later g.out c.0 (in_hands q rest) → Comes deck w g c n (to v q)
-  took-learned t v q late goes own step =
+      Hands deck w.medium.words (length w.nodes) g.later g.out c.0 (in_hands q rest) → (IsWhole deck (placed w c n (to v q)) → StaysHeard deck w c n (to v q)) → (AllDate deck n.tasks → Keeps deck n.tasks v) → Comes deck w g c n (to v q)
+  took-learned t v q late goes own heard keeps step =
       let xs = others_of t (g.later c.0) in
       let qs = without_asker t (g.out c.0) in
       took-mail (put_at g.later c.0 xs) (put_at g.out c.0 qs) (put_other g.later c.0 xs) (put_other g.out c.0 qs) (hands-stay deck w.medium.words (length w.nodes) g.later g.out c.0 t late) v q
       (subst (λ ys. Goes deck w.medium.words T c.0 (record n { tasks = v; star = Some q }) rest ys (put_at g.out c.0 qs c.0) n.tasks.told) (sym (put_here g.later c.0 xs))
-      (subst (λ rs. Goes deck w.medium.words T c.0 (record n { tasks = v; star = Some q }) rest xs rs n.tasks.told) (sym (put_here g.out c.0 qs)) goes)) own step
+      (subst (λ rs. Goes deck w.medium.words T c.0 (record n { tasks = v; star = Some q }) rest xs rs n.tasks.told) (sym (put_here g.out c.0 qs)) goes)) own heard keeps step
 
 -- ---- by the mail
 module _ (deck : Deck) (w : World) (g : IsWhole deck w) (c : SysId) (n : NodeState) (at : slice_get w.nodes c.0 ≡ Some n) (p : StarPart) (star : n.star ≡ Some p) (rest : List Mail) where
@@ -165,6 +171,9 @@ module _ (deck : Deck) (w : World) (g : IsWhole deck w) (c : SysId) (n : NodeSta
 
   abbrev count : ℕ
   count = length w.nodes
+
+  fits : IsPart deck w.medium.words (all_lists w) c.0 p
+  fits = subst (IsPart deck w.medium.words (all_lists w) c.0) (same_Some (g.roles.node c.0 n at).part p (sym (g.roles.node c.0 n at).star ∙ star)) (g.roles.node c.0 n at).fits
 
   hands_now : (mail : Mail) → inbox w.medium c.0 ≡ mail ∷ rest → Hands deck w.medium.words (length w.nodes) g.later g.out c.0 (in_hands p (mail ∷ rest))
   hands_now mail is = subst (λ ms. Hands deck words count g.later g.out c.0 (in_hands p ms)) is (g.hands c.0 n p at star)
@@ -180,12 +189,13 @@ module _ (deck : Deck) (w : World) (g : IsWhole deck w) (c : SysId) (n : NodeSta
   holds_request : (e : ℕ) (from : SysId) (q : Req) (is : inbox w.medium c.0 ≡ Request e from q ∷ rest) → Comes deck w g c n (to deck w g c n at (Request e from q) rest is n.tasks (record p { held = p.held ++ q ∷ [] }))
   holds_request e from q is = took-same deck w g c n at (Request e from q) rest is n.tasks (record p { held = p.held ++ q ∷ [] }) (no_request e from q is (record p { held = p.held ++ q ∷ [] }))
       (subst (Hands deck words count g.later g.out c.0) (sym (append_assoc p.held (q ∷ []) (requests_in rest))) (hands_now (Request e from q) is))
+      (heard-held deck w g c n at p star fits rest (awake w.medium c) e from q is) (λ h. keeps-none deck n.tasks h)
 
   -- it has no effect
-  drops_request : (e : ℕ) (from : SysId) (q : Req) (is : inbox w.medium c.0 ≡ Request e from q ∷ rest) → Comes deck w g c n (to deck w g c n at (Request e from q) rest is n.tasks p)
-  drops_request e from q is =
+  drops_request : (e : ℕ) (from : SysId) (q : Req) (is : inbox w.medium c.0 ≡ Request e from q ∷ rest) → (is_for_deck deck (Request e from q) ≡ true → (is_entry e (entry_for p q.want) && manages p e) ≡ false) → Comes deck w g c n (to deck w g c n at (Request e from q) rest is n.tasks p)
+  drops_request e from q is never =
       let h = hands_now (Request e from q) is in
-      took-same deck w g c n at (Request e from q) rest is n.tasks p (no_request e from q is p) (record { each = all-fewer deck words count g.later g.out c.0 p.held q (requests_in rest) h.each; apart = apart-fewer p.held q (requests_in rest) h.apart })
+      took-same deck w g c n at (Request e from q) rest is n.tasks p (no_request e from q is p) (record { each = all-fewer deck words count g.later g.out c.0 p.held q (requests_in rest) h.each; apart = apart-fewer p.held q (requests_in rest) h.apart }) (heard-dropped deck w g c n at p star fits rest (awake w.medium c) e from q is never) (λ k. keeps-none deck n.tasks k)
 
   -- an answer
   takes_answer : (t : TaskId) (answer : Answer) (rank : ℕ) (is : inbox w.medium c.0 ≡ Answered t answer rank ∷ rest) → is_of_deck deck t ≡ true → Comes deck w g c n (to deck w g c n at (Answered t answer rank) rest is (after_mail n.tasks (Answered t answer rank)) p)
@@ -196,23 +206,23 @@ module _ (deck : Deck) (w : World) (g : IsWhole deck w) (c : SysId) (n : NodeSta
 
       go : TookAnswer deck w.medium.words (items w.fixed) g.right c.0 n rest (g.later c.0) (g.out c.0) t answer rank h (record n { tasks = after_mail n.tasks (Answered t answer rank); star = Some p }) →
           Comes deck w g c n (to deck w g c n at (Answered t answer rank) rest is (after_mail n.tasks (Answered t answer rank)) p)
-      go (learns late z) = took-learned deck w g c n at (Answered t answer rank) rest is t (after_mail n.tasks (Answered t answer rank)) p late z (hands_now (Answered t answer rank) is)
-      go (leaves z) = took-same deck w g c n at (Answered t answer rank) rest is (after_mail n.tasks (Answered t answer rank)) p z (hands_now (Answered t answer rank) is)
+      go (learns late z) = took-learned deck w g c n at (Answered t answer rank) rest is t (after_mail n.tasks (Answered t answer rank)) p late z (hands_now (Answered t answer rank) is) (heard-answered deck w g c n at p star fits rest (awake w.medium c) t answer rank is of_deck) (λ k. keeps-mail deck n.tasks t answer rank of_deck k)
+      go (leaves z) = took-same deck w g c n at (Answered t answer rank) rest is (after_mail n.tasks (Answered t answer rank)) p z (hands_now (Answered t answer rank) is) (heard-answered deck w g c n at p star fits rest (awake w.medium c) t answer rank is of_deck) (λ k. keeps-mail deck n.tasks t answer rank of_deck k)
 
   drops_answer : (t : TaskId) (answer : Answer) (rank : ℕ) (is : inbox w.medium c.0 ≡ Answered t answer rank ∷ rest) → is_of_deck deck t ≡ false → Comes deck w g c n (to deck w g c n at (Answered t answer rank) rest is n.tasks p)
   drops_answer t answer rank is strange =
       took-same deck w g c n at (Answered t answer rank) rest is n.tasks p
       (record { system = strange-answer deck words (items w.fixed) g.right c.0 n rest (g.later c.0) (g.out c.0) t answer rank (system_now (Answered t answer rank) is) strange (Some p); told = none })
-      (hands_now (Answered t answer rank) is)
+      (hands_now (Answered t answer rank) is) (heard-missed deck w g c n at p star fits rest (awake w.medium c) t answer rank is strange) (λ k. keeps-none deck n.tasks k)
 
   -- control
   takes_control : (t : TaskId) (r : Res) (is : inbox w.medium c.0 ≡ Granted t r ∷ rest) → is_of_deck deck t ≡ true → Comes deck w g c n (to deck w g c n at (Granted t r) rest is (tell_control n.tasks r t) p)
   takes_control t r is of_deck = took-same deck w g c n at (Granted t r) rest is (tell_control n.tasks r t) p
-      (took-control deck words (items w.fixed) g.right c.0 n rest (g.later c.0) (g.out c.0) t r (system_now (Granted t r) is) of_deck (Some p)) (hands_now (Granted t r) is)
+      (took-control deck words (items w.fixed) g.right c.0 n rest (g.later c.0) (g.out c.0) t r (system_now (Granted t r) is) of_deck (Some p)) (hands_now (Granted t r) is) (heard-control deck w g c n at p star fits rest (awake w.medium c) t r is) (λ k. keeps-control deck n.tasks r t k)
 
-  drops_control : (t : TaskId) (r : Res) (is : inbox w.medium c.0 ≡ Granted t r ∷ rest) → Comes deck w g c n (to deck w g c n at (Granted t r) rest is n.tasks p)
-  drops_control t r is = took-same deck w g c n at (Granted t r) rest is n.tasks p
-      (record { system = strange-control deck words (items w.fixed) g.right c.0 n rest (g.later c.0) (g.out c.0) t r (system_now (Granted t r) is) (Some p); told = none }) (hands_now (Granted t r) is)
+  drops_control : (t : TaskId) (r : Res) (is : inbox w.medium c.0 ≡ Granted t r ∷ rest) → is_of_deck deck t ≡ false → Comes deck w g c n (to deck w g c n at (Granted t r) rest is n.tasks p)
+  drops_control t r is strange = took-same deck w g c n at (Granted t r) rest is n.tasks p
+      (record { system = strange-control deck words (items w.fixed) g.right c.0 n rest (g.later c.0) (g.out c.0) t r (system_now (Granted t r) is) (Some p); told = none }) (hands_now (Granted t r) is) (heard-strange deck w g c n at p star fits rest (awake w.medium c) t r is strange) (λ k. keeps-none deck n.tasks k)
 
   -- whatever the mail is
   abbrev Takes : StarStep → Type 0
@@ -221,10 +231,10 @@ module _ (deck : Deck) (w : World) (g : IsWhole deck w) (c : SysId) (n : NodeSta
   takes : (mail : Mail) → inbox w.medium c.0 ≡ mail ∷ rest → Takes (take_mail deck n.tasks p mail)
   unfolding took_mail after_mail
   takes (Request e from q) is = by_test Takes (is_for_deck deck (Request e from q)) (took_mail n.tasks p (Request e from q)) (fixing_none n.tasks p)
-      (λ h. by_test (λ k. Takes (fixing_none n.tasks k)) (is_entry e (entry_for p q.want) && manages p e) (record p { held = p.held ++ q ∷ [] }) p (λ f. holds_request e from q is) (λ f. drops_request e from q is))
-      (λ h. drops_request e from q is)
+      (λ h. by_test (λ k. Takes (fixing_none n.tasks k)) (is_entry e (entry_for p q.want) && manages p e) (record p { held = p.held ++ q ∷ [] }) p (λ f. holds_request e from q is) (λ f. drops_request e from q is (λ k. f)))
+      (λ h. drops_request e from q is (λ k. no_truth (is_for_deck deck (Request e from q)) k h))
   takes (Answered t answer rank) is = by_test Takes (is_of_deck deck t) (took_mail n.tasks p (Answered t answer rank)) (fixing_none n.tasks p) (λ h. takes_answer t answer rank is h) (λ h. drops_answer t answer rank is h)
-  takes (Granted t r) is = by_test Takes (is_of_deck deck t) (took_mail n.tasks p (Granted t r)) (fixing_none n.tasks p) (λ h. takes_control t r is h) (λ h. drops_control t r is)
+  takes (Granted t r) is = by_test Takes (is_of_deck deck t) (took_mail n.tasks p (Granted t r)) (fixing_none n.tasks p) (λ h. takes_control t r is h) (λ h. drops_control t r is h)
 
 -- ---- the event
 module _ (deck : Deck) (w : World) (g : IsWhole deck w) (c : SysId) (n : NodeState) (at : slice_get w.nodes c.0 ≡ Some n) where

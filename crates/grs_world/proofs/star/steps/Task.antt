@@ -1,5 +1,5 @@
 -- A task of a system in star mode goes on by itself.
-use Rattle.std.proofs.Common.{◌≡◌, ◌++◌, Some, ap, sym, ◌∙◌, subst, true, refl}
+use Rattle.std.proofs.Common.{◌≡◌, [], ◌++◌, Some, ap, sym, ◌∙◌, subst, true, refl}
 use Rattle.std.specs.Prelude.{slice_get}
 use Rattle.grs_base.specs.declared.resource.SysId.{SysId}
 use Rattle.grs_base.specs.declared.resource.TaskId.{TaskId}
@@ -15,10 +15,14 @@ use Rattle.grs_world.specs.World.{World, carry_out, chosen, fixed_by}
 use Rattle.grs_known.proofs.told.News.{ToldNews, told-news}
 use Rattle.grs_world.proofs.star.OwnEvents.{Task, idle_task, local_task, system-task}
 use Rattle.grs_world.proofs.star.Worlds.{IsWhole, items-none, items-one, whole-task}
+use Rattle.grs_world.proofs.star.hearing.Quiet.{heard-task}
 use Rattle.grs_world.proofs.star.steps.Outcome.{Comes, comes-none}
 use Rattle.grs_node.proofs.Keeping.{stays-task}
 use Rattle.grs_world.proofs.run.Desks.{tells_tasks}
 use Rattle.grs_legal.specs.Asks.{lines_of}
+use Rattle.grs_world.proofs.rest.Ring.{distinct-at}
+use Rattle.grs_world.proofs.rest.StarTasks.{IsDated, dated-task}
+use Rattle.grs_world.proofs.star.Ghosts.{ghosted}
 
 module _ (deck : Deck) (w : World) (g : IsWhole deck w) (c : SysId) (n : NodeState) (at : slice_get w.nodes c.0 ≡ Some n) where
   -- what it tells agrees
@@ -27,11 +31,17 @@ module _ (deck : Deck) (w : World) (g : IsWhole deck w) (c : SysId) (n : NodeSta
   task-news st (local_task q one_fixed mine_q away m z) =
       subst (λ U. ToldNews deck c.0 (history U) n.tasks.told st.node.tasks.told) (sym (ap (λ fs. items (w.fixed ++ fixed_by c fs)) one_fixed ∙ items-one w.fixed c (fixing.Asked q))) (told-news z.told)
 
+  -- and its tasks stay up to date
+  own-dated : (t : TaskId) → may_go deck n t ≡ true → IsDated deck c.0 n → IsDated deck c.0 (finish_quiet deck n (choices.Task t)).node
+  own-dated t goes = dated-task deck c.0 n (g.system c.0 n at).at.good.system (λ u ls o. distinct-at deck c.0 (items w.fixed) [] (g.later c.0) (g.out c.0) (ghosted n) (g.system c.0 n at).at u ls o) t goes
+
   goes-on : (t : TaskId) → may_go deck n t ≡ true → Comes deck w g c n (record { medium = w.medium; step = finish_quiet deck n (choices.Task t) })
   unfolding finish_quiet
   goes-on t goes step = record {
     stays = whole-task deck w g c n at t goes step;
     news = tells_tasks (task-news (finish_quiet deck n (choices.Task t)) (system-task deck w.medium.words (items w.fixed) g.right c.0 n (inbox w.medium c.0) (g.later c.0) (g.out c.0) (g.system c.0 n at) c t goes)) (stays-task deck.limit n t (lines_of deck t)).done refl;
+    heard = heard-task deck w g c n at t goes (system-task deck w.medium.words (items w.fixed) g.right c.0 n (inbox w.medium c.0) (g.later c.0) (g.out c.0) (g.system c.0 n at) c t goes);
+    dated = own-dated t goes;
   }
 
   by_itself : (t : TaskId) → may_go deck n t ≡ true → Comes deck w g c n (carry_out deck w.medium c n (choices.Task t) Quiet)

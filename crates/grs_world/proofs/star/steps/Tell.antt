@@ -1,5 +1,5 @@
 -- A manager tells an owner of another system that it owns.
-use Rattle.std.proofs.Common.{◌≡◌, ◌≢◌, ℕ, Bool, true, false, not, List, [], ◌∷◌, ◌++◌, length, Option, Some, None, refl, ap, sym, ◌∙◌, subst, arith}
+use Rattle.std.proofs.Common.{◌<◌, ◌≡◌, ◌≢◌, ℕ, Bool, true, false, not, List, [], ◌∷◌, ◌++◌, length, Option, Some, None, refl, ap, sym, ◌∙◌, subst, arith}
 use Rattle.std.specs.Prelude.{◌==◌, is_some, slice_get}
 use Rattle.std.specs.Option.{option_map}
 use Rattle.std.proofs.lemmas.Bool.{and_parts, eqb-true, eqb-false, eq-eqb, and_from, not-true}
@@ -30,8 +30,9 @@ use Rattle.lock_structure.specs.Laws.{is_interested}
 use Rattle.grs_known.specs.Items.{RunItem, lists, items}
 use Rattle.grs_known.proofs.known.Histories.{owns-may}
 use Rattle.grs_known.proofs.lists.All.{owns-has}
-use Rattle.grs_known.proofs.lists.Truths.{false_by}
-use Rattle.grs_world.specs.World.{World, Turnout, chosen}
+use Rattle.grs_known.proofs.lists.Facts.{slice_get-past}
+use Rattle.grs_known.proofs.lists.Truths.{false_by, no_truth}
+use Rattle.grs_world.specs.World.{World, Turnout, chosen, placed}
 use Rattle.grs_known.proofs.system.Says.{is_home_at}
 use Rattle.grs_known.proofs.told.News.{still-told}
 use Rattle.grs_world.proofs.star.Elements.{near-has}
@@ -39,6 +40,8 @@ use Rattle.grs_world.proofs.star.Members.{IsPart, has_manager, one-manages}
 use Rattle.grs_world.proofs.star.Systems.{IsSystem, IsAway, near_at, requests_in, system-granted}
 use Rattle.grs_world.proofs.star.Under.{under, in_entry, entry-is, list-under, under-has}
 use Rattle.grs_world.proofs.star.Worlds.{IsWhole, Hands, in_hands, items-none, whole-placed, none_fixed}
+use Rattle.grs_world.proofs.star.Heard.{StaysHeard}
+use Rattle.grs_world.proofs.star.hearing.Told.{heard-told}
 use Rattle.grs_world.proofs.star.steps.Outcome.{Comes, ComesBy, ComesOf, part, comes-called, comes-finished, comes-needs, comes-none}
 use Rattle.grs_known.proofs.lists.Alike.{Alike}
 use Rattle.grs_world.proofs.run.Desks.{tells_tasks}
@@ -125,6 +128,14 @@ module _ (deck : Deck) (w : World) (g : IsWhole deck w) (c : SysId) (n : NodeSta
     interested : is_interested w.medium.words entry t.system.0 ≡ true
     interested = sym (ap (near_at words t.system.0) owner.at) ∙ near-has deck words (lists T) r t g.near (owns-has (list_of (lists T) r) t owner.owned)
 
+    -- so it is of one of the systems
+    below : t.system.0 < length w.nodes
+    below = go (slice_get w.nodes t.system.0) refl
+      where
+        go : (b : Option NodeState) → slice_get w.nodes t.system.0 ≡ b → t.system.0 < length w.nodes
+        go (Some k) e = slice_get_within w.nodes t.system.0 k e
+        go None e = no_truth (is_interested w.medium.words entry t.system.0) interested (g.roles.nobody entry t.system.0 (slice_get-past w.nodes t.system.0 e)).0
+
     away : IsAway deck w.medium.words t.system.0 t r
     away = record { home = home; entry = entry; at = owner.at; away = (false_by (has_manager words entry t.system.0) (λ mine. absurd (owner.apart (one-manages words entry t.system.0 c.0 mine owner.managed))), interested) }
 
@@ -166,13 +177,15 @@ module _ (deck : Deck) (w : World) (g : IsWhole deck w) (c : SysId) (n : NodeSta
           subst (Hands deck words (length w.nodes) g.later g.out c.0) (ap (λ ms. p.held ++ requests_in ms) (sym own_box) ∙ (ap (λ qs. qs ++ requests_in (inbox sent_on c.0)) (sym held) ∙ ap (λ (z : StarPart). in_hands z (inbox sent_on c.0)) (same_Some q k is)))
           (g.hands c.0 n p at (g.roles.node c.0 n at).star)
 
-      tells : Comes deck w g c n after
-      tells step = record {
+      tells : (IsWhole deck (placed w c n after) → StaysHeard deck w c n after) → Comes deck w g c n after
+      tells heard step = record {
         stays = whole-placed deck w g c n at after step T (items-none w.fixed c) g.later g.out (λ u ne. refl) none_fixed g.right g.near own
             (λ u k ne found. others u k found)
             hands_own
             (λ m k v ne found is. subst (Hands deck words (length w.nodes) g.later g.out m) (ap (λ zs. v.held ++ zs) (same_requests m k found)) (g.hands m k v found is));
         news = tells_tasks (still-told refl) refl refl;
+        heard = heard;
+        dated = λ h. record { date = h.date; own = h.own };
       }
 
   -- ---- the event
@@ -181,7 +194,7 @@ module _ (deck : Deck) (w : World) (g : IsWhole deck w) (c : SysId) (n : NodeSta
   sends entry x is =
       comes-finished deck w g c n at (sent_on entry x.0 x.1 owner (awake w.medium c)) (choices.Tell entry) replies.Told
       (subst (λ o. Comes deck w g c n (record { medium = sent_on entry x.0 x.1 owner (awake w.medium c); step = with_star n (fixing_none n.tasks (told_by p o)) })) (sym is)
-      (tells entry x.0 x.1 owner (awake w.medium c) (told_by p (Some x)) refl))
+      (tells entry x.0 x.1 owner (awake w.medium c) (told_by p (Some x)) refl (heard-told deck w g c n at p (g.roles.node c.0 n at).star x.0 x.1 owner.apart (below entry x.0 x.1 owner (awake w.medium c)) (awake w.medium c))))
     where
       owner : IsOwner deck w.medium.words (lists (items w.fixed)) c.0 entry x.0 x.1
       owner = first-owns deck words (lists T) c.0 p (g.roles.node c.0 n at).fits entry x is

@@ -1,0 +1,91 @@
+-- What is still to be heard is the same where two worlds show the same of their systems.
+use Rattle.std.proofs.Common.{◌≡◌, ◌≤◌, ◌⊎◌, inl, inr, ℕ, Bool, true, Some, refl, ap, sym, ◌∙◌, subst, arith}
+use Rattle.std.specs.Prelude.{slice_get}
+use Rattle.std.specs.List.{list_any}
+use Rattle.grs_base.specs.Lists.{has_task, owns}
+use Rattle.grs_base.specs.State.{is_systems, list_of}
+use Rattle.grs_base.specs.declared.resource.Res.{Res}
+use Rattle.grs_base.specs.declared.resource.TaskId.{TaskId}
+use Rattle.grs_medium.specs.Medium.{inbox}
+use Rattle.grs_node.specs.Node.{NodeState}
+use Rattle.grs_wire.specs.declared.deck.Deck.{Deck}
+use Rattle.task_state.specs.View.{state_of}
+use Rattle.grs_known.proofs.lists.Owners.{is_among}
+use Rattle.grs_known.proofs.system.Says.{askers, is_home_at}
+use Rattle.grs_known.proofs.tasks.Invariant.{has_res}
+use Rattle.grs_known.specs.Items.{items, lists}
+use Rattle.grs_world.proofs.star.Heard.{AreAddressed, IsHeard, IsInHands, IsUntold, enq_count, hears, is_timely}
+use Rattle.grs_world.proofs.star.Members.{all_lists}
+use Rattle.grs_world.proofs.star.Worlds.{in_hands}
+use Rattle.grs_world.specs.World.{World}
+
+-- a system stood like this, with the same part and the same on record
+pub record IsBack (deck : Deck) (w : World) (s : ℕ) (k' : NodeState) : Type 0 where
+  pub node : NodeState
+  pub at : slice_get w.nodes s ≡ Some node
+  pub star : k'.star ≡ node.star
+  pub has : (t : TaskId) (r : Res) → is_home_at deck s t ≡ true → is_systems r ≡ true → has_res r (state_of k'.tasks t).records ≡ has_res r (state_of node.tasks t).records
+
+-- the same system, with the same part
+pub record IsForth (w' : World) (s : ℕ) (k : NodeState) : Type 0 where
+  pub node : NodeState
+  pub at : slice_get w'.nodes s ≡ Some node
+  pub star : node.star ≡ k.star
+
+pub record SameShown (deck : Deck) (w w' : World) : Type 0 where
+  pub back : (s : ℕ) (k' : NodeState) → slice_get w'.nodes s ≡ Some k' → IsBack deck w s k'
+  pub forth : (s : ℕ) (k : NodeState) → slice_get w.nodes s ≡ Some k → IsForth w' s k
+  pub boxes : (s : ℕ) → inbox w'.medium s ≡ inbox w.medium s
+  pub lists : (r : Res) → is_systems r ≡ true → list_of (all_lists w') r ≡ list_of (all_lists w) r
+  pub count : enq_count (items w.fixed) ≤ enq_count (items w'.fixed)
+
+module _ (deck : Deck) (w w' : World) (z : SameShown deck w w') where
+  hands-alike : (t : TaskId) → IsInHands w t → IsInHands w' t
+  hands-alike t i =
+      let f = z.forth i.system i.node i.at in
+      record { system = i.system; node = f.node; part = i.part; at = f.at; star = f.star ∙ i.star; among = ap (λ ms. is_among t (askers (in_hands i.part ms))) (z.boxes i.system) ∙ i.among }
+
+  untold-alike : (s : ℕ) (t : TaskId) (r : Res) → IsUntold w s t r → IsUntold w' s t r
+  untold-alike s t r i =
+      let f = z.forth i.system i.node i.at in
+      record { system = i.system; node = f.node; part = i.part; at = f.at; star = f.star ∙ i.star; apart = i.apart; untold = i.untold }
+
+  pub heard-alike : (sent sent' : ℕ → TaskId → Bool) (had had' : ℕ → TaskId → Res → Bool) →
+      ((s : ℕ) (t : TaskId) → is_home_at deck s t ≡ true → sent' s t ≡ true → sent s t ≡ true) →
+      ((s : ℕ) (k' : NodeState) (t : TaskId) (r : Res) → slice_get w'.nodes s ≡ Some k' → is_home_at deck s t ≡ true → is_systems r ≡ true → had s t r ≡ true → had' s t r ≡ true) →
+      IsHeard deck w sent had → IsHeard deck w' sent' had'
+  heard-alike sent sent' had had' less more h = record {
+    requests = λ s k' t at home e. let b = z.back s k' at in by-request s t (h.requests s b.node t b.at home (less s t home e));
+    owners = λ s k' t r at home wide own. let b = z.back s k' at in
+        by-owner s k' t r b home wide (λ e. more s k' t r at home wide e) (h.owners s b.node t r b.at home wide (ap (λ es. owns es t) (sym (z.lists r wide)) ∙ own));
+    recorded = λ s k' t r at home wide has. let b = z.back s k' at in
+        by-record s k' t r b home wide (h.recorded s b.node t r b.at home wide (ap (λ es. has_task es t) (sym (z.lists r wide)) ∙ has));
+    mails = λ s. subst (AreAddressed deck) (sym (z.boxes s)) (h.mails s);
+    ranks = λ m k' p e x at star managed. let b = z.back m k' at in let low = h.ranks m b.node p e x b.at (sym b.star ∙ star) managed in let more = z.count in omega (arith, low, more);
+  }
+    where
+      by-request : (s : ℕ) (t : TaskId) → IsInHands w t ⊎ (list_any (is_timely t) (inbox w.medium s) ≡ true) → IsInHands w' t ⊎ (list_any (is_timely t) (inbox w'.medium s) ≡ true)
+      by-request s t (inl i) = inl (hands-alike t i)
+      by-request s t (inr e) = inr (ap (list_any (is_timely t)) (z.boxes s) ∙ e)
+
+      by-owner : (s : ℕ) (k' : NodeState) (t : TaskId) (r : Res) (b : IsBack deck w s k') → is_home_at deck s t ≡ true → is_systems r ≡ true → (had s t r ≡ true → had' s t r ≡ true) →
+          (had s t r ≡ true) ⊎ ((hears t r (has_res r (state_of b.node.tasks t).records) (inbox w.medium s) ≡ true) ⊎ IsUntold w s t r) →
+          (had' s t r ≡ true) ⊎ ((hears t r (has_res r (state_of k'.tasks t).records) (inbox w'.medium s) ≡ true) ⊎ IsUntold w' s t r)
+      by-owner s k' t r b home wide keep (inl e) = inl (keep e)
+      by-owner s k' t r b home wide keep (inr (inl e)) = inr (inl (ap (hears t r (has_res r (state_of k'.tasks t).records)) (z.boxes s) ∙ (ap (λ c. hears t r c (inbox w.medium s)) (b.has t r home wide) ∙ e)))
+      by-owner s k' t r b home wide keep (inr (inr i)) = inr (inr (untold-alike s t r i))
+
+      by-record : (s : ℕ) (k' : NodeState) (t : TaskId) (r : Res) (b : IsBack deck w s k') → is_home_at deck s t ≡ true → is_systems r ≡ true →
+          (has_res r (state_of b.node.tasks t).records ≡ true) ⊎ (list_any (is_timely t) (inbox w.medium s) ≡ true) → (has_res r (state_of k'.tasks t).records ≡ true) ⊎ (list_any (is_timely t) (inbox w'.medium s) ≡ true)
+      by-record s k' t r b home wide (inl e) = inl (b.has t r home wide ∙ e)
+      by-record s k' t r b home wide (inr e) = inr (ap (list_any (is_timely t)) (z.boxes s) ∙ e)
+
+-- the same systems stand there
+pub same-nodes : (deck : Deck) (w w' : World) → w'.nodes ≡ w.nodes → ((s : ℕ) → inbox w'.medium s ≡ inbox w.medium s) → items w'.fixed ≡ items w.fixed → SameShown deck w w'
+same-nodes deck w w' nodes boxes same = record {
+  back = λ s k' at. record { node = k'; at = ap (λ ns. slice_get ns s) (sym nodes) ∙ at; star = refl; has = λ t r home wide. refl };
+  forth = λ s k at. record { node = k; at = ap (λ ns. slice_get ns s) nodes ∙ at; star = refl };
+  boxes = boxes;
+  lists = λ r wide. ap (λ T. list_of (lists T) r) same;
+  count = subst (λ T. enq_count (items w.fixed) ≤ enq_count T) (sym same) (omega arith);
+}

@@ -1,0 +1,56 @@
+-- Where a run is at rest, in either mode, nothing is lost.
+use Rattle.std.proofs.Common.{◌≡◌, true, List, Some, ℕ}
+use Rattle.std.specs.Prelude.{slice_get}
+use Rattle.grs_node.specs.Node.{NodeState}
+use Rattle.grs_wire.specs.Decks.{IsDeck}
+use Rattle.grs_wire.specs.declared.deck.Deck.{Deck}
+use Rattle.grs_wire.specs.declared.deck.Event.{Event}
+use Rattle.grs_known.proofs.known.Histories.{IsHistory}
+use Rattle.grs_known.specs.Items.{items}
+use Rattle.grs_world.proofs.move.Sound.{GoodRun, every_run, good_history, good_told, in_ring, in_star}
+use Rattle.grs_world.proofs.rest.AtEnd.{IsStill, owners-told, replies-told, tasks-wait}
+use Rattle.grs_world.proofs.rest.Full.{full_run}
+use Rattle.grs_world.proofs.rest.RingEnd.{still-ring}
+use Rattle.grs_world.proofs.rest.RingRun.{ring_read}
+use Rattle.grs_world.proofs.rest.StarEnd.{still-star}
+use Rattle.grs_world.proofs.rest.StarRun.{restful_run}
+use Rattle.grs_world.proofs.rest.Units.{units-reserved}
+use Rattle.grs_world.proofs.run.Runs.{GoodTold}
+use Rattle.grs_world.specs.AtRest.{OwnersAreTold, RepliesAreTold, RestsInTheEnd, TasksWait, UnitsAreReserved}
+use Rattle.grs_world.specs.Decks.{FitsStar, may_be_star}
+use Rattle.grs_world.specs.Running.{at_rest}
+use Rattle.grs_world.specs.World.{run}
+
+module _ (deck : Deck) (is_deck : IsDeck deck) (es : List Event) (rest : at_rest deck (run deck es) ≡ true) where
+  fits : may_be_star deck ≡ true → FitsStar deck
+  fits h = record { few = is_deck.fits.few; entries = is_deck.entries }
+
+  -- each system, in either mode
+  pub all-still : (s : ℕ) (n : NodeState) → slice_get (run deck es).nodes s ≡ Some n → IsStill deck s (items (run deck es).fixed) n
+  all-still = go (every_run deck fits es)
+    where
+      go : GoodRun deck es (run deck es) → (s : ℕ) (n : NodeState) → slice_get (run deck es).nodes s ≡ Some n → IsStill deck s (items (run deck es).fixed) n
+      go (in_ring begins ring g d) = still-ring deck es (run deck es) ring g (ring_read deck fits es ring.mode) rest
+      go (in_star f g told d) = still-star deck (run deck es) g (restful_run deck is_deck es g.whole.roles.mode) rest
+
+  pub end-history : IsHistory deck (items (run deck es).fixed)
+  end-history = good_history deck es (run deck es) (every_run deck fits es)
+
+  pub end-told : GoodTold deck es (run deck es)
+  end-told = good_told deck es (run deck es) (every_run deck fits es)
+
+  pub owners-at-rest : OwnersAreTold deck es
+  owners-at-rest = owners-told deck es end-history end-told all-still
+
+  pub replies-at-rest : RepliesAreTold deck es
+  replies-at-rest = replies-told deck es end-history end-told all-still
+
+  pub tasks-at-rest : TasksWait deck es
+  tasks-at-rest = tasks-wait deck es end-history end-told all-still
+
+  pub units-at-rest : UnitsAreReserved deck es
+  units-at-rest = units-reserved deck es end-history (full_run deck es) all-still
+
+-- so nothing is lost
+pub rests : (deck : Deck) → IsDeck deck → (es : List Event) → RestsInTheEnd deck es
+rests deck is_deck es rest = record { owners = owners-at-rest deck is_deck es rest; replies = replies-at-rest deck is_deck es rest; tasks = tasks-at-rest deck is_deck es rest; units = units-at-rest deck is_deck es rest }

@@ -1,0 +1,136 @@
+-- What is still to be heard in star mode: of each request that was sent, where it or its answer is; and of each owner, that
+-- its system knows that it owns, or that this comes to it, or that its manager has still to tell it. So nothing is lost.
+use Rattle.std.specs.Prelude.{◌≡◌, ◌≢◌, ◌<◌, ◌≤◌, ◌⊎◌, ℕ, suc, Bool, true, false, cond, not, ◌&&◌, ◌||◌, nat_le, List, [], ◌∷◌, ◌++◌, length, filter, Some, slice_get}
+use Rattle.std.specs.List.{list_any}
+use Rattle.contention_mgr.specs.Manager.{Managed, is_of, items_of, managed_at, managed_of, entry_wanted}
+use Rattle.grs_base.specs.Limits.{last_number}
+use Rattle.grs_base.specs.Lists.{has_task, owns}
+use Rattle.grs_base.specs.Same.{same_res, same_task}
+use Rattle.grs_base.specs.State.{list_of, is_systems}
+use Rattle.grs_base.specs.declared.resource.Res.{Res}
+use Rattle.grs_base.specs.declared.resource.SysId.{SysId}
+use Rattle.grs_base.specs.declared.resource.TaskId.{TaskId}
+use Rattle.grs_known.proofs.lists.Owners.{is_among}
+use Rattle.grs_known.proofs.system.Says.{askers, is_home_at}
+use Rattle.grs_known.proofs.tasks.Invariant.{has_res}
+use Rattle.grs_known.specs.Items.{RunItem, items}
+use Rattle.grs_known.specs.Parts.{put_at}
+use Rattle.grs_medium.specs.Medium.{inbox}
+use Rattle.grs_node.specs.Node.{NodeState}
+use Rattle.grs_node.specs.Star.{StarPart}
+use Rattle.grs_wire.specs.declared.deck.Deck.{Deck}
+use Rattle.grs_wire.specs.declared.medium.Mail.{Mail}
+use Rattle.grs_wire.specs.declared.medium.Mail.TheVariants.{Request, Answered, Granted}
+use Rattle.grs_wire.specs.declared.request.Answer.{Answer}
+use Rattle.grs_wire.specs.declared.request.Answer.TheVariants.{Coded, Rows}
+use Rattle.grs_wire.specs.declared.request.Fixed.{Fixed}
+use Rattle.grs_wire.specs.declared.request.Fixed.TheVariants as fixing
+use Rattle.grs_wire.specs.declared.request.Want.{Want}
+use Rattle.grs_wire.specs.declared.request.Want.TheVariants.{Enq, Deq, Release, Look}
+use Rattle.task_state.specs.Replies.{is_granted}
+use Rattle.task_state.specs.View.{state_of, is_sent}
+use Rattle.grs_world.proofs.rest.Marks.{is_marked}
+use Rattle.grs_world.proofs.star.Members.{all_lists}
+use Rattle.grs_world.proofs.star.Worlds.{in_hands}
+use Rattle.grs_world.specs.World.{World, Turnout, fixed_by, placed}
+
+-- ---- how a system stands by itself
+-- whether a task of a system has sent its request, and whether its system told it control of a resource
+abbrev pub sent_by : NodeState → TaskId → Bool
+sent_by n t = is_sent (state_of n.tasks t).phase
+
+abbrev pub had_by : NodeState → TaskId → Res → Bool
+had_by n t r = is_marked r (state_of n.tasks t).records
+
+-- ---- what comes
+-- whether a mail is an answer to a task, with a rank that has an effect
+abbrev pub is_timely : TaskId → Mail → Bool
+is_timely t (Request e from q) = false
+is_timely t (Answered u answer rank) = same_task t u && nat_le rank last_number
+is_timely t (Granted u r) = false
+
+abbrev pub grants : Answer → Bool
+grants (Coded code) = is_granted code
+grants (Rows rows) = false
+
+-- Whether the mail tells an owner that it owns a resource: by control that finds a record of it, or by the answer to the
+-- request that makes its record. Behind an answer there is one.
+abbrev pub hears : TaskId → Res → Bool → List Mail → Bool
+hears t r recorded [] = false
+hears t r recorded (Request e from q ∷ ms) = hears t r recorded ms
+hears t r recorded (Answered u answer rank ∷ ms) =
+    cond (is_timely t (Answered u answer rank)) ((not recorded && grants answer) || hears t r true ms) (hears t r recorded ms)
+hears t r recorded (Granted u q ∷ ms) = (recorded && (same_task t u && same_res r q)) || hears t r recorded ms
+
+-- A request comes under the lock entry that it is for, from a system of the deck.
+abbrev pub IsAddressed : Deck → Mail → Type 0
+IsAddressed deck (Request e from q) = (entry_wanted deck.entries q.want ≡ Some e) × (from.0 < length deck.systems)
+IsAddressed deck (Answered t answer rank) = Unit {0}
+IsAddressed deck (Granted t r) = Unit {0}
+
+abbrev pub AreAddressed : Deck → List Mail → Type 0
+AreAddressed deck [] = Unit {0}
+AreAddressed deck (m ∷ ms) = IsAddressed deck m × AreAddressed deck ms
+
+-- ---- where it is
+-- A task's request is in the hands of some system, or on its way there.
+pub record IsInHands (w : World) (t : TaskId) : Type 0 where
+  pub system : ℕ
+  pub node : NodeState
+  pub part : StarPart
+  pub at : slice_get w.nodes system ≡ Some node
+  pub star : node.star ≡ Some part
+  pub among : is_among t (askers (in_hands part (inbox w.medium system))) ≡ true
+
+-- A manager of another system than s has still to tell a task that it owns.
+pub record IsUntold (w : World) (s : ℕ) (t : TaskId) (r : Res) : Type 0 where
+  pub system : ℕ
+  pub node : NodeState
+  pub part : StarPart
+  pub at : slice_get w.nodes system ≡ Some node
+  pub star : node.star ≡ Some part
+  pub apart : system ≢ s
+  pub untold : list_any (λ y. is_of r t y && y.untold) (items_of (managed_of part.manager r)) ≡ true
+
+-- ---- how many elements were queued at most
+abbrev pub is_enq_want : Want → Bool
+is_enq_want (Enq r c ret full) = true
+is_enq_want (Deq r have) = false
+is_enq_want (Release r) = false
+is_enq_want (Look first count f) = false
+
+abbrev pub is_enq : Fixed → Bool
+is_enq (fixing.Asked q) = is_enq_want q.want
+is_enq (fixing.LocalLook t f) = false
+is_enq (fixing.Purged target) = false
+
+abbrev pub enq_count : List RunItem → ℕ
+enq_count T = length (filter (λ x. is_enq x.fixed) T)
+
+-- ---- What holds of a world in star mode, where `sent` says of each system which of its tasks have sent a request, and `had`
+-- who was told control of what.
+pub record IsHeard (deck : Deck) (w : World) (sent : ℕ → TaskId → Bool) (had : ℕ → TaskId → Res → Bool) : Type 0 where
+  -- a request that was sent is in somebody's hands, or its answer comes
+  pub requests : (s : ℕ) (n : NodeState) (t : TaskId) → slice_get w.nodes s ≡ Some n → is_home_at deck s t ≡ true → sent s t ≡ true →
+      IsInHands w t ⊎ (list_any (is_timely t) (inbox w.medium s) ≡ true)
+  -- an owner was told so, or hears it, or is still to be told
+  pub owners : (s : ℕ) (n : NodeState) (t : TaskId) (r : Res) → slice_get w.nodes s ≡ Some n → is_home_at deck s t ≡ true → is_systems r ≡ true → owns (list_of (all_lists w) r) t ≡ true →
+      (had s t r ≡ true) ⊎ ((hears t r (has_res r (state_of n.tasks t).records) (inbox w.medium s) ≡ true) ⊎ IsUntold w s t r)
+  -- an element is on record, or the answer comes that makes its record
+  pub recorded : (s : ℕ) (n : NodeState) (t : TaskId) (r : Res) → slice_get w.nodes s ≡ Some n → is_home_at deck s t ≡ true → is_systems r ≡ true → has_task (list_of (all_lists w) r) t ≡ true →
+      (has_res r (state_of n.tasks t).records ≡ true) ⊎ (list_any (is_timely t) (inbox w.medium s) ≡ true)
+  pub mails : (s : ℕ) → AreAddressed deck (inbox w.medium s)
+  -- no rank is past the number of requests that could queue an element
+  pub ranks : (m : ℕ) (k : NodeState) (p : StarPart) (e : ℕ) (x : Managed) → slice_get w.nodes m ≡ Some k → k.star ≡ Some p → managed_at p.manager e ≡ Some x → x.next ≤ suc (enq_count (items w.fixed))
+
+-- where system c stands like this, and the others as said
+abbrev pub sent_with : (ℕ → TaskId → Bool) → SysId → NodeState → ℕ → TaskId → Bool
+sent_with sent c n = put_at sent c.0 (sent_by n)
+
+abbrev pub had_with : (ℕ → TaskId → Res → Bool) → SysId → NodeState → ℕ → TaskId → Res → Bool
+had_with had c n = put_at had c.0 (had_by n)
+
+-- ---- The law of one event of star mode: where the ranks have an effect, what was heard, or is still to be heard, stays so.
+abbrev pub StaysHeard : (deck : Deck) → World → SysId → NodeState → Turnout → Type 0
+StaysHeard deck w c n o = (sent : ℕ → TaskId → Bool) (had : ℕ → TaskId → Res → Bool) → enq_count (items (w.fixed ++ fixed_by c o.step.fixed)) ≤ last_number →
+    IsHeard deck w (sent_with sent c n) (had_with had c n) → IsHeard deck (placed w c n o) (sent_with sent c o.step.node) (had_with had c o.step.node)

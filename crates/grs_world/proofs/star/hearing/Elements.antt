@@ -1,0 +1,174 @@
+-- Which elements of a system's tasks are on record: all but the one whose item is still to come, which is of an entry that
+-- another system manages.
+use Rattle.std.proofs.Common.{inl, inr, ◌≡◌, ℕ, Bool, true, false, cond, List, [], ◌∷◌, map, Option, Some, None, refl, ap, sym, ◌∙◌, subst}
+use Rattle.std.specs.Prelude.{◌⊎◌}
+use Rattle.std.proofs.lemmas.Option.{same_Some}
+use Rattle.contention_mgr.specs.Manager.{entry_wanted}
+use Rattle.lock_structure.specs.Entries.{entry_of_res}
+use Rattle.grs_base.specs.Lists.{has_task}
+use Rattle.grs_base.specs.State.{State, list_of}
+use Rattle.grs_base.specs.declared.resource.Res.{Res}
+use Rattle.grs_base.specs.declared.resource.TaskId.{TaskId}
+use Rattle.grs_base.proofs.SameLaws.{same_task-itself}
+use Rattle.grs_node.specs.Node.{NodeState}
+use Rattle.grs_wire.specs.History.{entries_for}
+use Rattle.grs_wire.specs.Wants.{answer_to, res_wanted}
+use Rattle.grs_wire.specs.declared.deck.Deck.{Deck}
+use Rattle.grs_wire.specs.declared.medium.Mail.{Mail}
+use Rattle.grs_wire.specs.declared.medium.Mail.TheVariants.{Answered}
+use Rattle.grs_wire.specs.declared.request.Answer.{Answer}
+use Rattle.grs_wire.specs.declared.request.Fixed.TheVariants as fixing
+use Rattle.grs_wire.specs.declared.request.Req.{Req}
+use Rattle.grs_wire.specs.declared.request.Want.{Want}
+use Rattle.grs_wire.specs.declared.request.Want.TheVariants.{Enq, Deq, Release, Look}
+use Rattle.task_state.specs.View.{state_of, is_sent}
+use Rattle.task_state.specs.declared.state.Asked.{Asked}
+use Rattle.grs_known.specs.Items.{RunItem, mine, lists, reply_in}
+use Rattle.grs_known.proofs.known.ItemLaws.{replies_are_answers}
+use Rattle.grs_known.specs.Known.{outstanding, last_of}
+use Rattle.grs_known.specs.Past.{past_of}
+use Rattle.grs_known.proofs.known.Following.{has-known}
+use Rattle.grs_known.proofs.known.Histories.{IsHistory}
+use Rattle.grs_known.proofs.known.Blank.{blank, no-answer}
+use Rattle.grs_known.proofs.known.Knowing.{one}
+use Rattle.grs_known.proofs.known.Knows.{IsOutstanding, speaks-known}
+use Rattle.grs_known.proofs.lists.Owners.{is_among}
+use Rattle.grs_known.proofs.lists.Truths.{no_truth}
+use Rattle.grs_known.proofs.system.Asking.{IsAskedFor, IsOpenBy, records-unasked}
+use Rattle.grs_known.proofs.system.Busy.{busy-behind, busy-idle}
+use Rattle.grs_known.proofs.system.Says.{askers, is_home_at}
+use Rattle.grs_known.proofs.tasks.Invariant.{has_res, is_distinct, key}
+use Rattle.grs_known.proofs.tasks.Keys.{has_res-own}
+use Rattle.grs_world.proofs.star.Ghosts.{ghosted}
+use Rattle.grs_world.proofs.star.Mailed.{sent-among}
+use Rattle.grs_world.proofs.star.Members.{has_manager}
+use Rattle.grs_world.proofs.star.OwnEvents.{late-in}
+use Rattle.grs_world.proofs.star.Systems.{Away, IsLate, IsSystem, behind-late, here, is_late, late-none, news_of}
+use Rattle.grs_world.proofs.star.hearing.Mails.{answers}
+use Rattle.grs_world.proofs.system.AtNode.{opens_of}
+use Rattle.grs_world.proofs.system.Puts.{home-task}
+
+-- An item of task t that is still to come, of the entry of resource r, which another system manages: it is what the task's
+-- outstanding request asked.
+pub record IsDueOn (deck : Deck) (words : List ℕ) (s : ℕ) (n : NodeState) (later : List RunItem) (t : TaskId) (r : Res) : Type 0 where
+  pub item : RunItem
+  pub due : mine t later ≡ item ∷ []
+  pub asked : Asked
+  pub is : (state_of n.tasks t).outstanding ≡ Some asked
+  pub wanted : res_wanted asked.req.want ≡ Some r
+  pub entry : ℕ
+  pub at : entry_of_res deck.entries r ≡ Some entry
+  pub away : Away words s entry
+
+module _ (deck : Deck) (words : List ℕ) (T : List RunItem) (right : IsHistory deck T) (s : ℕ) (n : NodeState) (ms : List Mail) (later : List RunItem) (out : List Req) (h : IsSystem deck words T s n ms later out) (t : TaskId) (home : is_home_at deck s t ≡ true) where
+  -- what the task asks, if it asks anything
+  request : (y : RunItem) → outstanding t (here deck s T later out n h.at t home).known T ≡ Some y → (a : Asked) × ((state_of n.tasks t).outstanding ≡ Some a) × (y.fixed ≡ fixing.Asked a.req)
+  request y e = go (state_of n.tasks t).outstanding refl (subst (IsOutstanding (state_of n.tasks t).outstanding) e (here deck s T later out n h.at t home).knows.request)
+    where
+      go : (o : Option Asked) → (state_of n.tasks t).outstanding ≡ o → IsOutstanding (state_of n.tasks t).outstanding (Some y) → (a : Asked) × ((state_of n.tasks t).outstanding ≡ Some a) × (y.fixed ≡ fixing.Asked a.req)
+      go None is z = absurd (subst (λ o. IsOutstanding o (Some y)) is z)
+      go (Some a) is z = (a, is, subst (λ o. IsOutstanding o (Some y)) is z)
+
+  asks_some : (a : Asked) → (state_of n.tasks t).outstanding ≡ Some a → (q : Res) × (res_wanted a.req.want ≡ Some q) × (entry_wanted deck.entries a.req.want ≡ entry_of_res deck.entries q)
+  asks_some a is = go a.req.want (subst (λ o. IsOpenBy deck.limit (home-task deck s (opens_of later out (ghosted n)) T n.tasks t h.at.good home).0 t (state_of n.tasks t) o) is (here deck s T later out n h.at t home).opened).2
+    where
+      go : (w : Want) → IsAskedFor deck.limit (home-task deck s (opens_of later out (ghosted n)) T n.tasks t h.at.good home).0 (state_of n.tasks t).line (state_of n.tasks t).records w a.unit → (q : Res) × (res_wanted w ≡ Some q) × (entry_wanted deck.entries w ≡ entry_of_res deck.entries q)
+      go (Enq q c ret full) z = (q, refl, refl)
+      go (Deq q have) z = (q, refl, refl)
+      go (Release q) z = (q, refl, refl)
+      go (Look first count f) z = absurd z
+
+  -- an element is on record, or its item is still to come
+  pub recorded-or-due : (r : Res) → has_task (list_of (lists T) r) t ≡ true → (has_res r (state_of n.tasks t).records ≡ true) ⊎ IsDueOn deck words s n later t r
+  recorded-or-due r has = go (outstanding t (here deck s T later out n h.at t home).known T) refl
+    where
+      go : (o : Option RunItem) → outstanding t (here deck s T later out n h.at t home).known T ≡ o → (has_res r (state_of n.tasks t).records ≡ true) ⊎ IsDueOn deck words s n later t r
+      go None e = inl (busy-idle deck (opens_of later out (ghosted n)) T right n.tasks.told t (home-task deck s (opens_of later out (ghosted n)) T n.tasks t h.at.good home).0 (state_of n.tasks t) (here deck s T later out n h.at t home) r e has)
+      go (Some y) e =
+          let rq = request y e in
+          let some = asks_some rq.0 rq.1 in
+          let due : mine t later ≡ y ∷ [] = (here deck s T later out n h.at t home).due ∙ ap one e in
+          let i = late-in deck words s t y [] later due h.late in
+          let same : fixing.Asked i.req ≡ fixing.Asked (rq.0).req = sym i.asked ∙ rq.2 in
+          let req : i.req ≡ (rq.0).req = cc in
+          let asker : (rq.0).req.task ≡ t = (subst (λ o. IsOpenBy deck.limit (home-task deck s (opens_of later out (ghosted n)) T n.tasks t h.at.good home).0 t (state_of n.tasks t) o) rq.1 (here deck s T later out n h.at t home).opened).0 in
+          let made : y.entries ≡ entries_for i.lists t (rq.0).req.want = i.made ∙ (ap (λ (q : Req). entries_for i.lists q.task q.want) req ∙ ap (λ z. entries_for i.lists z (rq.0).req.want) asker) in
+          decide rq.0 rq.1 some.0 some.1 i (sym some.2 ∙ (ap (λ (q : Req). entry_wanted deck.entries q.want) (sym req) ∙ i.at)) due
+          (busy-behind deck (opens_of later out (ghosted n)) T right n.tasks.told t (home-task deck s (opens_of later out (ghosted n)) T n.tasks t h.at.good home).0 (state_of n.tasks t) (here deck s T later out n h.at t home) r rq.0 y i.lists e made some.0 some.1 has)
+        where
+          decide : (a : Asked) → (state_of n.tasks t).outstanding ≡ Some a → (q : Res) → res_wanted a.req.want ≡ Some q → (i : IsLate deck words s y) → entry_of_res deck.entries q ≡ Some i.entry → mine t later ≡ y ∷ [] →
+              (has_res r (state_of n.tasks t).records ≡ true) ⊎ (q ≡ r) → (has_res r (state_of n.tasks t).records ≡ true) ⊎ IsDueOn deck words s n later t r
+          decide a is q wanted i at due (inl z) = inl z
+          decide a is q wanted i at due (inr z) = inr (record { item = y; due = due; asked = a; is = is; wanted = wanted ∙ ap Some z; entry = i.entry; at = ap (entry_of_res deck.entries) (sym z) ∙ at; away = i.away })
+
+  -- so it is on record where the system itself manages the entry
+  pub recorded-here : (r : Res) → has_task (list_of (lists T) r) t ≡ true → (e : ℕ) → entry_of_res deck.entries r ≡ Some e → has_manager words e s ≡ true → has_res r (state_of n.tasks t).records ≡ true
+  recorded-here r has e at mine_entry = go (recorded-or-due r has)
+    where
+      go : (has_res r (state_of n.tasks t).records ≡ true) ⊎ IsDueOn deck words s n later t r → has_res r (state_of n.tasks t).records ≡ true
+      go (inl z) = z
+      go (inr d) = no_truth (has_manager words d.entry s) (ap (λ i. has_manager words i s) (same_Some d.entry e (sym d.at ∙ at)) ∙ mine_entry) d.away.0
+
+  -- a task whose item is still to come has sent its request
+  pub due-sent : (y : RunItem) → mine t later ≡ y ∷ [] → (is_among t (askers out) ≡ true) × (is_sent (state_of n.tasks t).phase ≡ true)
+  due-sent y due = (among, sent-among t (state_of n.tasks t).phase out (here deck s T later out n h.at t home).sent among)
+    where
+      among : is_among t (askers out) ≡ true
+      among = go (is_among t (askers out)) refl
+        where
+          go : (b : Bool) → is_among t (askers out) ≡ b → is_among t (askers out) ≡ true
+          go true e = e
+          go false e = absurd (let f : [] ≡ y ∷ [] = sym (h.sent t e) ∙ due in cc)
+
+  -- ---- no item of the task is to come
+  module _ (idle : mine t later ≡ []) where
+    idle-is : outstanding t (here deck s T later out n h.at t home).known T ≡ None
+    idle-is = ap (λ b. cond b (last_of (mine t T)) None) (behind-late deck s T later out n h.at t home ∙ late-none t later idle)
+
+    -- each resource on record is that of an element
+    pub idle-element : (r : Res) → has_res r (state_of n.tasks t).records ≡ true → has_task (list_of (lists T) r) t ≡ true
+    idle-element r has =
+        has-known deck T right t (past_of t (here deck s T later out n h.at t home).known T) (speaks-known deck T t (here deck s T later out n h.at t home).known right (here deck s T later out n h.at t home).knows.right idle-is) r
+        ∙ (sym (has_res-own r (state_of n.tasks t).records (past_of t (here deck s T later out n h.at t home).known T).own (ap (map key) (sym (records-unasked (state_of n.tasks t))) ∙ (here deck s T later out n h.at t home).task.keys)) ∙ has)
+
+    -- and no answer comes to it
+    pub idle-silent : answers t ms ≡ false
+    idle-silent = no-answer t (blank (is_late t later)) T (news_of ms) (late-none t later idle) (h.coming t home)
+
+  pub records-distinct : is_distinct (state_of n.tasks t).records ≡ true
+  records-distinct = ap is_distinct (sym (records-unasked (state_of n.tasks t))) ∙ (here deck s T later out n h.at t home).task.distinct
+
+-- ---- an answer comes first
+-- What it answers: the request that the task has sent, by some lists.
+pub record IsAnswered (n : NodeState) (t : TaskId) (answer : Answer) : Type 0 where
+  pub asked : Asked
+  pub is : (state_of n.tasks t).outstanding ≡ Some asked
+  pub lists : State
+  pub reply : answer ≡ answer_to lists t asked.req.want
+  pub res : Res
+  pub wanted : res_wanted asked.req.want ≡ Some res
+  pub sent : is_sent (state_of n.tasks t).phase ≡ true
+
+pub answer-awaited : (deck : Deck) (words : List ℕ) (T : List RunItem) → IsHistory deck T → (s : ℕ) (n : NodeState) (t : TaskId) (answer : Answer) (rank : ℕ) (ms : List Mail) (later : List RunItem) (out : List Req) →
+    IsSystem deck words T s n (Answered t answer rank ∷ ms) later out → is_home_at deck s t ≡ true → IsAnswered n t answer
+answer-awaited deck words T right s n t answer rank ms later out h home =
+    let z = (h.coming t home).0 (same_task-itself t) in
+    let k = here deck s T later out n h.at t home in
+    let out_is : outstanding t k.known T ≡ Some z.0 = ap (λ b. cond b (last_of (mine t T)) None) (behind-late deck s T later out n h.at t home) ∙ z.1 in
+    let due : mine t later ≡ z.0 ∷ [] = k.due ∙ ap one out_is in
+    let rq = request deck words T right s n (Answered t answer rank ∷ ms) later out h t home z.0 out_is in
+    let some = asks_some deck words T right s n (Answered t answer rank ∷ ms) later out h t home rq.0 rq.1 in
+    let i : IsLate deck words s z.0 = late-in deck words s t z.0 [] later due h.late in
+    let same : fixing.Asked i.req ≡ fixing.Asked (rq.0).req = sym i.asked ∙ rq.2 in
+    let req : i.req ≡ (rq.0).req = cc in
+    let asker : (rq.0).req.task ≡ t = (subst (λ o. IsOpenBy deck.limit (home-task deck s (opens_of later out (ghosted n)) T n.tasks t h.at.good home).0 t (state_of n.tasks t) o) rq.1 k.opened).0 in
+    let made : (z.0).entries ≡ entries_for i.lists t (rq.0).req.want = i.made ∙ (ap (λ (q : Req). entries_for i.lists q.task q.want) req ∙ ap (λ u. entries_for i.lists u (rq.0).req.want) asker) in
+    record {
+      asked = rq.0;
+      is = rq.1;
+      lists = i.lists;
+      reply = sym z.2 ∙ (ap reply_in made ∙ replies_are_answers i.lists t (rq.0).req.want);
+      res = some.0;
+      wanted = some.1;
+      sent = (due-sent deck words T right s n (Answered t answer rank ∷ ms) later out h t home z.0 due).1;
+    }
