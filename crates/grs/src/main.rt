@@ -8,6 +8,7 @@ ghost use Rattle.std.specs.IoError.{error_kind};
 
 use grs_io::{StdSink, StdSource};
 use grs_top::{Status, grs};
+use grs_workers::FreeGate;
 use std::alloc::Alloc;
 use std::env::Env;
 use std::io::ErrorKind;
@@ -39,7 +40,14 @@ fn main(rt: HostRuntime) -> ExitCode {
         Ok(words) => {
             let mut source = StdSource::new(rt.stdin());
             let mut sink = StdSink::new(rt.stdout());
-            grs(rt.alloc(), words.as_slice(), &mut source, &mut sink)
+            grs(
+                &rt,
+                rt.alloc(),
+                words.as_slice(),
+                &mut source,
+                &mut sink,
+                &FreeGate,
+            )
         }
         Err(error) => status_without_words(&error),
     };

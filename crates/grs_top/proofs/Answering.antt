@@ -10,9 +10,9 @@ use Rattle.grs_report.specs.Ends.{all_ended}
 use Rattle.grs_top.specs.declared.status.Status.{Status}
 use Rattle.grs_top.specs.declared.status.Status.TheVariants as statuses
 use Rattle.grs_top.specs.declared.words.Command.{Command}
-use Rattle.grs_top.specs.declared.words.Command.TheVariants.{Replay, Lists}
+use Rattle.grs_top.specs.declared.words.Command.TheVariants.{Replay, Run, Lists}
 use Rattle.grs_top.specs.Seen.{seen_of_run, ending}
-use Rattle.grs_top.specs.Due.{status_of, IsAnswered, IsDue}
+use Rattle.grs_top.specs.Due.{IsTextOf, IsAnswered, IsDue}
 use Rattle.grs_top.specs.Answers.{Streams, TakesAll, ReadsDue, Writes, Answers, Completes}
 
 -- a front that is shorter than was asked for is all
@@ -35,9 +35,10 @@ ending_either : (d : DeckValue) (es : List Event) (s : Status) → s ≡ ending 
 unfolding ending
 ending_either d es s e = ends_either (all_ended (seen_of_run d es).ended) s e
 
-status_either : (c : Command) (d : DeckValue) (s : Status) → s ≡ status_of c d → (s ≡ statuses.Done) ⊎ (s ≡ statuses.Waits)
-status_either Replay d s e = ending_either d d.events s e
-status_either Lists d s e = inl e
+status_either : (c : Command) (d : DeckValue) (out : List ℕ) (s : Status) → IsTextOf c d out s → (s ≡ statuses.Done) ⊎ (s ≡ statuses.Waits)
+status_either Replay d out s is = ending_either d d.events s is.ends
+status_either Run d out s is = ending_either d is.events s is.reported.ends
+status_either Lists d out s is = inl is.1
 
 answers_either : (c : Command) (old new : Streams) (s : Status) → (s ≡ statuses.Done) ⊎ (s ≡ statuses.Waits) → Completes c old new s → Answers c old new s
 answers_either c old new s (inl e) done = subst (Answers c old new) (sym e) (subst (Completes c old new) e done)
@@ -65,7 +66,7 @@ writes_whole c old new text out s read (inl refused) written failed_reads failed
     subst (Answers c old new) (sym refused.1)
     (record { text = text; out = out; read = read; refused = refused.0; written = written; failed_reads = failed_reads; failed_writes = failed_writes })
 writes_whole c old new text out s read (inr answered) written failed_reads failed_writes =
-    answers_either c old new s (status_either c answered.deck s answered.ends)
+    answers_either c old new s (status_either c answered.deck out s answered.is_text)
     (completes_whole c old new text out s read answered written failed_reads failed_writes)
 
 -- what is due is written, or a write fails

@@ -1,7 +1,6 @@
 -- A deck that is told and no fault give the whole text.
 use Rattle.std.proofs.Common.{◌≡◌, ◌≤◌, ◌<◌, ℕ, List, length, refl, sym, subst, inl, inr, arith, Option, None, Some, ◌∙◌, ◌+◌}
 use Rattle.std.proofs.lemmas.List.{take_all}
-use Rattle.std.specs.Io.KnownBytes.{Appends}
 use Rattle.grs_wire.specs.declared.deck.Deck.{Deck as DeckValue}
 use Rattle.deck_scan.specs.Reading.{most_text_bytes}
 use Rattle.grs_deck.specs.Faults.{IsFaultless}
@@ -11,7 +10,7 @@ use Rattle.grs_io.specs.Moved.{TakesFirst}
 use Rattle.grs_top.specs.declared.status.Status.{Status}
 use Rattle.grs_top.specs.declared.status.Status.TheVariants as statuses
 use Rattle.grs_top.specs.declared.words.Command.{Command}
-use Rattle.grs_top.specs.Due.{whole_text, status_of}
+use Rattle.grs_top.specs.Due.{IsTextOf}
 use Rattle.grs_top.specs.Answers.{Streams, TakesAll, Completes}
 use Rattle.grs_top.specs.Whole.{Tells, IsWhole, WholeUnlessMemory}
 
@@ -38,8 +37,9 @@ module _
   completed c d old new s tells r =
       let same : r.answered.deck ≡ d = one r.text r.answered.deck d r.answered.spelled (all_spells old.left new.left r.text d tells r.read) in
       record {
-        written = subst (λ (e : DeckValue). Appends old.written new.written (whole_text c e)) same (subst (Appends old.written new.written) r.answered.whole r.written);
-        ends = subst (λ (e : DeckValue). s ≡ status_of c e) same r.answered.ends;
+        out = r.out;
+        written = r.written;
+        is_text = subst (λ (e : DeckValue). IsTextOf c e r.out s) same r.answered.is_text;
       }
 
   pub whole : WholeUnlessMemory

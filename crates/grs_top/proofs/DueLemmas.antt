@@ -1,20 +1,69 @@
 -- What is due for a text, by what its reading answers.
-use Rattle.std.proofs.Common.{◌≡◌, ℕ, List, inl, inr, Result, Ok, Err, IfOk}
+use Rattle.std.proofs.Common.{◌≡◌, ℕ, true, List, ap, sym, subst, ◌∙◌, inl, inr, Result, Ok, Err, IfOk, if◌then◌else◌}
 use Rattle.grs_base.specs.declared.fault.DeckFault.{DeckFault}
-use Rattle.grs_wire.specs.declared.deck.Deck.{Deck as DeckValue}
 use Rattle.grs_deck.specs.Faults.{IsFault}
 use Rattle.grs_deck.specs.Spells.{SpellsDeck}
-use Rattle.grs_top.specs.declared.status.Status.TheVariants.{Deck}
-use Rattle.grs_top.specs.declared.words.Command.{Command}
+use Rattle.grs_history.specs.Merge.{merged_steps}
+use Rattle.grs_medium.specs.Medium.{MediumState}
+use Rattle.grs_node.specs.Log.{NodeView}
+use Rattle.grs_report.specs.Ends.{all_ended}
+use Rattle.grs_report.specs.Report.{report}
+use Rattle.grs_wire.specs.Decks.{IsDeck}
+use Rattle.grs_wire.specs.declared.deck.Deck.{Deck as DeckValue}
+use Rattle.grs_wire.specs.declared.deck.Event.{Event}
+use Rattle.grs_wire.specs.declared.medium.JEntry.{JEntry}
+use Rattle.grs_wire.specs.declared.seen.Seen.{Seen}
+use Rattle.grs_workers.specs.Beside.{RanBeside, AllLast}
+use Rattle.grs_world.specs.Agree.{Sound}
+use Rattle.grs_world.specs.AtRest.{RestsInTheEnd}
+use Rattle.grs_world.specs.Decks.{may_be_star, FitsStar}
+use Rattle.grs_world.specs.Running.{at_rest}
+use Rattle.grs_world.specs.World.{first_world, run}
+use Rattle.grs_top.specs.Beside.{AllDo, logs_of, MergedRuns, MergedRests}
+use Rattle.grs_top.specs.Due.{fault_line, IsTextOf, IsDue}
+use Rattle.grs_top.specs.Seen.{seen_of_run, report_of, ending}
 use Rattle.grs_top.specs.declared.due.Due.{Due}
-use Rattle.grs_top.specs.Due.{fault_line, whole_text, status_of, IsSoundBy, IsDue}
+use Rattle.grs_top.specs.declared.status.Status.TheVariants.{Deck, Done, Waits}
+use Rattle.grs_top.specs.declared.words.Command.{Command}
+use Rattle.grs_top.specs.declared.words.Command.TheVariants.{Replay, Run}
 
-pub answered_due : {E : Type 0} (c : Command) (text : List ℕ) (d : DeckValue) (r : Result Due E) → SpellsDeck text d → IsSoundBy c d
-    → IfOk r (λ due. due.out ≡ whole_text c d) → IfOk r (λ due. due.status ≡ status_of c d) → IfOk r (λ due. IsDue c text due.out due.status)
-answered_due c text d (Ok due) spelled sound out status = inr (record { deck = d; spelled = spelled; whole = out; ends = status; sound = sound })
-answered_due c text d (Err e) spelled sound out status = tt
+pub answered_due : {E : Type 0} (c : Command) (text : List ℕ) (d : DeckValue) (r : Result Due E) → SpellsDeck text d → IfOk r (λ due. IsTextOf c d due.out due.status) → IfOk r (λ due. IsDue c text due.out due.status)
+answered_due c text d (Ok due) spelled is_text = inr (record { deck = d; spelled = spelled; is_text = is_text })
+answered_due c text d (Err e) spelled is_text = tt
 
 pub refused_due : {E : Type 0} (c : Command) (text : List ℕ) (f : DeckFault) (r : Result Due E) → IsFault text f
     → IfOk r (λ due. due.out ≡ fault_line f) → IfOk r (λ due. due.status ≡ Deck) → IfOk r (λ due. IsDue c text due.out due.status)
 refused_due c text f (Ok due) first out status = inl (record { first = f; is_first = first; line = out }, status)
 refused_due c text f (Err e) first out status = tt
+
+-- ---- the report of a run, by what is seen of it
+
+pub replay_due : {E : Type 0} (d : DeckValue) (seen : Seen) (r : Result Due E) → IsDeck d → ((deck : DeckValue) → (may_be_star deck ≡ true → FitsStar deck) → (es : List Event) → Sound deck es) → seen ≡ seen_of_run d d.events
+    → IfOk r (λ due. due.out ≡ report d seen) → IfOk r (λ due. due.status ≡ (if all_ended seen.ended then Done else Waits)) → IfOk r (λ due. IsTextOf Replay d due.out due.status)
+unfolding report_of ending
+replay_due d seen (Ok due) whole sound is out status = record {
+  whole = out ∙ ap (report d) is;
+  ends = status ∙ ap (λ (x : Seen). if all_ended x.ended then Done else Waits) is;
+  sound = sound d (λ star. record { few = whole.fits.few; entries = whole.entries }) d.events;
+}
+replay_due d seen (Err e) whole sound is out status = tt
+
+pub run_due : {E : Type 0} (d : DeckValue) (m : MediumState) (journal slice : List JEntry) (vs : List NodeView) (seen : Seen) (r : Result Due E) → IsDeck d → ((deck : DeckValue) → (may_be_star deck ≡ true → FitsStar deck) → (es : List Event) → Sound deck es) → MergedRuns → MergedRests
+    → ((deck : DeckValue) → IsDeck deck → (es : List Event) → RestsInTheEnd deck es) → RanBeside d m journal vs → AllLast d journal → slice ≡ journal → seen.events ≡ (merged_steps slice (logs_of vs)).events → seen ≡ seen_of_run d seen.events
+    → IfOk r (λ due. due.out ≡ report d seen) → IfOk r (λ due. due.status ≡ (if all_ended seen.ended then Done else Waits)) → IfOk r (λ due. IsTextOf Run d due.out due.status)
+unfolding report_of ending
+run_due d m journal slice vs seen (Ok due) whole sound runs rests kept ran last lent made is out status =
+    let events : seen.events ≡ (merged_steps journal (logs_of vs)).events = made ∙ ap (λ (j : List JEntry). (merged_steps j (logs_of vs)).events) lent in
+    let rest : at_rest d (run d seen.events) ≡ true = ap (λ (es : List Event). at_rest d (run d es)) events ∙ rests d m journal vs whole.some ran last in
+    record {
+      events = seen.events;
+      all_do = subst (λ (es : List Event). AllDo d (first_world d) es) (sym events) (runs d m journal vs ran).all_do;
+      reported = record {
+        whole = out ∙ ap (report d) is;
+        ends = status ∙ ap (λ (x : Seen). if all_ended x.ended then Done else Waits) is;
+        sound = sound d (λ star. record { few = whole.fits.few; entries = whole.entries }) seen.events;
+      };
+      rest = rest;
+      nothing_lost = kept d whole seen.events rest;
+    }
+run_due d m journal slice vs seen (Err e) whole sound runs rests kept ran last lent made is out status = tt

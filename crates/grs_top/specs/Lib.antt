@@ -3,6 +3,7 @@ pub mod Words
 pub mod Lists
 pub mod Tasks
 pub mod Seen
+pub mod Beside
 pub mod Due
 pub mod Answers
 pub mod Whole

@@ -27,9 +27,9 @@ seen_of_run deck es = record {
   ended = ends_at (run deck es).nodes (tasks_of deck);
 }
 
--- the report of the run of a deck's own events
-unfoldable pub whole_report : DeckValue → List ℕ
-whole_report deck = report deck (seen_of_run deck deck.events)
+-- the report of the run of these events
+unfoldable pub report_of : DeckValue → List Event → List ℕ
+report_of deck es = report deck (seen_of_run deck es)
 
 -- how the run of these events ends: Done where each task has ended
 unfoldable pub ending : DeckValue → List Event → Status

@@ -7,7 +7,7 @@ use Rattle.grs_deck.specs.Spells.{SpellsDeck}
 use Rattle.grs_top.specs.declared.status.Status.{Status}
 use Rattle.grs_top.specs.declared.status.Status.TheVariants as statuses
 use Rattle.grs_top.specs.declared.words.Command.{Command}
-use Rattle.grs_top.specs.Due.{whole_text, status_of}
+use Rattle.grs_top.specs.Due.{IsTextOf}
 use Rattle.grs_top.specs.Answers.{Streams, Answers}
 
 -- the source tells its bytes, and these spell the deck
@@ -24,8 +24,9 @@ pub record HasNoFault (old new : Streams) : Type 0 where
 
 -- What the command writes for the deck is written whole, and the status says how the command ends.
 pub record IsWhole (c : Command) (deck : DeckValue) (old new : Streams) (status : Status) : Type 0 where
-  pub written : Appends old.written new.written (whole_text c deck)
-  pub ends : status ≡ status_of c deck
+  pub out : List ℕ
+  pub written : Appends old.written new.written out
+  pub is_text : IsTextOf c deck out status
 
 -- A source whose bytes spell a deck and no fault give the whole text, unless memory is wanted.
 abbrev pub WholeUnlessMemory : Type 0

@@ -5,14 +5,18 @@ ghost use Rattle.grs_top.specs.Answers.{streams, Answers, ReadsDue, Writes};
 ghost use Rattle.grs_top.specs.Words.{command_of};
 
 use super::Status;
-use super::due::{Due, due_for};
+use super::due::{Due, due_by_run, due_for};
 use super::words::{Command, command_of};
 use deck_scan::MOST_TEXT_BYTES;
 use grs_io::{ReadFailure, Sink, Source, read_all, write_all};
+use grs_workers::Gate;
 use std::alloc::Global;
+use std::sync::Wait;
+use std::thread::Threads;
 
 /// Reads a text, up to one byte more than a deck may have, and builds what it is answered by.
 fn read_due<S: Source>(alloc: Global, command: Command, source: &mut S) -> Result<Due, ReadFailure>
+    requires { command ≢ Command.Run }
     ensures due { IfOk result (λ due. ReadsDue command (S.left source.old) (S.left source.new) due.out due.status) }
     ensures kept { OnOk result (S.faults source.new ≡ S.faults source.old) }
     ensures failed { result ≡ Err ReadFailure.Failed
@@ -21,6 +25,24 @@ fn read_due<S: Source>(alloc: Global, command: Command, source: &mut S) -> Resul
 {
     let text = read_all(alloc, source, MOST_TEXT_BYTES)?;
     let due = due_for(alloc, command, text.as_slice())?;
+    Ok(due)
+}
+
+/// The same for a run of systems beside each other.
+fn read_run<R: Threads + Wait + Sync, S: Source, G: Gate + Sync>(
+    rt: &R,
+    alloc: Global,
+    source: &mut S,
+    gate: &G,
+) -> Result<Due, ReadFailure>
+    ensures due { IfOk result (λ due. ReadsDue Command.Run (S.left source.old) (S.left source.new) due.out due.status) }
+    ensures kept { OnOk result (S.faults source.new ≡ S.faults source.old) }
+    ensures failed { result ≡ Err ReadFailure.Failed
+        → HasRisen (S.faults source.old) (S.faults source.new) }
+    ensures memory { result ≡ Err ReadFailure.NoMemory → S.faults source.new ≡ S.faults source.old }
+{
+    let text = read_all(alloc, source, MOST_TEXT_BYTES)?;
+    let due = due_by_run(rt, alloc, text.as_slice(), gate)?;
     Ok(due)
 }
 
@@ -36,8 +58,8 @@ fn write_due<K: Sink>(sink: &mut K, due: &Due) -> Status
     }
 }
 
-/// Does what a command asks for. The text is built whole before the first write, and the first read or write
-/// that fails ends the command.
+/// Does what a command asks for that waits for nobody. The text is built whole before the first write, and the first read or
+/// write that fails ends the command.
 #[tactic(none)]
 fn answer<S: Source, K: Sink>(
     alloc: Global,
@@ -45,6 +67,7 @@ fn answer<S: Source, K: Sink>(
     source: &mut S,
     sink: &mut K,
 ) -> Status
+    requires { command ≢ Command.Run }
     ensures { Answers command
         (streams (S.left source.old) (K.written sink.old) (S.faults source.old) (K.faults sink.old))
         (streams (S.left source.new) (K.written sink.new) (S.faults source.new) (K.faults sink.new))
@@ -73,6 +96,29 @@ pub fn replay_command<S: Source, K: Sink>(alloc: Global, source: &mut S, sink: &
     answer(alloc, Command::Replay, source, sink)
 }
 
+/// Reads a deck from a source, runs its systems beside each other, each in a thread where there is one for it, and writes the report
+/// of the run to a sink: of the events that they made, in one order. The deck's schedule isn't used. It ends once all systems have
+/// come to rest, for which it waits; the gate is lent each system ahead of its calls of the medium and behind them. It reads and
+/// writes as `replay_command` does, and its statuses say what they say there.
+pub fn run_command<R: Threads + Wait + Sync, S: Source, K: Sink, G: Gate + Sync>(
+    rt: &R,
+    alloc: Global,
+    source: &mut S,
+    sink: &mut K,
+    gate: &G,
+) -> Status
+    ensures { Answers Command.Run
+        (streams (S.left source.old) (K.written sink.old) (S.faults source.old) (K.faults sink.old))
+        (streams (S.left source.new) (K.written sink.new) (S.faults source.new) (K.faults sink.new))
+        result }
+{
+    match read_run(rt, alloc, source, gate) {
+        Ok(report) => write_due(sink, &report),
+        Err(ReadFailure::Failed) => Status::ReadFault,
+        Err(ReadFailure::NoMemory) => Status::NoMemory,
+    }
+}
+
 /// Reads a deck from a source and writes the entries of its name lists to a sink, one printed RNLDEF a line:
 /// those of the inclusion list, then of the exclusion list, then of the conversion list. It reads and writes
 /// as `replay_command` does.
@@ -88,14 +134,15 @@ pub fn lists_command<S: Source, K: Sink>(alloc: Global, source: &mut S, sink: &m
     answer(alloc, Command::Lists, source, sink)
 }
 
-/// Does what the words after the program's name ask for. The words are `replay` or `lists`; no others are
-/// known, and `Words` is the answer to these: then nothing is read and nothing written.
-#[tactic(none)]
-pub fn grs<S: Source, K: Sink>(
+/// Does what the words after the program's name ask for. The words are `replay`, `run` or `lists`; no others are
+/// known, and `Words` is the answer to these: then nothing is read and nothing written. Only `run` waits, and looks at the gate.
+pub fn grs<R: Threads + Wait + Sync, S: Source, K: Sink, G: Gate + Sync>(
+    rt: &R,
     alloc: Global,
     words: &[String],
     source: &mut S,
     sink: &mut K,
+    gate: &G,
 ) -> Status
     ensures command { IfSome (command_of (map string_bytes words.now)) (λ command. Answers command
         (streams (S.left source.old) (K.written sink.old) (S.faults source.old) (K.faults sink.old))
@@ -109,7 +156,9 @@ pub fn grs<S: Source, K: Sink>(
         ((K.written sink.new ≡ K.written sink.old) × (K.faults sink.new ≡ K.faults sink.old)) }
 {
     match command_of(words) {
-        Some(command) => answer(alloc, command, source, sink),
+        Some(Command::Replay) => replay_command(alloc, source, sink),
+        Some(Command::Run) => run_command(rt, alloc, source, sink, gate),
+        Some(Command::Lists) => lists_command(alloc, source, sink),
         None => Status::Words,
     }
 }

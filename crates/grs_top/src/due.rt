@@ -1,23 +1,27 @@
 //! What a text is answered by: what the command writes for the deck that it spells, or the line of its first
 //! fault. The answer is built whole before any of it is written.
-ghost use Rattle.std.specs.Prelude.{◌≡◌, IfOk, if◌then◌else◌};
+ghost use Rattle.std.specs.Prelude.{◌≡◌, ◌≢◌, IfOk, if◌then◌else◌};
+ghost use Rattle.grs_report.specs.Ends.{all_ended};
+ghost use Rattle.grs_report.specs.Report.{report};
 ghost use Rattle.grs_wire.specs.Decks.{IsDeck};
-ghost use Rattle.grs_world.specs.Agree.{Sound};
-ghost use Rattle.grs_top.specs.Seen.{whole_report, ending};
-ghost use Rattle.grs_top.specs.Lists.{lists_text};
-ghost use Rattle.grs_top.specs.Due.{fault_line, whole_text, status_of, IsSoundBy, IsDue};
+ghost use Rattle.grs_top.specs.Due.{fault_line, IsTextOf, IsDue};
 
 use super::Status;
+use super::beside::seen_of;
 use super::fault_line::fault_line;
+use super::laws::{merged_rests, merged_runs};
 use super::lists::lists_text;
 use super::seen::seen_by_replay;
 use super::words::Command;
 use grs_base::{DeckFault, List, NoMemory, ReadError};
 use grs_deck::read_deck;
 use grs_report::{all_ended, report};
-use grs_wire::Deck;
-use grs_world::laws::runs_are_sound;
+use grs_wire::{Deck, Seen};
+use grs_workers::{Gate, run_workers};
+use grs_world::laws::{rests_in_the_end, runs_are_sound};
 use std::alloc::Global;
+use std::sync::Wait;
+use std::thread::Threads;
 
 /// What is to be written, and the status where all of it is.
 #[derive(Drop)]
@@ -32,20 +36,46 @@ fn ending(done: bool) -> Status
     if done { Status::Done } else { Status::Waits }
 }
 
-/// The report of the run of a deck's events.
-fn reported(alloc: Global, deck: &Deck) -> Result<Due, NoMemory>
+/// The report of what is seen of a run.
+fn report_due(alloc: Global, deck: &Deck, seen: &Seen) -> Result<Due, NoMemory>
     requires { IsDeck deck.now }
-    ensures out { IfOk result (λ due. due.out ≡ whole_report deck.now) }
-    ensures status { IfOk result (λ due. due.status ≡ ending deck.now deck.now.events) }
-    ensures sound { Sound deck.now deck.now.events }
+    ensures out { IfOk result (λ due. due.out ≡ report deck.now seen.now) }
+    ensures status { IfOk result (λ due. due.status ≡ (if all_ended seen.now.ended then Status.Done else Status.Waits)) }
 {
-    runs_are_sound();
-    let seen = seen_by_replay(alloc, deck)?;
-    let out = report(alloc, deck, &seen)?;
+    let out = report(alloc, deck, seen)?;
     Ok(Due {
         out,
         status: ending(all_ended(seen.ended.as_slice())),
     })
+}
+
+/// The report of the run of a deck's events.
+fn replayed(alloc: Global, deck: &Deck) -> Result<Due, NoMemory>
+    requires { IsDeck deck.now }
+    ensures { IfOk result (λ due. IsTextOf Command.Replay deck.now due.out due.status) }
+{
+    runs_are_sound();
+    let seen = seen_by_replay(alloc, deck)?;
+    report_due(alloc, deck, &seen)
+}
+
+/// The report of the run of a deck's systems beside each other, for which it waits.
+pub(crate) fn ran<R: Threads + Wait + Sync, G: Gate + Sync>(
+    rt: &R,
+    alloc: Global,
+    deck: &Deck,
+    gate: &G,
+) -> Result<Due, NoMemory>
+    requires { IsDeck deck.now }
+    ensures { IfOk result (λ due. IsTextOf Command.Run deck.now due.out due.status) }
+{
+    runs_are_sound();
+    merged_runs();
+    merged_rests();
+    rests_in_the_end();
+    let ran = run_workers(rt, alloc, deck, gate)?;
+    let seen = seen_of(alloc, deck, &ran.medium, ran.journal.as_slice(), &ran.nodes)?;
+    report_due(alloc, deck, &seen)
 }
 
 fn refused(alloc: Global, fault: DeckFault) -> Result<Due, NoMemory>
@@ -61,8 +91,7 @@ fn refused(alloc: Global, fault: DeckFault) -> Result<Due, NoMemory>
 
 /// The name lists of a deck.
 fn listed(alloc: Global, deck: &Deck) -> Result<Due, NoMemory>
-    ensures out { IfOk result (λ due. due.out ≡ lists_text deck.now) }
-    ensures status { IfOk result (λ due. due.status ≡ Status.Done) }
+    ensures { IfOk result (λ due. IsTextOf Command.Lists deck.now due.out due.status) }
 {
     let out = lists_text(alloc, deck)?;
     Ok(Due {
@@ -71,26 +100,43 @@ fn listed(alloc: Global, deck: &Deck) -> Result<Due, NoMemory>
     })
 }
 
-/// What a command writes for a deck.
+/// What a command writes for a deck that waits for nobody.
 fn answered(alloc: Global, command: Command, deck: &Deck) -> Result<Due, NoMemory>
-    requires { IsDeck deck.now }
-    ensures out { IfOk result (λ due. due.out ≡ whole_text command deck.now) }
-    ensures status { IfOk result (λ due. due.status ≡ status_of command deck.now) }
-    ensures sound { IsSoundBy command deck.now }
+    requires deck { IsDeck deck.now }
+    requires alone { command ≢ Command.Run }
+    ensures { IfOk result (λ due. IsTextOf command deck.now due.out due.status) }
 {
     match command {
-        Command::Replay => reported(alloc, deck),
+        Command::Replay => replayed(alloc, deck),
         Command::Lists => listed(alloc, deck),
+        Command::Run => unreachable!(),
     }
 }
 
-/// What a text is answered by.
+/// What a text is answered by, by a command that waits for nobody.
 #[tactic(none)]
 pub(crate) fn due_for(alloc: Global, command: Command, text: &[u8]) -> Result<Due, NoMemory>
+    requires { command ≢ Command.Run }
     ensures { IfOk result (λ due. IsDue command text.now due.out due.status) }
 {
     match read_deck(alloc, text) {
         Ok(deck) => answered(alloc, command, &deck),
+        Err(ReadError::Fault(fault)) => refused(alloc, fault),
+        Err(ReadError::NoMemory) => Err(NoMemory),
+    }
+}
+
+/// What a text is answered by where its systems run beside each other.
+pub(crate) fn due_by_run<R: Threads + Wait + Sync, G: Gate + Sync>(
+    rt: &R,
+    alloc: Global,
+    text: &[u8],
+    gate: &G,
+) -> Result<Due, NoMemory>
+    ensures { IfOk result (λ due. IsDue Command.Run text.now due.out due.status) }
+{
+    match read_deck(alloc, text) {
+        Ok(deck) => ran(rt, alloc, &deck, gate),
         Err(ReadError::Fault(fault)) => refused(alloc, fault),
         Err(ReadError::NoMemory) => Err(NoMemory),
     }

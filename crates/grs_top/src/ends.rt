@@ -1,12 +1,14 @@
-//! The tasks of a deck in order, each with its end in a world.
+//! The tasks of a deck in order, each with its end at its system.
 ghost use Rattle.std.specs.Prelude.{◌≡◌, ◌≤◌, ◌+◌, ◌++◌, length, OnOk, IfOk};
 ghost use Rattle.grs_base.specs.Limits.{most_jobs, most_tasks};
 ghost use Rattle.grs_wire.specs.Decks.{task_count, Fits, IsDeck};
+ghost use Rattle.grs_world.specs.Running.{nodes_of};
 ghost use Rattle.grs_top.specs.Tasks.{tasks_in, tasks_from, tasks_of_systems, tasks_of, ends_at};
 
 use grs_base::{List, NoMemory, SysId, TaskId};
+use grs_node::Node;
 use grs_wire::{Deck, JobDef, SystemDef, TaskDef, TaskEnd};
-use grs_world::World;
+use grs_world::task_end;
 use std::alloc::Global;
 
 /// Puts the tasks of a job last, of which the first has this place.
@@ -54,30 +56,30 @@ fn tasks_of(alloc: Global, systems: &[SystemDef]) -> Result<List<TaskId>, NoMemo
     Ok(tasks)
 }
 
-/// These tasks, each with its end in a world.
+/// These tasks, each with its end at its system.
 fn ends_at(
     alloc: Global,
-    world: &World<'_>,
+    nodes: &[Node<'_>],
     tasks: &[TaskId],
 ) -> Result<List<(TaskId, TaskEnd)>, NoMemory>
-    ensures { IfOk result (λ ends. ends ≡ ends_at world.now.world.nodes tasks.now) }
+    ensures { IfOk result (λ ends. ends ≡ ends_at (nodes_of nodes.now) tasks.now) }
 {
     let mut ends = List::new(alloc);
     for task in tasks {
-        ends.push((*task, world.ended(*task)))?;
+        ends.push((*task, task_end(nodes, *task)))?;
     }
     Ok(ends)
 }
 
-/// Each task of a deck with its end in a world.
+/// Each task of a deck with its end at its system.
 pub(crate) fn ends_of(
     alloc: Global,
     deck: &Deck,
-    world: &World<'_>,
+    nodes: &[Node<'_>],
 ) -> Result<List<(TaskId, TaskEnd)>, NoMemory>
     requires { IsDeck deck.now }
-    ensures { IfOk result (λ ends. ends ≡ ends_at world.now.world.nodes (tasks_of deck.now)) }
+    ensures { IfOk result (λ ends. ends ≡ ends_at (nodes_of nodes.now) (tasks_of deck.now)) }
 {
     let tasks = tasks_of(alloc, deck.systems.as_slice())?;
-    ends_at(alloc, world, tasks.as_slice())
+    ends_at(alloc, nodes, tasks.as_slice())
 }

@@ -2,6 +2,7 @@
 //! ended, and knows nothing of where its bytes come from.
 #![tactic(auto)]
 
+mod beside;
 mod command;
 mod due;
 mod ends;
@@ -12,7 +13,8 @@ mod seen;
 mod status;
 mod words;
 
-pub use command::{grs, lists_command, replay_command};
+pub use beside::seen_of;
+pub use command::{grs, lists_command, replay_command, run_command};
 pub use seen::seen_by_replay;
 pub use status::Status;
 pub use words::Command;

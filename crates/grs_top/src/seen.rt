@@ -40,7 +40,7 @@ fn run_of(alloc: Global, deck: &Deck) -> Result<Run, NoMemory>
     let units = world.units()?;
     let words = world.medium().words().copy(alloc)?;
     let star = world.medium().star();
-    let ended = ends_of(alloc, deck, &world)?;
+    let ended = ends_of(alloc, deck, world.nodes())?;
     let log = world.into_log();
     let hist = answers(alloc, log.fixed.as_slice())?;
     Ok(Run {

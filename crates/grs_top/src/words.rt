@@ -7,6 +7,8 @@ ghost use Rattle.grs_top.specs.Words.{command_named, command_of};
 pub enum Command {
     /// Runs the schedule of a deck and reports the run.
     Replay,
+    /// Runs the systems of a deck beside each other and reports the run.
+    Run,
     /// Writes the name lists of a deck.
     Lists,
 }
@@ -17,6 +19,8 @@ fn command_named(word: &[u8]) -> Option<Command>
 {
     if word == b"replay".as_slice() {
         Some(Command::Replay)
+    } else if word == b"run".as_slice() {
+        Some(Command::Run)
     } else if word == b"lists".as_slice() {
         Some(Command::Lists)
     } else {
@@ -24,7 +28,7 @@ fn command_named(word: &[u8]) -> Option<Command>
     }
 }
 
-/// The command that the words name, if they name one: `replay` or `lists`, alone.
+/// The command that the words name, if they name one: `replay`, `run` or `lists`, alone.
 pub(crate) fn command_of(words: &[String]) -> Option<Command>
     ensures { result ≡ command_of (map string_bytes words.now) }
 {

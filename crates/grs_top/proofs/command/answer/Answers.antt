@@ -15,3 +15,6 @@ returns-in-Err-Failed g c = record { failed_reads = c.in-Err-Failed.ensures.fail
 
 pub returns-in-Err-NoMemory : goal.returns-in-Err-NoMemory
 returns-in-Err-NoMemory g c = record { written = refl; failed_reads = c.in-Err-NoMemory.ensures.memory (cc); failed_writes = refl }
+
+pub read_due-requires : goal.read_due-requires
+read_due-requires g c = c.requires

@@ -1,0 +1,6 @@
+-- The end of a run whose systems ran beside each other: the world is at rest.
+pub mod Pending
+pub mod Flags
+pub mod Idle
+pub mod Ended
+pub mod Merged

@@ -1,0 +1,9 @@
+pub mod Choices
+pub mod Fits
+pub mod Listed
+pub mod LeftOut
+pub mod DeedLaws
+pub mod RoundLaws
+pub mod FirstStands
+pub mod RanLaws
+mod Samples

@@ -1,0 +1,85 @@
+-- What logs make of a system, and how the round of a worker ends, on examples.
+use Rattle.std.proofs.Common.{◌≡◌, true, false, [], ◌∷◌, Some, None, refl, ap, inl, inr, codes, map}
+use Rattle.grs_base.specs.Rnl.{no_entries}
+use Rattle.grs_base.specs.declared.rnl.Which.TheVariants as which
+use Rattle.grs_base.specs.declared.resource.TaskId.{TaskId}
+use Rattle.grs_bus.specs.Journal.{entry_of}
+use Rattle.grs_node.specs.Node.{NodeState, may_go, finish_quiet, phase_step, ready_step, end_step, finish_call, finish_star, is_pending, prepare, finish}
+use Rattle.grs_wire.specs.declared.deck.Choice.TheVariants.{Task, Rest}
+use Rattle.grs_wire.specs.declared.deck.Deck.{Deck}
+use Rattle.grs_wire.specs.declared.log.StepDone.{StepDone}
+use Rattle.grs_wire.specs.declared.medium.Act.TheVariants as acts
+use Rattle.grs_wire.specs.declared.medium.JEntry.{JEntry}
+use Rattle.grs_wire.specs.declared.medium.Reply.TheVariants as replies
+use Rattle.grs_wire.specs.declared.told.ToldLine.TheVariants as lines
+use Rattle.task_state.specs.View.{new_tasks, state_of, with_state, with_line, with_phase, telling}
+use Rattle.task_state.specs.declared.state.Phase.TheVariants as phases
+use Rattle.grs_workers.specs.Makes.{Makes}
+use Rattle.grs_workers.specs.Stands.{journalled_steps, quiet_steps, is_last_of}
+
+-- a ring of one system, with a task that has no lines
+abbrev deck : Deck
+deck = record {
+  star = false;
+  entries = 16;
+  limit = 4096;
+  lists = record { incl = no_entries which.Incl; excl = no_entries which.Excl; con = no_entries which.Con };
+  systems = map (λ name. record { name = name; desk = []; jobs = record { name = codes "J"; tasks = record { name = codes "T"; lines = [] } ∷ [] } ∷ [] }) (codes "A" ∷ []);
+  events = [];
+}
+
+abbrev task : TaskId
+task = record { system = record { 0 = 0 }; job = 0; task = 0 }
+
+-- the system before its first event, and once its task has ended
+abbrev first : NodeState
+first = record { tasks = record { system = 0; tasks = new_tasks 1; told = [] }; own = []; shared = []; outbox = []; star = None; known = 0; done = 0 }
+
+abbrev ended : NodeState
+ended = record first { tasks = telling (with_phase (with_phase first.tasks task (phases.Ending 0)) task phases.Ended) (lines.Ended task 0) }
+
+-- the task ends, without a call; then the system rests, and is the last to
+abbrev ends : StepDone
+ends = record { choice = Task task; journalled = false; fixed = []; told = lines.Ended task 0 ∷ [] }
+
+abbrev rests : StepDone
+rests = record { choice = Rest; journalled = true; fixed = []; told = [] }
+
+abbrev over : JEntry
+over = entry_of (record { 0 = 0 }) (record { known = 0; act = acts.Rest }) replies.Over
+
+both : Makes deck first (ends ∷ rests ∷ []) (over ∷ []) ended
+unfolding state_of with_state with_line with_phase telling may_go finish_quiet phase_step ready_step end_step finish_call finish_star is_pending prepare finish
+both = inl (ended, record { prepared = refl; step = refl; after = refl }, inr (over, [], refl, ended, record { prepared = refl; step = refl; after = refl }, (refl, refl)))
+
+-- a step with a call that has no entry, and an entry that has no step, make nothing
+without_entry : ¬ Makes deck ended (rests ∷ []) [] ended
+without_entry (inl q) = let clash : true ≡ false = ap (λ (x : StepDone). x.journalled) q.1.step in absurd (cc)
+without_entry (inr j) = let clash : [] ≡ j.0 ∷ j.1 = j.2 in absurd (cc)
+
+without_step : ¬ Makes deck first (ends ∷ []) (over ∷ []) ended
+without_step (inl q) = let clash : over ∷ [] ≡ [] = q.2.0 in absurd (cc)
+without_step (inr j) = let clash : false ≡ true = ap (λ (x : StepDone). x.journalled) j.4.step in absurd (cc)
+
+-- of this log one step has an entry, and one has none
+one_journalled : journalled_steps (ends ∷ rests ∷ []) ≡ 1
+one_journalled = refl
+
+one_quiet : quiet_steps (ends ∷ rests ∷ []) ≡ 1
+one_quiet = refl
+
+-- what ends a worker's round: that all have come to rest, or that its system was removed, and nothing else
+ends_over : is_last_of (Some (replies.Over, true)) ≡ true
+ends_over = refl
+
+ends_removed : is_last_of (Some (replies.Removed, false)) ≡ true
+ends_removed = refl
+
+goes_on_empty : is_last_of (Some (replies.Empty, false)) ≡ false
+goes_on_empty = refl
+
+goes_on_resting : is_last_of (Some (replies.Resting, true)) ≡ false
+goes_on_resting = refl
+
+goes_on_quiet : is_last_of None ≡ false
+goes_on_quiet = refl

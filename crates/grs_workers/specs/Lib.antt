@@ -1,0 +1,4 @@
+pub mod Makes
+pub mod Stands
+pub mod Rounds
+pub mod Beside

@@ -1,0 +1,16 @@
+//! Systems that run beside each other, a thread for each: a worker has a system and its seat at the bus, and makes the
+//! events that have something to do. What a run comes to isn't known here.
+#![tactic(auto)]
+
+mod crew;
+mod gate;
+mod lap;
+mod rounds;
+mod run;
+mod worker;
+
+pub use crew::workers_of;
+pub use gate::{FreeGate, Gate};
+pub use rounds::round;
+pub use run::{Ran, run_workers};
+pub use worker::Worker;
