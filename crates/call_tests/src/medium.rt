@@ -1,6 +1,5 @@
-//! What a call would be answered, told before it is made: no part of the program asks that yet. A removal, which no
-//! deck asks for yet, with the Turn that gets its entry; and the change to star mode. A value that is dear to drop is
-//! dropped on one path alone.
+//! What a call would be answered, told before it is made: no part of the program asks that yet. A removal, with the
+//! Turn that gets its entry; and the change to star mode. A value that is dear to drop is dropped on one path alone.
 ghost use Rattle.std.specs.Prelude.{◌≡◌, ◌<◌, [], ◌∷◌, length, IfOk};
 ghost use Rattle.grs_base.specs.declared.resource.SysId.{SysId as SysIdSpec};
 ghost use Rattle.grs_medium.specs.Medium.{MediumState, systems_of};

@@ -1,6 +1,6 @@
 -- The names that statements give to systems, one statement after the other.
-use Rattle.std.proofs.Common.{◌≡◌, ℕ, ◌≤◌, Bool, true, false, cond, not, leb, List, [], ◌∷◌, length, codes, Option, Some, None, refl, ap, subst, ◌∙◌}
-use Rattle.std.specs.Prelude.{◌||◌, filter_map, take_while}
+use Rattle.std.proofs.Common.{◌≡◌, ℕ, ◌≤◌, Bool, true, false, cond, not, leb, List, [], ◌∷◌, ◌++◌, length, codes, Option, Some, None, refl, sym, ap, subst, ◌∙◌, append_assoc, append-nil}
+use Rattle.std.specs.Prelude.{filter_map, take_while}
 use Rattle.std.specs.List.{cons_option}
 use Rattle.std.proofs.lemmas.Bool.{leb-true, le-leb}
 use Rattle.std.proofs.lemmas.List.Sums.{take_while-cons}
@@ -15,7 +15,7 @@ use Rattle.deck_scan.proofs.Taking.{bind_some, guard_some}
 use Rattle.deck_form.specs.declared.form.Stmt.TheVariants as stmts
 use Rattle.deck_form.specs.Spelled.{Spells}
 use Rattle.deck_form.specs.Statements.{is_schedule, statements}
-use Rattle.deck_form.specs.SystemNames.{name_given, system_names, names_in, is_named, is_this}
+use Rattle.deck_form.specs.SystemNames.{name_given, names_in, system_names}
 use Rattle.deck_form.specs.Words.{named_at}
 use Rattle.deck_form.proofs.Again.{named_again}
 use Rattle.deck_form.proofs.Taken.{named_taken, word_taken}
@@ -29,30 +29,18 @@ names_more l ls = ap (filter_map name_given) (take_while-cons (λ (x : TokenLine
     go false = refl
 
 -- behind SCHEDULE no name is given
-pub none_behind : (l : TokenLine) (ls : List TokenLine) (name : List ℕ) → is_schedule l.tokens ≡ true → is_named (system_names (l ∷ ls)) name ≡ false
-unfolding is_named
-none_behind l ls name h = ap (λ (ns : List (List ℕ)). is_named ns name) (names_more l ls) ∙ rw h refl
+pub none_behind : (l : TokenLine) (ls : List TokenLine) → is_schedule l.tokens ≡ true → system_names (l ∷ ls) ≡ []
+none_behind l ls h = names_more l ls ∙ rw h refl
 
-named_by : (names : List (List ℕ)) (o : Option (List ℕ)) (name : List ℕ) → is_named (cons_option o names) name ≡ (is_this name o || is_named names name)
-unfolding is_named
-named_by names None name = refl
-named_by names (Some n) name = refl
+-- before it each statement gives its name
+pub named_here : (l : TokenLine) (ls : List TokenLine) → is_schedule l.tokens ≡ false → system_names (l ∷ ls) ≡ cons_option (name_given l) (system_names ls)
+named_here l ls h = names_more l ls ∙ rw h refl
 
-before : (l : TokenLine) (ls : List TokenLine) (name : List ℕ) → is_schedule l.tokens ≡ false → is_named (system_names (l ∷ ls)) name ≡ (is_this name (name_given l) || is_named (system_names ls) name)
-before l ls name h = ap (λ (ns : List (List ℕ)). is_named ns name) (names_more l ls ∙ rw h refl) ∙ named_by (system_names ls) (name_given l) name
-
--- this statement gives the name
-pub named_here : (l : TokenLine) (ls : List TokenLine) (name : List ℕ) → is_schedule l.tokens ≡ false → is_this name (name_given l) ≡ true → is_named (system_names (l ∷ ls)) name ≡ true
-named_here l ls name h k = before l ls name h ∙ rw k refl
-
--- one behind it does, if any
-pub named_behind : (l : TokenLine) (ls : List TokenLine) (name : List ℕ) → is_schedule l.tokens ≡ false → is_this name (name_given l) ≡ false → is_named (system_names (l ∷ ls)) name ≡ is_named (system_names ls) name
-named_behind l ls name h k = before l ls name h ∙ rw k refl
+pub append-given : (names rest : List (List ℕ)) (o : Option (List ℕ)) → (names ++ cons_option o []) ++ rest ≡ names ++ cons_option o rest
+append-given names rest None = append_assoc names [] rest
+append-given names rest (Some n) = append_assoc names (n ∷ []) rest
 
 -- ---- the next statement
-
-abbrev pub has_name : List TokenLine → List ℕ → Bool
-has_name ls name = is_named (system_names ls) name
 
 pub one_next : (found : Option TokenLine) (l : TokenLine) (rest tail : List TokenLine) → found ≡ Some l → Next found rest tail → rest ≡ l ∷ tail
 one_next found l rest tail is h = subst (λ (f : Option TokenLine). Next f rest tail) is h
@@ -60,14 +48,17 @@ one_next found l rest tail is h = subst (λ (f : Option TokenLine). Next f rest 
 pub none_next : (found : Option TokenLine) (rest tail : List TokenLine) → found ≡ None → Next found rest tail → rest ≡ []
 none_next found rest tail is h = let k : Next None rest tail = subst (λ (f : Option TokenLine). Next f rest tail) is h in k.0
 
--- what is still to be looked through is as good as the text
-pub so_far : (text : List ℕ) (names : List (List ℕ)) (name : List ℕ) (lines all rest : List TokenLine) → names_in text ≡ names → lines ≡ lines_of (readable text) → all ≡ statements lines → has_name rest name ≡ has_name all name → has_name rest name ≡ is_named names name
-so_far text names name lines all rest view read made reads = reads ∙ ap (λ (ls : List TokenLine). has_name ls name) (made ∙ ap statements read) ∙ ap (λ (ns : List (List ℕ)). is_named ns name) view
-
 -- nothing is left
-pub none_left : (rest : List TokenLine) (name : List ℕ) → rest ≡ [] → has_name rest name ≡ false
-unfolding is_named system_names
-none_left rest name h = rw h refl
+pub none_left : (rest : List TokenLine) → rest ≡ [] → system_names rest ≡ []
+unfolding system_names
+none_left rest h = rw h refl
+
+-- the names so far and those of what is left go on to be those of the text
+pub names_goes : (names more : List (List ℕ)) (l : TokenLine) (rest tail : List TokenLine) → rest ≡ l ∷ tail → is_schedule l.tokens ≡ false → more ≡ names ++ cons_option (name_given l) [] → more ++ system_names tail ≡ names ++ system_names rest
+names_goes names more l rest tail next other given = ap (λ (ns : List (List ℕ)). ns ++ system_names tail) given ∙ append-given names (system_names tail) (name_given l) ∙ ap (λ (ns : List (List ℕ)). names ++ ns) (sym (ap system_names next ∙ named_here l tail other))
+
+pub names_ends : (text : List ℕ) (names none : List (List ℕ)) (lines all rest : List TokenLine) → lines ≡ lines_of (readable text) → none ≡ [] → all ≡ statements lines → names ++ system_names rest ≡ none ++ system_names all → system_names rest ≡ [] → names ≡ names_in text
+names_ends text names none lines all rest read empty made so left = sym (append-nil names) ∙ ap (λ (ns : List (List ℕ)). names ++ ns) (sym left) ∙ so ∙ ap (λ (ns : List (List ℕ)). ns ++ system_names all) empty ∙ ap system_names (made ∙ ap statements read)
 
 -- ---- names and the statements that give them
 

@@ -1,5 +1,5 @@
 -- The names that the SYSTEM statements of a deck give, wherever these stand.
-use Rattle.std.specs.Prelude.{ℕ, Bool, false, not, nat_le, List, length, codes, filter_map, take_while, Option, Some, None, if◌then◌else◌}
+use Rattle.std.specs.Prelude.{ℕ, Bool, not, nat_le, List, length, codes, filter_map, position, take_while, Option, Some, None, if◌then◌else◌}
 use Rattle.std.specs.List.{list_any}
 use Rattle.std.specs.Str.{bytes_eq}
 use Rattle.grs_base.specs.Limits.{most_name_bytes}
@@ -29,7 +29,6 @@ names_in text = system_names (statements (lines_of (readable text)))
 unfoldable pub is_named : List (List ℕ) → List ℕ → Bool
 is_named names name = list_any (bytes_eq name) names
 
--- What was given is this name.
-abbrev pub is_this : List ℕ → Option (List ℕ) → Bool
-is_this name None = false
-is_this name (Some n) = bytes_eq name n
+-- Where it stands there for the first time.
+unfoldable pub name_place : List (List ℕ) → List ℕ → Option ℕ
+name_place names name = position (bytes_eq name) names

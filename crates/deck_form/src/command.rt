@@ -12,7 +12,7 @@ use deck_scan::{
 pub enum GivenOrder<'t> {
     /// SETGRS MODE=STAR: the complex changes to star mode.
     Star,
-    /// VARY GRS(system),PURGE: this system is removed. This is read and not carried out.
+    /// VARY GRS(system),PURGE: this system is removed.
     Vary(GivenName<'t>),
 }
 

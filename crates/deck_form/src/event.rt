@@ -31,7 +31,7 @@ pub enum EventAct<'t> {
     Leave(u32),
     /// It changes the complex to star mode.
     Switch,
-    /// It removes this system. This is read and not carried out.
+    /// It removes this system.
     Purge(GivenName<'t>),
     /// It comes to rest.
     Rest,

@@ -1,12 +1,13 @@
 //! The names that the SYSTEM statements of a deck give. A command may name a system whose statement stands further on.
-ghost use Rattle.std.specs.Prelude.{◌≡◌, IfOk};
+ghost use Rattle.std.specs.List.{cons_option};
+ghost use Rattle.std.specs.Prelude.{◌≡◌, ◌++◌, [], IfOk, OnOk};
 ghost use Rattle.deck_scan.specs.Next.{Reads};
-ghost use Rattle.deck_form.specs.SystemNames.{name_given, names_in, is_named, is_this};
+ghost use Rattle.deck_form.specs.SystemNames.{name_given, names_in, name_place};
 
 use crate::grouping::{Statements, is_schedule};
 use crate::words::named_at;
 use deck_scan::{GivenName, Lines, Miss, TokenLine, word_at};
-use grs_base::{MOST_NAME_BYTES, NoMemory};
+use grs_base::{List, MOST_NAME_BYTES, NoMemory};
 use std::alloc::Global;
 use std::marker::Model;
 
@@ -27,30 +28,60 @@ fn name_given<'a, 't>(line: &'a TokenLine<'t>) -> Result<GivenName<'a>, Miss>
     }
 }
 
-/// Whether a statement gives this name to a system.
-fn gives(line: &TokenLine<'_>, name: &[u8]) -> bool
-    ensures { result ≡ is_this name.now (name_given line.now) }
+/// Adds the name that a statement gives to a system, if it gives one, in memory of its own.
+fn add_name(names: &mut List<List<u8>>, alloc: Global, line: &TokenLine<'_>) -> Result<(), NoMemory>
+    ensures { OnOk result (names.new ≡ names.old ++ cons_option (name_given line.now) []) }
 {
     match name_given(line) {
-        Err(Miss) => false,
-        Ok(given) => name == given.bytes(),
+        Err(Miss) => Ok(()),
+        Ok(name) => {
+            let name = List::from_bytes(alloc, name.bytes())?;
+            names.push(name)
+        }
     }
 }
 
-/// The names that the SYSTEM statements of a text give, which are looked for when they are asked for. Contracts see
-/// all of them, in the order of the text.
+/// The names that the SYSTEM statements of a text give.
+fn gather(alloc: Global, text: &[u8]) -> Result<List<List<u8>>, NoMemory>
+    ensures { IfOk result (λ names. names ≡ names_in text.now) }
+{
+    let mut names = List::new(alloc);
+    let mut rest = Statements::new(Lines::of_any(text));
+    while let Some(line) = rest.next(alloc)? {
+        if is_schedule(line.tokens.as_slice()) {
+            return Ok(names);
+        }
+        add_name(&mut names, alloc, &line)?;
+    }
+    Ok(names)
+}
+
+/// Where a name stands among others for the first time.
+#[tactic(auto, unfolding(crate::specs::SystemNames::name_place))]
+fn place_among(names: &[List<u8>], name: &[u8]) -> Option<usize>
+    ensures { result ≡ name_place names.now name.now }
+{
+    names.iter().position(|given| name == given.as_slice())
+}
+
+/// The names that the SYSTEM statements of a text give. Contracts see all of them, in the order of the text. The text is
+/// gone through when a name is looked for the first time, up to SCHEDULE; then the names are kept.
 #[derive(Drop)]
 pub struct SystemNames<'t> {
     text: &'t [u8],
+    names: Option<List<List<u8>>>,
 }
 
 impl<'t> Model for SystemNames<'t> {
-    ghost use Rattle.std.specs.Prelude.{List, ℕ};
+    ghost use Rattle.std.specs.Prelude.{◌≡◌, List, ℕ};
+    ghost use Rattle.std.specs.Option.{ForSome};
     ghost use Rattle.deck_form.specs.SystemNames.{names_in};
 
     ghost Value = { List (List ℕ) };
 
     ghost view = { λ a. names_in a.text.now };
+
+    ghost invariant = { λ a. ForSome a.names (λ names. names ≡ names_in a.text.now) };
 }
 
 impl<'t> SystemNames<'t> {
@@ -58,22 +89,20 @@ impl<'t> SystemNames<'t> {
     pub fn new(text: &'t [u8]) -> Self
         ensures { result ≡ names_in text.now }
     {
-        SystemNames { text }
+        SystemNames { text, names: None }
     }
 
-    /// Whether this name is among them. The text is read up to the statement that gives it, or else up to SCHEDULE.
-    pub fn has(&self, alloc: Global, name: &[u8]) -> Result<bool, NoMemory>
-        ensures { IfOk result (λ has. has ≡ is_named self.now name.now) }
+    /// Where this name stands among them for the first time.
+    pub fn place(&mut self, alloc: Global, name: &[u8]) -> Result<Option<usize>, NoMemory>
+        ensures place { IfOk result (λ place. place ≡ name_place self.old name.now) }
+        ensures same { self.new ≡ self.old }
     {
-        let mut rest = Statements::new(Lines::of_any(self.text));
-        while let Some(line) = rest.next(alloc)? {
-            if is_schedule(line.tokens.as_slice()) {
-                return Ok(false);
-            }
-            if gives(&line, name) {
-                return Ok(true);
-            }
+        if let Some(names) = &self.names {
+            return Ok(place_among(names.as_slice(), name));
         }
-        Ok(false)
+        let names = gather(alloc, self.text)?;
+        let place = place_among(names.as_slice(), name);
+        self.names = Some(names);
+        Ok(place)
     }
 }

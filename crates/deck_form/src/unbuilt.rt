@@ -1,10 +1,8 @@
-//! The forms that are read and not yet carried out: statements by their first word, and events.
+//! The forms that are read and not yet carried out: statements by their first word.
 ghost use Rattle.std.specs.Prelude.{◌≡◌};
 ghost use Rattle.deck_form.specs.UnbuiltWord.{is_unbuilt_word};
-ghost use Rattle.deck_form.specs.Unbuilt.{is_unbuilt_order, is_unbuilt_act, is_unbuilt};
+ghost use Rattle.deck_form.specs.Unbuilt.{is_unbuilt};
 
-use crate::command::GivenOrder;
-use crate::event::EventAct;
 use crate::form::Stmt;
 
 /// Whether a first word is GQSCAN, DISPLAY or D. Of their statements nothing more is read.
@@ -15,33 +13,7 @@ pub fn is_unbuilt_word(w: &[u8]) -> bool
     w == b"GQSCAN".as_slice() || w == b"DISPLAY".as_slice() || w == b"D".as_slice()
 }
 
-fn is_unbuilt_order(order: &GivenOrder<'_>) -> bool
-    ensures { result ≡ is_unbuilt_order order.now }
-{
-    match order {
-        GivenOrder::Star => false,
-        GivenOrder::Vary(_) => true,
-    }
-}
-
-fn is_unbuilt_act(act: &EventAct<'_>) -> bool
-    ensures { result ≡ is_unbuilt_act act.now }
-{
-    match act {
-        EventAct::Task { .. } => false,
-        EventAct::Turn => false,
-        EventAct::Send { .. } => false,
-        EventAct::Take => false,
-        EventAct::Settle => false,
-        EventAct::Tell(_) => false,
-        EventAct::Leave(_) => false,
-        EventAct::Switch => false,
-        EventAct::Purge(_) => true,
-        EventAct::Rest => false,
-    }
-}
-
-/// Whether a statement has a form that is not built: one of those words, the command VARY or the event PURGE.
+/// Whether a statement has a form that is not built: one of those words.
 pub fn is_unbuilt(st: &Stmt<'_>) -> bool
     ensures { result ≡ is_unbuilt st.now }
 {
@@ -53,8 +25,8 @@ pub fn is_unbuilt(st: &Stmt<'_>) -> bool
         Stmt::Job(_) => false,
         Stmt::Task(_) => false,
         Stmt::Line(_) => false,
-        Stmt::Command(command) => is_unbuilt_order(&command.order),
+        Stmt::Command(_) => false,
         Stmt::Schedule => false,
-        Stmt::Event { act, .. } => is_unbuilt_act(act),
+        Stmt::Event { .. } => false,
     }
 }

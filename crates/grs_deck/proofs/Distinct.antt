@@ -11,20 +11,19 @@ use Rattle.std.proofs.lemmas.List.Quantifiers.{all_pairs_push}
 use Rattle.std.proofs.lemmas.Slice.Eq.{bytes_eq-Decides}
 use Rattle.grs_base.specs.declared.line.Line.{Line}
 use Rattle.grs_wire.specs.declared.deck.Desk.{Desk}
+use Rattle.grs_wire.specs.declared.deck.Order.{Order}
 use Rattle.grs_wire.specs.declared.deck.TaskDef.{TaskDef}
 use Rattle.grs_wire.specs.declared.deck.JobDef.{JobDef}
 use Rattle.grs_wire.specs.declared.deck.SystemDef.{SystemDef}
 use Rattle.grs_wire.specs.declared.deck.Event.{Event}
 use Rattle.grs_wire.specs.declared.deck.Deck.{Deck}
 use Rattle.grs_wire.specs.Decks.{AreDistinct, IsNamedOnce, AreNamedOnce}
-use Rattle.deck_form.specs.declared.command.GivenOrder.{GivenOrder}
-use Rattle.deck_form.specs.declared.command.GivenOrder.TheVariants as orders
 use Rattle.deck_form.specs.declared.form.Stmt.{Stmt}
 use Rattle.deck_form.specs.declared.form.Stmt.TheVariants as stmts
 use Rattle.job_syntax.specs.Lines.{line_of}
 use Rattle.grs_deck.specs.declared.judge.Draft.{Draft}
-use Rattle.grs_deck.specs.Places.{at_last, jobs_now, tasks_now, system_place, job_place, task_place, event_of}
-use Rattle.grs_deck.specs.Grow.{on_last, add_command, add_order, add_job, add_task, add_line, in_jobs, in_tasks, with_event, grow}
+use Rattle.grs_deck.specs.Places.{at_last, jobs_now, tasks_now, system_place, job_place, task_place, place_ordered, event_of}
+use Rattle.grs_deck.specs.Grow.{on_last, add_command, add_order, add_job, add_task, add_line, in_jobs, in_tasks, order_by, with_event, grow}
 use Rattle.grs_deck.specs.Spells.{IsRight}
 
 -- ---- one name more
@@ -95,9 +94,9 @@ once_system name ss none h =
 once_command : (c : Desk) (ss : List SystemDef) → AreNamedOnce ss → AreNamedOnce (add_command c ss)
 once_command c ss h = record { names = same_names system_name _ ss (λ s. refl) h.names; each = all_last IsNamedOnce _ (λ s. s.jobs) ss (λ s e w. record { jobs = w.jobs; tasks = w.tasks }) h.each }
 
-once_order : (at : ℕ) (o : GivenOrder) (ss : List SystemDef) → AreNamedOnce ss → AreNamedOnce (add_order at o ss)
-once_order at orders.Star ss h = once_command _ ss h
-once_order at (orders.Vary n) ss h = h
+once_order : (at : ℕ) (o : Option Order) (ss : List SystemDef) → AreNamedOnce ss → AreNamedOnce (add_order at o ss)
+once_order at None ss h = h
+once_order at (Some o) ss h = once_command _ ss h
 
 once_job : (name : List ℕ) (ss : List SystemDef) → job_place (jobs_now ss) name ≡ None → AreNamedOnce ss → AreNamedOnce (add_job name ss)
 unfolding job_place
@@ -155,6 +154,6 @@ once_grow d (stmts.System n) right h = once_system n d.deck.systems right.0.new 
 once_grow d (stmts.Job n) right h = once_job n d.deck.systems right.0.new h
 once_grow d (stmts.Task n) right h = once_task n d.deck.systems right.0.new h
 once_grow d (stmts.Line s) right h = once_line (line_of s) d.deck.systems h
-once_grow d (stmts.Command c) right h = once_order c.at c.order d.deck.systems h
+once_grow d (stmts.Command c) right h = once_order c.at (order_by (place_ordered d.names c.order) c.order) d.deck.systems h
 once_grow d stmts.Schedule right h = h
 once_grow d (stmts.Event s a) right h = once_event (event_of d.deck.systems s a) d.deck h

@@ -14,6 +14,7 @@ use Rattle.grs_base.specs.declared.rnl.Lists.{Lists}
 use Rattle.grs_base.specs.declared.line.Line.{Line}
 use Rattle.grs_base.specs.NameLists.{IsListOf, AreLists}
 use Rattle.grs_wire.specs.declared.deck.Desk.{Desk}
+use Rattle.grs_wire.specs.declared.deck.Order.{Order}
 use Rattle.grs_wire.specs.declared.deck.TaskDef.{TaskDef}
 use Rattle.grs_wire.specs.declared.deck.JobDef.{JobDef}
 use Rattle.grs_wire.specs.declared.deck.SystemDef.{SystemDef}
@@ -21,16 +22,14 @@ use Rattle.grs_wire.specs.declared.deck.Event.{Event}
 use Rattle.grs_wire.specs.declared.deck.Deck.{Deck}
 use Rattle.grs_wire.specs.Decks.{task_count, IsWithin, Fits}
 use Rattle.deck_scan.specs.declared.token.TokenLine.{TokenLine}
-use Rattle.deck_form.specs.declared.command.GivenOrder.{GivenOrder}
-use Rattle.deck_form.specs.declared.command.GivenOrder.TheVariants as orders
 use Rattle.deck_form.specs.declared.form.Stmt.{Stmt}
 use Rattle.deck_form.specs.declared.form.Stmt.TheVariants as stmts
 use Rattle.deck_form.specs.Form.{form}
 use Rattle.deck_form.specs.Unbuilt.{is_unbuilt}
 use Rattle.grs_deck.specs.declared.judge.Draft.{Draft}
-use Rattle.grs_deck.specs.Places.{at_last, desk_now, jobs_now, event_of}
+use Rattle.grs_deck.specs.Places.{at_last, desk_now, jobs_now, place_ordered, event_of}
 use Rattle.grs_deck.specs.Judge.{has_bad_name, is_repeated, is_misplaced, is_list_full, is_full, is_unknown, verdict}
-use Rattle.grs_deck.specs.Grow.{on_last, add_command, add_order, add_job, add_task, add_line, in_jobs, in_tasks, add_entry, in_list, with_event, grow}
+use Rattle.grs_deck.specs.Grow.{on_last, add_command, add_order, add_job, add_task, add_line, in_jobs, in_tasks, order_by, add_entry, in_list, with_event, grow}
 use Rattle.grs_deck.specs.Reading.{unless, judge_form, judge}
 use Rattle.grs_deck.proofs.PlacesLaws.{all_head, all_tail}
 
@@ -120,9 +119,9 @@ fits_command ss c h lt = record { few = rw (length-on_last _ ss) h.few; each = e
         let long : length (desk_now ss) ≡ length s.desk = ap length e in
         record { desk = omega (arith, length-append s.desk (c ∷ []), long, lt); jobs = w.jobs; tasks = w.tasks }
 
-fits_order : (ss : List SystemDef) (at : ℕ) (o : GivenOrder) → Fits ss → suc (length (desk_now ss)) ≤ 64 → Fits (add_order at o ss)
-fits_order ss at orders.Star h lt = fits_command ss _ h lt
-fits_order ss at (orders.Vary n) h lt = h
+fits_order : (ss : List SystemDef) (at : ℕ) (o : Option Order) → Fits ss → suc (length (desk_now ss)) ≤ 64 → Fits (add_order at o ss)
+fits_order ss at None h lt = h
+fits_order ss at (Some o) h lt = fits_command ss _ h lt
 
 fits_job : (ss : List SystemDef) (name : List ℕ) → Fits ss → suc (length (jobs_now ss)) ≤ 64 → Fits (add_job name ss)
 fits_job ss name h lt = record { few = rw (length-on_last _ ss) h.few; each = each_all (add_job name ss) (each_last (λ s. s.jobs) _ ss (all_each ss h.each) one) }
@@ -159,7 +158,7 @@ fits_grow d (stmts.Job n) full h = fits_job d.deck.systems n h (below 64 (length
 fits_grow d (stmts.Task n) full h = fits_task d.deck.systems n h (below 64 (task_count (jobs_now d.deck.systems)) full)
 fits_grow d (stmts.Rnldef r) full h = h
 fits_grow d (stmts.Line s) full h = fits_line d.deck.systems _ h
-fits_grow d (stmts.Command c) full h = fits_order d.deck.systems c.at c.order h (below 64 (length (desk_now d.deck.systems)) full)
+fits_grow d (stmts.Command c) full h = fits_order d.deck.systems c.at (order_by (place_ordered d.names c.order) c.order) h (below 64 (length (desk_now d.deck.systems)) full)
 fits_grow d stmts.Schedule full h = h
 fits_grow d (stmts.Event s a) full h = subst Fits (sym (event_systems (event_of d.deck.systems s a) d.deck)) h
 

@@ -17,6 +17,7 @@ use Rattle.grs_base.specs.Limits.{most_lines}
 use Rattle.grs_base.specs.ShortNames.{IsShortName}
 use Rattle.grs_base.specs.NameLists.{IsEntry, AreEntries}
 use Rattle.grs_wire.specs.declared.deck.Desk.{Desk}
+use Rattle.grs_wire.specs.declared.deck.Order.{Order}
 use Rattle.grs_wire.specs.declared.deck.TaskDef.{TaskDef}
 use Rattle.grs_wire.specs.declared.deck.JobDef.{JobDef}
 use Rattle.grs_wire.specs.declared.deck.SystemDef.{SystemDef}
@@ -35,15 +36,13 @@ use Rattle.job_syntax.specs.Spelled.{IsResAsk, IsLineAsk}
 use Rattle.rnl_syntax.specs.declared.operands.Rnldef.{Rnldef}
 use Rattle.rnl_syntax.specs.Operands.{entry_of, has_bad_name as rnldef_has_bad_name}
 use Rattle.rnl_syntax.specs.Spelled.{IsRnldef}
-use Rattle.deck_form.specs.declared.command.GivenOrder.{GivenOrder}
-use Rattle.deck_form.specs.declared.command.GivenOrder.TheVariants as orders
 use Rattle.deck_form.specs.declared.form.Stmt.{Stmt}
 use Rattle.deck_form.specs.declared.form.Stmt.TheVariants as stmts
 use Rattle.deck_form.specs.Spelled.{IsFirst, Spells}
 use Rattle.deck_form.specs.UnbuiltWord.{is_unbuilt_word}
 use Rattle.grs_deck.specs.declared.judge.Draft.{Draft}
-use Rattle.grs_deck.specs.Places.{at_last, jobs_now, tasks_now, event_of}
-use Rattle.grs_deck.specs.Grow.{on_last, add_command, add_order, add_job, add_task, add_line, in_jobs, in_tasks, with_event, in_list, grow}
+use Rattle.grs_deck.specs.Places.{at_last, jobs_now, tasks_now, place_ordered, event_of}
+use Rattle.grs_deck.specs.Grow.{on_last, add_command, add_order, add_job, add_task, add_line, in_jobs, in_tasks, order_by, with_event, in_list, grow}
 use Rattle.grs_deck.specs.Reading.{no_draft}
 use Rattle.grs_deck.specs.Spells.{IsRight}
 use Rattle.grs_deck.proofs.SpellsLaws.{no_test}
@@ -102,9 +101,9 @@ lines_task name ss = flat_same system_lines _ ss (λ s. flat_same job_lines _ s.
 lines_command : (c : Desk) (ss : List SystemDef) → all_lines (add_command c ss) ≡ all_lines ss
 lines_command c ss = flat_same system_lines _ ss (λ s. refl)
 
-lines_order : (at : ℕ) (o : GivenOrder) (ss : List SystemDef) → all_lines (add_order at o ss) ≡ all_lines ss
-lines_order at orders.Star ss = lines_command _ ss
-lines_order at (orders.Vary n) ss = refl
+lines_order : (at : ℕ) (o : Option Order) (ss : List SystemDef) → all_lines (add_order at o ss) ≡ all_lines ss
+lines_order at None ss = refl
+lines_order at (Some o) ss = lines_command _ ss
 
 lines_job : (name : List ℕ) (ss : List SystemDef) → all_lines (add_job name ss) ≡ all_lines ss
 lines_job name ss = flat_same system_lines _ ss of_system
@@ -129,9 +128,9 @@ system_names s = s.name ∷ flat_map job_names s.jobs
 names_system : (name : List ℕ) (ss : List SystemDef) → all_names (ss ++ record { name = name; desk = []; jobs = [] } ∷ []) ≡ all_names ss ++ name ∷ []
 names_system name ss = flat_map-append system_names ss (record { name = name; desk = []; jobs = [] } ∷ [])
 
-names_order : (at : ℕ) (o : GivenOrder) (ss : List SystemDef) → all_names (add_order at o ss) ≡ all_names ss
-names_order at orders.Star ss = flat_same system_names _ ss (λ s. refl)
-names_order at (orders.Vary n) ss = refl
+names_order : (at : ℕ) (o : Option Order) (ss : List SystemDef) → all_names (add_order at o ss) ≡ all_names ss
+names_order at None ss = refl
+names_order at (Some o) ss = flat_same system_names _ ss (λ s. refl)
 
 names_job : (name : List ℕ) (ss : List SystemDef) → 0 < length ss → all_names (add_job name ss) ≡ all_names ss ++ name ∷ []
 names_job name ss lt = flat_last system_names _ (λ s. s.jobs) ss (name ∷ []) of_system lt
@@ -296,8 +295,8 @@ first_keeps d ts (stmts.Task n) all s right h =
 first_keeps d ts (stmts.Line x) all s right h =
     line_more d (line_of x) h right.0.placed right.0.room (line_built ts x all s (no_test d (stmts.Line x) right).long) (grow d (stmts.Line x)) refl refl refl
 first_keeps d ts (stmts.Command c) all s right h =
-    let same = names_order c.at c.order d.deck.systems in
-    no_line d (grow d (stmts.Command c)) h (lines_order c.at c.order d.deck.systems) (room_same d.room) (subst (All IsShortName) (sym same) h.names) h.entries
+    let same = names_order c.at (order_by (place_ordered d.names c.order) c.order) d.deck.systems in
+    no_line d (grow d (stmts.Command c)) h (lines_order c.at (order_by (place_ordered d.names c.order) c.order) d.deck.systems) (room_same d.room) (subst (All IsShortName) (sym same) h.names) h.entries
 first_keeps d ts stmts.Schedule all s right h = no_line d (grow d stmts.Schedule) h refl (room_same d.room) h.names h.entries
 first_keeps d ts (stmts.Event n a) all s right h = absurd s
 

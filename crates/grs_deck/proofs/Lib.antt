@@ -10,5 +10,6 @@ pub mod NameBytes
 pub mod Distinct
 pub mod Growth
 pub mod Opening
+pub mod Orders
 pub mod WholeLaws
 pub mod Samples

@@ -29,7 +29,7 @@ use Rattle.job_syntax.specs.Ask.{ctl_at, scope_at, names_at, place_at, controlle
 use Rattle.job_syntax.specs.LineAsk.{line_word, line_ask_at}
 use Rattle.rnl_syntax.specs.Operands.{which_of, form_of, value_of, operand_at as rnl_operand_at, whole as whole_rnl, rnldef_at}
 use Rattle.deck_form.specs.Statements.{statements_from, statements}
-use Rattle.deck_form.specs.SystemNames.{name_given, system_names, is_named}
+use Rattle.deck_form.specs.SystemNames.{name_given, system_names, name_place}
 use Rattle.deck_form.specs.Words.{short_at, dotted_at, digits, written_number, named_at}
 use Rattle.deck_form.specs.Complex.{mode_of, entries_of, limit_of, with_operand, operand_at, complex_at}
 use Rattle.deck_form.specs.Command.{setgrs_at, vary_at, order_at, command_at}
@@ -66,7 +66,7 @@ bytes :
     × FaultOf (text (codes "JOB J1 /* open" ∷ [])) (at 1 OutOfPlace)
     × FaultOf (text (codes "SYSTEM SYA /* a" ∷ codes "b */ FOO" ∷ [])) (at 2 UnknownStatement)
     × FaultOf (text (codes "/* only */" ∷ [])) (at 0 NoSystem)
-unfolding is_word is_hex digit is_allowed bad_line put put_word put_open end_line break_off begin_word begin step_in step scan_from finish_in lines_of lines_or_fault is_name_byte all_name is_name short_at dotted_at digits written_number unit_of ret_of rnl_of chosen option_at options_at ctl_at scope_at names_at place_at controlled_at uncontrolled_at enq_at reserve_at deq_at wait_at line_ask_at line_word which_of form_of value_of rnl_operand_at whole_rnl rnldef_at mode_of entries_of limit_of with_operand operand_at complex_at event_word pair_at entry_at act_at event_at setgrs_at vary_at order_at command_at is_unbuilt_word named_at key plain_form first_form event_form form statements_from statements name_given system_names is_named system_place job_place task_place judge judge_all reading fault
+unfolding is_word is_hex digit is_allowed bad_line put put_word put_open end_line break_off begin_word begin step_in step scan_from finish_in lines_of lines_or_fault is_name_byte all_name is_name short_at dotted_at digits written_number unit_of ret_of rnl_of chosen option_at options_at ctl_at scope_at names_at place_at controlled_at uncontrolled_at enq_at reserve_at deq_at wait_at line_ask_at line_word which_of form_of value_of rnl_operand_at whole_rnl rnldef_at mode_of entries_of limit_of with_operand operand_at complex_at event_word pair_at entry_at act_at event_at setgrs_at vary_at order_at command_at is_unbuilt_word named_at key plain_form first_form event_form form statements_from statements name_given system_names name_place system_place job_place task_place judge judge_all reading fault
 bytes = (refl, refl, refl, refl, refl, refl, refl, refl)
 
 -- words and forms before SCHEDULE: no word; a joined word; a quoted word; a digit first; a long name; the limit 0; COMPLEX not first; a number of entries that may not be; twice an operand; the operands; SCHEDULE first; a name twice; a line without a task; a task's line behind another JOB
@@ -85,7 +85,7 @@ words_and_forms :
     × FaultOf (text (codes "SYSTEM SYA" ∷ codes "SYSTEM SYA" ∷ [])) (at 2 Repeated)
     × FaultOf (text (codes "SYSTEM SYA" ∷ codes "JOB J1" ∷ codes "ENQ (A,B,E,SYSTEM)" ∷ [])) (at 3 OutOfPlace)
     × FaultOf (in_task (codes "JOB J2" ∷ codes "ENQ (A,B,E,SYSTEM)" ∷ [])) (at 5 OutOfPlace)
-unfolding is_word is_hex digit is_allowed bad_line put put_word put_open end_line break_off begin_word begin step_in step scan_from finish_in lines_of lines_or_fault is_name_byte all_name is_name short_at dotted_at digits written_number unit_of ret_of rnl_of chosen option_at options_at ctl_at scope_at names_at place_at controlled_at uncontrolled_at enq_at reserve_at deq_at wait_at line_ask_at line_word which_of form_of value_of rnl_operand_at whole_rnl rnldef_at mode_of entries_of limit_of with_operand operand_at complex_at event_word pair_at entry_at act_at event_at setgrs_at vary_at order_at command_at is_unbuilt_word named_at key plain_form first_form event_form form statements_from statements name_given system_names is_named system_place job_place task_place judge judge_all reading fault
+unfolding is_word is_hex digit is_allowed bad_line put put_word put_open end_line break_off begin_word begin step_in step scan_from finish_in lines_of lines_or_fault is_name_byte all_name is_name short_at dotted_at digits written_number unit_of ret_of rnl_of chosen option_at options_at ctl_at scope_at names_at place_at controlled_at uncontrolled_at enq_at reserve_at deq_at wait_at line_ask_at line_word which_of form_of value_of rnl_operand_at whole_rnl rnldef_at mode_of entries_of limit_of with_operand operand_at complex_at event_word pair_at entry_at act_at event_at setgrs_at vary_at order_at command_at is_unbuilt_word named_at key plain_form first_form event_form form statements_from statements name_given system_names name_place system_place job_place task_place judge judge_all reading fault
 words_and_forms = (refl, refl, refl, refl, refl, refl, refl, refl, refl, refl, refl, refl, refl, refl)
 
 -- task lines: an empty qname; a blank one; nine bytes of which eight are blanks; RET and ECB; RET twice; each option of DEQ; a unit of five digits; RET=USE of DEQ; UCB of ENQ; RET of WAIT; a quote that is not closed; an odd hexadecimal digit; a scope that is none
@@ -103,7 +103,7 @@ task_lines :
     × FaultOf (in_task (codes "ENQ ('A,B,E,SYSTEM)" ∷ [])) (at 4 BadOperand)
     × FaultOf (in_task (codes "ENQ (X'123',B,E,SYSTEM)" ∷ [])) (at 4 BadOperand)
     × FaultOf (in_task (codes "ENQ (A,B,E,GLOBAL)" ∷ [])) (at 4 BadOperand)
-unfolding is_word is_hex digit is_allowed bad_line put put_word put_open end_line break_off begin_word begin step_in step scan_from finish_in lines_of lines_or_fault is_name_byte all_name is_name short_at dotted_at digits written_number unit_of ret_of rnl_of chosen option_at options_at ctl_at scope_at names_at place_at controlled_at uncontrolled_at enq_at reserve_at deq_at wait_at line_ask_at line_word which_of form_of value_of rnl_operand_at whole_rnl rnldef_at mode_of entries_of limit_of with_operand operand_at complex_at event_word pair_at entry_at act_at event_at setgrs_at vary_at order_at command_at is_unbuilt_word named_at key plain_form first_form event_form form statements_from statements name_given system_names is_named system_place job_place task_place judge judge_all reading fault
+unfolding is_word is_hex digit is_allowed bad_line put put_word put_open end_line break_off begin_word begin step_in step scan_from finish_in lines_of lines_or_fault is_name_byte all_name is_name short_at dotted_at digits written_number unit_of ret_of rnl_of chosen option_at options_at ctl_at scope_at names_at place_at controlled_at uncontrolled_at enq_at reserve_at deq_at wait_at line_ask_at line_word which_of form_of value_of rnl_operand_at whole_rnl rnldef_at mode_of entries_of limit_of with_operand operand_at complex_at event_word pair_at entry_at act_at event_at setgrs_at vary_at order_at command_at is_unbuilt_word named_at key plain_form first_form event_form form statements_from statements name_given system_names name_place system_place job_place task_place judge judge_all reading fault
 task_lines = (refl, refl, refl, refl, refl, refl, refl, refl, refl, refl, refl, refl, refl)
 
 -- RESERVE: UCB among its options; without UCB; another scope; RNL twice
@@ -112,7 +112,7 @@ reserves :
     × FaultOf (in_task (codes "RESERVE (A,B,S,SYSTEMS),ECB" ∷ [])) (at 4 BadOperand)
     × FaultOf (in_task (codes "RESERVE (A,B,S,SYSTEM),UCB=1A0B" ∷ [])) (at 4 BadOperand)
     × FaultOf (in_task (codes "RESERVE (A,B,S,SYSTEMS),UCB=1A0B,RNL=NO,RNL=NO" ∷ [])) (at 4 BadOperand)
-unfolding is_word is_hex digit is_allowed bad_line put put_word put_open end_line break_off begin_word begin step_in step scan_from finish_in lines_of lines_or_fault is_name_byte all_name is_name short_at dotted_at digits written_number unit_of ret_of rnl_of chosen option_at options_at ctl_at scope_at names_at place_at controlled_at uncontrolled_at enq_at reserve_at deq_at wait_at line_ask_at line_word which_of form_of value_of rnl_operand_at whole_rnl rnldef_at mode_of entries_of limit_of with_operand operand_at complex_at event_word pair_at entry_at act_at event_at setgrs_at vary_at order_at command_at is_unbuilt_word named_at key plain_form first_form event_form form statements_from statements name_given system_names is_named system_place job_place task_place judge judge_all reading fault
+unfolding is_word is_hex digit is_allowed bad_line put put_word put_open end_line break_off begin_word begin step_in step scan_from finish_in lines_of lines_or_fault is_name_byte all_name is_name short_at dotted_at digits written_number unit_of ret_of rnl_of chosen option_at options_at ctl_at scope_at names_at place_at controlled_at uncontrolled_at enq_at reserve_at deq_at wait_at line_ask_at line_word which_of form_of value_of rnl_operand_at whole_rnl rnldef_at mode_of entries_of limit_of with_operand operand_at complex_at event_word pair_at entry_at act_at event_at setgrs_at vary_at order_at command_at is_unbuilt_word named_at key plain_form first_form event_form form statements_from statements name_given system_names name_place system_place job_place task_place judge judge_all reading fault
 reserves = (refl, refl, refl, refl)
 
 -- RNLDEF: broken off; over lines, with a line end in a comment and between any tokens; an operand twice, on a further line; no RNAME; a name too long; behind a system; before COMPLEX; something behind its last operand; a fault behind it, on the line where it stands; a system called RNLDEF
@@ -127,7 +127,7 @@ name_lists :
     × FaultOf (text (codes "RNLDEF RNL(CON) TYPE(PATTERN) QNAME(A) SYSTEM SYA" ∷ [])) (at 1 BadOperand)
     × FaultOf (text (codes "RNLDEF RNL(CON) TYPE(PATTERN)" ∷ codes "QNAME(A)" ∷ codes "FOO" ∷ [])) (at 3 UnknownStatement)
     × FaultOf (text (codes "SYSTEM RNLDEF" ∷ codes "JOB J1" ∷ codes "TASK T1" ∷ codes "SCHEDULE" ∷ codes "RNLDEF TASK J1.T1" ∷ codes "RNLDEF TASK J1.T2" ∷ [])) (at 6 UnknownName)
-unfolding is_word is_hex digit is_allowed bad_line put put_word put_open end_line break_off begin_word begin step_in step scan_from finish_in lines_of lines_or_fault is_name_byte all_name is_name short_at dotted_at digits written_number unit_of ret_of rnl_of chosen option_at options_at ctl_at scope_at names_at place_at controlled_at uncontrolled_at enq_at reserve_at deq_at wait_at line_ask_at line_word which_of form_of value_of rnl_operand_at whole_rnl rnldef_at mode_of entries_of limit_of with_operand operand_at complex_at event_word pair_at entry_at act_at event_at setgrs_at vary_at order_at command_at is_unbuilt_word named_at key plain_form first_form event_form form statements_from statements name_given system_names is_named system_place job_place task_place judge judge_all reading fault
+unfolding is_word is_hex digit is_allowed bad_line put put_word put_open end_line break_off begin_word begin step_in step scan_from finish_in lines_of lines_or_fault is_name_byte all_name is_name short_at dotted_at digits written_number unit_of ret_of rnl_of chosen option_at options_at ctl_at scope_at names_at place_at controlled_at uncontrolled_at enq_at reserve_at deq_at wait_at line_ask_at line_word which_of form_of value_of rnl_operand_at whole_rnl rnldef_at mode_of entries_of limit_of with_operand operand_at complex_at event_word pair_at entry_at act_at event_at setgrs_at vary_at order_at command_at is_unbuilt_word named_at key plain_form first_form event_form form statements_from statements name_given system_names name_place system_place job_place task_place judge judge_all reading fault
 name_lists = (refl, refl, refl, refl, refl, refl, refl, refl, refl, refl)
 
 -- what is not built: words; and what is wrong comes first. MODE(STAR) is
@@ -139,7 +139,7 @@ unbuilt :
     × FaultOf (in_task (codes "ENQ (A,B,E,SYSTEMS)" ∷ [])) None
     × FaultOf (in_task (codes "ENQ (A,B,E,SYSTEM),RNL=YES" ∷ [])) None
     × FaultOf (in_task (codes "ENQ ('',B,E,SYSTEMS)" ∷ [])) (at 4 NameLength)
-unfolding is_word is_hex digit is_allowed bad_line put put_word put_open end_line break_off begin_word begin step_in step scan_from finish_in lines_of lines_or_fault is_name_byte all_name is_name short_at dotted_at digits written_number unit_of ret_of rnl_of chosen option_at options_at ctl_at scope_at names_at place_at controlled_at uncontrolled_at enq_at reserve_at deq_at wait_at line_ask_at line_word which_of form_of value_of rnl_operand_at whole_rnl rnldef_at mode_of entries_of limit_of with_operand operand_at complex_at event_word pair_at entry_at act_at event_at setgrs_at vary_at order_at command_at is_unbuilt_word named_at key plain_form first_form event_form form statements_from statements name_given system_names is_named system_place job_place task_place judge judge_all reading fault
+unfolding is_word is_hex digit is_allowed bad_line put put_word put_open end_line break_off begin_word begin step_in step scan_from finish_in lines_of lines_or_fault is_name_byte all_name is_name short_at dotted_at digits written_number unit_of ret_of rnl_of chosen option_at options_at ctl_at scope_at names_at place_at controlled_at uncontrolled_at enq_at reserve_at deq_at wait_at line_ask_at line_word which_of form_of value_of rnl_operand_at whole_rnl rnldef_at mode_of entries_of limit_of with_operand operand_at complex_at event_word pair_at entry_at act_at event_at setgrs_at vary_at order_at command_at is_unbuilt_word named_at key plain_form first_form event_form form statements_from statements name_given system_names name_place system_place job_place task_place judge judge_all reading fault
 unbuilt = (refl, refl, refl, refl, refl, refl, refl)
 
 -- commands: the change to star mode, at the last place where it may stand; its number with zeros in front; ten digits; no number; a number that another word ends; another mode; a word too many; the word alone; joined; before a system; behind a job
@@ -155,13 +155,13 @@ commands :
     × FaultOf (text (codes "SYSTEM SYA" ∷ codes "AT,5 SETGRS MODE=STAR" ∷ [])) (at 2 UnknownStatement)
     × FaultOf (text (codes "AT 5 SETGRS MODE=STAR" ∷ codes "SYSTEM SYA" ∷ [])) (at 1 OutOfPlace)
     × FaultOf (text (codes "SYSTEM SYA" ∷ codes "JOB J1" ∷ codes "AT 5 SETGRS MODE=STAR" ∷ [])) (at 3 OutOfPlace)
-unfolding is_word is_hex digit is_allowed bad_line put put_word put_open end_line break_off begin_word begin step_in step scan_from finish_in lines_of lines_or_fault is_name_byte all_name is_name short_at dotted_at digits written_number unit_of ret_of rnl_of chosen option_at options_at ctl_at scope_at names_at place_at controlled_at uncontrolled_at enq_at reserve_at deq_at wait_at line_ask_at line_word which_of form_of value_of rnl_operand_at whole_rnl rnldef_at mode_of entries_of limit_of with_operand operand_at complex_at event_word pair_at entry_at act_at event_at setgrs_at vary_at order_at command_at is_unbuilt_word named_at key plain_form first_form event_form form statements_from statements name_given system_names is_named system_place job_place task_place judge judge_all reading fault
+unfolding is_word is_hex digit is_allowed bad_line put put_word put_open end_line break_off begin_word begin step_in step scan_from finish_in lines_of lines_or_fault is_name_byte all_name is_name short_at dotted_at digits written_number unit_of ret_of rnl_of chosen option_at options_at ctl_at scope_at names_at place_at controlled_at uncontrolled_at enq_at reserve_at deq_at wait_at line_ask_at line_word which_of form_of value_of rnl_operand_at whole_rnl rnldef_at mode_of entries_of limit_of with_operand operand_at complex_at event_word pair_at entry_at act_at event_at setgrs_at vary_at order_at command_at is_unbuilt_word named_at key plain_form first_form event_form form statements_from statements name_given system_names name_place system_place job_place task_place judge judge_all reading fault
 commands = (refl, refl, refl, refl, refl, refl, refl, refl, refl, refl, refl)
 
--- removals, which are not built: of a system further on; of one whose statement is wrong for another reason; of itself; of none; of one whose statement has another form, or a name too long, or stands behind SCHEDULE; a name too long; another word; behind a job
+-- removals: of a system further on; of one whose statement is wrong for another reason, behind another fault; of itself; of none; of one whose statement has another form, or a name too long, or stands behind SCHEDULE; a name too long; another word; behind a job
 removals :
-    FaultOf (text (codes "SYSTEM SYA" ∷ codes "AT 0 VARY GRS(SYB),PURGE" ∷ codes "JOB J1" ∷ codes "SYSTEM SYB" ∷ [])) (at 2 NotBuilt)
-    × FaultOf (text (codes "SYSTEM SYA" ∷ codes "AT 0 VARY GRS ( SYB ) , PURGE" ∷ codes "FOO" ∷ codes "SYSTEM SYB" ∷ codes "SYSTEM SYB" ∷ [])) (at 2 NotBuilt)
+    FaultOf (text (codes "SYSTEM SYA" ∷ codes "AT 0 VARY GRS(SYB),PURGE" ∷ codes "JOB J1" ∷ codes "SYSTEM SYB" ∷ [])) None
+    × FaultOf (text (codes "SYSTEM SYA" ∷ codes "AT 0 VARY GRS ( SYB ) , PURGE" ∷ codes "FOO" ∷ codes "SYSTEM SYB" ∷ codes "SYSTEM SYB" ∷ [])) (at 3 UnknownStatement)
     × FaultOf (text (codes "SYSTEM SYA" ∷ codes "AT 0 VARY GRS(SYA),PURGE" ∷ [])) (at 2 UnknownName)
     × FaultOf (text (codes "SYSTEM SYB" ∷ codes "SYSTEM SYA" ∷ codes "AT 0 VARY GRS(SYC),PURGE" ∷ [])) (at 3 UnknownName)
     × FaultOf (text (codes "SYSTEM SYA" ∷ codes "AT 0 VARY GRS(SYB),PURGE" ∷ codes "SYSTEM SYB X" ∷ [])) (at 2 UnknownName)
@@ -169,10 +169,10 @@ removals :
     × FaultOf (text (codes "SYSTEM SYA" ∷ codes "AT 0 VARY GRS(ABCDEFGHI),PURGE" ∷ codes "SYSTEM ABCDEFGHI" ∷ [])) (at 2 NameLength)
     × FaultOf (text (codes "SYSTEM SYA" ∷ codes "AT 0 VARY GRS(SYB),QUIESCE" ∷ codes "SYSTEM SYB" ∷ [])) (at 2 BadOperand)
     × FaultOf (text (codes "SYSTEM SYA" ∷ codes "JOB J1" ∷ codes "AT 0 VARY GRS(SYC),PURGE" ∷ codes "SYSTEM SYB" ∷ [])) (at 3 OutOfPlace)
-unfolding is_word is_hex digit is_allowed bad_line put put_word put_open end_line break_off begin_word begin step_in step scan_from finish_in lines_of lines_or_fault is_name_byte all_name is_name short_at dotted_at digits written_number unit_of ret_of rnl_of chosen option_at options_at ctl_at scope_at names_at place_at controlled_at uncontrolled_at enq_at reserve_at deq_at wait_at line_ask_at line_word which_of form_of value_of rnl_operand_at whole_rnl rnldef_at mode_of entries_of limit_of with_operand operand_at complex_at event_word pair_at entry_at act_at event_at setgrs_at vary_at order_at command_at is_unbuilt_word named_at key plain_form first_form event_form form statements_from statements name_given system_names is_named system_place job_place task_place judge judge_all reading fault
+unfolding is_word is_hex digit is_allowed bad_line put put_word put_open end_line break_off begin_word begin step_in step scan_from finish_in lines_of lines_or_fault is_name_byte all_name is_name short_at dotted_at digits written_number unit_of ret_of rnl_of chosen option_at options_at ctl_at scope_at names_at place_at controlled_at uncontrolled_at enq_at reserve_at deq_at wait_at line_ask_at line_word which_of form_of value_of rnl_operand_at whole_rnl rnldef_at mode_of entries_of limit_of with_operand operand_at complex_at event_word pair_at entry_at act_at event_at setgrs_at vary_at order_at command_at is_unbuilt_word named_at key plain_form first_form event_form form statements_from statements name_given system_names name_place system_place job_place task_place judge judge_all reading fault
 removals = (refl, refl, refl, refl, refl, refl, refl, refl, refl)
 
--- event lines: SCHEDULE again; no system; no task; no form; an entry out of range; one in range; a system that is itself; SCHEDULE behind a turn; a switch behind a rest; a removal, which is not built; no task to send; a word too many
+-- event lines: SCHEDULE again; no system; no task; no form; an entry out of range; one in range; a system that is itself; SCHEDULE behind a turn; a switch behind a rest; a removal of another; no task to send; a word too many
 events :
     FaultOf (text (codes "SYSTEM SYA" ∷ codes "SCHEDULE" ∷ codes "SCHEDULE" ∷ [])) (at 3 BadOperand)
     × FaultOf (text (codes "SYSTEM SYA" ∷ codes "SCHEDULE" ∷ codes "SYB TURN" ∷ [])) (at 3 UnknownName)
@@ -183,11 +183,27 @@ events :
     × FaultOf (text (codes "SYSTEM SYA" ∷ codes "SCHEDULE" ∷ codes "SYA PURGE SYA" ∷ [])) (at 3 UnknownName)
     × FaultOf (text (codes "SYSTEM SYA" ∷ codes "SCHEDULE" ∷ codes "SYA TURN" ∷ codes "SCHEDULE" ∷ [])) (at 4 BadOperand)
     × FaultOf (text (codes "SYSTEM SYA" ∷ codes "SCHEDULE" ∷ codes "SYA REST" ∷ codes "SYA SWITCH" ∷ [])) None
-    × FaultOf (text (codes "SYSTEM SYA" ∷ codes "SYSTEM SYB" ∷ codes "SCHEDULE" ∷ codes "SYA PURGE SYB" ∷ [])) (at 4 NotBuilt)
+    × FaultOf (text (codes "SYSTEM SYA" ∷ codes "SYSTEM SYB" ∷ codes "SCHEDULE" ∷ codes "SYA PURGE SYB" ∷ [])) None
     × FaultOf (in_task (codes "SCHEDULE" ∷ codes "SYA SEND J1.T2" ∷ [])) (at 5 UnknownName)
     × FaultOf (in_task (codes "SCHEDULE" ∷ codes "SYA TAKE 1" ∷ [])) (at 5 BadOperand)
-unfolding is_word is_hex digit is_allowed bad_line put put_word put_open end_line break_off begin_word begin step_in step scan_from finish_in lines_of lines_or_fault is_name_byte all_name is_name short_at dotted_at digits written_number unit_of ret_of rnl_of chosen option_at options_at ctl_at scope_at names_at place_at controlled_at uncontrolled_at enq_at reserve_at deq_at wait_at line_ask_at line_word which_of form_of value_of rnl_operand_at whole_rnl rnldef_at mode_of entries_of limit_of with_operand operand_at complex_at event_word pair_at entry_at act_at event_at setgrs_at vary_at order_at command_at is_unbuilt_word named_at key plain_form first_form event_form form statements_from statements name_given system_names is_named system_place job_place task_place judge judge_all reading fault
+unfolding is_word is_hex digit is_allowed bad_line put put_word put_open end_line break_off begin_word begin step_in step scan_from finish_in lines_of lines_or_fault is_name_byte all_name is_name short_at dotted_at digits written_number unit_of ret_of rnl_of chosen option_at options_at ctl_at scope_at names_at place_at controlled_at uncontrolled_at enq_at reserve_at deq_at wait_at line_ask_at line_word which_of form_of value_of rnl_operand_at whole_rnl rnldef_at mode_of entries_of limit_of with_operand operand_at complex_at event_word pair_at entry_at act_at event_at setgrs_at vary_at order_at command_at is_unbuilt_word named_at key plain_form first_form event_form form statements_from statements name_given system_names name_place system_place job_place task_place judge judge_all reading fault
 events = (refl, refl, refl, refl, refl, refl, refl, refl, refl, refl, refl, refl)
+
+-- a removal is of the system that the name is given to, by its number among all: of one further on, and of one before
+abbrev removing : List ℕ
+removing = text (codes "SYSTEM SYA" ∷ codes "AT 3 VARY GRS(SYC),PURGE" ∷ codes "SYSTEM SYB" ∷ codes "SYSTEM SYC" ∷ codes "AT 0 VARY GRS(SYB),PURGE" ∷ codes "SCHEDULE" ∷ codes "SYC PURGE SYB" ∷ [])
+
+abbrev removed : Deck
+removed = record no_deck {
+  systems = record { name = codes "SYA"; desk = record { at = 3; order = Vary (record { 0 = 2 }) } ∷ []; jobs = [] }
+      ∷ record { name = codes "SYB"; desk = []; jobs = [] }
+      ∷ record { name = codes "SYC"; desk = record { at = 0; order = Vary (record { 0 = 1 }) } ∷ []; jobs = [] } ∷ [];
+  events = record { system = record { 0 = 2 }; choice = choices.Purge (record { 0 = 1 }) } ∷ [];
+}
+
+removes : reading removing ≡ Ok removed
+unfolding is_word is_hex digit is_allowed bad_line put put_word put_open end_line break_off begin_word begin step_in step scan_from finish_in lines_of lines_or_fault is_name_byte all_name is_name short_at dotted_at digits written_number unit_of ret_of rnl_of chosen option_at options_at ctl_at scope_at names_at place_at controlled_at uncontrolled_at enq_at reserve_at deq_at wait_at line_ask_at line_word which_of form_of value_of rnl_operand_at whole_rnl rnldef_at mode_of entries_of limit_of with_operand operand_at complex_at event_word pair_at entry_at act_at event_at setgrs_at vary_at order_at command_at is_unbuilt_word named_at key plain_form first_form event_form form statements_from statements name_given system_names name_place system_place job_place task_place judge judge_all reading fault
+removes = refl
 
 -- several systems: a name twice, behind another; a job of the other's name; a job twice in one; a task of the other system; a system that there isn't; a task behind another system; nine
 systems :
@@ -198,7 +214,7 @@ systems :
     × FaultOf (text (codes "SYSTEM S1" ∷ codes "SYSTEM S2" ∷ codes "SCHEDULE" ∷ codes "S2 REST" ∷ codes "S3 REST" ∷ [])) (at 5 UnknownName)
     × FaultOf (text (codes "SYSTEM S1" ∷ codes "JOB J" ∷ codes "TASK T" ∷ codes "SYSTEM S2" ∷ codes "TASK T" ∷ [])) (at 5 OutOfPlace)
     × FaultOf (text (codes "SYSTEM A" ∷ codes "SYSTEM B" ∷ codes "SYSTEM C" ∷ codes "SYSTEM D" ∷ codes "SYSTEM E" ∷ codes "SYSTEM F" ∷ codes "SYSTEM G" ∷ codes "SYSTEM H" ∷ codes "SYSTEM I" ∷ [])) (at 9 TooMany)
-unfolding is_word is_hex digit is_allowed bad_line put put_word put_open end_line break_off begin_word begin step_in step scan_from finish_in lines_of lines_or_fault is_name_byte all_name is_name short_at dotted_at digits written_number unit_of ret_of rnl_of chosen option_at options_at ctl_at scope_at names_at place_at controlled_at uncontrolled_at enq_at reserve_at deq_at wait_at line_ask_at line_word which_of form_of value_of rnl_operand_at whole_rnl rnldef_at mode_of entries_of limit_of with_operand operand_at complex_at event_word pair_at entry_at act_at event_at setgrs_at vary_at order_at command_at is_unbuilt_word named_at key plain_form first_form event_form form statements_from statements name_given system_names is_named system_place job_place task_place judge judge_all reading fault
+unfolding is_word is_hex digit is_allowed bad_line put put_word put_open end_line break_off begin_word begin step_in step scan_from finish_in lines_of lines_or_fault is_name_byte all_name is_name short_at dotted_at digits written_number unit_of ret_of rnl_of chosen option_at options_at ctl_at scope_at names_at place_at controlled_at uncontrolled_at enq_at reserve_at deq_at wait_at line_ask_at line_word which_of form_of value_of rnl_operand_at whole_rnl rnldef_at mode_of entries_of limit_of with_operand operand_at complex_at event_word pair_at entry_at act_at event_at setgrs_at vary_at order_at command_at is_unbuilt_word named_at key plain_form first_form event_form form statements_from statements name_given system_names name_place system_place job_place task_place judge judge_all reading fault
 systems = (refl, refl, refl, refl, refl, refl, refl)
 
 abbrev whole : List ℕ
@@ -226,7 +242,7 @@ deck = record {
 
 -- a whole deck
 read : reading whole ≡ Ok deck
-unfolding is_word is_hex digit is_allowed bad_line put put_word put_open end_line break_off begin_word begin step_in step scan_from finish_in lines_of lines_or_fault is_name_byte all_name is_name short_at dotted_at digits written_number unit_of ret_of rnl_of chosen option_at options_at ctl_at scope_at names_at place_at controlled_at uncontrolled_at enq_at reserve_at deq_at wait_at line_ask_at line_word which_of form_of value_of rnl_operand_at whole_rnl rnldef_at mode_of entries_of limit_of with_operand operand_at complex_at event_word pair_at entry_at act_at event_at setgrs_at vary_at order_at command_at is_unbuilt_word named_at key plain_form first_form event_form form statements_from statements name_given system_names is_named system_place job_place task_place judge judge_all reading fault
+unfolding is_word is_hex digit is_allowed bad_line put put_word put_open end_line break_off begin_word begin step_in step scan_from finish_in lines_of lines_or_fault is_name_byte all_name is_name short_at dotted_at digits written_number unit_of ret_of rnl_of chosen option_at options_at ctl_at scope_at names_at place_at controlled_at uncontrolled_at enq_at reserve_at deq_at wait_at line_ask_at line_word which_of form_of value_of rnl_operand_at whole_rnl rnldef_at mode_of entries_of limit_of with_operand operand_at complex_at event_word pair_at entry_at act_at event_at setgrs_at vary_at order_at command_at is_unbuilt_word named_at key plain_form first_form event_form form statements_from statements name_given system_names name_place system_place job_place task_place judge judge_all reading fault
 read = refl
 
 -- two systems with their events
@@ -254,7 +270,7 @@ ring_deck : reading ring ≡ Ok (record no_deck {
       ∷ record { system = record { 0 = 1 }; choice = choices.Rest }
       ∷ [];
 })
-unfolding is_word is_hex digit is_allowed bad_line put put_word put_open end_line break_off begin_word begin step_in step scan_from finish_in lines_of lines_or_fault is_name_byte all_name is_name short_at dotted_at digits written_number unit_of ret_of rnl_of chosen option_at options_at ctl_at scope_at names_at place_at controlled_at uncontrolled_at enq_at reserve_at deq_at wait_at line_ask_at line_word which_of form_of value_of rnl_operand_at whole_rnl rnldef_at mode_of entries_of limit_of with_operand operand_at complex_at event_word pair_at entry_at act_at event_at setgrs_at vary_at order_at command_at is_unbuilt_word named_at key plain_form first_form event_form form statements_from statements name_given system_names is_named system_place job_place task_place judge judge_all reading fault
+unfolding is_word is_hex digit is_allowed bad_line put put_word put_open end_line break_off begin_word begin step_in step scan_from finish_in lines_of lines_or_fault is_name_byte all_name is_name short_at dotted_at digits written_number unit_of ret_of rnl_of chosen option_at options_at ctl_at scope_at names_at place_at controlled_at uncontrolled_at enq_at reserve_at deq_at wait_at line_ask_at line_word which_of form_of value_of rnl_operand_at whole_rnl rnldef_at mode_of entries_of limit_of with_operand operand_at complex_at event_word pair_at entry_at act_at event_at setgrs_at vary_at order_at command_at is_unbuilt_word named_at key plain_form first_form event_form form statements_from statements name_given system_names name_place system_place job_place task_place judge judge_all reading fault
 ring_deck = refl
 
 -- two systems in star mode, with each event of that mode
@@ -276,7 +292,7 @@ star_deck : reading star ≡ Ok (record no_deck {
       ∷ record { system = record { 0 = 1 }; choice = choices.Leave 0 }
       ∷ [];
 })
-unfolding is_word is_hex digit is_allowed bad_line put put_word put_open end_line break_off begin_word begin step_in step scan_from finish_in lines_of lines_or_fault is_name_byte all_name is_name short_at dotted_at digits written_number unit_of ret_of rnl_of chosen option_at options_at ctl_at scope_at names_at place_at controlled_at uncontrolled_at enq_at reserve_at deq_at wait_at line_ask_at line_word which_of form_of value_of rnl_operand_at whole_rnl rnldef_at mode_of entries_of limit_of with_operand operand_at complex_at event_word pair_at entry_at act_at event_at setgrs_at vary_at order_at command_at is_unbuilt_word named_at key plain_form first_form event_form form statements_from statements name_given system_names is_named system_place job_place task_place judge judge_all reading fault
+unfolding is_word is_hex digit is_allowed bad_line put put_word put_open end_line break_off begin_word begin step_in step scan_from finish_in lines_of lines_or_fault is_name_byte all_name is_name short_at dotted_at digits written_number unit_of ret_of rnl_of chosen option_at options_at ctl_at scope_at names_at place_at controlled_at uncontrolled_at enq_at reserve_at deq_at wait_at line_ask_at line_word which_of form_of value_of rnl_operand_at whole_rnl rnldef_at mode_of entries_of limit_of with_operand operand_at complex_at event_word pair_at entry_at act_at event_at setgrs_at vary_at order_at command_at is_unbuilt_word named_at key plain_form first_form event_form form statements_from statements name_given system_names name_place system_place job_place task_place judge judge_all reading fault
 star_deck = refl
 
 -- two systems at whose desks the change to star mode is commanded, and one of them making it
@@ -291,7 +307,7 @@ move_deck : reading move ≡ Ok (record no_deck {
   } ∷ record { name = codes "SYB"; desk = record { at = 3; order = Star } ∷ []; jobs = [] } ∷ [];
   events = record { system = record { 0 = 1 }; choice = choices.Switch } ∷ [];
 })
-unfolding is_word is_hex digit is_allowed bad_line put put_word put_open end_line break_off begin_word begin step_in step scan_from finish_in lines_of lines_or_fault is_name_byte all_name is_name short_at dotted_at digits written_number unit_of ret_of rnl_of chosen option_at options_at ctl_at scope_at names_at place_at controlled_at uncontrolled_at enq_at reserve_at deq_at wait_at line_ask_at line_word which_of form_of value_of rnl_operand_at whole_rnl rnldef_at mode_of entries_of limit_of with_operand operand_at complex_at event_word pair_at entry_at act_at event_at setgrs_at vary_at order_at command_at is_unbuilt_word named_at key plain_form first_form event_form form statements_from statements name_given system_names is_named system_place job_place task_place judge judge_all reading fault
+unfolding is_word is_hex digit is_allowed bad_line put put_word put_open end_line break_off begin_word begin step_in step scan_from finish_in lines_of lines_or_fault is_name_byte all_name is_name short_at dotted_at digits written_number unit_of ret_of rnl_of chosen option_at options_at ctl_at scope_at names_at place_at controlled_at uncontrolled_at enq_at reserve_at deq_at wait_at line_ask_at line_word which_of form_of value_of rnl_operand_at whole_rnl rnldef_at mode_of entries_of limit_of with_operand operand_at complex_at event_word pair_at entry_at act_at event_at setgrs_at vary_at order_at command_at is_unbuilt_word named_at key plain_form first_form event_form form statements_from statements name_given system_names name_place system_place job_place task_place judge judge_all reading fault
 move_deck = refl
 
 -- the declared fault of a text: a system that is named again; a removal of no other system

@@ -1,5 +1,7 @@
 -- What is read is spelled, and what is spelled is read.
-use Rattle.std.proofs.Common.{◌≡◌, ℕ, ◌<◌, Bool, true, false, cond, not, eqb, leb, List, [], ◌∷◌, length, Option, Some, None, Result, Ok, Err, refl, sym, ap, subst, ◌∙◌, arith}
+use Rattle.std.proofs.Common.{◌≡◌, ℕ, suc, ltb, ◌+◌, ◌<◌, Bool, true, false, cond, not, eqb, leb, List, [], ◌∷◌, length, Option, Some, None, Result, Ok, Err, refl, sym, ap, subst, ◌∙◌, arith}
+use Rattle.std.specs.List.{list_any, position, position_or_len}
+use Rattle.std.proofs.lemmas.Bool.Decides.{nat_tests}
 use Rattle.std.specs.Prelude.{◌||◌, ◌≢◌, Contains, is_some, is_none}
 use Rattle.std.specs.Str.{bytes_eq}
 use Rattle.std.proofs.lemmas.Bool.{ltb-false, le-ltb, lt-leb, eqb-false, eqb-true, ne_eqb, leb-false, or_parts}
@@ -31,7 +33,7 @@ use Rattle.deck_form.specs.declared.form.Stmt.{Stmt}
 use Rattle.deck_form.specs.declared.form.Stmt.TheVariants as stmts
 use Rattle.deck_form.specs.Spelled.{Spells}
 use Rattle.deck_form.specs.Statements.{statements}
-use Rattle.deck_form.specs.SystemNames.{is_named}
+use Rattle.deck_form.specs.SystemNames.{is_named, name_place}
 use Rattle.deck_form.proofs.Taken.{form_taken}
 use Rattle.deck_form.proofs.Again.{form_again}
 use Rattle.deck_form.specs.Unbuilt.{is_unbuilt}
@@ -126,6 +128,32 @@ not_equal a b h = go (bytes_eq a b) refl
     go true is = absurd (h (sym (same_bytes a b is)))
     go false is = refl
 
+place_any : {A : Type 0} (p : A → Bool) (xs : List A) → ltb (position_or_len p xs) (length xs) ≡ list_any p xs
+place_any p [] = refl
+place_any p (x ∷ xs) = go (p x) refl (place_any p xs)
+  where
+    further : (a b : ℕ) → ltb (1 + a) (suc b) ≡ ltb a b
+    further a b = grind (arith, nat_tests)
+
+    first : (n : ℕ) → ltb 0 (suc n) ≡ true
+    first n = grind (arith, nat_tests)
+
+    go : (b : Bool) → p x ≡ b → ltb (position_or_len p xs) (length xs) ≡ list_any p xs → ltb (position_or_len p (x ∷ xs)) (length (x ∷ xs)) ≡ list_any p (x ∷ xs)
+    go true is h = rw is (first (length xs))
+    go false is h = rw is (further (position_or_len p xs) (length xs) ∙ h)
+
+no_place : {A : Type 0} (p : A → Bool) (xs : List A) → is_none (position p xs) ≡ not (list_any p xs)
+no_place p xs = go (ltb (position_or_len p xs) (length xs)) ∙ ap not (place_any p xs)
+  where
+    go : (b : Bool) → is_none (cond b (Some (position_or_len p xs)) None) ≡ not b
+    go true = refl
+    go false = refl
+
+-- a name has a place exactly where it is among them
+placed_named : (names : List (List ℕ)) (n : List ℕ) → is_none (name_place names n) ≡ not (is_named names n)
+unfolding name_place is_named
+placed_named names n = no_place (bytes_eq n) names
+
 named_there : (names : List (List ℕ)) (n : List ℕ) → is_named names n ≡ true → Contains names n
 unfolding is_named
 named_there names n h = Contains-from_any same_bytes n names h
@@ -137,12 +165,12 @@ there_named names n h = list_any_at (bytes_eq n) names h.0 n h.1 ((bytes_eq-Deci
 known_order : (d : Draft) (o : GivenOrder) → removes_unknown d o ≡ false → IsKnownOrder d o
 known_order d orders.Star h = tt
 known_order d (orders.Vary n) h =
-    let k = or_parts (bytes_eq (name_now d.deck.systems) n) (not (is_named d.names n)) h in
+    let k = or_parts (bytes_eq (name_now d.deck.systems) n) (not (is_named d.names n)) (ap (λ (b : Bool). bytes_eq (name_now d.deck.systems) n || b) (sym (placed_named d.names n)) ∙ h) in
     (named_there d.names n (passed (is_named d.names n) k.1), λ e. differs (name_now d.deck.systems) n k.0 (sym e))
 
 order_known : (d : Draft) (o : GivenOrder) → IsKnownOrder d o → removes_unknown d o ≡ false
 order_known d orders.Star h = refl
-order_known d (orders.Vary n) h = both_false (bytes_eq (name_now d.deck.systems) n) (not (is_named d.names n)) (not_equal (name_now d.deck.systems) n h.1) (rw (there_named d.names n h.0) refl)
+order_known d (orders.Vary n) h = both_false (bytes_eq (name_now d.deck.systems) n) (is_none (name_place d.names n)) (not_equal (name_now d.deck.systems) n h.1) (placed_named d.names n ∙ rw (there_named d.names n h.0) refl)
 
 -- ---- a statement that may stand there
 

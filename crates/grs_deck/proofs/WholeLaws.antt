@@ -1,30 +1,24 @@
 -- Each deck that is spelled is whole.
-use Rattle.std.proofs.Common.{◌≡◌, ℕ, ◌+◌, ◌-◌, ◌<◌, Bool, true, false, cond, eqb, List, [], ◌∷◌, ◌++◌, length, take, Option, Some, None, refl, sym, ap, subst, arith, filter}
+use Rattle.std.proofs.Common.{◌≡◌, ℕ, ◌+◌, ◌-◌, ◌<◌, Bool, true, false, cond, eqb, List, [], ◌∷◌, length, take, Option, Some, None, refl, sym, ap, subst, arith, filter}
 use Rattle.std.specs.Prelude.{All, slice_get, unwrap_or, Result, Ok, Err, IfOk}
 use Rattle.grs_base.specs.declared.fault.ReadError.{ReadError}
 use Rattle.deck_scan.specs.Gives.{Gives}
 use Rattle.std.specs.List.{list_all}
 use Rattle.std.proofs.lemmas.Bool.{eqb-false, and_parts}
-use Rattle.std.proofs.lemmas.List.Elements.{All-nil, All-push, All-tail}
+use Rattle.std.proofs.lemmas.List.Elements.{All-nil, All-push}
 use Rattle.std.proofs.lemmas.List.Quantifiers.{position-Some}
 use Rattle.std.proofs.lemmas.Option.{slice_get_within}
 use Rattle.grs_base.specs.declared.resource.SysId.{SysId}
 use Rattle.grs_base.specs.declared.resource.TaskId.{TaskId}
-use Rattle.grs_wire.specs.declared.deck.Desk.{Desk}
-use Rattle.grs_wire.specs.declared.deck.Order.TheVariants.{Star}
-use Rattle.grs_wire.specs.declared.deck.JobDef.{JobDef}
 use Rattle.grs_wire.specs.declared.deck.TaskDef.{TaskDef}
 use Rattle.grs_wire.specs.declared.deck.SystemDef.{SystemDef}
 use Rattle.grs_wire.specs.declared.deck.Event.{Event}
 use Rattle.grs_wire.specs.declared.deck.Choice.{Choice}
 use Rattle.grs_wire.specs.declared.deck.Choice.TheVariants as choices
 use Rattle.grs_wire.specs.declared.deck.Deck.{Deck}
-use Rattle.grs_wire.specs.Decks.{task_count, Fits, IsTaskOf, IsChoiceOf, is_built, IsEventOf, IsOrderOf, AreOrders, all_lines, AreLines, AreNamedOnce, IsDeck}
+use Rattle.grs_wire.specs.Decks.{task_count, Fits, IsTaskOf, IsChoiceOf, IsEventOf, all_lines, AreLines, AreNamedOnce, IsDeck}
 use Rattle.deck_scan.specs.declared.token.Token.{Token}
 use Rattle.deck_scan.specs.declared.token.TokenLine.{TokenLine}
-use Rattle.job_syntax.specs.Lines.{line_of}
-use Rattle.deck_form.specs.declared.command.GivenOrder.{GivenOrder}
-use Rattle.deck_form.specs.declared.command.GivenOrder.TheVariants as orders
 use Rattle.deck_form.specs.declared.event.EventAct.{EventAct}
 use Rattle.deck_form.specs.declared.event.EventAct.TheVariants as acts
 use Rattle.deck_form.specs.declared.complex.Setup.{Setup}
@@ -33,13 +27,12 @@ use Rattle.deck_form.specs.declared.form.Stmt.TheVariants as stmts
 use Rattle.deck_form.specs.Complex.{no_setup}
 use Rattle.deck_form.specs.Statements.{statements}
 use Rattle.deck_form.specs.SystemNames.{system_names}
-use Rattle.deck_form.specs.Unbuilt.{is_unbuilt_act, is_unbuilt}
 use Rattle.deck_scan.specs.Next.{◌>>=◌, Sets}
 use Rattle.deck_form.specs.Spelled.{Operand, Mode, Entries, Limit, IsFreeOperand, set_operand, IsComplex, IsAct, Spells}
 use Rattle.deck_scan.proofs.Taking.{bind_some}
 use Rattle.grs_deck.specs.declared.judge.Draft.{Draft}
 use Rattle.grs_deck.specs.Places.{system_place, job_place, task_place, system_id, system_at, task_in, unless_own, choice_of, event_of}
-use Rattle.grs_deck.specs.Grow.{add_order, add_task, add_line, in_jobs, in_tasks, with_event, grow}
+use Rattle.grs_deck.specs.Grow.{with_event, grow}
 use Rattle.grs_deck.specs.Reading.{no_draft, first_draft, reading}
 use Rattle.grs_deck.specs.Spells.{IsRight, Says, SpellsDeck}
 use Rattle.grs_base.specs.Rnl.{no_entries}
@@ -49,9 +42,10 @@ use Rattle.grs_base.specs.declared.rnl.RnlEntry.{RnlEntry}
 use Rattle.grs_base.specs.Limits.{is_entries, is_limit}
 use Rattle.grs_base.specs.Lines.{is_display}
 use Rattle.grs_base.specs.NameLists.{IsListOf, AreLists}
-use Rattle.grs_deck.proofs.FitsLaws.{fits_grow, lists_grow, event_systems}
+use Rattle.grs_deck.proofs.FitsLaws.{fits_grow, lists_grow}
 use Rattle.grs_deck.proofs.SpellsLaws.{no_test, reading_spells}
-use Rattle.grs_deck.proofs.Distinct.{all_last, once_none, once_grow}
+use Rattle.grs_deck.proofs.Distinct.{once_none, once_grow}
+use Rattle.grs_deck.proofs.Orders.{says_orders}
 use Rattle.grs_deck.proofs.TokenBytes.{are_of_bytes, spelled_bytes, statements_bytes}
 use Rattle.grs_deck.proofs.Growth.{Keeps, keeps_none, keeps_grow}
 
@@ -141,65 +135,12 @@ choice_is systems entries rest s id (acts.Purge n) c act e =
     own_not systems entries s id x.0.0 c (found_of systems n x.0 x.1).below x.2
 choice_is systems entries rest s id acts.Rest c act e = subst (IsChoiceOf systems entries s id) (some_is choices.Rest c e) tt
 
--- an event line of a form that is built
-built_is : (systems : List SystemDef) (id : SysId) (s : SystemDef) (a : EventAct) (c : Choice) → is_unbuilt_act a ≡ false → choice_of systems id s a ≡ Some c → is_built c ≡ true
-built_is systems id s (acts.Task j t) c b e =
-    let k = bind_some (task_in id s j t) (λ k. Some (choices.Task k)) c e in
-    subst (λ (z : Choice). is_built z ≡ true) (some_is (choices.Task k.0) c k.2) refl
-built_is systems id s acts.Turn c b e = subst (λ (z : Choice). is_built z ≡ true) (some_is choices.Turn c e) refl
-built_is systems id s (acts.Send j t) c b e =
-    let k = bind_some (task_in id s j t) (λ k. Some (choices.Send k)) c e in
-    subst (λ (z : Choice). is_built z ≡ true) (some_is (choices.Send k.0) c k.2) refl
-built_is systems id s acts.Take c b e = subst (λ (z : Choice). is_built z ≡ true) (some_is choices.Take c e) refl
-built_is systems id s acts.Settle c b e = subst (λ (z : Choice). is_built z ≡ true) (some_is choices.Settle c e) refl
-built_is systems id s (acts.Tell n) c b e = subst (λ (z : Choice). is_built z ≡ true) (some_is (choices.Tell n) c e) refl
-built_is systems id s (acts.Leave n) c b e = subst (λ (z : Choice). is_built z ≡ true) (some_is (choices.Leave n) c e) refl
-built_is systems id s acts.Switch c b e = subst (λ (z : Choice). is_built z ≡ true) (some_is choices.Switch c e) refl
-built_is systems id s (acts.Purge n) c b e = absurd cc
-built_is systems id s acts.Rest c b e = subst (λ (z : Choice). is_built z ≡ true) (some_is choices.Rest c e) refl
-
-event_is : (systems : List SystemDef) (entries : ℕ) (rest : List Token) (name : List ℕ) (a : EventAct) (e : Event) → IsAct entries rest a → is_unbuilt_act a ≡ false → event_of systems name a ≡ Some e → IsEventOf systems entries e
-event_is systems entries rest name a e act built h =
+event_is : (systems : List SystemDef) (entries : ℕ) (rest : List Token) (name : List ℕ) (a : EventAct) (e : Event) → IsAct entries rest a → event_of systems name a ≡ Some e → IsEventOf systems entries e
+event_is systems entries rest name a e act h =
     let x = bind_some (system_at systems name) (λ x. choice_of systems x.0 x.1 a >>= λ c. Some (record { system = x.0; choice = c })) e h in
     let c = bind_some (choice_of systems x.0.0 x.0.1 a) (λ c. Some (record { system = x.0.0; choice = c })) e x.2 in
-    let made : IsEventOf systems entries (record { system = x.0.0; choice = c.0 }) = record { found = x.0.1; system = (found_of systems name x.0 x.1).at; below = (found_of systems name x.0 x.1).below; choice = choice_is systems entries rest x.0.1 x.0.0 a c.0 act c.1; built = built_is systems x.0.0 x.0.1 a c.0 built c.1 } in
+    let made : IsEventOf systems entries (record { system = x.0.0; choice = c.0 }) = record { found = x.0.1; system = (found_of systems name x.0 x.1).at; below = (found_of systems name x.0 x.1).below; choice = choice_is systems entries rest x.0.1 x.0.0 a c.0 act c.1 } in
     subst (IsEventOf systems entries) (some_is (record { system = x.0.0; choice = c.0 }) e c.2) made
-
--- ---- desks
-
--- nothing but the change to star mode is commanded at a desk
-abbrev IsStar : Desk → Type 0
-IsStar c = c.order ≡ Star
-
-abbrev OnlyStar : SystemDef → Type 0
-OnlyStar s = All IsStar s.desk
-
-orders-last : (f : List JobDef → List JobDef) (ss : List SystemDef) → All OnlyStar ss → All OnlyStar (in_jobs f ss)
-orders-last f ss h = all_last OnlyStar _ (λ s. s.jobs) ss (λ s e w. w) h
-
-orders-more : (at : ℕ) (o : GivenOrder) (ss : List SystemDef) → All OnlyStar ss → All OnlyStar (add_order at o ss)
-orders-more at orders.Star ss h = all_last OnlyStar _ (λ s. s.desk) ss (λ s e w. All-push IsStar s.desk (record { at = at; order = Star }) w refl) h
-orders-more at (orders.Vary n) ss h = h
-
-orders_grow : (d : Draft) (st : Stmt) → All OnlyStar d.deck.systems → All OnlyStar (grow d st).deck.systems
-orders_grow d stmts.Unbuilt h = h
-orders_grow d (stmts.Complex c) h = h
-orders_grow d (stmts.System n) h = All-push OnlyStar d.deck.systems (record { name = n; desk = []; jobs = [] }) h (All-nil IsStar)
-orders_grow d (stmts.Job n) h = orders-last (λ js. js ++ record { name = n; tasks = [] } ∷ []) d.deck.systems h
-orders_grow d (stmts.Task n) h = orders-last (add_task n) d.deck.systems h
-orders_grow d (stmts.Rnldef r) h = h
-orders_grow d (stmts.Line s) h = orders-last (in_tasks (add_line (line_of s))) d.deck.systems h
-orders_grow d (stmts.Command c) h = orders-more c.at c.order d.deck.systems h
-orders_grow d stmts.Schedule h = h
-orders_grow d (stmts.Event s a) h = subst (All OnlyStar) (sym (event_systems (event_of d.deck.systems s a) d.deck)) h
-
-says_orders : (ls : List TokenLine) (d e : Draft) → Says d ls e → All OnlyStar d.deck.systems → All OnlyStar e.deck.systems
-says_orders [] d e s h = subst (λ (x : Draft). All OnlyStar x.deck.systems) s h
-says_orders (l ∷ ls) d e s h = says_orders ls (grow d s.0) e s.3 (orders_grow d s.0 h)
-
-are_orders : (systems n : ℕ) (ss : List SystemDef) → All OnlyStar ss → AreOrders systems n ss
-are_orders systems n [] h = tt
-are_orders systems n (s ∷ ss) h = (λ k d lt. subst (IsOrderOf systems n) (sym (h 0 s (omega arith) k d lt)) tt, are_orders systems (n + 1) ss (All-tail OnlyStar s ss h))
 
 -- ---- a deck so far
 
@@ -235,26 +176,26 @@ spelled_first d l stmts.Schedule e h s fits lists = first_keeps d stmts.Schedule
 spelled_first d l (stmts.Event n a) e h s fits lists = absurd (let at : Spells false d.deck.entries l (stmts.Event n a) = subst (λ (b : Bool). Spells b d.deck.entries l (stmts.Event n a)) e s in at.1)
 
 -- an event more
-event_more : (d : Draft) (room : ℕ) (n : List ℕ) (a : EventAct) (rest : List Token) (o : Option Event) → event_of d.deck.systems n a ≡ o → d.scheduled ≡ true → IsAct d.deck.entries rest a → is_unbuilt_act a ≡ false → IsDraft d → IsDraft (record { deck = with_event o d.deck; names = d.names; begun = true; scheduled = true; room = room })
-event_more d room n a rest None is e act b h = record { fits = h.fits; entries = h.entries; limit = h.limit; lists = h.lists; events = h.events; quiet = λ k. absurd cc }
-event_more d room n a rest (Some v) is e act b h = record {
+event_more : (d : Draft) (room : ℕ) (n : List ℕ) (a : EventAct) (rest : List Token) (o : Option Event) → event_of d.deck.systems n a ≡ o → d.scheduled ≡ true → IsAct d.deck.entries rest a → IsDraft d → IsDraft (record { deck = with_event o d.deck; names = d.names; begun = true; scheduled = true; room = room })
+event_more d room n a rest None is e act h = record { fits = h.fits; entries = h.entries; limit = h.limit; lists = h.lists; events = h.events; quiet = λ k. absurd cc }
+event_more d room n a rest (Some v) is e act h = record {
   fits = h.fits;
   entries = h.entries;
   limit = h.limit;
   lists = h.lists;
-  events = All-push (IsEventOf d.deck.systems d.deck.entries) d.deck.events v h.events (event_is d.deck.systems d.deck.entries rest n a v act b is);
+  events = All-push (IsEventOf d.deck.systems d.deck.entries) d.deck.events v h.events (event_is d.deck.systems d.deck.entries rest n a v act is);
   quiet = λ k. absurd cc;
 }
 
-spelled_event : (d : Draft) (l : TokenLine) (st : Stmt) → d.scheduled ≡ true → IsDraft d → Spells true d.deck.entries l st → is_unbuilt st ≡ false → IsDraft (grow d st)
-spelled_event d l (stmts.Event n a) e h s b = rw e (event_more d (d.room - 0) n a s.0 (event_of d.deck.systems n a) refl e s.3 b h)
-spelled_event d l _ e h s b = absurd s
+spelled_event : (d : Draft) (l : TokenLine) (st : Stmt) → d.scheduled ≡ true → IsDraft d → Spells true d.deck.entries l st → IsDraft (grow d st)
+spelled_event d l (stmts.Event n a) e h s = rw e (event_more d (d.room - 0) n a s.0 (event_of d.deck.systems n a) refl e s.3 h)
+spelled_event d l _ e h s = absurd s
 
 step_keeps : (d : Draft) (l : TokenLine) (st : Stmt) → IsDraft d → Spells d.scheduled d.deck.entries l st → IsRight d st → IsDraft (grow d st)
 step_keeps d l st h s right = go d.scheduled refl
   where
     go : (b : Bool) → d.scheduled ≡ b → IsDraft (grow d st)
-    go true e = spelled_event d l st e h (subst (λ (b : Bool). Spells b d.deck.entries l st) e s) right.1
+    go true e = spelled_event d l st e h (subst (λ (b : Bool). Spells b d.deck.entries l st) e s)
     go false e = let full = (no_test d st right).full in spelled_first d l st e h s (fits_grow d st full h.fits) (lists_grow d st full h.lists)
 
 says_keeps : (ls : List TokenLine) (d e : Draft) → Says d ls e → IsDraft d → IsDraft e
@@ -290,7 +231,7 @@ spelled_whole text d h =
     let w = says_keeps ss start h.draft h.says (none_read (system_names ss)) in
     let some : 0 < length h.draft.deck.systems = subst (λ (x : Deck). 0 < length x.systems) (sym h.is) h.system in
     let k = says_keep ss start h.draft (statements_bytes h.lines (spelled_bytes text h.lines h.spelled)) h.says (keeps_none (system_names ss)) in
-    let made : IsDeck h.draft.deck = record { some = some; fits = w.fits; names = k.names; once = says_once ss start h.draft h.says once_none; orders = are_orders (length h.draft.deck.systems) 0 h.draft.deck.systems (says_orders ss start h.draft h.says (All-nil OnlyStar)); lines = lines_of_deck h.draft k; named = k.entries; entries = w.entries; limit = w.limit; lists = w.lists; events = w.events } in
+    let made : IsDeck h.draft.deck = record { some = some; fits = w.fits; names = k.names; once = says_once ss start h.draft h.says once_none; orders = says_orders ss start h.draft h.says refl tt; lines = lines_of_deck h.draft k; named = k.entries; entries = w.entries; limit = w.limit; lists = w.lists; events = w.events } in
     subst IsDeck h.is made
 
 pub whole : (text : List ℕ) (r : Result Deck ReadError) → Gives r (reading text) → IfOk r IsDeck

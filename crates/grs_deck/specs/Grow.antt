@@ -1,12 +1,14 @@
 -- What each statement adds to a deck.
-use Rattle.std.specs.Prelude.{ℕ, Bool, true, false, ◌||◌, ◌-◌, List, [], ◌∷◌, ◌++◌, Option, Some, None, unwrap_or}
+use Rattle.std.specs.Prelude.{ℕ, Bool, true, false, ◌||◌, ◌-◌, nat_lt, List, [], ◌∷◌, ◌++◌, Option, Some, None, unwrap_or, cond}
+use Rattle.grs_base.specs.Limits.{most_systems}
 use Rattle.grs_base.specs.Rnl.{RnlView}
 use Rattle.grs_base.specs.declared.line.Line.{Line}
 use Rattle.grs_base.specs.declared.rnl.Which.{Which}
 use Rattle.grs_base.specs.declared.rnl.Which.TheVariants.{Incl, Excl, Con}
 use Rattle.grs_base.specs.declared.rnl.RnlEntry.{RnlEntry}
 use Rattle.grs_base.specs.declared.rnl.Lists.{Lists}
-use Rattle.grs_wire.specs.declared.deck.Order.TheVariants.{Star}
+use Rattle.grs_wire.specs.declared.deck.Order.{Order}
+use Rattle.grs_wire.specs.declared.deck.Order.TheVariants.{Star, Vary}
 use Rattle.grs_wire.specs.declared.deck.Desk.{Desk}
 use Rattle.grs_wire.specs.declared.deck.TaskDef.{TaskDef}
 use Rattle.grs_wire.specs.declared.deck.JobDef.{JobDef}
@@ -21,7 +23,7 @@ use Rattle.deck_form.specs.declared.complex.Setup.{Setup}
 use Rattle.deck_form.specs.declared.form.Stmt.{Stmt}
 use Rattle.deck_form.specs.declared.form.Stmt.TheVariants as stmts
 use Rattle.grs_deck.specs.declared.judge.Draft.{Draft}
-use Rattle.grs_deck.specs.Places.{event_of}
+use Rattle.grs_deck.specs.Places.{event_of, place_in, system_id}
 use Rattle.grs_deck.specs.Defaults.{default_entries, default_limit}
 
 -- With the last item changed.
@@ -34,10 +36,21 @@ on_last f (x ∷ y ∷ ys) = x ∷ on_last f (y ∷ ys)
 abbrev pub add_command : Desk → List SystemDef → List SystemDef
 add_command c systems = on_last (λ s. record s { desk = s.desk ++ c ∷ [] }) systems
 
--- What is commanded at the desk of the last system, about when. A removal isn't built, and adds nothing.
-abbrev pub add_order : ℕ → GivenOrder → List SystemDef → List SystemDef
-add_order at orders.Star systems = add_command (record { at = at; order = Star }) systems
-add_order at (orders.Vary n) systems = systems
+-- The removal of the system whose name has this place among those that SYSTEM statements give. Behind as many as a deck may
+-- have no name gives a system.
+abbrev pub removal_of : Option ℕ → Option Order
+removal_of None = None
+removal_of (Some p) = cond (nat_lt p most_systems) (Some (Vary (system_id p))) None
+
+-- What is commanded, where the name that it says has this place.
+abbrev pub order_by : Option ℕ → GivenOrder → Option Order
+order_by place orders.Star = Some Star
+order_by place (orders.Vary n) = removal_of place
+
+-- What is commanded at the desk of the last system, about when.
+abbrev pub add_order : ℕ → Option Order → List SystemDef → List SystemDef
+add_order at None systems = systems
+add_order at (Some o) systems = add_command (record { at = at; order = o }) systems
 
 -- A job more in the last system.
 abbrev pub add_job : List ℕ → List SystemDef → List SystemDef
@@ -84,18 +97,18 @@ in_list Con e lists = record lists { con = add_entry e lists.con }
 abbrev pub with_entry : RnlEntry → Lists → Lists
 with_entry e lists = in_list e.which e lists
 
--- What a statement adds to a deck.
-abbrev pub grow_deck : Deck → Stmt → Deck
-grow_deck deck stmts.Unbuilt = deck
-grow_deck deck (stmts.Complex c) = with_setup c deck
-grow_deck deck (stmts.Rnldef r) = record deck { lists = with_entry (entry_of r) deck.lists }
-grow_deck deck (stmts.System n) = record deck { systems = deck.systems ++ record { name = n; desk = []; jobs = [] } ∷ [] }
-grow_deck deck (stmts.Job n) = record deck { systems = add_job n deck.systems }
-grow_deck deck (stmts.Task n) = record deck { systems = in_jobs (add_task n) deck.systems }
-grow_deck deck (stmts.Line s) = with_line (line_of s) deck
-grow_deck deck (stmts.Command c) = record deck { systems = add_order c.at c.order deck.systems }
-grow_deck deck stmts.Schedule = deck
-grow_deck deck (stmts.Event s a) = with_event (event_of deck.systems s a) deck
+-- What a statement adds to a deck, where a name that its command says has this place among those of the systems.
+abbrev pub grow_deck : Option ℕ → Deck → Stmt → Deck
+grow_deck place deck stmts.Unbuilt = deck
+grow_deck place deck (stmts.Complex c) = with_setup c deck
+grow_deck place deck (stmts.Rnldef r) = record deck { lists = with_entry (entry_of r) deck.lists }
+grow_deck place deck (stmts.System n) = record deck { systems = deck.systems ++ record { name = n; desk = []; jobs = [] } ∷ [] }
+grow_deck place deck (stmts.Job n) = record deck { systems = add_job n deck.systems }
+grow_deck place deck (stmts.Task n) = record deck { systems = in_jobs (add_task n) deck.systems }
+grow_deck place deck (stmts.Line s) = with_line (line_of s) deck
+grow_deck place deck (stmts.Command c) = record deck { systems = add_order c.at (order_by place c.order) deck.systems }
+grow_deck place deck stmts.Schedule = deck
+grow_deck place deck (stmts.Event s a) = with_event (event_of deck.systems s a) deck
 
 abbrev pub is_schedule : Stmt → Bool
 is_schedule stmts.Schedule = true
@@ -108,4 +121,4 @@ line_count _ = 0
 
 -- A deck so far with a statement more.
 abbrev pub grow : Draft → Stmt → Draft
-grow d st = record d { deck = grow_deck d.deck st; begun = true; scheduled = d.scheduled || is_schedule st; room = d.room - line_count st }
+grow d st = record d { deck = grow_deck (place_in d.names st) d.deck st; begun = true; scheduled = d.scheduled || is_schedule st; room = d.room - line_count st }

@@ -18,7 +18,7 @@ use Rattle.deck_form.specs.declared.event.EventAct.{EventAct}
 use Rattle.deck_form.specs.declared.event.EventAct.TheVariants as acts
 use Rattle.deck_form.specs.declared.form.Stmt.{Stmt}
 use Rattle.deck_form.specs.declared.form.Stmt.TheVariants as stmts
-use Rattle.deck_form.specs.SystemNames.{is_named}
+use Rattle.deck_form.specs.SystemNames.{name_place}
 use Rattle.deck_form.specs.Unbuilt.{is_unbuilt}
 use Rattle.grs_deck.specs.declared.judge.Draft.{Draft}
 use Rattle.grs_base.specs.Limits.{most_systems, most_entries, most_name_bytes, most_commands, most_jobs, most_tasks}
@@ -107,7 +107,7 @@ is_crowded deck _ = false
 -- The removal is commanded of the system at whose desk that is, or of one that the deck doesn't have.
 abbrev pub removes_unknown : Draft → GivenOrder → Bool
 removes_unknown d orders.Star = false
-removes_unknown d (orders.Vary n) = bytes_eq (name_now d.deck.systems) n || not (is_named d.names n)
+removes_unknown d (orders.Vary n) = bytes_eq (name_now d.deck.systems) n || is_none (name_place d.names n)
 
 -- A name that no statement gives, or that may not stand there.
 abbrev pub is_unknown : Draft → Stmt → Bool

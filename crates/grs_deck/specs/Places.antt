@@ -11,6 +11,9 @@ use Rattle.grs_wire.specs.declared.deck.SystemDef.{SystemDef}
 use Rattle.grs_wire.specs.declared.deck.Event.{Event}
 use Rattle.grs_wire.specs.declared.deck.Choice.{Choice}
 use Rattle.grs_wire.specs.declared.deck.Choice.TheVariants as choices
+use Rattle.deck_form.specs.SystemNames.{name_place}
+use Rattle.deck_form.specs.declared.command.GivenOrder.{GivenOrder}
+use Rattle.deck_form.specs.declared.command.GivenOrder.TheVariants as orders
 use Rattle.deck_form.specs.declared.event.EventAct.{EventAct}
 use Rattle.deck_form.specs.declared.event.EventAct.TheVariants as acts
 use Rattle.deck_form.specs.declared.form.Stmt.{Stmt}
@@ -94,6 +97,15 @@ event_of systems name act = do
   x ← system_at systems name
   c ← choice_of systems x.0 x.1 act
   Some (record { system = x.0; choice = c })
+
+-- Where the name that is commanded to be removed stands among these for the first time.
+abbrev pub place_ordered : List (List ℕ) → GivenOrder → Option ℕ
+place_ordered names orders.Star = None
+place_ordered names (orders.Vary n) = name_place names n
+
+abbrev pub place_in : List (List ℕ) → Stmt → Option ℕ
+place_in names (stmts.Command c) = place_ordered names c.order
+place_in names _ = None
 
 -- The event that a statement is: that of an event line.
 abbrev pub event_in : List SystemDef → Stmt → Option Event

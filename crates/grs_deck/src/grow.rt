@@ -4,12 +4,12 @@ ghost use Rattle.grs_base.specs.NameLists.{AreLists};
 ghost use Rattle.grs_wire.specs.Decks.{Fits};
 ghost use Rattle.grs_deck.specs.Judge.{has_bad_name, is_list_full, is_crowded};
 ghost use Rattle.grs_deck.specs.Places.{event_in};
-ghost use Rattle.grs_deck.specs.Grow.{with_entry, add_command, add_order, add_job, add_task, add_line, in_jobs, in_tasks, with_setup, grow_deck};
+ghost use Rattle.grs_deck.specs.Grow.{with_entry, add_command, removal_of, order_by, add_order, add_job, add_task, add_line, in_jobs, in_tasks, with_setup, grow_deck};
 
 use crate::defaults::{DEFAULT_ENTRIES, DEFAULT_LIMIT};
 use deck_form::{GivenOrder, Setup, Stmt};
 use deck_scan::GivenName;
-use grs_base::{Line, List, Lists, NoMemory, RnlEntry, Which};
+use grs_base::{Line, List, Lists, MOST_SYSTEMS, NoMemory, RnlEntry, SysId, Which};
 use grs_wire::{Deck, Desk, Event, JobDef, Name, Order, SystemDef, TaskDef};
 use job_syntax::line_of;
 use rnl_syntax::entry_of;
@@ -41,23 +41,34 @@ fn push_command(systems: &mut List<SystemDef>, command: Desk) -> Result<(), NoMe
     }
 }
 
-/// Adds what is commanded to the desk of the last system.
-fn push_order(
-    systems: &mut List<SystemDef>,
-    at: u32,
-    order: &GivenOrder<'_>,
-) -> Result<(), NoMemory>
-    ensures { OnOk result (systems.new ≡ add_order at order.now systems.old) }
+/// The removal of the system whose name has this place among those that SYSTEM statements give. Behind as many as a deck may
+/// have no name gives a system.
+fn removal_of(place: Option<usize>) -> Option<Order>
+    ensures { result ≡ removal_of place }
+{
+    match place {
+        Some(place) if place < MOST_SYSTEMS => Some(Order::Vary(SysId(place as u8))),
+        _ => None,
+    }
+}
+
+/// What is commanded, where the name that it says has this place.
+fn order_by(place: Option<usize>, order: &GivenOrder<'_>) -> Option<Order>
+    ensures { result ≡ order_by place order.now }
 {
     match order {
-        GivenOrder::Star => push_command(
-            systems,
-            Desk {
-                at,
-                order: Order::Star,
-            },
-        ),
-        GivenOrder::Vary(_) => Ok(()),
+        GivenOrder::Star => Some(Order::Star),
+        GivenOrder::Vary(_) => removal_of(place),
+    }
+}
+
+/// Adds what is commanded to the desk of the last system.
+fn push_order(systems: &mut List<SystemDef>, at: u32, order: Option<Order>) -> Result<(), NoMemory>
+    ensures { OnOk result (systems.new ≡ add_order at order systems.old) }
+{
+    match order {
+        None => Ok(()),
+        Some(order) => push_command(systems, Desk { at, order }),
     }
 }
 
@@ -165,20 +176,21 @@ fn kept_name(alloc: Global, name: &GivenName<'_>) -> Result<Name, NoMemory>
     List::from_bytes(alloc, name.bytes())
 }
 
-/// Adds what a statement says whose names have the right lengths, where `event` is the event that it is. Its names are
-/// copied here.
+/// Adds what a statement says whose names have the right lengths, where `event` is the event that it is, and a name that its
+/// command says has this place. Its names are copied here.
 pub fn grow_deck(
     deck: &mut Deck,
     alloc: Global,
     st: &Stmt<'_>,
     event: Option<Event>,
+    place: Option<usize>,
 ) -> Result<(), NoMemory>
     requires names { has_bad_name st.now ≡ false }
     requires systems { Fits deck.old.systems }
     requires lists { AreLists deck.old.lists }
     requires room { is_crowded deck.old st.now ≡ false }
     requires event { event ≡ event_in deck.old.systems st.now }
-    ensures { OnOk result (deck.new ≡ grow_deck deck.old st.now) }
+    ensures { OnOk result (deck.new ≡ grow_deck place deck.old st.now) }
 {
     match st {
         Stmt::Unbuilt => Ok(()),
@@ -210,7 +222,10 @@ pub fn grow_deck(
             let line = line_of(alloc, line_ask)?;
             push_system_line(&mut deck.systems, line)
         }
-        Stmt::Command(command) => push_order(&mut deck.systems, command.at, &command.order),
+        Stmt::Command(command) => {
+            let order = order_by(place, &command.order);
+            push_order(&mut deck.systems, command.at, order)
+        }
         Stmt::Schedule => Ok(()),
         Stmt::Event { .. } => match event {
             None => Ok(()),

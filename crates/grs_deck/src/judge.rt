@@ -1,7 +1,7 @@
 //! What is wrong with a statement, where a deck has been read so far. Each test is one kind of fault.
-ghost use Rattle.std.specs.Prelude.{◌≡◌, IfOk, is_some};
+ghost use Rattle.std.specs.Prelude.{◌≡◌, is_some};
 ghost use Rattle.grs_wire.specs.Decks.{Fits};
-ghost use Rattle.grs_deck.specs.Places.{event_in};
+ghost use Rattle.grs_deck.specs.Places.{event_in, place_in, place_ordered};
 ghost use Rattle.grs_deck.specs.Judge.{is_too_long, has_long_name, has_long_order, has_bad_name, is_repeated, is_idle, is_away, is_misplaced, is_list_full, is_full, removes_unknown, is_unknown, verdict};
 
 use crate::places::{
@@ -9,11 +9,9 @@ use crate::places::{
 };
 use deck_form::{EventAct, GivenOrder, Stmt, SystemNames, is_unbuilt};
 use grs_base::{
-    Kind, Lists, MOST_ENTRIES, MOST_JOBS, MOST_NAME_BYTES, MOST_SYSTEMS, MOST_TASKS, NoMemory,
-    Which,
+    Kind, Lists, MOST_ENTRIES, MOST_JOBS, MOST_NAME_BYTES, MOST_SYSTEMS, MOST_TASKS, Which,
 };
 use grs_wire::{Deck, Event, SystemDef};
-use std::alloc::Global;
 
 /// The most commands at the desk of a system.
 const MOST_COMMANDS: usize = 64;
@@ -155,45 +153,43 @@ fn is_full(draft: &Draft<'_>, st: &Stmt<'_>) -> bool
 }
 
 /// Whether the removal is commanded of the system at whose desk that is, or of one that the deck doesn't have.
-fn removes_unknown(
-    draft: &Draft<'_>,
-    alloc: Global,
-    order: &GivenOrder<'_>,
-) -> Result<bool, NoMemory>
-    ensures { IfOk result (λ unknown. unknown ≡ removes_unknown draft.now order.now) }
+fn removes_unknown(draft: &Draft<'_>, order: &GivenOrder<'_>, place: Option<usize>) -> bool
+    requires { place ≡ place_ordered draft.now.names order.now }
+    ensures { result ≡ removes_unknown draft.now order.now }
 {
     match order {
-        GivenOrder::Star => Ok(false),
+        GivenOrder::Star => false,
         GivenOrder::Vary(name) => {
-            if name_now(draft.deck.systems.as_slice()) == name.bytes() {
-                return Ok(true);
-            }
-            Ok(!draft.names.has(alloc, name.bytes())?)
+            name_now(draft.deck.systems.as_slice()) == name.bytes() || place.is_none()
         }
     }
 }
 
-/// Whether a statement says a name that none gives, or that may not stand there, where `event` is the event that it is.
-pub fn is_unknown(
-    draft: &Draft<'_>,
-    alloc: Global,
-    st: &Stmt<'_>,
-    event: Option<Event>,
-) -> Result<bool, NoMemory>
-    requires { event ≡ event_in draft.now.deck.systems st.now }
-    ensures { IfOk result (λ unknown. unknown ≡ is_unknown draft.now st.now) }
+/// Whether a statement says a name that none gives, or that may not stand there, where `event` is the event that it is, and
+/// a name that its command says has this place.
+fn is_unknown(draft: &Draft<'_>, st: &Stmt<'_>, event: Option<Event>, place: Option<usize>) -> bool
+    requires event { event ≡ event_in draft.now.deck.systems st.now }
+    requires place { place ≡ place_in draft.now.names st.now }
+    ensures { result ≡ is_unknown draft.now st.now }
 {
     match st {
-        Stmt::Event { .. } => Ok(event.is_none()),
-        Stmt::Command(command) => removes_unknown(draft, alloc, &command.order),
-        _ => Ok(false),
+        Stmt::Event { .. } => event.is_none(),
+        Stmt::Command(command) => removes_unknown(draft, &command.order, place),
+        _ => false,
     }
 }
 
-/// The least kind that applies to a statement of the right form, where `unknown` tells whether it says an unknown name.
-pub fn verdict(draft: &Draft<'_>, st: &Stmt<'_>, unknown: bool) -> Option<Kind>
+/// The least kind that applies to a statement of the right form, where `event` is the event that it is, and a name that its
+/// command says has this place.
+pub fn verdict(
+    draft: &Draft<'_>,
+    st: &Stmt<'_>,
+    event: Option<Event>,
+    place: Option<usize>,
+) -> Option<Kind>
     requires systems { Fits draft.now.deck.systems }
-    requires unknown { unknown ≡ is_unknown draft.now st.now }
+    requires event { event ≡ event_in draft.now.deck.systems st.now }
+    requires place { place ≡ place_in draft.now.names st.now }
     ensures { result ≡ verdict draft.now st.now }
 {
     if has_bad_name(st) {
@@ -204,7 +200,7 @@ pub fn verdict(draft: &Draft<'_>, st: &Stmt<'_>, unknown: bool) -> Option<Kind>
         Some(Kind::OutOfPlace)
     } else if is_full(draft, st) {
         Some(Kind::TooMany)
-    } else if unknown {
+    } else if is_unknown(draft, st, event, place) {
         Some(Kind::UnknownName)
     } else if is_unbuilt(st) {
         Some(Kind::NotBuilt)

@@ -1,13 +1,14 @@
 //! Where systems, jobs and tasks of a deck stand. The last of each is the one that a statement behind
 //! it belongs to.
-ghost use Rattle.std.specs.Prelude.{◌≡◌, ◌<◌, ◌≤◌, length, IfSome};
+ghost use Rattle.std.specs.Prelude.{◌≡◌, ◌<◌, ◌≤◌, length, IfOk, IfSome};
 ghost use Rattle.grs_base.specs.Limits.{most_tasks};
 ghost use Rattle.grs_wire.specs.Decks.{task_count, IsWithin, Fits};
-ghost use Rattle.grs_deck.specs.Places.{system_place, job_place, task_place, name_now, desk_now, jobs_now, tasks_now, system_at, task_in, choice_of, event_of, event_in, seen};
+ghost use Rattle.grs_deck.specs.Places.{system_place, job_place, task_place, name_now, desk_now, jobs_now, tasks_now, system_at, task_in, choice_of, event_of, event_in, place_in, seen};
 
-use deck_form::{EventAct, Stmt};
-use grs_base::{SysId, TaskId};
+use deck_form::{EventAct, GivenOrder, Stmt, SystemNames};
+use grs_base::{NoMemory, SysId, TaskId};
 use grs_wire::{Choice, Desk, Event, JobDef, SystemDef, TaskDef};
+use std::alloc::Global;
 
 /// Where the first system of this name stands.
 #[tactic(auto, unfolding(crate::specs::Places::system_place))]
@@ -178,5 +179,23 @@ pub fn event_in(systems: &[SystemDef], st: &Stmt<'_>) -> Option<Event>
     match st {
         Stmt::Event { system, act } => event_of(systems, system.bytes(), act),
         _ => None,
+    }
+}
+
+/// Where the name that a command says stands among these for the first time.
+pub fn place_in(
+    names: &mut SystemNames<'_>,
+    alloc: Global,
+    st: &Stmt<'_>,
+) -> Result<Option<usize>, NoMemory>
+    ensures place { IfOk result (λ place. place ≡ place_in names.old st.now) }
+    ensures same { names.new ≡ names.old }
+{
+    let Stmt::Command(command) = st else {
+        return Ok(None);
+    };
+    match &command.order {
+        GivenOrder::Star => Ok(None),
+        GivenOrder::Vary(name) => names.place(alloc, name.bytes()),
     }
 }

@@ -8,13 +8,13 @@ ghost use Rattle.grs_wire.specs.declared.deck.Deck.{Deck as DeckValue};
 ghost use Rattle.grs_wire.specs.Decks.{Fits, IsDeck};
 ghost use Rattle.grs_deck.specs.Spells.{SpellsDeck};
 ghost use Rattle.grs_deck.specs.Faults.{Answers};
-ghost use Rattle.grs_deck.specs.Places.{event_in};
+ghost use Rattle.grs_deck.specs.Places.{event_in, place_in};
 ghost use Rattle.grs_deck.specs.Reading.{judge_statement, judge, judge_all, ended, reading, Took, no_draft};
 
 use crate::defaults::{DEFAULT_ENTRIES, DEFAULT_LIMIT};
 use crate::grow::grow_deck;
-use crate::judge::{Draft, is_unknown, verdict};
-use crate::places::event_in;
+use crate::judge::{Draft, verdict};
+use crate::places::{event_in, place_in};
 use deck_form::{Statements, Stmt, SystemNames, statement};
 use deck_scan::{Lines, TokenLine, refused};
 use grs_base::{Kind, List, Lists, MOST_LINES, NoMemory, ReadError};
@@ -40,26 +40,30 @@ fn line_count(st: &Stmt<'_>) -> u32
     }
 }
 
-/// Adds what a statement without a fault says, where `event` is the event that it is.
+/// Adds what a statement without a fault says, where `event` is the event that it is, and a name that its command says has
+/// this place.
 fn grow(
     draft: &mut Draft<'_>,
     alloc: Global,
     st: &Stmt<'_>,
     event: Option<Event>,
+    place: Option<usize>,
 ) -> Result<(), NoMemory>
     requires right { verdict draft.old st.now ≡ None }
     requires systems { Fits draft.old.deck.systems }
     requires lists { AreLists draft.old.deck.lists }
     requires event { event ≡ event_in draft.old.deck.systems st.now }
+    requires place { place ≡ place_in draft.old.names st.now }
     ensures { OnOk result (draft.new ≡ grow draft.old st.now) }
 {
     draft.begun = true;
     draft.scheduled = draft.scheduled || is_schedule(st);
     draft.room = draft.room.saturating_sub(line_count(st));
-    grow_deck(&mut draft.deck, alloc, st, event)
+    grow_deck(&mut draft.deck, alloc, st, event, place)
 }
 
-/// Takes a statement of the right form. The event that it is, if it is one, is looked up once.
+/// Takes a statement of the right form. The event that it is, if it is one, and the name that its command says, if it says
+/// one, are looked up once.
 fn take_statement(
     draft: &mut Draft<'_>,
     alloc: Global,
@@ -71,11 +75,11 @@ fn take_statement(
     ensures { Took result draft.new (judge_statement draft.old at st.now) }
 {
     let event = event_in(draft.deck.systems.as_slice(), st);
-    let unknown = is_unknown(draft, alloc, st, event)?;
-    match verdict(draft, st, unknown) {
+    let place = place_in(&mut draft.names, alloc, st)?;
+    match verdict(draft, st, event, place) {
         Some(kind) => Err(refused(at, kind)),
         None => {
-            grow(draft, alloc, st, event)?;
+            grow(draft, alloc, st, event, place)?;
             Ok(())
         }
     }

@@ -11,3 +11,4 @@ pub mod Parts
 pub mod All
 pub mod Placed
 pub mod Alike
+pub mod Rows

@@ -1,5 +1,5 @@
 -- Worked histories, by which the definition is checked: entries that may stand where they stand, and entries that may not.
-use Rattle.std.proofs.Common.{◌≡◌, ℕ, true, false, List, [], ◌∷◌, ◌++◌, Some, None, refl}
+use Rattle.std.proofs.Common.{◌≡◌, ℕ, true, false, List, [], ◌∷◌, ◌++◌, Some, None, refl, arith}
 use Rattle.grs_base.specs.declared.decision.Code.{Code}
 use Rattle.grs_base.specs.declared.decision.Code.TheVariants.{C00, C04, Wait, End}
 use Rattle.grs_base.specs.declared.resource.Ctl.TheVariants.{E}
@@ -7,12 +7,17 @@ use Rattle.grs_base.specs.declared.resource.Res.{Res}
 use Rattle.grs_base.specs.declared.resource.Res.TheVariants as kinds
 use Rattle.grs_base.specs.declared.resource.Ret.{Ret}
 use Rattle.grs_base.specs.declared.resource.Ret.TheVariants.{RetNone, RetEcb}
+use Rattle.grs_base.specs.Rnl.{no_entries}
+use Rattle.grs_base.specs.declared.resource.SysId.{SysId}
 use Rattle.grs_base.specs.declared.resource.TaskId.{TaskId}
+use Rattle.grs_base.specs.declared.rnl.Which.TheVariants as which
+use Rattle.grs_wire.specs.declared.deck.Deck.{Deck}
+use Rattle.grs_wire.specs.declared.deck.Order.TheVariants as orders
 use Rattle.grs_wire.specs.declared.history.HistEntry.{HistEntry}
-use Rattle.grs_wire.specs.declared.history.HistEntry.TheVariants.{Enq, Deq, Release}
+use Rattle.grs_wire.specs.declared.history.HistEntry.TheVariants.{Enq, Deq, Release, Remove}
 use Rattle.grs_wire.specs.declared.request.Answer.TheVariants.{Coded}
 use Rattle.grs_legal.specs.Asks.{AsksEnq, AsksDeq, AsksRelease}
-use Rattle.grs_legal.specs.Legal.{IsLegal}
+use Rattle.grs_legal.specs.Legal.{IsLegal, MayRemove}
 use Rattle.grs_legal.specs.declared.meaning.Meaning.{Meaning}
 use Rattle.grs_legal.specs.declared.meaning.Meaning.TheVariants as lines
 
@@ -40,10 +45,10 @@ posted_and_gives = lines.Enq (res 66) E RetEcb None ∷ lines.Wait (res 66) ∷ 
 
 -- ---- one task alone
 first : IsLegal 9 (task_of 0) asks_and_gives [] (enq 0 RetNone C00)
-first = record { reply = refl; next = refl; waited = tt; passed = refl }
+first = record { reply = refl; live = refl; next = refl; waited = tt; passed = refl }
 
 second : IsLegal 9 (task_of 0) asks_and_gives (enq 0 RetNone C00 ∷ []) (deq 0 C00)
-second = record { reply = refl; next = refl; waited = λ e. absurd (cc); passed = refl }
+second = record { reply = refl; live = refl; next = refl; waited = λ e. absurd (cc); passed = refl }
 
 -- a line asks once, in its place, and by what stands in it
 asks_twice : IsLegal 9 (task_of 0) asks_and_gives (enq 0 RetNone C00 ∷ []) (enq 0 RetNone (End 138)) → ⊥
@@ -64,7 +69,7 @@ abbrev keeps : List Meaning
 keeps = lines.Enq (res 66) E RetNone None ∷ []
 
 releases : IsLegal 9 (task_of 0) keeps (enq 0 RetNone C00 ∷ []) (Release (task_of 0) (res 66))
-releases = record { reply = refl; next = refl; waited = λ e. absurd (cc); passed = refl }
+releases = record { reply = refl; live = refl; next = refl; waited = λ e. absurd (cc); passed = refl }
 
 releases_before : IsLegal 9 (task_of 0) asks_and_gives (enq 0 RetNone C00 ∷ []) (Release (task_of 0) (res 66)) → ⊥
 releases_before l = let e : Some (AsksDeq (res 66) false) ≡ Some (AsksRelease (res 66)) = l.next in absurd (cc)
@@ -85,7 +90,7 @@ goes_on_waiting : IsLegal 9 (task_of 1) asks_and_gives waiting (deq 1 (End 530))
 goes_on_waiting l = let e : false ≡ true = l.waited refl in absurd (cc)
 
 goes_on_owning : IsLegal 9 (task_of 1) asks_and_gives (waiting ++ deq 0 C00 ∷ []) (deq 1 C00)
-goes_on_owning = record { reply = refl; next = refl; waited = λ e. refl; passed = refl }
+goes_on_owning = record { reply = refl; live = refl; next = refl; waited = λ e. refl; passed = refl }
 
 -- A WAIT line is passed once its task owns, and not before.
 abbrev queued : List HistEntry
@@ -95,4 +100,40 @@ passes_early : IsLegal 9 (task_of 1) posted_and_gives queued (deq 1 (End 530)) �
 passes_early l = let e : false ≡ true = l.passed in absurd (cc)
 
 passes_owning : IsLegal 9 (task_of 1) posted_and_gives (queued ++ deq 0 C00 ∷ []) (deq 1 C00)
-passes_owning = record { reply = refl; next = refl; waited = λ e. absurd (cc); passed = refl }
+passes_owning = record { reply = refl; live = refl; next = refl; waited = λ e. absurd (cc); passed = refl }
+
+-- ---- removals
+-- A ring of two systems. The desk of the second commands the removal of the first.
+abbrev system : ℕ → SysId
+system n = record { 0 = n }
+
+abbrev deck : Deck
+deck = record {
+  star = false;
+  entries = 1;
+  limit = 9;
+  lists = record { incl = no_entries which.Incl; excl = no_entries which.Excl; con = no_entries which.Con };
+  systems = record { name = 65 ∷ []; desk = []; jobs = [] }
+      ∷ record { name = 66 ∷ []; desk = record { at = 0; order = orders.Star } ∷ record { at = 0; order = orders.Vary (system 0) } ∷ []; jobs = [] } ∷ [];
+  events = [];
+}
+
+-- so it may remove it, once; and the first, at whose desk nothing is commanded, may not remove the second
+removes : MayRemove deck [] (system 1) (system 0)
+removes = record { live = refl; first = refl; other = λ e. absurd (omega (arith, e)); commanded = refl }
+
+removes_twice : MayRemove deck (Remove (system 1) (system 0) ∷ []) (system 1) (system 0) → ⊥
+removes_twice m = let e : true ≡ false = m.first in absurd (cc)
+
+removed_removes : MayRemove deck (Remove (system 0) (system 1) ∷ []) (system 1) (system 0) → ⊥
+removed_removes m = let e : true ≡ false = m.live in absurd (cc)
+
+removes_itself : MayRemove deck [] (system 0) (system 0) → ⊥
+removes_itself m = m.other refl
+
+without_command : MayRemove deck [] (system 0) (system 1) → ⊥
+without_command m = let e : false ≡ true = m.commanded in absurd (cc)
+
+-- a task of a removed system asks nothing any more
+asks_removed : IsLegal 9 (task_of 0) asks_and_gives (enq 0 RetNone C00 ∷ Remove (system 1) (system 0) ∷ []) (deq 0 C00) → ⊥
+asks_removed l = let e : true ≡ false = l.live in absurd (cc)

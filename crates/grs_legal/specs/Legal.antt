@@ -1,16 +1,20 @@
 -- Which histories are legal.
-use Rattle.std.specs.Prelude.{◌≡◌, ℕ, zero, suc, Bool, true, false, not, ◌&&◌, ◌||◌, nat_lt, ◌-◌, List, [], ◌∷◌, ◌++◌, length, filter, cond, Option, Some, None, slice_get, is_some, IfSome}
-use Rattle.std.specs.List.{list_all}
+use Rattle.std.specs.Prelude.{◌≡◌, ◌≢◌, ◌==◌, ℕ, zero, suc, Bool, true, false, not, ◌&&◌, ◌||◌, nat_lt, ◌-◌, List, [], ◌∷◌, ◌++◌, length, filter, cond, Option, Some, None, slice_get, is_some, IfSome}
+use Rattle.std.specs.List.{list_all, list_any}
 use Rattle.grs_base.specs.Lists.{owns, has_task}
 use Rattle.grs_base.specs.State.{State, list_of, queued_by}
 use Rattle.grs_base.specs.declared.resource.Res.{Res}
 use Rattle.grs_base.specs.declared.resource.TaskId.{TaskId}
 use Rattle.grs_base.specs.declared.decision.Code.{Code}
 use Rattle.grs_base.specs.declared.decision.Code.TheVariants as codes
+use Rattle.grs_base.specs.declared.resource.SysId.{SysId}
 use Rattle.grs_wire.specs.declared.deck.Deck.{Deck}
+use Rattle.grs_wire.specs.declared.deck.Order.{Order}
+use Rattle.grs_wire.specs.declared.deck.Order.TheVariants.{Star, Vary}
+use Rattle.grs_wire.specs.declared.deck.SystemDef.{SystemDef}
 use Rattle.grs_wire.specs.declared.history.HistEntry.{HistEntry}
 use Rattle.grs_wire.specs.declared.history.HistEntry.TheVariants.{Enq, Deq, Release, Look, Remove}
-use Rattle.grs_wire.specs.History.{is_by, code_of, answer_of, reply_of, replay}
+use Rattle.grs_wire.specs.History.{is_by, removes, code_of, answer_of, reply_of, replay}
 use Rattle.grs_legal.specs.Asks.{Ask, AsksEnq, AsksDeq, AsksRelease, AsksLook, asks_in, asks_of, is_silent, lines_of}
 use Rattle.grs_legal.specs.declared.meaning.Meaning.{Meaning}
 use Rattle.grs_legal.specs.declared.meaning.Meaning.TheVariants as lines
@@ -107,6 +111,8 @@ HasControl s t h = code_of h ≡ codes.Wait → owns_asked s t h ≡ true
 pub record IsLegal (limit : ℕ) (t : TaskId) (ls : List Meaning) (hist : List HistEntry) (h : HistEntry) : Type 0 where
   -- its reply is the one that the lists give
   pub reply : answer_of h ≡ reply_of limit (replay limit hist) h
+  -- the task's system wasn't removed
+  pub live : list_any (removes t.system) hist ≡ false
   -- it is what its task asks next
   pub next : next_ask limit t ls hist ≡ ask_in h
   -- where its task's last entry was answered WAIT, the task owns that resource by now
@@ -123,19 +129,39 @@ IsLegalOf limit t (Some ls) hist h = IsLegal limit t ls hist h
 abbrev pub MayAsk : Deck → TaskId → List HistEntry → HistEntry → Type 0
 MayAsk deck t hist h = IsLegalOf deck.limit t (lines_of deck t) hist h
 
--- an entry may stand behind a history, by the task that asked it; no event removes a system yet
+-- whether a command is to remove this system
+abbrev pub is_removal_of : SysId → Order → Bool
+is_removal_of target Star = false
+is_removal_of target (Vary named) = target.0 == named.0
+
+-- whether the desk of a system, if it is there, commands the removal of another
+abbrev pub commands_removal : SysId → Option SystemDef → Bool
+commands_removal target None = false
+commands_removal target (Some s) = list_any (λ c. is_removal_of target c.order) s.desk
+
+-- A removal may stand behind a history.
+pub record MayRemove (deck : Deck) (hist : List HistEntry) (by target : SysId) : Type 0 where
+  -- the system that makes it wasn't removed,
+  pub live : list_any (removes by) hist ≡ false
+  -- nor was its target, which is another system,
+  pub first : list_any (removes target) hist ≡ false
+  pub other : target.0 ≢ by.0
+  -- and the desk of the system commands it
+  pub commanded : commands_removal target (slice_get deck.systems by.0) ≡ true
+
+-- an entry may stand behind a history, by the task that asked it, or the desk that commanded it
 abbrev pub MayStand : Deck → List HistEntry → HistEntry → Type 0
 MayStand deck hist (Enq t r c ret code) = MayAsk deck t hist (Enq t r c ret code)
 MayStand deck hist (Deq t r have code) = MayAsk deck t hist (Deq t r have code)
 MayStand deck hist (Release t r) = MayAsk deck t hist (Release t r)
 MayStand deck hist (Look t place filter rows) = MayAsk deck t hist (Look t place filter rows)
-MayStand deck hist (Remove by target) = ⊥
+MayStand deck hist (Remove by target) = MayRemove deck hist by target
 
 -- each entry may stand behind those before it, the first behind this history
 abbrev pub LegalFrom : Deck → List HistEntry → List HistEntry → Type 0
 LegalFrom deck hist [] = Unit {0}
 LegalFrom deck hist (h ∷ hs) = MayStand deck hist h × LegalFrom deck (hist ++ h ∷ []) hs
 
--- Each entry is of a task of the deck and may stand where it stands.
+-- Each entry is of a task of the deck, or removes a system, and may stand where it stands.
 abbrev pub Legal : Deck → List HistEntry → Type 0
 Legal deck hist = LegalFrom deck [] hist

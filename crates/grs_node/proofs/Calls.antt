@@ -1,24 +1,28 @@
 -- What is so where a choice of star mode was prepared: its task, its entry and what stands in it.
-use Rattle.std.proofs.Common.{◌≡◌, ℕ, zero, suc, Bool, true, false, cond, List, [], ◌∷◌, length, Option, Some, None, is_some, refl, ap, sym, ◌∙◌, arith}
-use Rattle.std.specs.Prelude.{◌&&◌, not, ◌<◌, slice_set, IfSome, ◌≤◌, slice_get, take}
+use Rattle.std.proofs.Common.{◌≡◌, ℕ, zero, suc, Bool, true, false, cond, List, [], ◌∷◌, length, Option, Some, None, is_some, refl, ap, sym, subst, ◌∙◌, arith}
+use Rattle.std.specs.Prelude.{◌&&◌, ◌≢◌, All, not, ◌<◌, slice_set, IfSome, ◌≤◌, slice_get, take}
 use Rattle.std.proofs.lemmas.Bool.{and_parts, true≢false}
 use Rattle.std.proofs.lemmas.List.{length-set}
+use Rattle.std.proofs.lemmas.List.Elements.{All-tail}
 use Rattle.contention_mgr.specs.Manager.{Managed, no_elements, entry_wanted, kept_at, kept_for}
 use Rattle.std.specs.Option.{option_map}
+use Rattle.grs_base.specs.declared.resource.SysId.{SysId}
 use Rattle.grs_base.specs.declared.resource.TaskId.{TaskId}
 use Rattle.grs_node.specs.Finish.{may_come, is_listed}
-use Rattle.grs_node.specs.Node.{NodeState, prepare, star_call, star_need, prepared_by, may_send, desk_of, desk_count, next_order, switch_call, turn_call, may_go, is_pending}
+use Rattle.grs_node.specs.Node.{NodeState, prepare, star_call, star_need, prepared_by, may_send, desk_of, desk_count, next_order, switch_call, purge_call, turn_call, may_go, is_pending}
 use Rattle.grs_node.specs.Star.{StarPart, send_of, send_to, leave_by, may_leave, manages, entry_for, entry_asked, manages_asked, manages_if_asked, was_prepared, begun, first_held, serves, answer_for, rank_of, settle_by, to_tell, tell_by}
 use Rattle.grs_node.specs.declared.prepared.Prepared.TheVariants.{Quiet, Call, Nothing}
 use Rattle.grs_base.specs.Limits.{most_commands, most_additions}
 use Rattle.grs_base.specs.declared.resource.Res.{Res}
 use Rattle.grs_node.specs.declared.star.Need.{Need}
 use Rattle.grs_node.specs.declared.star.Need.TheVariants.{Alone, Asks, Idle}
+use Rattle.grs_wire.specs.Decks.{IsOrderOf}
 use Rattle.grs_wire.specs.declared.deck.Choice.{Choice}
 use Rattle.grs_wire.specs.declared.deck.Choice.TheVariants as choices
 use Rattle.grs_wire.specs.declared.deck.Deck.{Deck}
 use Rattle.grs_wire.specs.declared.deck.Desk.{Desk}
 use Rattle.grs_wire.specs.declared.deck.Order.{Order}
+use Rattle.grs_wire.specs.declared.deck.Order.TheVariants as orders
 use Rattle.grs_wire.specs.declared.medium.Act.{Act}
 use Rattle.grs_wire.specs.declared.medium.Act.TheVariants as acts
 use Rattle.grs_wire.specs.declared.medium.Mail.TheVariants as mails
@@ -124,46 +128,47 @@ came-called deck n choices.Settle reply h = star-called deck n choices.Settle re
 came-called deck n (choices.Tell e) reply h = star-called deck n (choices.Tell e) reply n.star h
 came-called deck n (choices.Leave e) reply h = star-called deck n (choices.Leave e) reply n.star h
 came-called deck n choices.Switch reply h = other-called n choices.Switch n.star (λ p. refl)
-came-called deck n (choices.Purge s) reply h = star-called deck n (choices.Purge s) reply n.star h
+came-called deck n (choices.Purge s) reply h = other-called n (choices.Purge s) n.star (λ p. refl)
 
--- ---- who asks for the change to star mode
-abbrev is_switch : Act → Bool
-is_switch (acts.Switch words) = true
-is_switch act = false
+-- ---- who asks for what a desk commands
+abbrev is_commanded : Act → Bool
+is_commanded (acts.Switch words) = true
+is_commanded (acts.Purge target) = true
+is_commanded act = false
 
-abbrev needs_switch : Need → Bool
-needs_switch (Asks act) = is_switch act
-needs_switch need = false
+abbrev needs_command : Need → Bool
+needs_command (Asks act) = is_commanded act
+needs_command need = false
 
 -- no event of star mode
-send-other : (p : StarPart) (t : TaskId) (o : Option Asked) → needs_switch (send_of p t o) ≡ false
+send-other : (p : StarPart) (t : TaskId) (o : Option Asked) → needs_command (send_of p t o) ≡ false
 send-other p t None = refl
 send-other p t (Some a) = at (entry_for p a.req.want)
   where
-    one : (e : ℕ) (b : Bool) → needs_switch (cond b Alone (Asks (acts.Submit e (record { task = t; want = a.req.want })))) ≡ false
+    one : (e : ℕ) (b : Bool) → needs_command (cond b Alone (Asks (acts.Submit e (record { task = t; want = a.req.want })))) ≡ false
     one e true = refl
     one e false = refl
 
-    at : (o : Option ℕ) → needs_switch (send_to p (record { task = t; want = a.req.want }) o) ≡ false
+    at : (o : Option ℕ) → needs_command (send_to p (record { task = t; want = a.req.want }) o) ≡ false
     at None = refl
     at (Some e) = one e (manages p e)
 
-settle-other : (p : StarPart) (o : Option Req) → needs_switch (settle_by p o) ≡ false
+settle-other : (p : StarPart) (o : Option Req) → needs_command (settle_by p o) ≡ false
 settle-other p None = refl
 settle-other p (Some q) = go (serves p q)
   where
-    go : (b : Bool) → needs_switch (cond b (Asks (acts.Settle q.task.system (mails.Answered q.task (answer_for p q) (rank_of p q)))) Idle) ≡ false
+    go : (b : Bool) → needs_command (cond b (Asks (acts.Settle q.task.system (mails.Answered q.task (answer_for p q) (rank_of p q)))) Idle) ≡ false
     go true = refl
     go false = refl
 
-tell-other : (o : Option (TaskId × Res)) → needs_switch (tell_by o) ≡ false
+tell-other : (o : Option (TaskId × Res)) → needs_command (tell_by o) ≡ false
 tell-other None = refl
 tell-other (Some x) = refl
 
-need-other : (deck : Deck) (n : NodeState) (p : StarPart) (choice : Choice) → needs_switch (star_need deck n p choice) ≡ false
+need-other : (deck : Deck) (n : NodeState) (p : StarPart) (choice : Choice) → needs_command (star_need deck n p choice) ≡ false
 need-other deck n p (choices.Send t) = go (may_send deck n t)
   where
-    go : (b : Bool) → needs_switch (cond b (send_of p t (state_of n.tasks t).outstanding) Idle) ≡ false
+    go : (b : Bool) → needs_command (cond b (send_of p t (state_of n.tasks t).outstanding) Idle) ≡ false
     go true = send-other p t (state_of n.tasks t).outstanding
     go false = refl
 need-other deck n p choices.Take = refl
@@ -171,7 +176,7 @@ need-other deck n p choices.Settle = settle-other p (first_held p)
 need-other deck n p (choices.Tell e) = tell-other (to_tell p e)
 need-other deck n p (choices.Leave e) = go (may_leave p n.tasks e)
   where
-    go : (b : Bool) → needs_switch (cond b (Asks (acts.Leave e)) Idle) ≡ false
+    go : (b : Bool) → needs_command (cond b (Asks (acts.Leave e)) Idle) ≡ false
     go true = refl
     go false = refl
 need-other deck n p (choices.Task t) = refl
@@ -180,11 +185,11 @@ need-other deck n p choices.Switch = refl
 need-other deck n p (choices.Purge s) = refl
 need-other deck n p choices.Rest = refl
 
--- a reply that is given to a Switch alone
-abbrev OfSwitch : Reply → Type 0
-OfSwitch reply = (act : Act) → is_switch act ≡ false → is_listed act reply ≡ false
+-- a reply that is given to what a desk commands alone
+abbrev OfDesk : Reply → Type 0
+OfDesk reply = (act : Act) → is_commanded act ≡ false → is_listed act reply ≡ false
 
-of-switched : OfSwitch replies.Switched
+of-switched : OfDesk replies.Switched
 of-switched (acts.Turn out) h = refl
 of-switched (acts.Switch words) h = cc
 of-switched (acts.Submit e q) h = refl
@@ -192,10 +197,10 @@ of-switched acts.Take h = refl
 of-switched (acts.Settle to mail) h = refl
 of-switched (acts.Tell to mail) h = refl
 of-switched (acts.Leave e) h = refl
-of-switched (acts.Purge target) h = refl
+of-switched (acts.Purge target) h = cc
 of-switched acts.Rest h = refl
 
-of-already : OfSwitch replies.Already
+of-already : OfDesk replies.Already
 of-already (acts.Turn out) h = refl
 of-already (acts.Switch words) h = cc
 of-already (acts.Submit e q) h = refl
@@ -203,12 +208,45 @@ of-already acts.Take h = refl
 of-already (acts.Settle to mail) h = refl
 of-already (acts.Tell to mail) h = refl
 of-already (acts.Leave e) h = refl
-of-already (acts.Purge target) h = refl
+of-already (acts.Purge target) h = cc
 of-already acts.Rest h = refl
 
--- such a reply comes only where the next command of the desk orders it
-module _ (deck : Deck) (n : NodeState) (reply : Reply) (only : OfSwitch reply) where
-  need-none : (need : Need) → needs_switch need ≡ false → may_come (prepared_by n.known need) reply ≡ true → ⊥
+of-purged : OfDesk replies.Purged
+of-purged (acts.Turn out) h = refl
+of-purged (acts.Switch words) h = cc
+of-purged (acts.Submit e q) h = refl
+of-purged acts.Take h = refl
+of-purged (acts.Settle to mail) h = refl
+of-purged (acts.Tell to mail) h = refl
+of-purged (acts.Leave e) h = refl
+of-purged (acts.Purge target) h = cc
+of-purged acts.Rest h = refl
+
+of-no_such : OfDesk replies.NoSuch
+of-no_such (acts.Turn out) h = refl
+of-no_such (acts.Switch words) h = cc
+of-no_such (acts.Submit e q) h = refl
+of-no_such acts.Take h = refl
+of-no_such (acts.Settle to mail) h = refl
+of-no_such (acts.Tell to mail) h = refl
+of-no_such (acts.Leave e) h = refl
+of-no_such (acts.Purge target) h = cc
+of-no_such acts.Rest h = refl
+
+of-in_star : OfDesk replies.InStar
+of-in_star (acts.Turn out) h = refl
+of-in_star (acts.Switch words) h = cc
+of-in_star (acts.Submit e q) h = refl
+of-in_star acts.Take h = refl
+of-in_star (acts.Settle to mail) h = refl
+of-in_star (acts.Tell to mail) h = refl
+of-in_star (acts.Leave e) h = refl
+of-in_star (acts.Purge target) h = cc
+of-in_star acts.Rest h = refl
+
+-- such a reply comes only where the desk has a command that isn't done
+module _ (deck : Deck) (n : NodeState) (reply : Reply) (only : OfDesk reply) where
+  need-none : (need : Need) → needs_command need ≡ false → may_come (prepared_by n.known need) reply ≡ true → ⊥
   need-none Alone h k = cc
   need-none (Asks act) h k = absurd (true≢false (sym k ∙ only act h))
   need-none Idle h k = cc
@@ -226,6 +264,10 @@ module _ (deck : Deck) (n : NodeState) (reply : Reply) (only : OfSwitch reply) w
   desk-next None k = cc
   desk-next (Some o) k = refl
 
+  purge-next : (o : Option Order) (target : SysId) → may_come (purge_call n target o) reply ≡ true → is_some o ≡ true
+  purge-next None target k = cc
+  purge-next (Some o) target k = refl
+
   desk-below : (desk : List Desk) (k : ℕ) → is_some (option_map (λ c. c.order) (slice_get desk k)) ≡ true → k < length desk
   desk-below [] k h = cc
   desk-below (c ∷ desk) zero h = omega arith
@@ -234,6 +276,7 @@ module _ (deck : Deck) (n : NodeState) (reply : Reply) (only : OfSwitch reply) w
   ordered : (choice : Choice) → may_come (prepare deck n choice) reply ≡ true → n.done < desk_count (slice_get deck.systems n.tasks.system)
   unfolding prepare
   ordered choices.Switch k = desk-below (desk_of (slice_get deck.systems n.tasks.system)) n.done (desk-next (next_order deck n) k)
+  ordered (choices.Purge s) k = desk-below (desk_of (slice_get deck.systems n.tasks.system)) n.done (purge-next (next_order deck n) s k)
   ordered (choices.Task t) k = absurd (go (may_go deck n t) k)
     where
       go : (b : Bool) → may_come (cond b Quiet Nothing) reply ≡ true → ⊥
@@ -250,7 +293,6 @@ module _ (deck : Deck) (n : NodeState) (reply : Reply) (only : OfSwitch reply) w
   ordered choices.Settle k = absurd (star-none choices.Settle n.star k)
   ordered (choices.Tell e) k = absurd (star-none (choices.Tell e) n.star k)
   ordered (choices.Leave e) k = absurd (star-none (choices.Leave e) n.star k)
-  ordered (choices.Purge s) k = absurd (star-none (choices.Purge s) n.star k)
 
 -- so a system that tells of its desk has a command there that isn't done
 pub switched-orders : (deck : Deck) (n : NodeState) (choice : Choice) → may_come (prepare deck n choice) replies.Switched ≡ true → desk_count (slice_get deck.systems n.tasks.system) ≤ most_commands → n.done < most_commands
@@ -259,7 +301,26 @@ switched-orders deck n choice h few = omega (arith, ordered deck n replies.Switc
 pub already-orders : (deck : Deck) (n : NodeState) (choice : Choice) → may_come (prepare deck n choice) replies.Already ≡ true → desk_count (slice_get deck.systems n.tasks.system) ≤ most_commands → n.done < most_commands
 already-orders deck n choice h few = omega (arith, ordered deck n replies.Already of-already choice h, few)
 
-pub ruleset ordered_desk = (switched-orders, already-orders)
+pub purged-orders : (deck : Deck) (n : NodeState) (choice : Choice) → may_come (prepare deck n choice) replies.Purged ≡ true → desk_count (slice_get deck.systems n.tasks.system) ≤ most_commands → n.done < most_commands
+purged-orders deck n choice h few = omega (arith, ordered deck n replies.Purged of-purged choice h, few)
+
+pub no_such-orders : (deck : Deck) (n : NodeState) (choice : Choice) → may_come (prepare deck n choice) replies.NoSuch ≡ true → desk_count (slice_get deck.systems n.tasks.system) ≤ most_commands → n.done < most_commands
+no_such-orders deck n choice h few = omega (arith, ordered deck n replies.NoSuch of-no_such choice h, few)
+
+pub in_star-orders : (deck : Deck) (n : NodeState) (choice : Choice) → may_come (prepare deck n choice) replies.InStar ≡ true → desk_count (slice_get deck.systems n.tasks.system) ≤ most_commands → n.done < most_commands
+in_star-orders deck n choice h few = omega (arith, ordered deck n replies.InStar of-in_star choice h, few)
+
+pub ruleset ordered_desk = (switched-orders, already-orders, purged-orders, no_such-orders, in_star-orders)
+
+-- ---- what a removal that is commanded is of
+order-at : (P : Order → Type 0) (cs : List Desk) (k : ℕ) (o : Order) → All (λ (c : Desk). P c.order) cs → option_map (λ c. c.order) (slice_get cs k) ≡ Some o → P o
+order-at P [] k o h is = absurd (cc)
+order-at P (c ∷ cs) zero o h is = let same : c.order ≡ o = cc in subst P same (h 0 c (omega arith))
+order-at P (c ∷ cs) (suc k) o h is = order-at P cs k o (All-tail (λ (d : Desk). P d.order) c cs h) is
+
+-- the target of a removal that a system's desk commands next is another system of as many
+pub target-of : (deck : Deck) (n : NodeState) (target : SysId) (all : ℕ) → All (λ (c : Desk). IsOrderOf all n.tasks.system c.order) (desk_of (slice_get deck.systems n.tasks.system)) → next_order deck n ≡ Some (orders.Vary target) → (target.0 < all) × (target.0 ≢ n.tasks.system)
+target-of deck n target all h is = order-at (IsOrderOf all n.tasks.system) (desk_of (slice_get deck.systems n.tasks.system)) n.done (orders.Vary target) h is
 
 -- a task that sends is one of the system's
 pub call-send : (deck : Deck) (n : NodeState) (t : TaskId) (reply : Reply) → may_come (prepare deck n (choices.Send t)) reply ≡ true → is_task n.tasks t ≡ true

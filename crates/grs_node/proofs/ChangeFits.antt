@@ -138,7 +138,7 @@ words-fit deck t (Some p) within = both _ _ (same (length-replicate {A = ℕ} de
     same : length (replicate {A = ℕ} deck.entries 0) ≡ deck.entries → (length (replicate {A = ℕ} deck.entries 0) == deck.entries) ≡ true
     same h = grind (arith, nat_tests, h)
 
-pub switch-fits : (deck : Deck) (n : NodeState) (o : Option Order) → list_all (λ x. is_within deck x.1.task) n.shared ≡ true → is_addressed deck (switch_call deck n o) ≡ true
+pub switch-fits : (deck : Deck) (n : NodeState) (o : Option Order) → list_all (λ x. is_within deck x.1.task) n.shared ≡ true → is_addressed deck n.tasks.system (switch_call deck n o) ≡ true
 switch-fits deck n None within = refl
 switch-fits deck n (Some orders.Star) within = words-fit deck n.shared n.star within
 switch-fits deck n (Some (orders.Vary t)) within = refl

@@ -122,7 +122,7 @@ ordered : prepare (deck (orders.Star ∷ [])) (before enq) choices.Switch ≡ Ca
 unfolding prepare lock_word with_also
 ordered = refl
 
-addressed : is_addressed (deck (orders.Star ∷ [])) (prepare (deck (orders.Star ∷ [])) (before enq) choices.Switch) ≡ true
+addressed : is_addressed (deck (orders.Star ∷ [])) 0 (prepare (deck (orders.Star ∷ [])) (before enq) choices.Switch) ≡ true
 unfolding prepare lock_word manager has with_also
 addressed = refl
 

@@ -1,14 +1,15 @@
 -- A system's part in star mode goes on to fit the deck, and so its calls go to systems and lock entries that there are.
 use Rattle.std.proofs.Common.{◌≡◌, ◌≢◌, ◌<◌, ◌≤◌, ◌+◌, ℕ, zero, suc, Bool, true, false, cond, List, [], ◌∷◌, ◌++◌, length, replicate, drop, Option, Some, None, is_some, refl, ap, sym, ◌∙◌, subst, arith}
-use Rattle.std.specs.Prelude.{slice_get, is_none, ◌&&◌, ◌==◌, nat_lt, nat_le, slice_set, slice_index_or}
+use Rattle.std.specs.Prelude.{All, slice_get, is_none, not, ◌&&◌, ◌==◌, nat_lt, nat_le, slice_set, slice_index_or}
 use Rattle.std.specs.List.{list_all}
 use Rattle.std.specs.Option.{option_map, option_map_or}
 use Rattle.std.specs.Ordering.{is_lt}
-use Rattle.grs_base.specs.Limits.{most_additions}
+use Rattle.grs_base.specs.Limits.{most_systems, most_additions}
 use Rattle.grs_base.specs.ResOrder.{res_order}
 use Rattle.std.proofs.lemmas.Bool.{and_parts, eqb-true}
 use Rattle.std.proofs.lemmas.Bool.Decides.{nat_tests}
 use Rattle.std.proofs.lemmas.List.{length-set, length-take}
+use Rattle.std.proofs.lemmas.List.Elements.{All-nil}
 use Rattle.std.proofs.lemmas.Nat.{mod_below}
 use Rattle.grs_base.specs.Slices.{entry_of, slice_of}
 use Rattle.grs_base.specs.declared.resource.Res.TheVariants.{Step as StepRes, System as SystemRes, Systems}
@@ -19,9 +20,9 @@ use Rattle.lock_structure.specs.Entries.{entry_of_res}
 use Rattle.grs_base.specs.declared.resource.Res.{Res}
 use Rattle.grs_base.specs.declared.resource.SysId.{SysId}
 use Rattle.grs_base.specs.declared.resource.TaskId.{TaskId}
-use Rattle.grs_node.specs.Addressed.{is_act_addressed, is_addressed, is_within, PartFits, AnyPartFits, NodeFits}
+use Rattle.grs_node.specs.Addressed.{is_act_addressed, is_addressed, is_within, TargetFits, PartFits, AnyPartFits, NodeFits}
 use Rattle.grs_node.specs.Log.{stepped}
-use Rattle.grs_node.specs.Node.{NodeState, Step, part_at_first, prepare, star_call, prepared_by, star_need, turn_call, may_go, may_send, is_pending, finish_quiet, finish_call, finish_star, star_step, take_step, take_mail, is_of_deck, send_own, read_entries, put_in, desk_count, next_order, change_to_star, changed_if, turned, desk_told, switched}
+use Rattle.grs_node.specs.Node.{NodeState, Step, purged, purge_call, desk_of, part_at_first, prepare, star_call, prepared_by, star_need, turn_call, may_go, may_send, is_pending, finish_quiet, finish_call, finish_star, star_step, take_step, take_mail, is_of_deck, send_own, read_entries, put_in, desk_count, next_order, change_to_star, changed_if, turned, desk_told, switched}
 use Rattle.grs_node.specs.Star.{StarPart, first_part, entry_asked, to_tell, send_of, send_to, first_held, answer_for, rank_of, settle_by, tell_by, leave_by, may_leave, has_interest, manages, serves, entry_for, fixing_none, own_step, decide_own, begun, begin_at, sent_to, with_held, took_mail, settled_by, settled_first, told_by, not_managing, left_at, send_step, settle_step, tell_step, leave_step}
 use Rattle.grs_node.specs.Change.{part_by_table}
 use Rattle.task_state.proofs.Stays.{system-telling}
@@ -29,7 +30,7 @@ use Rattle.grs_wire.specs.declared.told.ToldLine.TheVariants as lines
 use Rattle.grs_node.specs.declared.prepared.Prepared.TheVariants.{Quiet, Call, Nothing}
 use Rattle.grs_node.specs.declared.star.Need.{Need}
 use Rattle.grs_node.specs.declared.star.Need.TheVariants.{Alone, Asks, Idle}
-use Rattle.grs_node.proofs.Calls.{quiet-send, call-send}
+use Rattle.grs_node.proofs.Calls.{quiet-send, call-send, target-of}
 use Rattle.grs_node.proofs.ChangeFits.{part-fits, star-changed, system-changed, switch-fits, desk_few}
 use Rattle.grs_node.proofs.Keeping.{star-task, shared-task, star-turned}
 use Rattle.grs_node.proofs.Tables.{apart-entries, all-entries}
@@ -39,7 +40,7 @@ use Rattle.grs_legal.specs.Asks.{scripts_at, lines_in, lines_of, meanings}
 use Rattle.grs_wire.specs.declared.deck.SystemDef.{SystemDef}
 use Rattle.grs_wire.specs.declared.request.Fixed.{Fixed}
 use Rattle.std.proofs.lemmas.Option.{slice_get_within}
-use Rattle.grs_wire.specs.Decks.{IsDeck}
+use Rattle.grs_wire.specs.Decks.{IsOrderOf, AreOrders, IsDeck}
 use Rattle.grs_base.specs.Limits.{most_commands}
 use Rattle.grs_base.specs.State.{State}
 use Rattle.grs_wire.proofs.DeckLaws.{entries_some}
@@ -47,6 +48,9 @@ use Rattle.grs_wire.specs.declared.told.Said.TheVariants as saids
 use Rattle.grs_wire.specs.declared.deck.Choice.{Choice}
 use Rattle.grs_wire.specs.declared.deck.Choice.TheVariants as choices
 use Rattle.grs_wire.specs.declared.deck.Deck.{Deck}
+use Rattle.grs_wire.specs.declared.deck.Desk.{Desk}
+use Rattle.grs_wire.specs.declared.deck.Order.{Order}
+use Rattle.grs_wire.specs.declared.deck.Order.TheVariants as orders
 use Rattle.grs_wire.specs.declared.medium.Act.TheVariants as acts
 use Rattle.grs_wire.specs.declared.medium.Mail.{Mail}
 use Rattle.grs_wire.specs.declared.medium.Mail.TheVariants as mails
@@ -111,12 +115,27 @@ length-replicate : {X : Type 0} (n : ℕ) (x : X) → length (replicate n x) ≡
 length-replicate zero x = refl
 length-replicate (suc n) x = ap suc (length-replicate n x)
 
+-- what a deck's desks command is what each of its systems may
+orders-from : (all n : ℕ) (ss : List SystemDef) (s : ℕ) → AreOrders all n ss → All (λ (c : Desk). IsOrderOf all (n + s) c.order) (desk_of (slice_get ss s))
+orders-from all n [] s h = All-nil (λ (c : Desk). IsOrderOf all (n + s) c.order)
+orders-from all n (d ∷ ds) zero h =
+    let same : n ≡ n + 0 = omega arith in
+    subst (λ (k : ℕ). All (λ (c : Desk). IsOrderOf all k c.order) d.desk) same h.0
+orders-from all n (d ∷ ds) (suc s) h =
+    let same : (n + 1) + s ≡ n + suc s = omega arith in
+    subst (λ (k : ℕ). All (λ (c : Desk). IsOrderOf all k c.order) (desk_of (slice_get ds s))) same (orders-from all (n + 1) ds s h.1)
+
+pub orders-at : (all : ℕ) (ss : List SystemDef) (s : ℕ) → AreOrders all 0 ss → All (λ (c : Desk). IsOrderOf all s c.order) (desk_of (slice_get ss s))
+orders-at all ss s h = let same : 0 + s ≡ s = omega arith in subst (λ (k : ℕ). All (λ (c : Desk). IsOrderOf all k c.order) (desk_of (slice_get ss s))) same (orders-from all 0 ss s h)
+
 -- a system at the start fits the deck
 pub started-fits : (deck : Deck) (n : NodeState) (s : ℕ) → IsDeck deck → s < length deck.systems → n.tasks.system ≡ s → n.shared ≡ [] → n.star ≡ part_at_first deck s → NodeFits deck n
 started-fits deck n s h within own none begins = record {
   system = subst (λ (k : ℕ). k < length deck.systems) (sym own) within;
   some = entries_some deck.entries h.entries;
+  few = h.fits.few;
   desk = desk_few deck n.tasks.system h;
+  orders = orders-at (length deck.systems) deck.systems n.tasks.system h.orders;
   shared = subst (λ (t : State). list_all (λ x. is_within deck x.1.task) t ≡ true) (sym none) refl;
   apart = subst AreApart (sym none) (λ r. refl);
   part = subst (λ (k : ℕ). AnyPartFits deck k n.star) (sym own) (subst (AnyPartFits deck s) (sym begins) (go deck.star));
@@ -134,41 +153,41 @@ started-fits deck n s h within own none begins = record {
     }
 
 -- ---- what is prepared
-abbrev need-fits : Deck → Need → Bool
-need-fits deck Alone = true
-need-fits deck (Asks act) = is_act_addressed deck act
-need-fits deck Idle = true
+abbrev need-fits : Deck → ℕ → Need → Bool
+need-fits deck home Alone = true
+need-fits deck home (Asks act) = is_act_addressed deck home act
+need-fits deck home Idle = true
 
-prepared-fits : (deck : Deck) (known : ℕ) (need : Need) → need-fits deck need ≡ true → is_addressed deck (prepared_by known need) ≡ true
-prepared-fits deck known Alone h = refl
-prepared-fits deck known (Asks act) h = h
-prepared-fits deck known Idle h = refl
+prepared-fits : (deck : Deck) (home known : ℕ) (need : Need) → need-fits deck home need ≡ true → is_addressed deck home (prepared_by known need) ≡ true
+prepared-fits deck home known Alone h = refl
+prepared-fits deck home known (Asks act) h = h
+prepared-fits deck home known Idle h = refl
 
 module _ (deck : Deck) (home : ℕ) (p : StarPart) (fits : PartFits deck home p) where
-  send-fits : (t : TaskId) (o : Option Asked) → need-fits deck (send_of p t o) ≡ true
+  send-fits : (t : TaskId) (o : Option Asked) → need-fits deck home (send_of p t o) ≡ true
   send-fits t None = refl
   send-fits t (Some a) = go (entry_for p a.req.want) refl
     where
-      one : (e : ℕ) (b : Bool) → nat_lt e deck.entries ≡ true → need-fits deck (cond b Alone (Asks (acts.Submit e (record { task = t; want = a.req.want })))) ≡ true
+      one : (e : ℕ) (b : Bool) → nat_lt e deck.entries ≡ true → need-fits deck home (cond b Alone (Asks (acts.Submit e (record { task = t; want = a.req.want })))) ≡ true
       one e true h = refl
       one e false h = h
 
-      go : (at : Option ℕ) → entry_for p a.req.want ≡ at → need-fits deck (send_to p (record { task = t; want = a.req.want }) at) ≡ true
+      go : (at : Option ℕ) → entry_for p a.req.want ≡ at → need-fits deck home (send_to p (record { task = t; want = a.req.want }) at) ≡ true
       go None is = refl
       go (Some e) is = one e (manages p e) (below-wanted deck.entries a.req.want e fits.some (ap (λ (n : ℕ). entry_wanted n a.req.want) (sym fits.entries) ∙ is))
 
-  settle-fits : (qs : List Req) → list_all (λ q. is_within deck q.task) qs ≡ true → need-fits deck (settle_by p (slice_get qs 0)) ≡ true
+  settle-fits : (qs : List Req) → list_all (λ q. is_within deck q.task) qs ≡ true → need-fits deck home (settle_by p (slice_get qs 0)) ≡ true
   settle-fits [] h = refl
   settle-fits (q ∷ qs) h = go (serves p q)
     where
-      go : (b : Bool) → need-fits deck (cond b (Asks (acts.Settle q.task.system (mails.Answered q.task (answer_for p q) (rank_of p q)))) Idle) ≡ true
+      go : (b : Bool) → need-fits deck home (cond b (Asks (acts.Settle q.task.system (mails.Answered q.task (answer_for p q) (rank_of p q)))) Idle) ≡ true
       go true = (and_parts (is_within deck q.task) _ h).0
       go false = refl
 
-  tell-fits : (e : ℕ) → need-fits deck (tell_by (to_tell p e)) ≡ true
+  tell-fits : (e : ℕ) → need-fits deck home (tell_by (to_tell p e)) ≡ true
   tell-fits e = go (first_untold p.manager.system.0 (items_of (managed_at p.manager e))) refl
     where
-      go : (o : Option Ranked) → first_untold p.manager.system.0 (items_of (managed_at p.manager e)) ≡ o → need-fits deck (tell_by (option_map owner_of o)) ≡ true
+      go : (o : Option Ranked) → first_untold p.manager.system.0 (items_of (managed_at p.manager e)) ≡ o → need-fits deck home (tell_by (option_map owner_of o)) ≡ true
       go None is = refl
       go (Some x) is = first-of (is_within deck) p.manager.system.0 (items_of (managed_at p.manager e)) x (elements-kept (is_within deck) p.manager.entries e fits.elements) is
 
@@ -177,17 +196,17 @@ module _ (deck : Deck) (home : ℕ) (p : StarPart) (fits : PartFits deck home p)
   interest-below (b ∷ bs) zero h = grind (arith, nat_tests)
   interest-below (b ∷ bs) (suc e) h = grind (arith, nat_tests, interest-below bs e h)
 
-  leave-fits : (v : TasksView) (e : ℕ) → need-fits deck (leave_by p v e) ≡ true
+  leave-fits : (v : TasksView) (e : ℕ) → need-fits deck home (leave_by p v e) ≡ true
   leave-fits v e = go (may_leave p v e) refl
     where
-      go : (b : Bool) → may_leave p v e ≡ b → need-fits deck (cond b (Asks (acts.Leave e)) Idle) ≡ true
+      go : (b : Bool) → may_leave p v e ≡ b → need-fits deck home (cond b (Asks (acts.Leave e)) Idle) ≡ true
       go false is = refl
       go true is = ap (λ (n : ℕ). nat_lt e n) (sym fits.interest) ∙ interest-below p.interest e (and_parts (has_interest p e) _ is).0
 
-need-choice : (deck : Deck) (home : ℕ) (n : NodeState) (p : StarPart) → PartFits deck home p → (choice : Choice) → need-fits deck (star_need deck n p choice) ≡ true
+need-choice : (deck : Deck) (home : ℕ) (n : NodeState) (p : StarPart) → PartFits deck home p → (choice : Choice) → need-fits deck home (star_need deck n p choice) ≡ true
 need-choice deck home n p fits (choices.Send t) = go (may_send deck n t)
   where
-    go : (b : Bool) → need-fits deck (cond b (send_of p t (state_of n.tasks t).outstanding) Idle) ≡ true
+    go : (b : Bool) → need-fits deck home (cond b (send_of p t (state_of n.tasks t).outstanding) Idle) ≡ true
     go true = send-fits deck home p fits t (state_of n.tasks t).outstanding
     go false = refl
 need-choice deck home n p fits choices.Take = refl
@@ -200,35 +219,60 @@ need-choice deck home n p fits choices.Switch = refl
 need-choice deck home n p fits (choices.Purge s) = refl
 need-choice deck home n p fits choices.Rest = refl
 
-star-call-fits : (deck : Deck) (home : ℕ) (n : NodeState) (o : Option StarPart) (choice : Choice) → AnyPartFits deck home o → is_addressed deck (star_call deck n o choice) ≡ true
+star-call-fits : (deck : Deck) (home : ℕ) (n : NodeState) (o : Option StarPart) (choice : Choice) → AnyPartFits deck home o → is_addressed deck home (star_call deck n o choice) ≡ true
 unfolding star_call
 star-call-fits deck home n None choice fits = refl
-star-call-fits deck home n (Some p) choice fits = prepared-fits deck n.known (star_need deck n p choice) (need-choice deck home n p fits choice)
+star-call-fits deck home n (Some p) choice fits = prepared-fits deck home n.known (star_need deck n p choice) (need-choice deck home n p fits choice)
 
-turn-fits : (deck : Deck) (n : NodeState) (o : Option StarPart) → is_addressed deck (turn_call n o) ≡ true
-turn-fits deck n None = let few = length-take most_additions n.outbox in grind (arith, nat_tests, few)
-turn-fits deck n (Some p) = refl
+turn-fits : (deck : Deck) (home : ℕ) (n : NodeState) (o : Option StarPart) → is_addressed deck home (turn_call n o) ≡ true
+turn-fits deck home n None = let few = length-take most_additions n.outbox in grind (arith, nat_tests, few)
+turn-fits deck home n (Some p) = refl
 
-quiet-fits : (deck : Deck) (b : Bool) → is_addressed deck (cond b Quiet Nothing) ≡ true
-quiet-fits deck true = refl
-quiet-fits deck false = refl
+quiet-fits : (deck : Deck) (home : ℕ) (b : Bool) → is_addressed deck home (cond b Quiet Nothing) ≡ true
+quiet-fits deck home true = refl
+quiet-fits deck home false = refl
 
-rest-fits : (deck : Deck) (known : ℕ) (b : Bool) → is_addressed deck (cond b Nothing (Call (record { known = known; act = acts.Rest }))) ≡ true
-rest-fits deck known true = refl
-rest-fits deck known false = refl
+rest-fits : (deck : Deck) (home known : ℕ) (b : Bool) → is_addressed deck home (cond b Nothing (Call (record { known = known; act = acts.Rest }))) ≡ true
+rest-fits deck home known true = refl
+rest-fits deck home known false = refl
 
-pub prepare-addressed : (deck : Deck) (n : NodeState) (choice : Choice) → NodeFits deck n → is_addressed deck (prepare deck n choice) ≡ true
+-- a removal is of another system
+purge-fits : (deck : Deck) (n : NodeState) (target : SysId) (o : Option Order) → next_order deck n ≡ o → NodeFits deck n → is_addressed deck n.tasks.system (purge_call n target o) ≡ true
+purge-fits deck n target None is fits = refl
+purge-fits deck n target (Some orders.Star) is fits = refl
+purge-fits deck n target (Some (orders.Vary named)) is fits = go (named.0 == target.0) refl
+  where
+    other : (a b : ℕ) → a ≢ b → (a == b) ≡ false
+    other a b h = apart (a == b) refl
+      where
+        apart : (c : Bool) → (a == b) ≡ c → (a == b) ≡ false
+        apart true e = absurd (h (eqb-true a b e))
+        apart false e = e
+
+    joined : (a b : Bool) → a ≡ true → b ≡ false → (a && not b) ≡ true
+    joined a b e f = rw (e, f) refl
+
+    go : (b : Bool) → (named.0 == target.0) ≡ b → is_addressed deck n.tasks.system (cond b (Call (record { known = n.known; act = acts.Purge target })) Nothing) ≡ true
+    go false e = refl
+    go true e =
+        let same : named.0 ≡ target.0 = eqb-true named.0 target.0 e in
+        let fit = target-of deck n named (length deck.systems) fits.orders is in
+        let below : nat_lt target.0 (length deck.systems) ≡ true = lt-below target.0 (length deck.systems) (subst (λ (k : ℕ). k < length deck.systems) same fit.0) in
+        let apart : (target.0 == n.tasks.system) ≡ false = other target.0 n.tasks.system (subst (λ (k : ℕ). k ≢ n.tasks.system) same fit.1) in
+        joined (nat_lt target.0 (length deck.systems)) (target.0 == n.tasks.system) below apart
+
+pub prepare-addressed : (deck : Deck) (n : NodeState) (choice : Choice) → NodeFits deck n → is_addressed deck n.tasks.system (prepare deck n choice) ≡ true
 unfolding prepare
-prepare-addressed deck n (choices.Task t) fits = quiet-fits deck (may_go deck n t)
-prepare-addressed deck n choices.Turn fits = turn-fits deck n n.star
-prepare-addressed deck n choices.Rest fits = rest-fits deck n.known (is_pending deck n)
+prepare-addressed deck n (choices.Task t) fits = quiet-fits deck n.tasks.system (may_go deck n t)
+prepare-addressed deck n choices.Turn fits = turn-fits deck n.tasks.system n n.star
+prepare-addressed deck n choices.Rest fits = rest-fits deck n.tasks.system n.known (is_pending deck n)
 prepare-addressed deck n (choices.Send t) fits = star-call-fits deck n.tasks.system n n.star (choices.Send t) fits.part
 prepare-addressed deck n choices.Take fits = star-call-fits deck n.tasks.system n n.star choices.Take fits.part
 prepare-addressed deck n choices.Settle fits = star-call-fits deck n.tasks.system n n.star choices.Settle fits.part
 prepare-addressed deck n (choices.Tell e) fits = star-call-fits deck n.tasks.system n n.star (choices.Tell e) fits.part
 prepare-addressed deck n (choices.Leave e) fits = star-call-fits deck n.tasks.system n n.star (choices.Leave e) fits.part
 prepare-addressed deck n choices.Switch fits = switch-fits deck n (next_order deck n) fits.shared
-prepare-addressed deck n (choices.Purge s) fits = star-call-fits deck n.tasks.system n n.star (choices.Purge s) fits.part
+prepare-addressed deck n (choices.Purge s) fits = purge-fits deck n s (next_order deck n) refl fits
 
 -- ---- what a step leaves
 -- a manager of the same system, of as many lock entries
@@ -335,7 +379,7 @@ own-task deck n t fits h =
 module _ (Q : Reply → Type 0) (turned : (es : List RingEntry) (k : ℕ) (b : Bool) → Q (replies.Turned es k b)) (not_yours : (holder : Option SysId) → Q (replies.NotYours holder)) (behind : (n : ℕ) → Q (replies.Behind n)) (switched : Q replies.Switched) (already : Q replies.Already)
     (sole : Q replies.Sole) (sent : Q replies.Sent) (taken : (m : Mail) → Q (replies.Taken m)) (empty : Q replies.Empty) (settled_one : Q replies.Settled) (told_one : Q replies.Told) (left_one : Q replies.Left) (kept : (mask : ℕ) → Q (replies.Kept mask))
     (purged : Q replies.Purged) (no_such : Q replies.NoSuch) (in_star : Q replies.InStar) (resting : Q replies.Resting) (over : Q replies.Over) (stale : (set : ℕ) → Q (replies.Stale set)) (removed : Q replies.Removed) where
-  by-reply : (reply : Reply) → Q reply
+  pub by-reply : (reply : Reply) → Q reply
   by-reply (replies.Turned es k b) = turned es k b
   by-reply (replies.NotYours holder) = not_yours holder
   by-reply (replies.Behind n) = behind n
@@ -438,7 +482,7 @@ switched-part deck n fits = go (is_none n.star)
     go false = fits.part
 
 call-part : (deck : Deck) (n : NodeState) (choice : Choice) (reply : Reply) → NodeFits deck n → Sends deck choice → (finish_call deck n choice reply).node.tasks.system ≡ n.tasks.system → AnyPartFits deck n.tasks.system (finish_call deck n choice reply).node.star
-unfolding finish_call desk_told
+unfolding finish_call desk_told purged
 call-part deck n choice (replies.Turned entries taken closed) fits own same = turned-part deck n entries taken closed fits same
 call-part deck n choice (replies.NotYours holder) fits own same = finish-star-fits deck n.tasks.system n n.star choice (replies.NotYours holder) refl fits.part own
 call-part deck n choice (replies.Behind first) fits own same = finish-star-fits deck n.tasks.system n n.star choice (replies.Behind first) refl fits.part own
@@ -452,9 +496,9 @@ call-part deck n choice replies.Settled fits own same = finish-star-fits deck n.
 call-part deck n choice replies.Told fits own same = finish-star-fits deck n.tasks.system n n.star choice replies.Told refl fits.part own
 call-part deck n choice replies.Left fits own same = finish-star-fits deck n.tasks.system n n.star choice replies.Left refl fits.part own
 call-part deck n choice (replies.Kept mask) fits own same = finish-star-fits deck n.tasks.system n n.star choice (replies.Kept mask) refl fits.part own
-call-part deck n choice replies.Purged fits own same = finish-star-fits deck n.tasks.system n n.star choice replies.Purged refl fits.part own
-call-part deck n choice replies.NoSuch fits own same = finish-star-fits deck n.tasks.system n n.star choice replies.NoSuch refl fits.part own
-call-part deck n choice replies.InStar fits own same = finish-star-fits deck n.tasks.system n n.star choice replies.InStar refl fits.part own
+call-part deck n choice replies.Purged fits own same = fits.part
+call-part deck n choice replies.NoSuch fits own same = fits.part
+call-part deck n choice replies.InStar fits own same = fits.part
 call-part deck n choice replies.Resting fits own same = finish-star-fits deck n.tasks.system n n.star choice replies.Resting refl fits.part own
 call-part deck n choice replies.Over fits own same = finish-star-fits deck n.tasks.system n n.star choice replies.Over refl fits.part own
 call-part deck n choice (replies.Stale set) fits own same = fits.part
@@ -539,9 +583,9 @@ finish-star-shared deck n None choice reply = refl
 finish-star-shared deck n (Some p) choice reply = refl
 
 call-table : (deck : Deck) (n : NodeState) (choice : Choice) (reply : Reply) → NodeFits deck n → TableFits deck (finish_call deck n choice reply).node.shared
-unfolding finish_call desk_told
+unfolding finish_call desk_told purged
 call-table deck n choice reply fits = by-reply (λ r. TableFits deck (finish_call deck n choice r).node.shared) (λ es k b. turned-table deck n es k b fits) (λ h. same (replies.NotYours h)) (λ f. same (replies.Behind f)) (switched-table deck n fits) (own-table deck n fits)
-    (same replies.Sole) (same replies.Sent) (λ m. same (replies.Taken m)) (same replies.Empty) (same replies.Settled) (same replies.Told) (same replies.Left) (λ m. same (replies.Kept m)) (same replies.Purged) (same replies.NoSuch) (same replies.InStar) (same replies.Resting) (same replies.Over) (λ k. own-table deck n fits) (same replies.Removed) reply
+    (same replies.Sole) (same replies.Sent) (λ m. same (replies.Taken m)) (same replies.Empty) (same replies.Settled) (same replies.Told) (same replies.Left) (λ m. same (replies.Kept m)) (own-table deck n fits) (own-table deck n fits) (own-table deck n fits) (same replies.Resting) (same replies.Over) (λ k. own-table deck n fits) (same replies.Removed) reply
   where
     same : (r : Reply) → TableFits deck (finish_star deck n n.star choice r).node.shared
     same r = subst (TableFits deck) (sym (finish-star-shared deck n n.star choice r)) (own-table deck n fits)
@@ -570,7 +614,9 @@ fits-of deck n m s fixed fits same is table h =
     record {
       system = subst (λ (k : ℕ). k < length deck.systems) (sym same) fits.system;
       some = fits.some;
+      few = fits.few;
       desk = subst (λ (k : ℕ). desk_count (slice_get deck.systems k) ≤ most_commands) (sym same) fits.desk;
+      orders = subst (λ (k : ℕ). All (λ (c : Desk). IsOrderOf (length deck.systems) k c.order) (desk_of (slice_get deck.systems k))) (sym same) fits.orders;
       shared = kept.0;
       apart = kept.1;
       part = subst (λ (k : ℕ). AnyPartFits deck k m.star) (sym same) (subst (λ (x : Step). AnyPartFits deck n.tasks.system x.node.star) (sym is) h);
@@ -592,7 +638,9 @@ gone-fits deck n m fits same none is =
     record {
       system = subst (λ (k : ℕ). k < length deck.systems) (sym same) fits.system;
       some = fits.some;
+      few = fits.few;
       desk = subst (λ (k : ℕ). desk_count (slice_get deck.systems k) ≤ most_commands) (sym same) fits.desk;
+      orders = subst (λ (k : ℕ). All (λ (c : Desk). IsOrderOf (length deck.systems) k c.order) (desk_of (slice_get deck.systems k))) (sym same) fits.orders;
       shared = empty.0;
       apart = empty.1;
       part = subst (AnyPartFits deck m.tasks.system) (sym is) tt;
@@ -603,5 +651,28 @@ pub ruleset prepares = (prepare-addressed)
 -- what a deck of so many entries has
 pub entries-there : (deck : Deck) (n : NodeState) → NodeFits deck n → deck.entries ≢ 0
 entries-there deck n fits = λ is. absurd (omega (arith, fits.some, is))
+
+-- a removal that came to be answered is of one of as many systems as there may be
+purge-target : (deck : Deck) (n : NodeState) (target : SysId) (reply : Reply) (o : Option Order) → next_order deck n ≡ o → NodeFits deck n → may_come (purge_call n target o) reply ≡ true → target.0 < most_systems
+purge-target deck n target reply None is fits h = cc
+purge-target deck n target reply (Some orders.Star) is fits h = cc
+purge-target deck n target reply (Some (orders.Vary named)) is fits h = go (named.0 == target.0) refl h
+  where
+    go : (b : Bool) → (named.0 == target.0) ≡ b → may_come (cond b (Call (record { known = n.known; act = acts.Purge target })) Nothing) reply ≡ true → target.0 < most_systems
+    go false e k = cc
+    go true e k = let fit = (target-of deck n named (length deck.systems) fits.orders is).0 in omega (arith, fit, fits.few, eqb-true named.0 target.0 e)
+
+pub target-fits : (deck : Deck) (n : NodeState) (choice : Choice) (reply : Reply) → NodeFits deck n → may_come (prepare deck n choice) reply ≡ true → TargetFits choice
+unfolding prepare
+target-fits deck n (choices.Purge s) reply fits h = purge-target deck n s reply (next_order deck n) refl fits h
+target-fits deck n (choices.Task t) reply fits h = tt
+target-fits deck n choices.Turn reply fits h = tt
+target-fits deck n (choices.Send t) reply fits h = tt
+target-fits deck n choices.Take reply fits h = tt
+target-fits deck n choices.Settle reply fits h = tt
+target-fits deck n (choices.Tell e) reply fits h = tt
+target-fits deck n (choices.Leave e) reply fits h = tt
+target-fits deck n choices.Switch reply fits h = tt
+target-fits deck n choices.Rest reply fits h = tt
 
 pub ruleset finishes = (quiet-fits-after, call-fits-after, turned-fits-after, gone-fits)

@@ -1,6 +1,6 @@
 -- A system in a ring: it has no part in star mode, and what its events come to is told without one.
 use Rattle.std.proofs.Common.{◌≡◌, ℕ, true, false, cond, List, [], ◌∷◌, ◌++◌, take, Option, None, is_some, refl, ap, ◌∙◌}
-use Rattle.grs_node.specs.Node.{NodeState, Step, only, outbox_with, prepare, star_call, turn_call, may_go, is_pending, read_entries, put_in, finish_star, finish_call, next_order, switch_call, turned, switched, desk_told, all_sent, change_to_star}
+use Rattle.grs_node.specs.Node.{NodeState, Step, only, outbox_with, prepare, star_call, turn_call, may_go, is_pending, read_entries, put_in, finish_star, finish_call, next_order, switch_call, purge_call, turned, switched, purged, desk_told, all_sent, change_to_star}
 use Rattle.grs_base.specs.Limits.{most_additions}
 use Rattle.std.specs.Prelude.{is_none}
 use Rattle.grs_node.specs.Star.{StarPart}
@@ -23,6 +23,7 @@ ring_prepare deck n (choices.Task t) = cond (may_go deck n t) Quiet Nothing
 ring_prepare deck n choices.Turn = Call (record { known = n.known; act = acts.Turn (take most_additions n.outbox) })
 ring_prepare deck n choices.Rest = cond (is_pending deck n) Nothing (Call (record { known = n.known; act = acts.Rest }))
 ring_prepare deck n choices.Switch = switch_call deck n (next_order deck n)
+ring_prepare deck n (choices.Purge s) = purge_call n s (next_order deck n)
 ring_prepare deck n choice = Nothing
 
 no_call : (deck : Deck) (n : NodeState) (choice : Choice) → n.star ≡ None → star_call deck n n.star choice ≡ Nothing
@@ -40,21 +41,24 @@ prepare-ring deck n choices.Settle h = no_call deck n choices.Settle h
 prepare-ring deck n (choices.Tell e) h = no_call deck n (choices.Tell e) h
 prepare-ring deck n (choices.Leave e) h = no_call deck n (choices.Leave e) h
 prepare-ring deck n choices.Switch h = refl
-prepare-ring deck n (choices.Purge s) h = no_call deck n (choices.Purge s) h
+prepare-ring deck n (choices.Purge s) h = refl
 
 -- what a reply comes to
-abbrev pub ring_finish : Deck → NodeState → Reply → Step
-ring_finish deck n (replies.Turned entries taken closed) = turned deck n entries taken closed
-ring_finish deck n (replies.Stale set) = only (record n { known = set })
-ring_finish deck n replies.Switched = only (switched deck n)
-ring_finish deck n replies.Already = only (desk_told n saids.StarAlready)
-ring_finish deck n reply = only n
+abbrev pub ring_finish : Deck → NodeState → Choice → Reply → Step
+ring_finish deck n choice (replies.Turned entries taken closed) = turned deck n entries taken closed
+ring_finish deck n choice (replies.Stale set) = only (record n { known = set })
+ring_finish deck n choice replies.Switched = only (switched deck n)
+ring_finish deck n choice replies.Already = only (desk_told n saids.StarAlready)
+ring_finish deck n choice replies.Purged = purged n choice
+ring_finish deck n choice replies.NoSuch = only (desk_told n saids.VaryNoSuch)
+ring_finish deck n choice replies.InStar = only (desk_told n saids.VaryInStar)
+ring_finish deck n choice reply = only n
 
 no_step : (deck : Deck) (n : NodeState) (choice : Choice) (reply : Reply) → n.star ≡ None → finish_star deck n n.star choice reply ≡ only n
 unfolding finish_star
 no_step deck n choice reply h = ap (λ (o : Option StarPart). finish_star deck n o choice reply) h
 
-pub finish-ring : (deck : Deck) (n : NodeState) (choice : Choice) (reply : Reply) → n.star ≡ None → finish_call deck n choice reply ≡ ring_finish deck n reply
+pub finish-ring : (deck : Deck) (n : NodeState) (choice : Choice) (reply : Reply) → n.star ≡ None → finish_call deck n choice reply ≡ ring_finish deck n choice reply
 unfolding finish_call
 finish-ring deck n choice (replies.Turned entries taken closed) h = refl
 finish-ring deck n choice (replies.Stale set) h = refl
@@ -70,9 +74,9 @@ finish-ring deck n choice replies.Settled h = no_step deck n choice replies.Sett
 finish-ring deck n choice replies.Told h = no_step deck n choice replies.Told h
 finish-ring deck n choice replies.Left h = no_step deck n choice replies.Left h
 finish-ring deck n choice (replies.Kept mask) h = no_step deck n choice (replies.Kept mask) h
-finish-ring deck n choice replies.Purged h = no_step deck n choice replies.Purged h
-finish-ring deck n choice replies.NoSuch h = no_step deck n choice replies.NoSuch h
-finish-ring deck n choice replies.InStar h = no_step deck n choice replies.InStar h
+finish-ring deck n choice replies.Purged h = refl
+finish-ring deck n choice replies.NoSuch h = refl
+finish-ring deck n choice replies.InStar h = refl
 finish-ring deck n choice replies.Resting h = no_step deck n choice replies.Resting h
 finish-ring deck n choice replies.Over h = no_step deck n choice replies.Over h
 finish-ring deck n choice replies.Removed h = no_step deck n choice replies.Removed h

@@ -12,6 +12,7 @@ use Rattle.grs_wire.specs.declared.request.Want.TheVariants.{Enq}
 use Rattle.grs_node.specs.Node.{NodeState, read_entry}
 use Rattle.ring_mode.specs.Ring.{answer_own, process, process_entry}
 use Rattle.task_state.specs.Replies.{tell_all, tell_new}
+use Rattle.system_purge.specs.Purge.{tell_freed}
 use Rattle.task_state.specs.View.{new_tasks}
 use Rattle.grs_wire.specs.Masks.{has}
 use Rattle.grs_wire.specs.declared.medium.Act.TheVariants as acts
@@ -106,6 +107,11 @@ no_job = refl
 no_task : read_entry deck node (entry_of 1 0 1) ≡ node
 no_task = refl
 
--- A removal leaves the system as it is until removals are built: the elements of the system that goes stay in the table.
-unmoved : read_entry deck (record node { shared = asked_first }) (bodies.Remove (record { 0 = 1 })) ≡ record node { shared = asked_first }
-unmoved = refl
+-- A removal: the elements of the system that goes leave the table, and those of another stay.
+removes : read_entry deck (record node { shared = asked_first }) (bodies.Remove (record { 0 = 1 })) ≡ node
+unfolding tell_freed tell_new tell_all
+removes = refl
+
+stays : read_entry deck (record node { shared = asked_first }) (bodies.Remove (record { 0 = 2 })) ≡ record node { shared = asked_first }
+unfolding tell_freed tell_new tell_all
+stays = refl

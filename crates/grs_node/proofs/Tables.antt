@@ -1,12 +1,12 @@
 -- A system's table of the Systems resources goes on to have elements of systems of the deck alone, and no task twice in a
 -- list.
 use Rattle.std.proofs.Common.{◌≡◌, ℕ, Bool, true, false, cond, not, ◌&&◌, List, [], ◌∷◌, ◌++◌, refl, ap, sym, subst}
-use Rattle.std.specs.Prelude.{filter}
+use Rattle.std.specs.Prelude.{◌==◌, filter}
 use Rattle.std.specs.List.{list_all}
 use Rattle.std.proofs.lemmas.Bool.{and_parts}
 use Rattle.grs_base.specs.Lists.{decide_enq, is_owner, standing_of}
 use Rattle.grs_base.specs.Same.{same_res}
-use Rattle.grs_base.specs.State.{State, list_of, is_at, without, with_exclusive, after_effect}
+use Rattle.grs_base.specs.State.{State, list_of, is_at, is_systems, without, with_exclusive, after_effect, remove_state}
 use Rattle.grs_base.specs.declared.decision.Effect.{Effect}
 use Rattle.grs_base.specs.declared.decision.Effect.TheVariants.{Nothing, Append, MakeExclusive}
 use Rattle.grs_base.specs.declared.resource.Ctl.{Ctl}
@@ -16,6 +16,7 @@ use Rattle.grs_base.specs.declared.resource.Res.{Res}
 use Rattle.grs_base.specs.declared.resource.TaskId.{TaskId}
 use Rattle.grs_node.specs.Log.{stepped}
 use Rattle.grs_node.specs.Node.{NodeState, Step, read_entry, read_entries, put_in, is_of_deck, with_side}
+use Rattle.grs_wire.proofs.RemoveLaws.{apart-remove}
 use Rattle.grs_wire.proofs.WantLaws.{apart-want}
 use Rattle.grs_wire.specs.Wants.{after_want, res_wanted}
 use Rattle.grs_wire.specs.declared.deck.Deck.{Deck}
@@ -78,8 +79,8 @@ module _ (p : TaskId → Bool) where
   all-want t u (Look first count f) h new = h
 
 -- ---- of an entry of the message
--- what holds of a table behind each request of a task of the deck holds of that of a system which has read entries
-module _ (deck : Deck) (P : State → Type 0) (kept : (t : State) (u : TaskId) (w : Want) → is_of_deck deck u ≡ true → P t → P (after_want t u w)) where
+-- what holds of a table behind each request of a task of the deck, and behind each removal, holds of that of a system which has read entries
+module _ (deck : Deck) (P : State → Type 0) (kept : (t : State) (u : TaskId) (w : Want) → is_of_deck deck u ≡ true → P t → P (after_want t u w)) (left : (t : State) (s : ℕ) → P t → P (remove_state t s)) where
   process-kept : (side : Side) (q : Req) → is_of_deck deck q.task ≡ true → P side.shared → P (process_entry side q).shared
   unfolding process process_entry
   process-kept side q own h = go (is_for_all (res_wanted q.want))
@@ -94,7 +95,7 @@ module _ (deck : Deck) (P : State → Type 0) (kept : (t : State) (u : TaskId) (
       go : (b : Bool) → is_of_deck deck q.task ≡ b → P (cond b (with_side n (process_entry (side_of n.tasks n.shared) q)) n).shared
       go true is = process-kept (side_of n.tasks n.shared) q is h
       go false is = h
-  entry-kept n (bodies.Remove target) h = h
+  entry-kept n (bodies.Remove target) h = left n.shared target.0 h
 
   pub entries-kept : (n : NodeState) (es : List RingEntry) → P n.shared → P (read_entries deck n es).shared
   unfolding read_entries
@@ -103,11 +104,11 @@ module _ (deck : Deck) (P : State → Type 0) (kept : (t : State) (u : TaskId) (
 
 -- no task comes to stand twice
 pub apart-entries : (deck : Deck) (n : NodeState) (es : List RingEntry) → AreApart n.shared → AreApart (read_entries deck n es).shared
-apart-entries deck n es h = entries-kept deck AreApart (λ t u w own apart r. apart-want t u w r apart) n es h
+apart-entries deck n es h = entries-kept deck AreApart (λ t u w own apart r. apart-want t u w r apart) (λ t s apart r. apart-remove t s r (apart r)) n es h
 
 -- and who comes is of a system that the deck has
 pub all-entries : (p : TaskId → Bool) (deck : Deck) (n : NodeState) (es : List RingEntry) → ((t : TaskId) → is_of_deck deck t ≡ true → p t ≡ true) → list_all (λ h. p h.1.task) n.shared ≡ true → list_all (λ h. p h.1.task) (read_entries deck n es).shared ≡ true
-all-entries p deck n es own h = entries-kept deck (λ t. list_all (λ x. p x.1.task) t ≡ true) (λ t u w is all. all-want p t u w all (own u is)) n es h
+all-entries p deck n es own h = entries-kept deck (λ t. list_all (λ x. p x.1.task) t ≡ true) (λ t u w is all. all-want p t u w all (own u is)) (λ t s all. all-filter p (λ h. not (is_systems h.0 && (s == h.1.task.system.0))) t all) n es h
 
 -- putting requests in leaves the table
 pub apart-turned : (deck : Deck) (n m : NodeState) (es : List RingEntry) (taken : ℕ) (fixed : List Fixed) → AreApart n.shared → stepped m fixed ≡ put_in (read_entries deck n es) taken → AreApart m.shared

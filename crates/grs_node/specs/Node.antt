@@ -4,7 +4,8 @@ use Rattle.std.specs.Prelude.{ℕ, ◌+◌, Bool, true, false, not, cond, ◌&&�
 use Rattle.std.specs.List.{list_any}
 use Rattle.grs_base.specs.Limits.{most_additions}
 use Rattle.std.specs.Option.{option_map}
-use Rattle.grs_base.specs.State.{State}
+use Rattle.grs_base.specs.Rows.{rows_of}
+use Rattle.grs_base.specs.State.{State, remove_state}
 use Rattle.grs_base.specs.declared.resource.Res.{Res}
 use Rattle.grs_base.specs.declared.resource.SysId.{SysId}
 use Rattle.grs_base.specs.declared.resource.TaskId.{TaskId}
@@ -12,6 +13,7 @@ use Rattle.grs_base.specs.declared.decision.Code.TheVariants.{C00, C08}
 use Rattle.grs_legal.specs.Asks.{lines_of, scripts_of}
 use Rattle.grs_legal.specs.declared.meaning.Meaning.{Meaning}
 use Rattle.grs_legal.specs.declared.meaning.Meaning.TheVariants as lines
+use Rattle.grs_wire.specs.Masks.{with_also}
 use Rattle.grs_wire.specs.Wants.{answer_to, after_want, res_wanted, new_owners}
 use Rattle.grs_wire.specs.declared.deck.Choice.{Choice}
 use Rattle.grs_wire.specs.declared.deck.Choice.TheVariants as choices
@@ -45,6 +47,7 @@ use Rattle.grs_node.specs.declared.star.Need.TheVariants.{Alone, Asks, Idle}
 use Rattle.grs_node.specs.declared.prepared.Prepared.{Prepared}
 use Rattle.grs_node.specs.declared.prepared.Prepared.TheVariants.{Quiet, Call, Nothing}
 use Rattle.ring_mode.specs.Ring.{Side, side_of, is_for_all, process_entry}
+use Rattle.system_purge.specs.Purge.{tell_freed}
 use Rattle.task_state.specs.Replies.{replied, tell_code, tell_new}
 use Rattle.task_state.specs.declared.state.Rec.{Rec}
 use Rattle.task_state.specs.declared.state.Phase.{Phase}
@@ -249,11 +252,17 @@ abbrev pub switch_call : Deck → NodeState → Option Order → Prepared
 switch_call deck n (Some orders.Star) = Call (record { known = n.known; act = acts.Switch (own_words deck n) })
 switch_call deck n order = Nothing
 
+-- the removal of a system, where the next desk line orders it
+abbrev pub purge_call : NodeState → SysId → Option Order → Prepared
+purge_call n target (Some (orders.Vary named)) = cond (named.0 == target.0) (Call (record { known = n.known; act = acts.Purge target })) Nothing
+purge_call n target order = Nothing
+
 -- What a choice comes to.
 unfoldable pub prepare : Deck → NodeState → Choice → Prepared
 prepare deck n (choices.Task t) = cond (may_go deck n t) Quiet Nothing
 prepare deck n choices.Turn = turn_call n n.star
 prepare deck n choices.Switch = switch_call deck n (next_order deck n)
+prepare deck n (choices.Purge target) = purge_call n target (next_order deck n)
 prepare deck n choices.Rest = cond (is_pending deck n) Nothing (Call (record { known = n.known; act = acts.Rest }))
 prepare deck n choice = star_call deck n n.star choice
 
@@ -276,9 +285,10 @@ finish_quiet deck n _ = only n
 abbrev pub with_side : NodeState → Side → NodeState
 with_side n side = record n { tasks = side.tasks; shared = side.shared }
 
--- A system processes that another one is removed. Until removals are built it does nothing.
+-- A system processes that another one is removed: the elements of that one's tasks leave its table, and those of its own
+-- tasks that became owners by it are told control.
 abbrev pub process_removal : NodeState → SysId → NodeState
-process_removal n target = n
+process_removal n target = record n { tasks = tell_freed n.tasks target.0 (rows_of n.shared); shared = remove_state n.shared target.0 }
 
 -- A system processes an entry of the message. A request of a task that isn't of the deck has no effect.
 abbrev pub read_entry : Deck → NodeState → RingBody → NodeState
@@ -329,6 +339,20 @@ desk_told n said = record n { tasks = telling n.tasks (told.Desk (n.done + 1) sa
 unfoldable pub switched : Deck → NodeState → NodeState
 switched deck n = cond (is_none n.star) (change_to_star deck (desk_told n saids.StarDone)) n
 
+-- The systems that a system knows to be removed, where by this choice it removed one more.
+abbrev pub known_with : ℕ → Choice → ℕ
+known_with known (choices.Purge target) = with_also known target.0
+known_with known choice = known
+
+-- what was removed by this choice
+abbrev pub removal_by : Choice → List Fixed
+removal_by (choices.Purge target) = fixes.Purged target ∷ []
+removal_by choice = []
+
+-- A system was removed by the system's desk line: the removal is fixed, and the system knows of it.
+unfoldable pub purged : NodeState → Choice → Step
+purged n choice = record { node = record (desk_told n saids.VaryDone) { known = known_with n.known choice }; fixed = removal_by choice }
+
 -- whether the tasks and systems that a mail names are of the deck
 abbrev pub is_for_deck : Deck → Mail → Bool
 is_for_deck deck (mails.Request e from q) = nat_lt from.0 (length deck.systems) && is_of_deck deck q.task
@@ -362,6 +386,9 @@ finish_call deck n choice (replies.Turned entries taken closed) = turned deck n 
 finish_call deck n choice (replies.Stale set) = only (record n { known = set })
 finish_call deck n choice replies.Switched = only (switched deck n)
 finish_call deck n choice replies.Already = only (desk_told n saids.StarAlready)
+finish_call deck n choice replies.Purged = purged n choice
+finish_call deck n choice replies.NoSuch = only (desk_told n saids.VaryNoSuch)
+finish_call deck n choice replies.InStar = only (desk_told n saids.VaryInStar)
 finish_call deck n choice reply = finish_star deck n n.star choice reply
 
 -- What a system is after a choice, with the reply if a call was made.

@@ -170,17 +170,14 @@ impl NodeState {
             Choice::Task(task) if self.may_go(scripts, task) => Ok(Prepared::Quiet),
             Choice::Turn => self.prepare_turn(alloc),
             Choice::Switch => self.prepare_switch(alloc, deck),
+            Choice::Purge(target) => Ok(self.prepare_purge(deck, target)),
             Choice::Rest if !self.is_pending(deck) => Ok(Prepared::Call(Call {
                 known: self.known,
                 act: Act::Rest,
             })),
             Choice::Task(_) | Choice::Rest => Ok(Prepared::Nothing),
-            Choice::Send(_)
-            | Choice::Take
-            | Choice::Settle
-            | Choice::Tell(_)
-            | Choice::Leave(_)
-            | Choice::Purge(_) => self.prepare_star(alloc, deck, choice),
+            Choice::Send(_) | Choice::Take | Choice::Settle | Choice::Tell(_) | Choice::Leave(_) =>
+                self.prepare_star(alloc, deck, choice),
         }
     }
 }

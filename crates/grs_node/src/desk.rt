@@ -1,14 +1,18 @@
 //! The commands of a system's desk: which one is next, what it asks of the medium, and that it is done.
-ghost use Rattle.std.specs.Prelude.{◌≡◌, ◌≢◌, ◌<◌, false, replicate, slice_get, IfOk, OnOk};
+ghost use Rattle.std.specs.Prelude.{◌≡◌, ◌≢◌, ◌<◌, ◌∷◌, [], replicate, slice_get, IfOk, OnOk};
 ghost use Rattle.std.specs.Option.{option_map};
 ghost use Rattle.grs_base.specs.Limits.{most_commands};
+ghost use Rattle.grs_wire.specs.declared.request.Fixed.TheVariants as fixes;
+ghost use Rattle.grs_node.specs.Addressed.{TargetFits};
+ghost use Rattle.grs_node.specs.Log.{stepped};
 ghost use Rattle.grs_node.specs.Node as steps;
 
 use super::prepared::Prepared;
 use super::scripts::system_at;
 use super::state::NodeState;
 use grs_base::{List, NoMemory, SysId};
-use grs_wire::{Act, Call, Deck, Order, Said, ToldLine};
+use grs_wire::masks::with_system;
+use grs_wire::{Act, Call, Choice, Deck, Fixed, Order, Said, ToldLine};
 use mode_migrate::words_of;
 use std::alloc::Global;
 
@@ -34,6 +38,15 @@ fn no_words(alloc: Global, entries: u32) -> Result<List<u32>, NoMemory>
         words.push(0)?;
     }
     Ok(words)
+}
+
+/// A removal that was fixed.
+fn purged_alone(alloc: Global, target: SysId) -> Result<List<Fixed>, NoMemory>
+    ensures { IfOk result (λ fixed. fixed ≡ fixes.Purged target ∷ []) }
+{
+    let mut fixed = List::with_room(alloc, 1)?;
+    fixed.push(Fixed::Purged { target })?;
+    Ok(fixed)
 }
 
 impl NodeState {
@@ -63,6 +76,37 @@ impl NodeState {
                 }))
             }
             Some(Order::Vary(_)) | None => Ok(Prepared::Nothing),
+        }
+    }
+
+    /// The removal of a system, where the next command orders it.
+    pub(crate) fn prepare_purge(&self, deck: &Deck, target: SysId) -> Prepared
+        ensures { result ≡ steps.purge_call self.now target (steps.next_order deck.now self.now) }
+    {
+        match next_order(deck, self.tasks.system(), self.done) {
+            Some(Order::Vary(named)) if named.0 == target.0 => Prepared::Call(Call {
+                known: self.known,
+                act: Act::Purge { target },
+            }),
+            Some(_) | None => Prepared::Nothing,
+        }
+    }
+
+    /// A system was removed by the next command, which is done: the removal is fixed, and the system knows of it.
+    #[tactic(auto, unfolding(crate::specs::Node::desk_told, crate::specs::Node::purged))]
+    pub(crate) fn purged(&mut self, alloc: Global, choice: Choice) -> Result<List<Fixed>, NoMemory>
+        requires desk { self.old.done < most_commands }
+        requires target { TargetFits choice }
+        ensures step { IfOk result (λ fixed. stepped self.new fixed ≡ steps.purged self.old choice) }
+        ensures system { self.new.tasks.system ≡ self.old.tasks.system }
+    {
+        self.desk_told(Said::VaryDone)?;
+        match choice {
+            Choice::Purge(target) => {
+                self.known = with_system(self.known, target);
+                purged_alone(alloc, target)
+            }
+            _ => Ok(List::new(alloc)),
         }
     }
 

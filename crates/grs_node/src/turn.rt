@@ -4,6 +4,7 @@ ghost use Rattle.grs_base.specs.Limits.{most_systems, most_commands};
 ghost use Rattle.grs_wire.specs.declared.medium.RingBody.TheVariants.{Request};
 ghost use Rattle.grs_wire.specs.declared.request.Fixed.TheVariants as fixes;
 ghost use Rattle.grs_wire.specs.Unseen.{unseen};
+ghost use Rattle.grs_node.specs.Addressed.{TargetFits};
 ghost use Rattle.grs_node.specs.Node as steps;
 ghost use Rattle.grs_node.specs.Node.{are_of_system};
 ghost use Rattle.grs_node.specs.Finish.{may_come};
@@ -18,6 +19,7 @@ use grs_wire::masks::has_system;
 use grs_wire::{Choice, Deck, Fixed, Reply, Req, RingBody, RingEntry, Said};
 use ring_mode::on_request;
 use std::alloc::Global;
+use system_purge::remove;
 use task_state::{Phase, Tasks};
 
 /// The tasks of these requests have sent them.
@@ -60,10 +62,14 @@ fn divided(reqs: List<Req>, taken: u32) -> Result<(Vec<Req>, List<Req>), NoMemor
 }
 
 impl NodeState {
-    /// The system processes that another one is removed. Until removals are built it does nothing.
-    fn process_removal(&mut self, _target: SysId)
-        ensures { self.new ≡ steps.process_removal self.old _target }
-    {}
+    /// The system processes that another one is removed: the elements of that one's tasks leave its table, and those of its
+    /// own tasks that became owners by it are told control.
+    fn process_removal(&mut self, alloc: Global, target: SysId) -> Result<(), NoMemory>
+        ensures step { OnOk result (self.new ≡ steps.process_removal self.old target) }
+        ensures system { self.new.tasks.system ≡ self.old.tasks.system }
+    {
+        remove(alloc, &mut self.shared, &mut self.tasks, target)
+    }
 
     /// The system processes a request of the message. One of a task that isn't of the deck has no effect.
     fn read_request(&mut self, alloc: Global, deck: &Deck, req: &Req) -> Result<(), NoMemory>
@@ -84,10 +90,7 @@ impl NodeState {
     {
         match body {
             RingBody::Request(req) => self.read_request(alloc, deck, req),
-            RingBody::Remove(target) => {
-                self.process_removal(*target);
-                Ok(())
-            }
+            RingBody::Remove(target) => self.process_removal(alloc, *target),
         }
     }
 
@@ -225,6 +228,7 @@ impl NodeState {
         requires come { may_come (steps.prepare deck.now self.old choice) reply ≡ true }
         requires entries { deck.now.entries ≢ 0 }
         requires desk { steps.desk_count (slice_get deck.now.systems self.old.tasks.system) ≤ most_commands }
+        requires target { TargetFits choice }
         requires apart { AreApart self.old.shared }
         ensures step { IfOk result (λ fixed. stepped self.new fixed ≡ steps.finish_call deck.now self.old choice reply) }
         ensures system { self.new.tasks.system ≡ self.old.tasks.system }
@@ -245,6 +249,15 @@ impl NodeState {
             }
             Reply::Already => {
                 self.desk_told(Said::StarAlready)?;
+                Ok(List::new(alloc))
+            }
+            Reply::Purged => self.purged(alloc, choice),
+            Reply::NoSuch => {
+                self.desk_told(Said::VaryNoSuch)?;
+                Ok(List::new(alloc))
+            }
+            Reply::InStar => {
+                self.desk_told(Said::VaryInStar)?;
                 Ok(List::new(alloc))
             }
             reply => self.finish_star(alloc, deck, choice, reply),

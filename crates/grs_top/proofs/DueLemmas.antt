@@ -1,5 +1,5 @@
 -- What is due for a text, by what its reading answers.
-use Rattle.std.proofs.Common.{◌≡◌, ℕ, true, List, ap, sym, subst, ◌∙◌, inl, inr, Result, Ok, Err, IfOk, if◌then◌else◌}
+use Rattle.std.proofs.Common.{◌≡◌, ℕ, true, List, length, ap, sym, subst, ◌∙◌, inl, inr, Result, Ok, Err, IfOk, if◌then◌else◌}
 use Rattle.grs_base.specs.declared.fault.DeckFault.{DeckFault}
 use Rattle.grs_deck.specs.Faults.{IsFault}
 use Rattle.grs_deck.specs.Spells.{SpellsDeck}
@@ -8,7 +8,7 @@ use Rattle.grs_medium.specs.Medium.{MediumState}
 use Rattle.grs_node.specs.Log.{NodeView}
 use Rattle.grs_report.specs.Ends.{all_ended}
 use Rattle.grs_report.specs.Report.{report}
-use Rattle.grs_wire.specs.Decks.{IsDeck}
+use Rattle.grs_wire.specs.Decks.{AreOrders, IsDeck}
 use Rattle.grs_wire.specs.declared.deck.Deck.{Deck as DeckValue}
 use Rattle.grs_wire.specs.declared.deck.Event.{Event}
 use Rattle.grs_wire.specs.declared.medium.JEntry.{JEntry}
@@ -38,17 +38,17 @@ refused_due c text f (Err e) first out status = tt
 
 -- ---- the report of a run, by what is seen of it
 
-pub replay_due : {E : Type 0} (d : DeckValue) (seen : Seen) (r : Result Due E) → IsDeck d → ((deck : DeckValue) → (may_be_star deck ≡ true → FitsStar deck) → (es : List Event) → Sound deck es) → seen ≡ seen_of_run d d.events
+pub replay_due : {E : Type 0} (d : DeckValue) (seen : Seen) (r : Result Due E) → IsDeck d → ((deck : DeckValue) → (may_be_star deck ≡ true → FitsStar deck) → AreOrders (length deck.systems) 0 deck.systems → (es : List Event) → Sound deck es) → seen ≡ seen_of_run d d.events
     → IfOk r (λ due. due.out ≡ report d seen) → IfOk r (λ due. due.status ≡ (if all_ended seen.ended then Done else Waits)) → IfOk r (λ due. IsTextOf Replay d due.out due.status)
 unfolding report_of ending
 replay_due d seen (Ok due) whole sound is out status = record {
   whole = out ∙ ap (report d) is;
   ends = status ∙ ap (λ (x : Seen). if all_ended x.ended then Done else Waits) is;
-  sound = sound d (λ star. record { few = whole.fits.few; entries = whole.entries }) d.events;
+  sound = sound d (λ star. record { few = whole.fits.few; entries = whole.entries }) whole.orders d.events;
 }
 replay_due d seen (Err e) whole sound is out status = tt
 
-pub run_due : {E : Type 0} (d : DeckValue) (m : MediumState) (journal slice : List JEntry) (vs : List NodeView) (seen : Seen) (r : Result Due E) → IsDeck d → ((deck : DeckValue) → (may_be_star deck ≡ true → FitsStar deck) → (es : List Event) → Sound deck es) → MergedRuns → MergedRests
+pub run_due : {E : Type 0} (d : DeckValue) (m : MediumState) (journal slice : List JEntry) (vs : List NodeView) (seen : Seen) (r : Result Due E) → IsDeck d → ((deck : DeckValue) → (may_be_star deck ≡ true → FitsStar deck) → AreOrders (length deck.systems) 0 deck.systems → (es : List Event) → Sound deck es) → MergedRuns → MergedRests
     → ((deck : DeckValue) → IsDeck deck → (es : List Event) → RestsInTheEnd deck es) → RanBeside d m journal vs → AllLast d journal → slice ≡ journal → seen.events ≡ (merged_steps slice (logs_of vs)).events → seen ≡ seen_of_run d seen.events
     → IfOk r (λ due. due.out ≡ report d seen) → IfOk r (λ due. due.status ≡ (if all_ended seen.ended then Done else Waits)) → IfOk r (λ due. IsTextOf Run d due.out due.status)
 unfolding report_of ending
@@ -61,7 +61,7 @@ run_due d m journal slice vs seen (Ok due) whole sound runs rests kept ran last 
       reported = record {
         whole = out ∙ ap (report d) is;
         ends = status ∙ ap (λ (x : Seen). if all_ended x.ended then Done else Waits) is;
-        sound = sound d (λ star. record { few = whole.fits.few; entries = whole.entries }) seen.events;
+        sound = sound d (λ star. record { few = whole.fits.few; entries = whole.entries }) whole.orders seen.events;
       };
       rest = rest;
       nothing_lost = kept d whole seen.events rest;

@@ -24,13 +24,13 @@ seen_of_run deck es = record {
   units = units_of (run deck es).nodes;
   words = (run deck es).medium.words;
   star = (run deck es).medium.star;
-  ended = ends_at (run deck es).nodes (tasks_of deck);
+  ended = ends_at (run deck es).medium.removed (run deck es).nodes (tasks_of deck);
 }
 
 -- the report of the run of these events
 unfoldable pub report_of : DeckValue → List Event → List ℕ
 report_of deck es = report deck (seen_of_run deck es)
 
--- how the run of these events ends: Done where each task has ended
+-- how the run of these events ends: Done where each task has ended, or was removed with its system
 unfoldable pub ending : DeckValue → List Event → Status
 ending deck es = if all_ended (seen_of_run deck es).ended then Done else Waits

@@ -29,6 +29,6 @@ tasks_of_systems place (s ∷ ss) = tasks_from (record { 0 = place }) 0 0 s.jobs
 abbrev pub tasks_of : Deck → List TaskId
 tasks_of deck = tasks_of_systems 0 deck.systems
 
--- each of these tasks with its end at its system
-abbrev pub ends_at : List NodeState → List TaskId → List (TaskId × TaskEnd)
-ends_at ns ts = map (λ t. (t, task_end ns t)) ts
+-- each of these tasks with its end at these systems, of which those in the set were removed
+abbrev pub ends_at : ℕ → List NodeState → List TaskId → List (TaskId × TaskEnd)
+ends_at removed ns ts = map (λ t. (t, task_end removed ns t)) ts

@@ -44,7 +44,6 @@ fn merged(alloc: Global, journal: &[JEntry], nodes: &[Node<'_>]) -> Result<Merge
 /// # Errors
 ///
 /// `NoMemory` where there was no memory for what it shows.
-#[tactic(auto, using(crate::proofs::merged::SeenLaws::shown))]
 pub fn seen_of(
     alloc: Global,
     deck: &Deck,
@@ -62,7 +61,7 @@ pub fn seen_of(
     let queues = queues_after(alloc, merged.hist.as_slice(), deck.limit)?;
     let units = units_of(alloc, nodes.as_slice())?;
     let words = medium.words().copy(alloc)?;
-    let ended = ends_of(alloc, deck, nodes.as_slice())?;
+    let ended = ends_of(alloc, deck, medium.removed(), nodes.as_slice())?;
     Ok(Seen {
         events: merged.events,
         hist: merged.hist,

@@ -1,6 +1,6 @@
 //! The tasks of a deck in order, each with its end at its system.
 ghost use Rattle.std.specs.Prelude.{◌≡◌, ◌≤◌, ◌+◌, ◌++◌, length, OnOk, IfOk};
-ghost use Rattle.grs_base.specs.Limits.{most_jobs, most_tasks};
+ghost use Rattle.grs_base.specs.Limits.{most_systems, most_jobs, most_tasks};
 ghost use Rattle.grs_wire.specs.Decks.{task_count, Fits, IsDeck};
 ghost use Rattle.grs_world.specs.Running.{nodes_of};
 ghost use Rattle.grs_top.specs.Tasks.{tasks_in, tasks_from, tasks_of_systems, tasks_of, ends_at};
@@ -56,30 +56,34 @@ fn tasks_of(alloc: Global, systems: &[SystemDef]) -> Result<List<TaskId>, NoMemo
     Ok(tasks)
 }
 
-/// These tasks, each with its end at its system.
+/// These tasks, each with its end at these systems, of which those in the set were removed.
 fn ends_at(
     alloc: Global,
+    removed: u32,
     nodes: &[Node<'_>],
     tasks: &[TaskId],
 ) -> Result<List<(TaskId, TaskEnd)>, NoMemory>
-    ensures { IfOk result (λ ends. ends ≡ ends_at (nodes_of nodes.now) tasks.now) }
+    requires { length nodes.now ≤ most_systems }
+    ensures { IfOk result (λ ends. ends ≡ ends_at removed (nodes_of nodes.now) tasks.now) }
 {
     let mut ends = List::new(alloc);
     for task in tasks {
-        ends.push((*task, task_end(nodes, *task)))?;
+        ends.push((*task, task_end(removed, nodes, *task)))?;
     }
     Ok(ends)
 }
 
-/// Each task of a deck with its end at its system.
+/// Each task of a deck with its end at these systems, of which those in the set were removed.
 pub(crate) fn ends_of(
     alloc: Global,
     deck: &Deck,
+    removed: u32,
     nodes: &[Node<'_>],
 ) -> Result<List<(TaskId, TaskEnd)>, NoMemory>
-    requires { IsDeck deck.now }
-    ensures { IfOk result (λ ends. ends ≡ ends_at (nodes_of nodes.now) (tasks_of deck.now)) }
+    requires deck { IsDeck deck.now }
+    requires few { length nodes.now ≤ most_systems }
+    ensures { IfOk result (λ ends. ends ≡ ends_at removed (nodes_of nodes.now) (tasks_of deck.now)) }
 {
     let tasks = tasks_of(alloc, deck.systems.as_slice())?;
-    ends_at(alloc, nodes, tasks.as_slice())
+    ends_at(alloc, removed, nodes, tasks.as_slice())
 }

@@ -34,13 +34,13 @@ fn run_of(alloc: Global, deck: &Deck) -> Result<Run, NoMemory>
     ensures units { IfOk result (λ seen. seen.units ≡ units_of (run deck.now deck.now.events).nodes) }
     ensures words { IfOk result (λ seen. seen.words ≡ (run deck.now deck.now.events).medium.words) }
     ensures star { IfOk result (λ seen. seen.star ≡ (run deck.now deck.now.events).medium.star) }
-    ensures ended { IfOk result (λ seen. seen.ended ≡ ends_at (run deck.now deck.now.events).nodes (tasks_of deck.now)) }
+    ensures ended { IfOk result (λ seen. seen.ended ≡ ends_at (run deck.now deck.now.events).medium.removed (run deck.now deck.now.events).nodes (tasks_of deck.now)) }
 {
     let world = replay(alloc, deck, deck.events.as_slice())?;
     let units = world.units()?;
     let words = world.medium().words().copy(alloc)?;
     let star = world.medium().star();
-    let ended = ends_of(alloc, deck, world.nodes())?;
+    let ended = ends_of(alloc, deck, world.medium().removed(), world.nodes())?;
     let log = world.into_log();
     let hist = answers(alloc, log.fixed.as_slice())?;
     Ok(Run {

@@ -1,5 +1,5 @@
 -- What a deck is like that is read: within the limits, and its events speak of what is there.
-use Rattle.std.specs.Prelude.{◌≡◌, ◌≢◌, ℕ, Bool, true, false, ◌+◌, ◌<◌, ◌≤◌, List, [], ◌∷◌, length, take, map, filter, slice_get, Some, All}
+use Rattle.std.specs.Prelude.{◌≡◌, ◌≢◌, ℕ, true, ◌+◌, ◌<◌, ◌≤◌, List, [], ◌∷◌, length, take, map, filter, slice_get, Some, All}
 use Rattle.std.specs.List.{flat_map, AllPairs}
 use Rattle.grs_base.specs.Limits.{most_systems, most_commands, most_jobs, most_tasks, most_lines, most_displays, is_entries, is_limit}
 use Rattle.grs_base.specs.ShortNames.{IsShortName}
@@ -92,18 +92,12 @@ IsChoiceOf systems entries s id (choices.Leave e) = e < entries
 IsChoiceOf systems entries s id (choices.Purge other) = (other.0 < length systems) × (other.0 ≢ id.0)
 IsChoiceOf systems entries s id _ = Unit {0}
 
--- Whether what a system does is built: all but the removal of another system.
-abbrev pub is_built : Choice → Bool
-is_built (choices.Purge other) = false
-is_built _ = true
-
--- An event of a system that there is, of a kind that is built.
+-- An event of a system that there is.
 pub record IsEventOf (systems : List SystemDef) (entries : ℕ) (e : Event) : Type 0 where
   pub found : SystemDef
   pub system : slice_get systems e.system.0 ≡ Some found
   pub below : e.system.0 < length systems
   pub choice : IsChoiceOf systems entries found e.system e.choice
-  pub built : is_built e.choice ≡ true
 
 -- A deck, in ring mode or in star mode: at least one system and at most eight, each with at most 64 commands at its
 -- desk, 64 jobs and 64 tasks, all with names of their form that are given once; no system that is to remove itself, or

@@ -1,5 +1,5 @@
 -- A history of requests, and the lists that it leads through.
-use Rattle.std.specs.Prelude.{ℕ, zero, suc, Bool, false, List, [], ◌∷◌, ◌++◌}
+use Rattle.std.specs.Prelude.{ℕ, zero, suc, Bool, false, ◌==◌, List, [], ◌∷◌, ◌++◌}
 use Rattle.grs_base.specs.Same.{same_task}
 use Rattle.grs_base.specs.State.{State, is_full, enq_code, deq_reply, remove_state}
 use Rattle.grs_base.specs.Looks.{look}
@@ -26,6 +26,14 @@ is_by t (Deq u r have code) = same_task t u
 is_by t (Release u r) = same_task t u
 is_by t (Look u place f rows) = same_task t u
 is_by t (Remove by target) = false
+
+-- whether an entry removes this system
+abbrev pub removes : SysId → HistEntry → Bool
+removes target (Enq t r c ret code) = false
+removes target (Deq t r have code) = false
+removes target (Release t r) = false
+removes target (Look t place f rows) = false
+removes target (Remove by removed) = target.0 == removed.0
 
 -- the code that stands in the history; what isn't answered by a code counts as 00
 abbrev pub code_of : HistEntry → Code

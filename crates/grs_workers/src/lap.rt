@@ -100,7 +100,7 @@ fn turn_or_take(node: &mut Node<'_>) -> Result<(Choice, Prepared), NoMemory>
     ensures same { node.new ≡ node.old }
     ensures prepared { IfOk result (λ x. x.1 ≡ prepare node.old.deck node.old.node x.0) }
     ensures some { IfOk result (λ x. x.1 ≢ Nothing) }
-    ensures addressed { IfOk result (λ x. is_addressed node.old.deck x.1 ≡ true) }
+    ensures addressed { IfOk result (λ x. is_addressed node.old.deck node.old.node.tasks.system x.1 ≡ true) }
     ensures in_time { IfOk result (λ x. is_early node.old x.0 ≡ false) }
 {
     match node.prepare(&Choice::Turn)? {
@@ -207,7 +207,7 @@ impl Lap {
         ensures same { node.new ≡ node.old }
         ensures prepared { IfOk result (λ x. x.1 ≡ prepare node.old.deck node.old.node x.0) }
         ensures some { IfOk result (λ x. x.1 ≢ Nothing) }
-        ensures addressed { IfOk result (λ x. is_addressed node.old.deck x.1 ≡ true) }
+        ensures addressed { IfOk result (λ x. is_addressed node.old.deck node.old.node.tasks.system x.1 ≡ true) }
         ensures in_time { IfOk result (λ x. is_early node.old x.0 ≡ false) }
     {
         let (choice, prepared) = turn_or_take(node)?;
@@ -225,7 +225,7 @@ impl Lap {
         ensures same { node.new ≡ node.old }
         ensures prepared { IfOk result (λ x. x.1 ≡ prepare node.old.deck node.old.node x.0) }
         ensures some { IfOk result (λ x. x.1 ≢ Nothing) }
-        ensures addressed { IfOk result (λ x. is_addressed node.old.deck x.1 ≡ true) }
+        ensures addressed { IfOk result (λ x. is_addressed node.old.deck node.old.node.tasks.system x.1 ≡ true) }
         ensures in_time { IfOk result (λ x. is_early node.old x.0 ≡ false) }
     {
         if self.rested {
@@ -247,7 +247,7 @@ impl Lap {
         ensures same { node.new ≡ node.old }
         ensures prepared { IfOk result (λ x. x.1 ≡ prepare node.old.deck node.old.node x.0) }
         ensures some { IfOk result (λ x. x.1 ≢ Nothing) }
-        ensures addressed { IfOk result (λ x. is_addressed node.old.deck x.1 ≡ true) }
+        ensures addressed { IfOk result (λ x. is_addressed node.old.deck node.old.node.tasks.system x.1 ≡ true) }
         ensures in_time { IfOk result (λ x. is_early node.old x.0 ≡ false) }
     {
         self.look_back(node);

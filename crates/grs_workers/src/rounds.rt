@@ -42,7 +42,7 @@ fn make_call<R: Wait, G: Gate>(
     requires on { IsOn bus.now (stand worker.old) }
     requires agrees { Agrees (stand worker.old) }
     requires prepared { prepare worker.old.node.deck worker.old.node.node choice ≡ Calls call }
-    requires addressed { is_act_addressed worker.old.node.deck call.act ≡ true }
+    requires addressed { is_act_addressed worker.old.node.deck worker.old.node.node.tasks.system call.act ≡ true }
     requires in_time { is_early worker.old.node choice ≡ false }
     ensures done { IfOk result (λ out. (d : Deed) × IsDone (stand worker.old) d (stand worker.new) × (is_last d ≡ out)) }
     ensures on { OnOk result (IsOn bus.now (stand worker.new)) }

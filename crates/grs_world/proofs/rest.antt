@@ -8,11 +8,13 @@ pub mod Answers
 pub mod Lists
 pub mod Deciding
 pub mod Steps
+pub mod Freed
 pub mod Events
 pub mod Unseen
 pub mod Ring
 pub mod Tasks
 pub mod RingRun
+pub mod Homes
 pub mod AtEnd
 pub mod RingEnd
 pub mod Held

@@ -1,6 +1,7 @@
 -- The run: what the systems and the message come to together.
 pub mod Each
 pub mod Laps
+pub mod GoesOn
 pub mod LapsTold
 pub mod Home
 pub mod KeptPlaces
@@ -14,7 +15,12 @@ pub mod Runs
 pub mod Desks
 pub mod InRing
 pub mod Changing
+pub mod Purges
 pub mod Removals
+pub mod Purging
+pub mod Replies
+pub mod Causes
+pub mod Behind
 pub mod Sound
 pub mod Fronts
 pub mod Messages

@@ -6,3 +6,4 @@ pub mod AgreeSamples
 pub mod StarSamples
 pub mod SwitchSamples
 pub mod RestSamples
+pub mod RemovalSamples

@@ -2,6 +2,7 @@
 pub mod Meant
 pub mod AtNode
 pub mod Processed
+pub mod Removed
 pub mod Puts
 pub mod Quiet
 pub mod Begun

@@ -3,13 +3,13 @@ use Rattle.std.specs.Prelude.{◌≡◌, ◌<◌, ℕ, Bool, true, false, not, �
 use Rattle.std.specs.List.{list_all, list_any}
 use Rattle.grs_base.specs.declared.resource.SysId.{SysId}
 use Rattle.grs_base.specs.declared.resource.TaskId.{TaskId}
+use Rattle.grs_wire.specs.History.{removes}
 use Rattle.grs_wire.specs.declared.deck.Deck.{Deck}
 use Rattle.grs_wire.specs.declared.deck.Desk.{Desk as DeskLine}
 use Rattle.grs_wire.specs.declared.deck.Event.{Event}
 use Rattle.grs_wire.specs.declared.deck.Order.{Order}
 use Rattle.grs_wire.specs.declared.deck.Order.TheVariants.{Star, Vary}
 use Rattle.grs_wire.specs.declared.history.HistEntry.{HistEntry}
-use Rattle.grs_wire.specs.declared.history.HistEntry.TheVariants.{Remove}
 use Rattle.grs_wire.specs.declared.request.Fixed.{Fixed}
 use Rattle.grs_wire.specs.declared.request.Fixed.TheVariants.{Purged}
 use Rattle.grs_wire.specs.declared.told.Said.{Said}
@@ -65,11 +65,6 @@ is_purge target _ = false
 -- whether a system fixed the removal of another
 abbrev pub purges : SysId → SysId → List (SysId × Fixed) → Bool
 purges s target fixed = list_any (λ x. (x.0.0 == s.0) && is_purge target x.1) fixed
-
--- whether an entry removes a system
-abbrev pub removes : SysId → HistEntry → Bool
-removes target (Remove by removed) = target.0 == removed.0
-removes target _ = false
 
 -- What is said of a command has its cause. The complex changes to star mode once. A system is removed by the
 -- event that tells it, and there is none any more where it was removed.

@@ -107,11 +107,11 @@ pub record IsWaiting (deck : Deck) (es : List Event) (t : TaskId) (ls : List Mea
   pub held : goes_on_with t ls (hist deck es) (lines_of_told (told deck es)) res ≡ true
   pub queued : has_task (list_of (lists_after deck es) res) t ≡ true
   pub waits : owns (list_of (lists_after deck es) res) t ≡ false
-  pub shown : task_end (run deck es).nodes t ≡ Waits
+  pub shown : task_end (run deck es).medium.removed (run deck es).nodes t ≡ Waits
 
 -- who hasn't ended waits
 abbrev pub TasksWait : Deck → List Event → Type 0
-TasksWait deck es = (t : TaskId) (ls : List Meaning) → IsThere deck es t ls → task_end (run deck es).nodes t ≢ Ended → IsWaiting deck es t ls
+TasksWait deck es = (t : TaskId) (ls : List Meaning) → IsThere deck es t ls → task_end (run deck es).medium.removed (run deck es).nodes t ≢ Ended → IsWaiting deck es t ls
 
 -- ---- units
 

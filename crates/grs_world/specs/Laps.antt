@@ -1,5 +1,5 @@
 -- A request comes back last. It goes with the message from system to system, and its asker is answered when the
--- message has come back to the system that put it in: by then every other system has processed it.
+-- message has come back to the system that put it in: by then no other system has still to process it.
 use Rattle.std.specs.Prelude.{◌≡◌, ◌≢◌, ℕ, Bool, true, false, drop, length, List, [], ◌∷◌, ◌++◌, Option, Some, None, slice_get}
 use Rattle.std.specs.List.{list_any}
 use Rattle.grs_base.specs.Same.{same_task}

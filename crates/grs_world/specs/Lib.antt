@@ -9,3 +9,4 @@ pub mod Done
 pub mod Interest
 pub mod Changing
 pub mod AtRest
+pub mod Removing

@@ -31,6 +31,11 @@ after w e = record { deck = w.deck; world = happens w.deck w.world e }
 abbrev pub ran : Deck → List Event → Running
 ran deck es = record { deck = deck; world = run deck es }
 
+-- each of them has its place as its number, of which the first is this one
+abbrev pub AreNumbered : ℕ → List NodeView → Type 0
+AreNumbered s [] = Unit {0}
+AreNumbered s (v ∷ vs) = (v.node.tasks.system ≡ s) × AreNumbered (s + 1) vs
+
 -- the systems without their decks and logs
 abbrev pub nodes_of : List NodeView → List NodeState
 nodes_of vs = map (λ v. v.node) vs
@@ -72,11 +77,16 @@ units_of (n ∷ ns) = units_at (record { 0 = n.tasks.system }) n.tasks.tasks ++ 
 abbrev pub end_of : TasksView → TaskId → TaskEnd
 end_of v t = cond (is_task v t) (end_in (state_of v t).phase) ends.Open
 
--- the end of a task at its system, if that one is there
-abbrev pub end_at : TaskId → Option NodeState → TaskEnd
-end_at t None = ends.Open
-end_at t (Some n) = end_of n.tasks t
+-- the end of a task whose system was removed: it had ended before, or was removed with its system
+abbrev pub end_removed : TaskEnd → TaskEnd
+end_removed ends.Ended = ends.Ended
+end_removed other = ends.Removed
 
--- the end of a task at these systems
-abbrev pub task_end : List NodeState → TaskId → TaskEnd
-task_end ns t = end_at t (slice_get ns t.system.0)
+-- the end of a task at its system, if that one is there; the systems in the set were removed
+abbrev pub end_at : ℕ → TaskId → Option NodeState → TaskEnd
+end_at removed t None = ends.Open
+end_at removed t (Some n) = cond (has removed t.system.0) (end_removed (end_of n.tasks t)) (end_of n.tasks t)
+
+-- the end of a task at these systems, of which those in the set were removed
+abbrev pub task_end : ℕ → List NodeState → TaskId → TaskEnd
+task_end removed ns t = end_at removed t (slice_get ns t.system.0)

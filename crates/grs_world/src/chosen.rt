@@ -12,7 +12,7 @@ ghost use Rattle.grs_node.specs.declared.prepared.Prepared.TheVariants.{Call as 
 ghost use Rattle.grs_wire.specs.declared.deck.Choice.TheVariants.{Turn};
 ghost use Rattle.grs_world.specs.World.{chosen};
 ghost use Rattle.grs_world.specs.Done.{last_done, done_by, journalled};
-ghost use Rattle.grs_world.specs.Running.{AreOf, nodes_of, node_at};
+ghost use Rattle.grs_world.specs.Running.{AreOf, AreNumbered, nodes_of, node_at};
 
 use grs_base::{List, NoMemory, SysId};
 use grs_medium::{Medium, TurnRefusal};
@@ -34,6 +34,7 @@ fn take_done(node: &mut Node<'_>) -> Done
     ensures done { result ≡ last_done node.old.log }
     ensures node { node.new.node ≡ node.old.node }
     ensures deck { node.new.deck ≡ node.old.deck }
+    ensures number { node.new.node.tasks.system ≡ node.old.node.tasks.system }
 {
     match node.take_step() {
         Some(step) => Done {
@@ -51,6 +52,7 @@ fn finished(node: &mut Node<'_>, choice: &Choice, reply: Option<Reply>) -> Resul
     ensures node { OnOk result (node.new.node ≡ (steps.finish node.old.deck node.old.node choice.now reply).node) }
     ensures done { IfOk result (λ done. done ≡ done_by node.old.node (steps.finish node.old.deck node.old.node choice.now reply)) }
     ensures deck { node.new.deck ≡ node.old.deck }
+    ensures number { node.new.node.tasks.system ≡ node.old.node.tasks.system }
 {
     let reply = match reply {
         None => None,
@@ -83,6 +85,7 @@ fn replied(
     ensures node { OnOk result (node.new.node ≡ (steps.finish node.old.deck node.old.node choice.now (Some reply)).node) }
     ensures done { IfOk result (λ done. done ≡ done_by node.old.node (steps.finish node.old.deck node.old.node choice.now (Some reply))) }
     ensures deck { node.new.deck ≡ node.old.deck }
+    ensures number { node.new.node.tasks.system ≡ node.old.node.tasks.system }
 {
     if leaves_all(&reply) {
         Ok(nothing_done(alloc))
@@ -105,11 +108,12 @@ fn called(
     requires systems { systems_of medium.old.state ≡ length node.old.deck.systems }
     requires words { length medium.old.state.words ≡ node.old.deck.entries }
     requires prepared { steps.prepare node.old.deck node.old.node choice.now ≡ Calls call }
-    requires addressed { is_act_addressed node.old.deck call.act ≡ true }
+    requires addressed { is_act_addressed node.old.deck system.0 call.act ≡ true }
     ensures medium { OnOk result (medium.new.state ≡ medium_after medium.old.state system call) }
     ensures node { OnOk result (node.new.node ≡ (steps.finish node.old.deck node.old.node choice.now (Some (reply_to medium.old.state system call))).node) }
     ensures done { IfOk result (λ done. done ≡ done_by node.old.node (steps.finish node.old.deck node.old.node choice.now (Some (reply_to medium.old.state system call)))) }
     ensures deck { node.new.deck ≡ node.old.deck }
+    ensures number { node.new.node.tasks.system ≡ node.old.node.tasks.system }
     ensures systems { systems_of medium.new.state ≡ systems_of medium.old.state }
     ensures words { length medium.new.state.words ≡ length medium.old.state.words }
 {
@@ -133,6 +137,7 @@ fn refused_turn(
     ensures node { OnOk result (node.new.node ≡ (chosen node.old.deck medium.now.state system node.old.node Turn).step.node) }
     ensures done { IfOk result (λ done. done ≡ done_by node.old.node (chosen node.old.deck medium.now.state system node.old.node Turn).step) }
     ensures deck { node.new.deck ≡ node.old.deck }
+    ensures number { node.new.node.tasks.system ≡ node.old.node.tasks.system }
 {
     finished(node, &Choice::Turn, Some(refusal.into_reply()))
 }
@@ -161,6 +166,7 @@ fn turned(
     ensures node { OnOk result (node.new.node ≡ (chosen node.old.deck medium.old.state system node.old.node Turn).step.node) }
     ensures done { IfOk result (λ done. done ≡ done_by node.old.node (chosen node.old.deck medium.old.state system node.old.node Turn).step) }
     ensures deck { node.new.deck ≡ node.old.deck }
+    ensures number { node.new.node.tasks.system ≡ node.old.node.tasks.system }
     ensures systems { systems_of medium.new.state ≡ systems_of medium.old.state }
     ensures words { length medium.new.state.words ≡ length medium.old.state.words }
 {
@@ -188,6 +194,7 @@ fn turn(
     ensures node { OnOk result (node.new.node ≡ (chosen node.old.deck medium.old.state system node.old.node Turn).step.node) }
     ensures done { IfOk result (λ done. done ≡ done_by node.old.node (chosen node.old.deck medium.old.state system node.old.node Turn).step) }
     ensures deck { node.new.deck ≡ node.old.deck }
+    ensures number { node.new.node.tasks.system ≡ node.old.node.tasks.system }
     ensures systems { systems_of medium.new.state ≡ systems_of medium.old.state }
     ensures words { length medium.new.state.words ≡ length medium.old.state.words }
 {
@@ -213,10 +220,12 @@ fn choose(
     requires systems { systems_of medium.old.state ≡ length node.old.deck.systems }
     requires few { systems_of medium.old.state ≤ most_systems }
     requires words { length medium.old.state.words ≡ node.old.deck.entries }
+    requires number { node.old.node.tasks.system ≡ system.0 }
     ensures medium { OnOk result (medium.new.state ≡ (chosen node.old.deck medium.old.state system node.old.node choice.now).medium) }
     ensures node { OnOk result (node.new.node ≡ (chosen node.old.deck medium.old.state system node.old.node choice.now).step.node) }
     ensures done { IfOk result (λ done. done ≡ done_by node.old.node (chosen node.old.deck medium.old.state system node.old.node choice.now).step) }
     ensures deck { node.new.deck ≡ node.old.deck }
+    ensures number { node.new.node.tasks.system ≡ node.old.node.tasks.system }
     ensures systems { systems_of medium.new.state ≡ systems_of medium.old.state }
     ensures words { length medium.new.state.words ≡ length medium.old.state.words }
 {
@@ -246,11 +255,13 @@ pub(crate) fn choose_at(
     requires all { length nodes.old.items ≡ length deck.now.systems }
     requires few { length nodes.old.items ≤ most_systems }
     requires words { length medium.old.state.words ≡ deck.now.entries }
+    requires numbers { AreNumbered 0 nodes.old.items }
     ensures medium { OnOk result (medium.new.state ≡ (chosen deck.now medium.old.state system (node_at deck.now (nodes_of nodes.old.items) system) choice.now).medium) }
     ensures node { OnOk result (nodes_of nodes.new.items ≡ set (nodes_of nodes.old.items) system.0 (chosen deck.now medium.old.state system (node_at deck.now (nodes_of nodes.old.items) system) choice.now).step.node) }
     ensures done { IfOk result (λ done. done ≡ done_by (node_at deck.now (nodes_of nodes.old.items) system) (chosen deck.now medium.old.state system (node_at deck.now (nodes_of nodes.old.items) system) choice.now).step) }
     ensures deck { AreOf deck.now nodes.new.items }
     ensures count { length nodes.new.items ≡ length nodes.old.items }
+    ensures numbers { AreNumbered 0 nodes.new.items }
     ensures systems { systems_of medium.new.state ≡ systems_of medium.old.state }
     ensures words { length medium.new.state.words ≡ length medium.old.state.words }
 {

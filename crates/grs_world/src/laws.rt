@@ -1,6 +1,6 @@
 //! The laws of a run: each function's contract is one, and there is nothing to run.
-ghost use Rattle.std.specs.Prelude.{◌≡◌, true, false, List};
-ghost use Rattle.grs_wire.specs.Decks.{IsDeck};
+ghost use Rattle.std.specs.Prelude.{◌≡◌, true, false, length, List};
+ghost use Rattle.grs_wire.specs.Decks.{IsDeck, AreOrders};
 ghost use Rattle.grs_wire.specs.declared.deck.Deck.{Deck};
 ghost use Rattle.grs_wire.specs.declared.deck.Event.{Event};
 ghost use Rattle.grs_world.specs.Agree.{Sound};
@@ -9,15 +9,17 @@ ghost use Rattle.grs_world.specs.Changing.{ChangesFixNothing};
 ghost use Rattle.grs_world.specs.Interest.{WordsGoWithSystems};
 ghost use Rattle.grs_world.specs.Kept.{KeptArePlaces, ManagersKeepWell};
 ghost use Rattle.grs_world.specs.Laps.{ComesBackLast, ProcessedLast, AnsweredLast};
+ghost use Rattle.grs_world.specs.Removing.{RemovedAreInHistory, AnswersHaveCauses, RemovalsAreEntries, NoneFollows, RemovalsKeepOthers, MessageGoesOn};
 ghost use Rattle.grs_world.specs.Tables.{TablesAreFronts};
 ghost use Rattle.grs_world.specs.Decks.{FitsStar, may_be_star};
 ghost use Rattle.grs_world.specs.World.{run};
 
 /// Every run is sound, in ring mode and in star mode and where it changes from the one to the other, at whatever event: its
-/// history is legal, and what is told agrees with it. Of a deck whose runs may be in star mode it needs the bounds of systems
-/// and lock entries; of any other it needs nothing.
+/// history is legal, and what is told agrees with it. So it is wherever systems are removed. Of a deck whose runs may be in star
+/// mode it needs the bounds of systems and lock entries, and of each deck that no desk commands the removal of its own system,
+/// or of one that isn't there.
 pub fn runs_are_sound()
-    ensures { (deck : Deck) → (may_be_star deck ≡ true → FitsStar deck) → (events : List Event) → Sound deck events }
+    ensures { (deck : Deck) → (may_be_star deck ≡ true → FitsStar deck) → AreOrders (length deck.systems) 0 deck.systems → (events : List Event) → Sound deck events }
 {}
 
 /// In every run of such a deck what is kept of each Systems resource is the list that the history leads to. In ring mode each
@@ -42,8 +44,8 @@ pub fn tables_are_fronts()
 {}
 
 /// Wherever a run is in star mode, the lock words go with the systems: the set of an entry's word holds a system exactly where
-/// that system has interest in the entry, it names a system as the manager exactly where that system manages the entry, and it
-/// names one exactly where its set isn't empty, who is in it. A system that hasn't changed has interest in what its table leads
+/// that system is live and has interest in the entry, it names a system as the manager exactly where that system is live and
+/// manages the entry, and it names one exactly where its set isn't empty, who is in it. A system that hasn't changed has interest in what its table leads
 /// to, and manages that, once it has processed what it hasn't seen.
 pub fn words_go_with_systems()
     ensures { (deck : Deck) → (may_be_star deck ≡ true → FitsStar deck) → (events : List Event) → (run deck events).medium.star ≡ true → WordsGoWithSystems deck events }
@@ -63,18 +65,52 @@ pub fn requests_come_back_last()
 {}
 
 /// So an answer comes last. In every run of such a deck, where the next event gives a system a request that this system put
-/// in, which is then answered, every other system has processed it before; and by the event that tells a task an answer,
-/// every other system has processed each request of that task that stands in the message before that event or behind it.
+/// in, which is then answered, no other system has still to process it; and by the event that tells a task an answer, no other
+/// system has still to process a request of that task that stands in the message before that event or behind it.
 pub fn answers_come_last()
     ensures given { (deck : Deck) → deck.star ≡ false → (events : List Event) (next : Event) → ProcessedLast deck events next }
     ensures told { (deck : Deck) → deck.star ≡ false → (may_be_star deck ≡ true → FitsStar deck) → (events : List Event) (next : Event) → AnsweredLast deck events next }
 {}
 
-/// Where a run of a deck that can be read ends at rest, in ring mode or in star mode, nothing is lost on the live systems: each
-/// of their tasks that owns a resource was told control of it, each of these tasks' ENQs and DEQs that wasn't answered WAIT has
-/// its code line, a task of theirs that hasn't ended is shown to wait and has an element that it doesn't own, for which its last
-/// entry waits or the WAIT line at which it stands, and each of their units is reserved as often as their tasks own a resource
-/// on which a RESERVE of the unit queued them.
+/// Where a run of a deck that can be read ends at rest, in ring mode or in star mode, whichever systems were removed, nothing is
+/// lost on the live ones: each of their tasks that owns a resource was told control of it, each of these tasks' ENQs and DEQs
+/// that wasn't answered WAIT has its code line, a task of theirs that hasn't ended is shown to wait and has an element that it
+/// doesn't own, for which its last entry waits or the WAIT line at which it stands, and each of their units is reserved as often
+/// as their tasks own a resource on which a RESERVE of the unit queued them.
 pub fn rests_in_the_end()
     ensures { (deck : Deck) → IsDeck deck → (events : List Event) → RestsInTheEnd deck events }
+{}
+
+/// In every run the removed systems are those of which the history has the removal.
+pub fn removed_are_in_history()
+    ensures { (deck : Deck) → (events : List Event) → RemovedAreInHistory deck events }
+{}
+
+/// When an event is answered what has to do with removals. A removed system's events do nothing. A system is told which were
+/// removed exactly where its call doesn't know it; that there is no such system exactly where the history has its removal, in
+/// ring mode; and that nobody is removed exactly in star mode.
+pub fn answers_have_causes()
+    ensures { (deck : Deck) → AreOrders (length deck.systems) 0 deck.systems → (events : List Event) (next : Event) → AnswersHaveCauses deck events next }
+{}
+
+/// A removal is one entry of the history, at the event that makes it: what stands before it keeps its replies.
+pub fn removals_are_entries()
+    ensures { (deck : Deck) → (events : List Event) (next : Event) → RemovalsAreEntries deck events next }
+{}
+
+/// No entry of a task of the removed system stands behind the removal.
+pub fn none_follows_its_removal()
+    ensures { (deck : Deck) → (may_be_star deck ≡ true → FitsStar deck) → AreOrders (length deck.systems) 0 deck.systems → (events : List Event) → NoneFollows deck events }
+{}
+
+/// By a removal who owns and isn't of that system still owns, and who waits keeps the order: of each list of the whole complex
+/// the elements of the removed system's tasks leave, and of no other list any.
+pub fn removals_keep_others()
+    ensures { (deck : Deck) → (events : List Event) (next : Event) → RemovalsKeepOthers deck events next }
+{}
+
+/// The message waits for no removed system: no entry has still to go to one, and in ring mode, where some system is live, the
+/// message stands at a live one.
+pub fn message_goes_on()
+    ensures { (deck : Deck) → (events : List Event) → MessageGoesOn deck events }
 {}

@@ -1,7 +1,8 @@
 //! What is seen of the systems of a run. Nothing here changes anything.
-ghost use Rattle.std.specs.Prelude.{◌≡◌, ◌≤◌, ◌++◌, map, length, IfOk, OnOk};
+ghost use Rattle.std.specs.Prelude.{◌≡◌, ◌≤◌, ◌++◌, cond, map, length, IfOk, OnOk};
 ghost use Rattle.grs_base.specs.Limits.{most_systems};
 ghost use Rattle.task_state.specs.Units.{units_at};
+ghost use Rattle.grs_world.specs.Running as runs;
 ghost use Rattle.grs_world.specs.Running.{nodes_of, none_pending, pending_at, units_of, end_of, task_end};
 
 use grs_base::{List, NoMemory, SysId, TaskId};
@@ -56,8 +57,8 @@ pub fn units_of(alloc: Global, nodes: &[Node<'_>]) -> Result<List<(SysId, u16, u
     Ok(units)
 }
 
-/// The end of a task at its system.
-fn end_at(node: &Node<'_>, task: TaskId) -> TaskEnd
+/// How a task stands at its system.
+fn end_of(node: &Node<'_>, task: TaskId) -> TaskEnd
     ensures { result ≡ end_of node.now.node.tasks task }
 {
     if node.has(task) {
@@ -67,13 +68,32 @@ fn end_at(node: &Node<'_>, task: TaskId) -> TaskEnd
     }
 }
 
-/// The end of a task. One that isn't there is open.
+/// The end of a task whose system was removed: it had ended before, or was removed with its system.
+fn end_removed(end: TaskEnd) -> TaskEnd
+    ensures { result ≡ runs.end_removed end }
+{
+    match end {
+        TaskEnd::Ended => TaskEnd::Ended,
+        TaskEnd::Removed | TaskEnd::Waits | TaskEnd::Open => TaskEnd::Removed,
+    }
+}
+
+/// The end of a task at its system, which was removed or not.
+fn end_at(removed: bool, node: &Node<'_>, task: TaskId) -> TaskEnd
+    ensures { result ≡ cond removed (runs.end_removed (end_of node.now.node.tasks task)) (end_of node.now.node.tasks task) }
+{
+    let end = end_of(node, task);
+    if removed { end_removed(end) } else { end }
+}
+
+/// The end of a task at these systems, of which those in the set were removed. One that isn't there is open.
 #[tactic(auto, using(crate::proofs::code::Nodes::nodes))]
-pub fn task_end(nodes: &[Node<'_>], task: TaskId) -> TaskEnd
-    ensures { result ≡ task_end (nodes_of nodes.now) task }
+pub fn task_end(removed: u32, nodes: &[Node<'_>], task: TaskId) -> TaskEnd
+    requires { length nodes.now ≤ most_systems }
+    ensures { result ≡ task_end removed (nodes_of nodes.now) task }
 {
     match nodes.get(task.system.0 as usize) {
         None => TaskEnd::Open,
-        Some(node) => end_at(node, task),
+        Some(node) => end_at(has_system(removed, task.system), node, task),
     }
 }

@@ -1,11 +1,11 @@
 //! The world of a run: the medium, the systems that share it, what the events fixed and what was told. Each event
 //! is one system's; one of a system that isn't there, or was removed, does nothing.
-ghost use Rattle.std.specs.Prelude.{◌≡◌, ◌<◌, ◌+◌, ◌++◌, ◌∷◌, [], true, length, IfOk, OnOk};
-ghost use Rattle.grs_base.specs.Limits.{last_number};
+ghost use Rattle.std.specs.Prelude.{◌≡◌, ◌<◌, ◌≤◌, ◌+◌, ◌++◌, ◌∷◌, [], true, length, IfOk, OnOk};
+ghost use Rattle.grs_base.specs.Limits.{last_number, most_systems};
 ghost use Rattle.grs_wire.specs.Decks.{IsDeck};
 ghost use Rattle.grs_node.specs.Node.{first_node};
 ghost use Rattle.grs_world.specs.World as runs;
-ghost use Rattle.grs_world.specs.Running.{starting, after, ran, nodes_of, AreOf, is_live, at_rest, units_of, task_end};
+ghost use Rattle.grs_world.specs.Running.{starting, after, ran, nodes_of, AreOf, AreNumbered, is_live, at_rest, units_of, task_end};
 
 use super::chosen::{Done, choose_at};
 use super::summary;
@@ -33,13 +33,13 @@ impl<'d> Model for World<'d> {
     ghost use Rattle.std.specs.Prelude.{◌≡◌, ◌≤◌, length};
     ghost use Rattle.grs_base.specs.Limits.{most_systems};
     ghost use Rattle.grs_medium.specs.Medium.{systems_of};
-    ghost use Rattle.grs_world.specs.Running.{Running, AreOf, nodes_of};
+    ghost use Rattle.grs_world.specs.Running.{Running, AreOf, AreNumbered, nodes_of};
 
     ghost Value = { Running };
 
     ghost view = { λ a. record { deck = a.deck.now; world = record { medium = a.medium.state; nodes = nodes_of a.nodes.items; events = a.events; fixed = a.fixed; told = a.told } } };
 
-    ghost invariant = { λ a. AreOf a.deck.now a.nodes.items × (systems_of a.medium.state ≡ length a.nodes.items) × (length a.nodes.items ≡ length a.deck.now.systems) × (length a.nodes.items ≤ most_systems) × (length a.medium.state.words ≡ a.deck.now.entries) };
+    ghost invariant = { λ a. AreOf a.deck.now a.nodes.items × AreNumbered 0 a.nodes.items × (systems_of a.medium.state ≡ length a.nodes.items) × (length a.nodes.items ≡ length a.deck.now.systems) × (length a.nodes.items ≤ most_systems) × (length a.medium.state.words ≡ a.deck.now.entries) };
 }
 
 /// What is kept of a run: what its events fixed, each with its system, and what was told, both in order.
@@ -60,8 +60,11 @@ fn add_node<'d>(
     requires deck { IsDeck deck.now }
     requires system { system.0 < length deck.now.systems }
     requires nodes { AreOf deck.now nodes.old }
+    requires numbers { AreNumbered 0 nodes.old }
+    requires next { system.0 ≡ length nodes.old }
     ensures nodes { OnOk result (nodes_of nodes.new ≡ nodes_of nodes.old ++ first_node deck.now system.0 ∷ []) }
     ensures deck { OnOk result (AreOf deck.now nodes.new) }
+    ensures numbers { OnOk result (AreNumbered 0 nodes.new) }
     ensures count { OnOk result (length nodes.new ≡ length nodes.old + 1) }
 {
     let node = Node::new(alloc, deck, system)?;
@@ -74,6 +77,7 @@ fn first_nodes<'d>(alloc: Global, deck: &'d Deck) -> Result<Vec<Node<'d>>, NoMem
     requires { IsDeck deck.now }
     ensures nodes { IfOk result (λ nodes. nodes_of nodes.items ≡ runs.first_nodes deck.now 0 deck.now.systems) }
     ensures deck { IfOk result (λ nodes. AreOf deck.now nodes.items) }
+    ensures numbers { IfOk result (λ nodes. AreNumbered 0 nodes.items) }
     ensures count { IfOk result (λ nodes. length nodes.items ≡ length deck.now.systems) }
 {
     let mut nodes = List::new(alloc);
@@ -226,7 +230,8 @@ impl<'d> World<'d> {
 
     /// The systems, by their numbers.
     pub fn nodes(&self) -> &[Node<'d>]
-        ensures { nodes_of result.now ≡ self.now.world.nodes }
+        ensures nodes { nodes_of result.now ≡ self.now.world.nodes }
+        ensures few { length result.now ≤ most_systems }
     {
         self.nodes.as_slice()
     }
@@ -240,9 +245,9 @@ impl<'d> World<'d> {
 
     /// How a task stands. One that isn't there is open.
     pub fn ended(&self, task: TaskId) -> TaskEnd
-        ensures { result ≡ task_end self.now.world.nodes task }
+        ensures { result ≡ task_end self.now.world.medium.removed self.now.world.nodes task }
     {
-        summary::task_end(self.nodes.as_slice(), task)
+        summary::task_end(self.medium.removed(), self.nodes.as_slice(), task)
     }
 }
 

@@ -23,7 +23,7 @@ use Rattle.grs_known.specs.Past.{has_own, Past, Speaks}
 use Rattle.grs_known.proofs.lists.Parts.{is_res_of}
 use Rattle.grs_known.proofs.tasks.Invariant.{key, IsNext}
 use Rattle.grs_known.proofs.tasks.Speaking.{has-speaks, queued-speaks, legal-speaks}
-use Rattle.grs_known.proofs.known.Histories.{IsHistory, IsAsk, MayFollow, made_item, replayed}
+use Rattle.grs_known.proofs.known.Histories.{IsHistory, IsAsk, IsLive, MayFollow, made_item, replayed, removes-history}
 
 -- what a request asks, apart from its flag
 abbrev pub ask_of : Want → Option Ask
@@ -46,10 +46,10 @@ module _ (deck : Deck) (P : List RunItem) (right : IsHistory deck P) (t : TaskId
       same_length [] = refl
       same_length (y ∷ ys) = ap suc (same_length ys)
 
-  module _ (ls : List Meaning) (lines : lines_of deck t ≡ Some ls) where
+  module _ (ls : List Meaning) (lines : lines_of deck t ≡ Some ls) (live : IsLive t P) where
     asks : (a : Ask) (h : HistEntry) → IsNext ls p a → ask_in h ≡ Some a → answer_of h ≡ reply_of deck.limit (lists P) h → MayAsk deck t (history P) h
     asks a h next is reply = subst (λ o. IsLegalOf deck.limit t o (history P) h) (sym lines)
-        (legal-speaks deck.limit t p (history P) speaks ls a h next (reply ∙ ap (λ s. reply_of deck.limit s h) (replayed deck P right)) is)
+        (legal-speaks deck.limit t p (history P) speaks ls a h (removes-history [] P right.made t ∙ live) next (reply ∙ ap (λ s. reply_of deck.limit s h) (replayed deck P right)) is)
 
     pub may_follow : (c : SysId) (w : Want) (r : Res) → res_wanted w ≡ Some r → (is_systems r || is_res_of t.system.0 r) ≡ true → CountsIn deck.limit (lists P) t w → (a : Ask) → ask_of w ≡ Some a → IsNext ls p a →
         MayFollow deck P (made_item c P (Asked (record { task = t; want = w })))
@@ -61,12 +61,13 @@ module _ (deck : Deck) (P : List RunItem) (right : IsHistory deck P) (t : TaskId
         by_want : (v : Want) → CountsIn deck.limit (lists P) t v → ask_of v ≡ Some a → res_wanted v ≡ Some r → MayFollow deck P (made_item c P (Asked (record { task = t; want = v })))
         by_want (wants.Enq q d ret full) k i e = record {
           ask = ask (wants.Enq q d ret full) e;
+          live = live;
           made = refl;
           counts = k;
           entry = _;
           one = refl;
           stands = asks a _ next i (ap (λ b. Coded (enq_code (lists P) q t d ret b)) k);
         }
-        by_want (wants.Deq q have) k i e = record { ask = ask (wants.Deq q have) e; made = refl; counts = tt; entry = _; one = refl; stands = asks a _ next i refl }
-        by_want (wants.Release q) k i e = record { ask = ask (wants.Release q) e; made = refl; counts = tt; entry = _; one = refl; stands = asks a _ next i refl }
+        by_want (wants.Deq q have) k i e = record { ask = ask (wants.Deq q have) e; live = live; made = refl; counts = tt; entry = _; one = refl; stands = asks a _ next i refl }
+        by_want (wants.Release q) k i e = record { ask = ask (wants.Release q) e; live = live; made = refl; counts = tt; entry = _; one = refl; stands = asks a _ next i refl }
         by_want (wants.Look first count f) k i e = absurd (cc)

@@ -1,30 +1,37 @@
--- The history of a run as items: each is a request of a task of the deck, with the entry that the lists give it, which
--- is legal where it stands.
-use Rattle.std.proofs.Common.{◌≡◌, Bool, true, false, ◌&&◌, ◌||◌, List, [], ◌∷◌, ◌++◌, Some, refl, ap, sym, ◌∙◌, subst, append-nil, append_assoc}
-use Rattle.std.specs.Prelude.{ℕ, is_some}
+-- The history of a run as items: each is a request of a task of the deck, with the entry that the lists give it, or the
+-- removal of a system; and it is legal where it stands.
+use Rattle.std.proofs.Common.{◌≡◌, zero, suc, Bool, cond, true, false, not, ◌&&◌, ◌||◌, List, [], ◌∷◌, ◌++◌, Some, refl, ap, sym, ◌∙◌, subst, append-nil, append_assoc}
+use Rattle.std.specs.Prelude.{ℕ, is_some, length, ◌==◌}
 use Rattle.std.specs.List.{list_all, list_any}
 use Rattle.std.proofs.lemmas.Option.{same_Some}
-use Rattle.std.proofs.lemmas.Bool.{and_from}
+use Rattle.std.proofs.Math.Bool.{or-false}
+use Rattle.std.proofs.lemmas.Bool.{and_from, and_parts, or_parts}
+use Rattle.std.proofs.lemmas.List.Folds.{list_any-append}
 use Rattle.grs_base.specs.Lists.{owns, has_task}
-use Rattle.grs_base.specs.State.{State, list_of, is_systems}
+use Rattle.grs_base.specs.State.{State, list_of, is_systems, remove_state}
+use Rattle.grs_base.specs.declared.look.Filter.{Filter}
 use Rattle.grs_base.specs.declared.resource.Res.{Res}
 use Rattle.grs_base.specs.declared.resource.SysId.{SysId}
 use Rattle.grs_base.specs.declared.resource.TaskId.{TaskId}
 use Rattle.grs_legal.specs.Asks.{lines_of}
-use Rattle.grs_legal.specs.Legal.{Legal, LegalFrom, MayStand}
-use Rattle.grs_wire.specs.History.{replay, after_fixed, fixed_entries}
-use Rattle.grs_wire.specs.Wants.{res_wanted}
+use Rattle.grs_legal.specs.Legal.{Legal, LegalFrom, MayStand, MayRemove}
+use Rattle.grs_wire.specs.History.{removes, replay, after_fixed, look_entries, entries_for, fixed_entries}
+use Rattle.grs_wire.specs.Decks.{AreOrders}
+use Rattle.grs_wire.specs.Wants.{after_want, res_wanted}
 use Rattle.grs_wire.specs.declared.deck.Deck.{Deck}
 use Rattle.grs_wire.specs.declared.history.HistEntry.{HistEntry}
+use Rattle.grs_wire.specs.declared.history.HistEntry.TheVariants.{Remove}
 use Rattle.grs_wire.specs.declared.request.Fixed.{Fixed}
-use Rattle.grs_wire.specs.declared.request.Fixed.TheVariants.{Asked}
+use Rattle.grs_wire.specs.declared.request.Fixed.TheVariants.{Asked, LocalLook, Purged}
 use Rattle.grs_wire.specs.declared.request.Req.{Req}
 use Rattle.grs_wire.specs.declared.request.Want.{Want}
 use Rattle.grs_wire.specs.declared.request.Want.TheVariants as wants
 use Rattle.grs_known.specs.Items.{RunItem, wants_round, goes_round, removes_system_of, lists, lists_from, Made, AllMade, Counts, AllCount, history, items, items_from}
 use Rattle.grs_known.proofs.lists.All.{all-want, has_task-all, owns-has}
+use Rattle.grs_known.proofs.lists.Facts.{all-filter, all-kept}
 use Rattle.grs_known.proofs.lists.Parts.{is_res_of}
-use Rattle.grs_known.proofs.known.ItemLaws.{lists_are_replayed}
+use Rattle.grs_known.proofs.lists.Truths.{eqb-flip}
+use Rattle.grs_known.proofs.known.ItemLaws.{lists-push, lists_are_replayed}
 use Rattle.grs_known.proofs.known.Pasts.{history-append}
 
 -- An item is a request of a task of the deck, for a resource of the whole complex or of the task's system.
@@ -36,24 +43,56 @@ pub record IsAsk (deck : Deck) (x : RunItem) : Type 0 where
   pub known : is_some (lines_of deck req.task) ≡ true
   pub place : (is_systems res || is_res_of req.task.system.0 res) ≡ true
 
+-- Or it removes a system.
+pub data AsksOrRemoves (deck : Deck) (x : RunItem) : Type 0 where
+  an_ask : IsAsk deck x → AsksOrRemoves deck x
+  a_removal : (target : SysId) → x.fixed ≡ Purged target → AsksOrRemoves deck x
+
 abbrev pub AllAsk : Deck → List RunItem → Type 0
 AllAsk deck [] = Unit {0}
-AllAsk deck (x ∷ xs) = IsAsk deck x × AllAsk deck xs
+AllAsk deck (x ∷ xs) = AsksOrRemoves deck x × AllAsk deck xs
 
+-- no desk of the deck commands the removal of its own system, or of one that isn't there
+abbrev pub OrdersFit : Deck → Type 0
+OrdersFit deck = AreOrders (length deck.systems) 0 deck.systems
+
+-- A task may stand on a resource behind these items: none of them removes its system, or the resource isn't one of the whole
+-- complex.
+abbrev pub may_stand : List RunItem → Res → TaskId → Bool
+may_stand T r t = not (is_systems r && list_any (λ x. removes_system_of t x.fixed) T)
+
+-- who stands somewhere behind them may
+abbrev pub AllStand : List RunItem → Type 0
+AllStand T = list_all (λ h. may_stand T h.0 h.1.task) (lists T) ≡ true
+
+-- The history is legal, where the desks' commands are of other systems that are there.
 pub record IsHistory (deck : Deck) (T : List RunItem) : Type 0 where
   pub made : AllMade [] T
   pub count : AllCount deck.limit [] T
   pub asks : AllAsk deck T
-  pub legal : Legal deck (history T)
+  pub stand : AllStand T
+  pub legal : OrdersFit deck → Legal deck (history T)
+
+-- none of these items removes the task's system
+abbrev pub IsLive : TaskId → List RunItem → Type 0
+IsLive t T = list_any (λ x. removes_system_of t x.fixed) T ≡ false
 
 -- An item may stand behind these items.
 pub record MayFollow (deck : Deck) (T : List RunItem) (x : RunItem) : Type 0 where
   pub ask : IsAsk deck x
+  pub live : IsLive ask.req.task T
   pub made : Made T x
   pub counts : Counts deck.limit (lists T) x.fixed
   pub entry : HistEntry
   pub one : x.entries ≡ entry ∷ []
   pub stands : MayStand deck (history T) entry
+
+-- A removal may stand behind these items.
+pub record MayPurge (deck : Deck) (T : List RunItem) (x : RunItem) : Type 0 where
+  pub target : SysId
+  pub purged : x.fixed ≡ Purged target
+  pub made : Made T x
+  pub stands : OrdersFit deck → MayRemove deck (history T) x.by target
 
 -- What a system fixes behind these items, as an item.
 abbrev pub made_item : SysId → List RunItem → Fixed → RunItem
@@ -68,7 +107,7 @@ count-push : (limit : ℕ) (F T : List RunItem) (x : RunItem) → AllCount limit
 count-push limit F [] x a c = (subst (λ U. Counts limit (lists U) x.fixed) (append-nil F) c, tt)
 count-push limit F (y ∷ T) x a c = (a.0, count-push limit (F ++ y ∷ []) T x a.1 (subst (λ U. Counts limit (lists U) x.fixed) (sym (append_assoc F (y ∷ []) T)) c))
 
-asks-push : (deck : Deck) (T : List RunItem) (x : RunItem) → AllAsk deck T → IsAsk deck x → AllAsk deck (T ++ x ∷ [])
+asks-push : (deck : Deck) (T : List RunItem) (x : RunItem) → AllAsk deck T → AsksOrRemoves deck x → AllAsk deck (T ++ x ∷ [])
 asks-push deck [] x a i = (i, tt)
 asks-push deck (y ∷ T) x a i = (a.0, asks-push deck T x a.1 i)
 
@@ -79,13 +118,68 @@ legal-append deck P (h ∷ hs) gs a b = (a.0, legal-append deck (P ++ h ∷ []) 
 history-push : (T : List RunItem) (x : RunItem) (h : HistEntry) → x.entries ≡ h ∷ [] → history (T ++ x ∷ []) ≡ history T ++ h ∷ []
 history-push T x h one = history-append T (x ∷ []) ∙ ap (λ hs. history T ++ hs) (append-nil x.entries ∙ one)
 
+-- who may stand, behind one item more
+any-push : (T : List RunItem) (x : RunItem) (f : Fixed) → x.fixed ≡ f → (t : TaskId) → list_any (λ y. removes_system_of t y.fixed) (T ++ x ∷ []) ≡ (list_any (λ y. removes_system_of t y.fixed) T || removes_system_of t f)
+any-push T x f is t = list_any-append (λ y. removes_system_of t y.fixed) T (x ∷ [])
+    ∙ ap (λ b. list_any (λ y. removes_system_of t y.fixed) T || b) (or-false (removes_system_of t x.fixed) ∙ ap (removes_system_of t) is)
+
+stand-ask : (T : List RunItem) (x : RunItem) (q : Req) → x.fixed ≡ Asked q → IsLive q.task T → AllStand T → AllStand (T ++ x ∷ [])
+stand-ask T x q asked live all =
+    subst (λ s. list_all (λ h. may_stand (T ++ x ∷ []) h.0 h.1.task) s ≡ true) (sym (lists-push T x ∙ ap (after_fixed (lists T)) asked))
+    (all-kept (λ h. may_stand T h.0 h.1.task) (λ h. may_stand (T ++ x ∷ []) h.0 h.1.task) (λ h may. same h.0 h.1.task ∙ may) (after_want (lists T) q.task q.want)
+    (all-want (may_stand T) (lists T) q.task q.want (λ r e. ap (λ b. not (is_systems r && b)) live ∙ both_false (is_systems r)) all))
+  where
+    both_false : (b : Bool) → not (b && false) ≡ true
+    both_false true = refl
+    both_false false = refl
+
+    same : (r : Res) (t : TaskId) → may_stand (T ++ x ∷ []) r t ≡ may_stand T r t
+    same r t = ap (λ b. not (is_systems r && b)) (any-push T x (Asked q) asked t ∙ or-false (list_any (λ y. removes_system_of t y.fixed) T))
+
+stand-purge : (T : List RunItem) (x : RunItem) (target : SysId) → x.fixed ≡ Purged target → AllStand T → AllStand (T ++ x ∷ [])
+stand-purge T x target purged all =
+    subst (λ s. list_all (λ h. may_stand (T ++ x ∷ []) h.0 h.1.task) s ≡ true) (sym (lists-push T x ∙ ap (after_fixed (lists T)) purged)) (go (lists T) all)
+  where
+    neither : (a b c : Bool) → not (a && b) ≡ true → not (a && c) ≡ true → not (a && (b || c)) ≡ true
+    neither true true c h k = absurd (cc)
+    neither true false c h k = k
+    neither false b c h k = refl
+
+    now : (r : Res) (t : TaskId) → may_stand T r t ≡ true → not (is_systems r && (target.0 == t.system.0)) ≡ true → may_stand (T ++ x ∷ []) r t ≡ true
+    now r t may stays = ap (λ b. not (is_systems r && b)) (any-push T x (Purged target) purged t) ∙ neither (is_systems r) (list_any (λ y. removes_system_of t y.fixed) T) (target.0 == t.system.0) may stays
+
+    go : (s : State) → list_all (λ h. may_stand T h.0 h.1.task) s ≡ true → list_all (λ h. may_stand (T ++ x ∷ []) h.0 h.1.task) (remove_state s target.0) ≡ true
+    go [] may = refl
+    go (h ∷ s) may =
+        let both = and_parts (may_stand T h.0 h.1.task) (list_all (λ z. may_stand T z.0 z.1.task) s) may in
+        kept (not (is_systems h.0 && (target.0 == h.1.task.system.0))) refl both.0 (go s both.1)
+      where
+        kept : (b : Bool) → not (is_systems h.0 && (target.0 == h.1.task.system.0)) ≡ b → may_stand T h.0 h.1.task ≡ true → list_all (λ z. may_stand (T ++ x ∷ []) z.0 z.1.task) (remove_state s target.0) ≡ true →
+            list_all (λ z. may_stand (T ++ x ∷ []) z.0 z.1.task) (cond b (h ∷ remove_state s target.0) (remove_state s target.0)) ≡ true
+        kept true stays here more = and_from _ _ (now h.0 h.1.task here stays) more
+        kept false gone here more = more
+
 pub follows : (deck : Deck) (T : List RunItem) (x : RunItem) → IsHistory deck T → MayFollow deck T x → IsHistory deck (T ++ x ∷ [])
 follows deck T x g m = record {
   made = made-push [] T x g.made m.made;
   count = count-push deck.limit [] T x g.count m.counts;
-  asks = asks-push deck T x g.asks m.ask;
-  legal = subst (LegalFrom deck []) (sym (history-push T x m.entry m.one)) (legal-append deck [] (history T) (m.entry ∷ []) g.legal (m.stands, tt));
+  asks = asks-push deck T x g.asks (an_ask m.ask);
+  stand = stand-ask T x m.ask.req m.ask.asked m.live g.stand;
+  legal = λ fit. subst (LegalFrom deck []) (sym (history-push T x m.entry m.one)) (legal-append deck [] (history T) (m.entry ∷ []) (g.legal fit) (m.stands, tt));
 }
+
+-- and a removal
+pub follows-purge : (deck : Deck) (T : List RunItem) (x : RunItem) → IsHistory deck T → MayPurge deck T x → IsHistory deck (T ++ x ∷ [])
+follows-purge deck T x g m = record {
+  made = made-push [] T x g.made m.made;
+  count = count-push deck.limit [] T x g.count (subst (Counts deck.limit (lists T)) (sym m.purged) tt);
+  asks = asks-push deck T x g.asks (a_removal m.target m.purged);
+  stand = stand-purge T x m.target m.purged g.stand;
+  legal = λ fit. subst (LegalFrom deck []) (sym (history-push T x (Remove x.by m.target) entry)) (legal-append deck [] (history T) (Remove x.by m.target ∷ []) (g.legal fit) (m.stands fit, tt));
+}
+  where
+    entry : x.entries ≡ Remove x.by m.target ∷ []
+    entry = m.made ∙ ap (fixed_entries (lists T) x.by) m.purged
 
 items_from-append : (s : State) (fs gs : List (SysId × Fixed)) → items_from s (fs ++ gs) ≡ items_from s fs ++ items_from (lists_from s (items_from s fs)) gs
 items_from-append s [] gs = refl
@@ -120,10 +214,38 @@ goes-ask deck x a = ap goes_round a.asked ∙ wants-round a.req.want a.res a.wan
 pub stays-ask : (deck : Deck) (t : TaskId) (x : RunItem) → IsAsk deck x → removes_system_of t x.fixed ≡ false
 stays-ask deck t x a = ap (removes_system_of t) a.asked
 
--- no system is removed by such items
-pub live-asks : (deck : Deck) (t : TaskId) (xs : List RunItem) → AllAsk deck xs → list_any (λ x. removes_system_of t x.fixed) xs ≡ false
-live-asks deck t [] a = refl
-live-asks deck t (x ∷ xs) a = rw (stays-ask deck t x a.0) (live-asks deck t xs a.1)
+-- ---- who is live
+pub live-push : (t : TaskId) (T : List RunItem) (x : RunItem) → IsLive t T → removes_system_of t x.fixed ≡ false → IsLive t (T ++ x ∷ [])
+live-push t T x live stays = list_any-append (λ y. removes_system_of t y.fixed) T (x ∷ []) ∙ rw (live, stays) refl
+
+pub live-behind : (t : TaskId) (front rest : List RunItem) → IsLive t (front ++ rest) → IsLive t rest
+live-behind t front rest live = (or_parts (list_any (λ y. removes_system_of t y.fixed) front) (list_any (λ y. removes_system_of t y.fixed) rest) (sym (list_any-append (λ y. removes_system_of t y.fixed) front rest) ∙ live)).1
+
+pub live-front : (t : TaskId) (front rest : List RunItem) → IsLive t (front ++ rest) → IsLive t front
+live-front t front rest live = (or_parts (list_any (λ y. removes_system_of t y.fixed) front) (list_any (λ y. removes_system_of t y.fixed) rest) (sym (list_any-append (λ y. removes_system_of t y.fixed) front rest) ∙ live)).0
+
+-- The history has the removal of a task's system exactly where an item is that.
+looks-keep : (s : State) (t : TaskId) (first count : ℕ) (f : Filter) (u : SysId) → list_any (removes u) (look_entries s t first count f) ≡ false
+looks-keep s t first zero f u = refl
+looks-keep s t first (suc count) f u = looks-keep s t (suc first) count f u
+
+ask-keeps : (s : State) (t : TaskId) (w : Want) (u : SysId) → list_any (removes u) (entries_for s t w) ≡ false
+ask-keeps s t (wants.Enq r c ret full) u = refl
+ask-keeps s t (wants.Deq r have) u = refl
+ask-keeps s t (wants.Release r) u = refl
+ask-keeps s t (wants.Look first count f) u = looks-keep s t first count f u
+
+fixed-removes : (s : State) (by : SysId) (f : Fixed) (t : TaskId) → list_any (removes t.system) (fixed_entries s by f) ≡ removes_system_of t f
+fixed-removes s by (Asked q) t = ask-keeps s q.task q.want t.system
+fixed-removes s by (LocalLook u f) t = refl
+fixed-removes s by (Purged target) t = or-false (t.system.0 == target.0) ∙ eqb-flip t.system.0 target.0
+
+pub removes-history : (F T : List RunItem) → AllMade F T → (t : TaskId) → list_any (removes t.system) (history T) ≡ list_any (λ x. removes_system_of t x.fixed) T
+removes-history F [] made t = refl
+removes-history F (x ∷ xs) made t =
+    list_any-append (removes t.system) x.entries (history xs)
+    ∙ ap (λ b. b || list_any (removes t.system) (history xs)) (ap (list_any (removes t.system)) made.0 ∙ fixed-removes (lists F) x.by x.fixed t)
+    ∙ ap (λ b. removes_system_of t x.fixed || b) (removes-history (F ++ x ∷ []) xs made.1 t)
 
 pub replayed : (deck : Deck) (T : List RunItem) → IsHistory deck T → lists T ≡ replay deck.limit (history T)
 replayed deck T g = lists_are_replayed deck.limit T g.made g.count
@@ -135,10 +257,12 @@ may_have deck r t = is_some (lines_of deck t) && (is_systems r || is_res_of t.sy
 
 pub elements-ask : (deck : Deck) (s : State) (xs : List RunItem) → AllAsk deck xs → list_all (λ h. may_have deck h.0 h.1.task) s ≡ true → list_all (λ h. may_have deck h.0 h.1.task) (lists_from s xs) ≡ true
 elements-ask deck s [] a h = h
-elements-ask deck s (x ∷ xs) a h = elements-ask deck (after_fixed s x.fixed) xs a.1 (by_ask a.0)
+elements-ask deck s (x ∷ xs) a h = elements-ask deck (after_fixed s x.fixed) xs a.1 (by_item a.0)
   where
-    by_ask : IsAsk deck x → list_all (λ h. may_have deck h.0 h.1.task) (after_fixed s x.fixed) ≡ true
-    by_ask i = subst (λ f. list_all (λ h. may_have deck h.0 h.1.task) (after_fixed s f) ≡ true) (sym i.asked)
+    by_item : AsksOrRemoves deck x → list_all (λ h. may_have deck h.0 h.1.task) (after_fixed s x.fixed) ≡ true
+    by_item (a_removal target is) = subst (λ f. list_all (λ h. may_have deck h.0 h.1.task) (after_fixed s f) ≡ true) (sym is)
+        (all-filter (λ h. may_have deck h.0 h.1.task) (λ h. not (is_systems h.0 && (target.0 == h.1.task.system.0))) s h)
+    by_item (an_ask i) = subst (λ f. list_all (λ h. may_have deck h.0 h.1.task) (after_fixed s f) ≡ true) (sym i.asked)
         (all-want (may_have deck) s i.req.task i.req.want (λ r e. and_from _ _ i.known (subst (λ q. (is_systems q || is_res_of i.req.task.system.0 q) ≡ true) (same_Some i.res r (sym i.wanted ∙ e)) i.place)) h)
 
 -- who has an element may have it, and so may an owner

@@ -18,7 +18,7 @@ use Rattle.grs_known.specs.Known.{Known, outstanding, Still, IsRight, falls_behi
 use Rattle.grs_known.specs.Past.{Past, past_by, past_of, after_entry, after_entries, Fits, Speaks, SpeaksOf, may_leave}
 use Rattle.grs_known.proofs.lists.Truths.{false_by, no_truth}
 use Rattle.grs_known.proofs.known.Fitting.{reply_fits}
-use Rattle.grs_known.proofs.known.Histories.{IsHistory, live-asks}
+use Rattle.grs_known.proofs.known.Histories.{IsHistory, IsLive, live-push}
 use Rattle.grs_known.proofs.known.Knowing.{outstanding-other, learned-other, right-other, outstanding-own, learned-own, right-own, right-answer, given-told, right-control}
 use Rattle.grs_known.proofs.known.Pasts.{past_grows, past_speaks, past_speaks_of}
 
@@ -28,10 +28,11 @@ IsOutstanding o None = Unit {0}
 IsOutstanding None (Some x) = ⊥
 IsOutstanding (Some a) (Some x) = x.fixed ≡ fixing.Asked a.req
 
--- What is known of a task is right, and it is behind only with its outstanding request.
+-- What is known of a task is right, it is behind only with its outstanding request, and its system isn't removed.
 pub record Knows (T : List RunItem) (t : TaskId) (o : Option Asked) (k : Known) : Type 0 where
   pub right : IsRight t k T
   pub request : IsOutstanding o (outstanding t k T)
+  pub live : IsLive t T
 
 -- ---- with nothing outstanding
 pub known-all : (T : List RunItem) (t : TaskId) (k : Known) → IsRight t k T → outstanding t k T ≡ None → k.behind ≡ false
@@ -46,8 +47,8 @@ knows-closed T t o k e h = go (outstanding t k T) (subst (λ z. IsOutstanding z 
     go (Some x) i = absurd i
 
 -- then the past speaks of the history
-pub speaks-known : (deck : Deck) (T : List RunItem) (t : TaskId) (k : Known) → IsHistory deck T → IsRight t k T → outstanding t k T ≡ None → Speaks deck.limit t (past_of t k T) (history T)
-speaks-known deck T t k g right e = past_speaks deck.limit t k T g.made g.count (live-asks deck t T g.asks) (known-all T t k right e) right
+pub speaks-known : (deck : Deck) (T : List RunItem) (t : TaskId) (k : Known) → IsHistory deck T → IsLive t T → IsRight t k T → outstanding t k T ≡ None → Speaks deck.limit t (past_of t k T) (history T)
+speaks-known deck T t k g live right e = past_speaks deck.limit t k T g.made g.count live (known-all T t k right e) right
 
 -- else of what the request doesn't give up
 pub stays-asked : (r : Res) (o : Option Asked) (i : Option RunItem) → IsOutstanding o i → is_leaving r o ≡ false → may_leave r i ≡ false
@@ -65,15 +66,15 @@ owns-still r t T (Some x) e h = (λ f. h, λ f. no_truth (gives_back r x.fixed) 
 
 -- ---- another task's item
 pub knows-other : (T : List RunItem) (x : RunItem) (t : TaskId) (o : Option Asked) (k : Known) → is_of t x.fixed ≡ false → removes_system_of t x.fixed ≡ false → Knows T t o k → Knows (T ++ x ∷ []) t o k
-knows-other T x t o k apart live h = record { right = right-other t k T x apart live h.right; request = subst (IsOutstanding o) (sym (outstanding-other t k T x apart)) h.request }
+knows-other T x t o k apart live h = record { right = right-other t k T x apart live h.right; request = subst (IsOutstanding o) (sym (outstanding-other t k T x apart)) h.request; live = live-push t T x h.live live }
 
 pub past-other : (T : List RunItem) (x : RunItem) (t : TaskId) (k : Known) → is_of t x.fixed ≡ false → past_of t k (T ++ x ∷ []) ≡ past_of t k T
 past-other T x t k apart = ap (λ xs. past_by k.owns (history xs)) (learned-other t k T x apart)
 
 -- ---- its own item: it is behind
 module _ (T : List RunItem) (x : RunItem) (t : TaskId) (k : Known) (own : is_of t x.fixed ≡ true) (now : k.behind ≡ false) where
-  pub knows-behind : (a : Asked) → x.fixed ≡ fixing.Asked a.req → Made T x → IsRight t k T → Knows (T ++ x ∷ []) t (Some a) (falls_behind k)
-  knows-behind a e made right = record { right = right-own t T x own k now made right; request = subst (IsOutstanding (Some a)) (sym (outstanding-own t T x own k)) e }
+  pub knows-behind : (a : Asked) → x.fixed ≡ fixing.Asked a.req → Made T x → IsLive t T → IsRight t k T → Knows (T ++ x ∷ []) t (Some a) (falls_behind k)
+  knows-behind a e made live right = record { right = right-own t T x own k now made right; request = subst (IsOutstanding (Some a)) (sym (outstanding-own t T x own k)) e; live = live-push t T x live (ap (removes_system_of t) e) }
 
   pub past-behind : past_of t (falls_behind k) (T ++ x ∷ []) ≡ past_of t k T
   past-behind = ap (λ xs. past_by k.owns (history xs)) (learned-own t T x own k now)
@@ -87,22 +88,22 @@ pub record KnowsEntry (T : List RunItem) (t : TaskId) (p : Past) (h : HistEntry)
   pub fits : Fits p h
   pub control : (r : Res) → tells r h ≡ true → owns (list_of (lists T) r) t ≡ true
 
-pub entry-learned : (deck : Deck) (T : List RunItem) (x : RunItem) (t : TaskId) (k : Known) (h : HistEntry) → IsHistory deck T → IsRight t k T → outstanding t k T ≡ Some x → x.entries ≡ h ∷ [] → KnowsEntry T t (past_of t k T) h
-entry-learned deck T x t k h g right is one = record {
+pub entry-learned : (deck : Deck) (T : List RunItem) (x : RunItem) (t : TaskId) (k : Known) (h : HistEntry) → IsHistory deck T → IsLive t T → IsRight t k T → outstanding t k T ≡ Some x → x.entries ≡ h ∷ [] → KnowsEntry T t (past_of t k T) h
+entry-learned deck T x t k h g live right is one = record {
   known = learns_item k x;
-  knows = record { right = right-answer t k T x is right; request = tt };
+  knows = record { right = right-answer t k T x is right; request = tt; live = live };
   past = past_grows t k T x is ∙ ap (λ hs. after_entries hs (past_of t k T)) one;
-  fits = reply_fits t k T x h g.made (live-asks deck t T g.asks) is one right;
+  fits = reply_fits t k T x h g.made live is one right;
   control = λ r e. given-told t k T x is right r (ap (list_any (tells r)) one ∙ or_left (tells r h) false e);
 }
 
 -- one that its system decides at once
-pub entry-decided : (deck : Deck) (T : List RunItem) (x : RunItem) (t : TaskId) (k : Known) (h : HistEntry) → IsHistory deck (T ++ x ∷ []) → is_of t x.fixed ≡ true → Made T x → IsRight t k T → k.behind ≡ false → x.entries ≡ h ∷ [] →
+pub entry-decided : (deck : Deck) (T : List RunItem) (x : RunItem) (t : TaskId) (k : Known) (h : HistEntry) → IsHistory deck (T ++ x ∷ []) → is_of t x.fixed ≡ true → Made T x → IsLive t (T ++ x ∷ []) → IsRight t k T → k.behind ≡ false → x.entries ≡ h ∷ [] →
     KnowsEntry (T ++ x ∷ []) t (past_of t k T) h
-entry-decided deck T x t k h g own made right now one =
+entry-decided deck T x t k h g own made live right now one =
     subst (λ p. KnowsEntry (T ++ x ∷ []) t p h) (past-behind T x t k own now)
-    (entry-learned deck (T ++ x ∷ []) x t (falls_behind k) h g (right-own t T x own k now made right) (outstanding-own t T x own k) one)
+    (entry-learned deck (T ++ x ∷ []) x t (falls_behind k) h g live (right-own t T x own k now made right) (outstanding-own t T x own k) one)
 
 -- ---- control is learned
 pub knows-control : (T : List RunItem) (t : TaskId) (r : Res) (o : Option Asked) (k : Known) → Knows T t o k → Still r t T (outstanding t k T) → Knows T t o (learns_control k r)
-knows-control T t r o k h s = record { right = right-control t k T r h.right s; request = h.request }
+knows-control T t r o k h s = record { right = right-control t k T r h.right s; request = h.request; live = h.live }

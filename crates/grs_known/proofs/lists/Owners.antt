@@ -30,9 +30,13 @@ pub owns-any : (es : List Elem) (t : TaskId) → owns es t ≡ list_any (λ e. s
 owns-any [] t = refl
 owns-any (e ∷ es) t = grind (arith, owns_shared-any es t)
 
-is_among-pick : (p : TaskId → Bool) (es : List Elem) (t : TaskId) → is_among t (pick (λ e. p e.task) (λ e. e.task) es) ≡ (p t && list_any (λ e. same_task t e.task) es)
+pub is_among-pick : (p : TaskId → Bool) (es : List Elem) (t : TaskId) → is_among t (pick (λ e. p e.task) (λ e. e.task) es) ≡ (p t && list_any (λ e. same_task t e.task) es)
 is_among-pick p [] t = grind arith
 is_among-pick p (e ∷ es) t = grind (arith, is_among-pick p es t, same_task-exact t e.task)
+
+-- who is among some of the owners owns
+pub picked-owns : (p : TaskId → Bool) (es : List Elem) (t : TaskId) → is_among t (pick (λ e. p e.task) (λ e. e.task) (take (owners es) es)) ≡ true → owns es t ≡ true
+picked-owns p es t e = owns-any es t ∙ (and_parts (p t) (list_any (λ x. same_task t x.task) (take (owners es) es)) (sym (is_among-pick p (take (owners es) es) t) ∙ e)).1
 
 -- who became owner: who owns afterwards and didn't before
 pub is_among-became : (before after : List Elem) (asker t : TaskId) → is_among t (became_owners before after asker) ≡ ((not (owns before t) && not (same_task asker t)) && owns after t)

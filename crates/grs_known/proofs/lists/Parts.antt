@@ -4,7 +4,7 @@ use Rattle.std.specs.Prelude.{filter, ◌==◌}
 use Rattle.std.proofs.lemmas.Bool.{cases_Bool}
 use Rattle.grs_base.specs.Same.{same_res, same_task}
 use Rattle.grs_base.specs.Lists.{decide_enq, deq_code, is_owner, standing_of}
-use Rattle.grs_base.specs.State.{State, list_of, is_systems, is_at, without, with_exclusive, after_effect}
+use Rattle.grs_base.specs.State.{State, list_of, is_systems, is_at, without, with_exclusive, after_effect, remove_state}
 use Rattle.grs_base.specs.declared.resource.Ctl.{Ctl}
 use Rattle.grs_base.specs.declared.resource.Res.{Res}
 use Rattle.grs_base.specs.declared.resource.Res.TheVariants as resources
@@ -38,6 +38,11 @@ pub systems-other : (s : ℕ) (r : Res) → is_systems r ≡ true → is_res_of 
 systems-other s (resources.Step n j q r) h = cc
 systems-other s (resources.System n q r) h = cc
 systems-other s (resources.Systems q r) h = refl
+
+-- the removal of a system leaves the elements on resources of one system
+pub part-removed : (s : ℕ) (st : State) (n : ℕ) → part (is_res_of s) (remove_state st n) ≡ part (is_res_of s) st
+part-removed s [] n = refl
+part-removed s (x ∷ st) n = grind (arith, part-removed s st n, own-one_system s x.0, cases_Bool (is_res_of s x.0), cases_Bool (is_systems x.0))
 
 pub list_of-part : (p : Res → Bool) (s : State) (r : Res) → p r ≡ true → list_of (part p s) r ≡ list_of s r
 list_of-part p [] r h = refl

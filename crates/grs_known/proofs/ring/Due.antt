@@ -6,12 +6,13 @@ use Rattle.std.proofs.lemmas.Bool.{and_parts, cases_Bool, and_right}
 use Rattle.std.proofs.lemmas.List.Elements.{filter-append}
 use Rattle.grs_base.specs.Same.{same_res}
 use Rattle.grs_base.specs.Lists.{owns}
-use Rattle.grs_base.specs.State.{State, list_of, is_systems}
+use Rattle.grs_base.specs.State.{State, list_of, is_systems, remove_state}
+use Rattle.grs_base.specs.declared.resource.SysId.{SysId}
 use Rattle.grs_base.specs.declared.resource.Res.{Res}
 use Rattle.grs_base.specs.declared.resource.TaskId.{TaskId}
 use Rattle.grs_base.proofs.SameLaws.{same_res-exact}
 use Rattle.grs_legal.specs.Asks.{lines_of}
-use Rattle.grs_wire.specs.History.{entries_for, fixed_entries}
+use Rattle.grs_wire.specs.History.{entries_for, fixed_entries, after_fixed}
 use Rattle.grs_wire.specs.Wants.{answer_to, res_wanted, new_owners}
 use Rattle.grs_wire.specs.declared.deck.Deck.{Deck}
 use Rattle.grs_wire.specs.declared.request.Fixed.{Fixed}
@@ -30,7 +31,9 @@ use Rattle.grs_known.proofs.lists.Parts.{answer_to-part}
 use Rattle.grs_known.proofs.lists.Truths.{false_by, no_truth}
 use Rattle.grs_known.proofs.known.Fitting.{made-behind}
 use Rattle.grs_known.proofs.known.Fronts.{pushed}
-use Rattle.grs_known.proofs.known.Histories.{AllAsk, IsHistory, asks-front, asks-behind, live-asks, owns-may}
+use Rattle.grs_known.proofs.known.Histories.{AllAsk, IsHistory, IsLive, asks-front, live-behind, owns-may}
+use Rattle.grs_known.proofs.known.ItemLaws.{lists-push}
+use Rattle.grs_known.proofs.ring.Parts.{list_of-systems, part-remove}
 use Rattle.grs_known.proofs.known.Knowing.{last_of-is, one, one-none, one-some}
 use Rattle.grs_known.proofs.known.Knows.{known-all}
 use Rattle.grs_known.proofs.ring.Reading.{table-is, owner-behind, owners_stay_on}
@@ -127,6 +130,26 @@ splits-at (y ∷ T) before x later e = go (goes_round y.fixed) refl before e (λ
         let s = ih bs tail in
         record { front = y ∷ s.front; rest = s.rest; whole = ap (λ z. y ∷ z) s.whole; seen = filter-cons_kept (λ z. goes_round z.fixed) y s.front g ∙ (ap (λ z. z ∷ rounds s.front) same ∙ ap (λ z. b ∷ z) s.seen); due = s.due }
 
+-- Who owns a resource of the whole complex behind an item that is due is a task of the deck, and owns it still unless its system
+-- is removed.
+abbrev pub StillBy : List RunItem → List RunItem → Res → TaskId → Type 0
+StillBy T later r u = (k : Known) → IsLive u T → IsRight u k T → mine u later ≡ one (outstanding u k T) → Still r u T (outstanding u k T)
+
+owner_stays : (deck : Deck) (T before : List RunItem) (x : RunItem) (later : List RunItem) (r : Res) (u : TaskId) → IsHistory deck T → (s : SplitsAt T before x later) → is_systems r ≡ true → owns (list_of (lists (s.front ++ x ∷ [])) r) u ≡ true →
+    (is_some (lines_of deck u) ≡ true) × StillBy T later r u
+owner_stays deck T before x later r u g s wide own = (
+  (and_parts _ _ (owns-may deck (s.front ++ x ∷ []) r u (asks-front deck (s.front ++ x ∷ []) s.rest (subst (AllAsk deck) through g.asks)) own)).0,
+  λ k live right due. subst (λ U. Still r u U (outstanding u k U)) (sym through)
+      (owners_stay_on u r k (s.front ++ x ∷ []) s.rest made.1 (live-behind u (s.front ++ x ∷ []) s.rest (subst (IsLive u) through live))
+      (keeps-due u r wide k T (s.front ++ x ∷ []) s.rest through right (ap (mine u) s.due ∙ due)) own),
+)
+  where
+    through : T ≡ (s.front ++ x ∷ []) ++ s.rest
+    through = s.whole ∙ pushed s.front x s.rest
+
+    made : AllMade s.front (x ∷ s.rest)
+    made = made-behind [] s.front (x ∷ s.rest) (subst (AllMade []) s.whole g.made)
+
 -- A request that is processed by the table of what was processed before: its entry is by some lists, the answer is that
 -- in the entry, and who becomes an owner is one still.
 pub record ReadBy (deck : Deck) (T before : List RunItem) (x : RunItem) (later : List RunItem) (q : Req) (r : Res) : Type 0 where
@@ -134,7 +157,7 @@ pub record ReadBy (deck : Deck) (T before : List RunItem) (x : RunItem) (later :
   pub made : x.entries ≡ entries_for at q.task q.want
   pub answer : answer_to (lists before) q.task q.want ≡ answer_to at q.task q.want
   pub owners : (u : TaskId) → is_among u (new_owners (lists before) q.task q.want) ≡ true →
-      (is_some (lines_of deck u) ≡ true) × ((k : Known) → IsRight u k T → mine u later ≡ one (outstanding u k T) → Still r u T (outstanding u k T))
+      (is_some (lines_of deck u) ≡ true) × StillBy T later r u
 
 pub read_by : (deck : Deck) (T before : List RunItem) (x : RunItem) (later : List RunItem) (q : Req) (r : Res) → IsHistory deck T → rounds T ≡ before ++ x ∷ later → x.fixed ≡ Asked q → res_wanted q.want ≡ Some r → is_systems r ≡ true → ReadBy deck T before x later q r
 read_by deck T before x later q r g whole asked wanted wide = record {
@@ -150,19 +173,25 @@ read_by deck T before x later q r g whole asked wanted wide = record {
     made : AllMade s.front (x ∷ s.rest)
     made = made-behind [] s.front (x ∷ s.rest) (subst (AllMade []) s.whole g.made)
 
-    through : T ≡ (s.front ++ x ∷ []) ++ s.rest
-    through = s.whole ∙ pushed s.front x s.rest
-
     table : lists before ≡ systems_part (lists s.front)
     table = ap lists (sym s.seen) ∙ table-is s.front
 
     owns_now : (u : TaskId) → is_among u (new_owners (lists before) q.task q.want) ≡ true → owns (list_of (lists (s.front ++ x ∷ [])) r) u ≡ true
     owns_now u e = owner-behind is_systems s.front x q r u asked wanted wide (ap (λ z. is_among u (new_owners z q.task q.want)) (sym table) ∙ e)
 
-    owners : (u : TaskId) → is_among u (new_owners (lists before) q.task q.want) ≡ true → (is_some (lines_of deck u) ≡ true) × ((k : Known) → IsRight u k T → mine u later ≡ one (outstanding u k T) → Still r u T (outstanding u k T))
-    owners u e = (
-      (and_parts _ _ (owns-may deck (s.front ++ x ∷ []) r u (asks-front deck (s.front ++ x ∷ []) s.rest (subst (AllAsk deck) through g.asks)) (owns_now u e))).0,
-      λ k right due. subst (λ U. Still r u U (outstanding u k U)) (sym through)
-          (owners_stay_on u r k (s.front ++ x ∷ []) s.rest made.1 (live-asks deck u s.rest (asks-behind deck (s.front ++ x ∷ []) s.rest (subst (AllAsk deck) through g.asks)))
-          (keeps-due u r wide k T (s.front ++ x ∷ []) s.rest through right (ap (mine u) s.due ∙ due)) (owns_now u e)),
-    )
+    owners : (u : TaskId) → is_among u (new_owners (lists before) q.task q.want) ≡ true → (is_some (lines_of deck u) ≡ true) × StillBy T later r u
+    owners u e = owner_stays deck T before x later r u g s wide (owns_now u e)
+
+-- A removal is processed by that table: who owns by what it leaves is one still.
+pub owns_left : (deck : Deck) (T before : List RunItem) (x : RunItem) (later : List RunItem) (target : SysId) (r : Res) (u : TaskId) → IsHistory deck T → rounds T ≡ before ++ x ∷ later → x.fixed ≡ Purged target → is_systems r ≡ true →
+    owns (list_of (remove_state (lists before) target.0) r) u ≡ true → (is_some (lines_of deck u) ≡ true) × StillBy T later r u
+owns_left deck T before x later target r u g whole purged wide own = owner_stays deck T before x later r u g s wide (ap (λ es. owns es u) same ∙ own)
+  where
+    s : SplitsAt T before x later
+    s = splits-at T before x later whole
+
+    same : list_of (lists (s.front ++ x ∷ [])) r ≡ list_of (remove_state (lists before) target.0) r
+    same =
+        ap (λ z. list_of z r) (lists-push s.front x ∙ ap (after_fixed (lists s.front)) purged)
+        ∙ sym (list_of-systems (remove_state (lists s.front) target.0) r wide)
+        ∙ ap (λ z. list_of z r) (part-remove (lists s.front) target.0 ∙ ap (λ z. remove_state z target.0) (sym (ap lists (sym s.seen) ∙ table-is s.front)))

@@ -24,7 +24,7 @@ part-want s t (wants.Deq r have) wide = sym (after_want-part is_systems s t (wan
 part-want s t (wants.Release r) wide = sym (after_want-part is_systems s t (wants.Release r) r refl wide)
 part-want s t (wants.Look first count f) wide = refl
 
-part-remove : (s : State) (n : ℕ) → systems_part (remove_state s n) ≡ remove_state (systems_part s) n
+pub part-remove : (s : State) (n : ℕ) → systems_part (remove_state s n) ≡ remove_state (systems_part s) n
 part-remove [] n = refl
 part-remove (x ∷ s) n = grind (arith, part-remove s n)
 

@@ -25,7 +25,7 @@ use Rattle.grs_known.specs.Items.{RunItem, lists}
 use Rattle.grs_known.specs.Known.{outstanding}
 use Rattle.grs_known.specs.Past.{Past, past_of, has_own, made_exclusive, own_by_effect, after_entries}
 use Rattle.grs_known.proofs.known.Following.{has-known}
-use Rattle.grs_known.proofs.known.Histories.{IsHistory, live-asks}
+use Rattle.grs_known.proofs.known.Histories.{IsHistory}
 use Rattle.grs_known.proofs.known.Knows.{speaks-known}
 use Rattle.grs_known.proofs.known.Pasts.{past_grows, elements_are_of_items}
 use Rattle.grs_known.proofs.lists.Own.{has_task-own}
@@ -84,7 +84,7 @@ module _ (deck : Deck) (os : Opens) (T : List RunItem) (right : IsHistory deck T
   by_item y S w is made q wanted h = by_want w made wanted
     where
       all : has_own r (after_entries y.entries (past_of t k.known T)).own ≡ true
-      all = sym (ap (λ (p : Past). has_own r p.own) (past_grows t k.known T y is)) ∙ (sym (ap (has_own r) (elements_are_of_items t T right.made (live-asks deck t T right.asks))) ∙ (sym (has_task-own (lists T) t r) ∙ h))
+      all = sym (ap (λ (p : Past). has_own r p.own) (past_grows t k.known T y is)) ∙ (sym (ap (has_own r) (elements_are_of_items t T right.made k.knows.live)) ∙ (sym (has_task-own (lists T) t r) ∙ h))
 
       by_want : (v : Want) → y.entries ≡ entries_for S t v → res_wanted v ≡ Some q → (has_own r (past_of t k.known T).own ≡ true) ⊎ (q ≡ r)
       by_want (Enq p c ret full) e z =
@@ -100,7 +100,7 @@ module _ (deck : Deck) (os : Opens) (T : List RunItem) (right : IsHistory deck T
 
   -- a task that isn't behind
   pub busy-idle : outstanding t k.known T ≡ None → has_task (list_of (lists T) r) t ≡ true → has_res r x.records ≡ true
-  busy-idle none h = recorded (sym (has-known deck T right t (past_of t k.known T) (speaks-known deck T t k.known right k.knows.right none) r) ∙ h)
+  busy-idle none h = recorded (sym (has-known deck T right t (past_of t k.known T) (speaks-known deck T t k.known right k.knows.live k.knows.right none) r) ∙ h)
 
   -- one that is, with this request
   pub busy-behind : (a : Asked) (y : RunItem) (S : State) → outstanding t k.known T ≡ Some y → y.entries ≡ entries_for S t a.req.want → (q : Res) → res_wanted a.req.want ≡ Some q → has_task (list_of (lists T) r) t ≡ true →

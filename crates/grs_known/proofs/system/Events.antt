@@ -107,7 +107,7 @@ module _ (deck : Deck) (s : ℕ) (os os' : Opens) (P P' : List RunItem) (v : Tas
     none_open = knows-closed P' t None d.learns.known refl d.learns.knows
 
     decided-speaks : Speaks deck.limit t (after_entry h p) (history P')
-    decided-speaks = subst (λ q. Speaks deck.limit t q (history P')) d.learns.past (speaks-known deck P' t d.learns.known d.right d.learns.knows.right none_open)
+    decided-speaks = subst (λ q. Speaks deck.limit t q (history P')) d.learns.past (speaks-known deck P' t d.learns.known d.right d.learns.knows.live d.learns.knows.right none_open)
 
     pub decided-good : (v1 : TasksView) (x : TaskState) (T1 : List ToldLine) → Did v v1 t x T1 → x.outstanding ≡ None → IsAtLines x.phase x.code → IsTask ls (after_entry h p) T1 (λ q. false) t x →
         ((u : TaskId) (ms : List Meaning) → same_task u t ≡ false → Untold v.told T1 u ms) → ToldBy deck s os'.all (history P') v.told T1 → StaysGood deck s os' P' v.told (tell_all v1 r ts)

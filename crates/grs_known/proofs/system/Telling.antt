@@ -82,7 +82,7 @@ learned-holds deck s os P T0 t ls v w h ours m = holds-changed deck s os os P P 
 module _ (deck : Deck) (s : ℕ) (os : Opens) (P : List RunItem) (right : IsHistory deck P) (T0 : List ToldLine) (r : Res) (t : TaskId) (ls : List Meaning) where
   -- the past of a task without a request
   speaks : (k : Known) (o : Option Asked) → o ≡ None → Knows P t o k → Speaks deck.limit t (past_of t k P) (history P)
-  speaks k o e h = speaks-known deck P t k right h.right (knows-closed P t o k e h)
+  speaks k o e h = speaks-known deck P t k right h.live h.right (knows-closed P t o k e h)
 
   learned-none : (v : TasksView) → IsHere deck os P v.told t ls (state_of v t) → ToldBy deck s os.all (history P) T0 v.told → Learned deck s os P T0 t ls v v
   learned-none v k agreed = record { changed = changed-none v t; others = λ u ms p leaving y apart j. j; own = k; agreed = agreed }

@@ -1,7 +1,7 @@
 -- A task's past, and a history of which it speaks: what the one tells of the other.
 use Rattle.std.proofs.Common.{◌≡◌, ℕ, Bool, true, false, cond, not, ◌||◌, List, [], map, length, Option, Some, None, refl, ap, sym, ◌∙◌, subst, arith}
 use Rattle.std.specs.Prelude.{slice_get, is_some, IfSome}
-use Rattle.std.specs.List.{list_all}
+use Rattle.std.specs.List.{list_all, list_any}
 use Rattle.std.proofs.lemmas.Option.{IfSome_then}
 use Rattle.grs_base.specs.Same.{same_res}
 use Rattle.grs_base.specs.Lists.{owns, has_task}
@@ -14,7 +14,7 @@ use Rattle.grs_legal.specs.Asks.{Ask, asks_of}
 use Rattle.grs_legal.specs.Legal.{ask_in, IsLegal, entries_of, end_among, release_next, or_else, next_ask, passed_behind, passed_lines, lets_pass, last_entry, HasControl}
 use Rattle.grs_legal.specs.declared.meaning.Meaning.{Meaning}
 use Rattle.grs_legal.specs.declared.meaning.Meaning.TheVariants as lines
-use Rattle.grs_wire.specs.History.{code_of, answer_of, reply_of, replay}
+use Rattle.grs_wire.specs.History.{removes, code_of, answer_of, reply_of, replay}
 use Rattle.grs_wire.specs.declared.history.HistEntry.{HistEntry}
 use Rattle.grs_wire.specs.declared.history.HistEntry.TheVariants.{Enq, Deq, Release, Look, Remove}
 use Rattle.grs_known.specs.Past.{has_own, Past, Speaks}
@@ -68,8 +68,8 @@ module _ (limit : ℕ) (t : TaskId) (p : Past) (P : List HistEntry) (s : Speaks 
   unfolding passed_of
   lines-speaks ls h = ap (λ es. list_all (lets_pass (replay limit P) t) (passed_of ls es)) s.asked ∙ all-kept (may_pass p) (lets_pass (replay limit P) t) pass-speaks (passes_next ls p) h
 
-  pub legal-speaks : (ls : List Meaning) (a : Ask) (h : HistEntry) → IsNext ls p a → answer_of h ≡ reply_of limit (replay limit P) h → ask_in h ≡ Some a → IsLegal limit t ls P h
-  legal-speaks ls a h i right asks = record { reply = right; next = next-speaks ls ∙ i.next ∙ sym asks; waited = free-speaks i.free; passed = lines-speaks ls i.passed }
+  pub legal-speaks : (ls : List Meaning) (a : Ask) (h : HistEntry) → list_any (removes t.system) P ≡ false → IsNext ls p a → answer_of h ≡ reply_of limit (replay limit P) h → ask_in h ≡ Some a → IsLegal limit t ls P h
+  legal-speaks ls a h live i right asks = record { reply = right; live = live; next = next-speaks ls ∙ i.next ∙ sym asks; waited = free-speaks i.free; passed = lines-speaks ls i.passed }
 
   -- the task was told control that it has
   pub speaks-control : (r : Res) → owns (list_of (replay limit P) r) t ≡ true → Speaks limit t (with_control r p) P

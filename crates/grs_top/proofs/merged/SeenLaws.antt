@@ -15,7 +15,7 @@ use Rattle.grs_top.specs.Tasks.{tasks_of, ends_at}
 
 -- what is seen of the medium, of the systems and of what they show together is what is seen of the run
 pub seen_is : (deck : Deck) (m : MediumState) (vs : List NodeView) (x : Merged) → IsRun deck m vs x
-    → record { events = x.events; hist = x.hist; told = x.told; queues = rows_of (replay deck.limit x.hist); units = units_of (nodes_of vs); words = m.words; star = m.star; ended = ends_at (nodes_of vs) (tasks_of deck) } ≡ seen_of_run deck x.events
+    → record { events = x.events; hist = x.hist; told = x.told; queues = rows_of (replay deck.limit x.hist); units = units_of (nodes_of vs); words = m.words; star = m.star; ended = ends_at m.removed (nodes_of vs) (tasks_of deck) } ≡ seen_of_run deck x.events
 unfolding seen_of_run
 seen_is deck m vs x r = λ i. record {
   events = x.events;
@@ -25,7 +25,5 @@ seen_is deck m vs x r = λ i. record {
   units = ap (λ (ns : List NodeState). units_of ns) (sym r.nodes) i;
   words = ap (λ (y : MediumState). y.words) (sym r.medium) i;
   star = ap (λ (y : MediumState). y.star) (sym r.medium) i;
-  ended = ap (λ (ns : List NodeState). ends_at ns (tasks_of deck)) (sym r.nodes) i;
+  ended = ends_at (ap (λ (y : MediumState). y.removed) (sym r.medium) i) (sym r.nodes i) (tasks_of deck);
 }
-
-pub ruleset shown = (seen_is)

@@ -11,7 +11,7 @@ use Rattle.grs_known.proofs.lists.Facts.{slice_get-set, slice_get-set_other}
 use Rattle.grs_medium.specs.Apply.{reply_to, medium_after}
 use Rattle.grs_medium.specs.Medium.{MediumState}
 use Rattle.grs_node.proofs.Finish.{replies_leave}
-use Rattle.grs_node.specs.Node.{NodeState, Step, is_pending, is_star_pending, may_go, may_send, turn_call, prepared_by, star_call, next_order, switch_call, prepare, with_star, finish_star, finish_call, finish}
+use Rattle.grs_node.specs.Node.{NodeState, Step, is_pending, is_star_pending, may_go, may_send, turn_call, prepared_by, star_call, next_order, switch_call, purge_call, prepare, with_star, finish_star, finish_call, finish}
 use Rattle.grs_node.specs.Star.{StarPart, first_held, to_tell, send_of, send_to, entry_for, manages, request_of, settle_by, serves, answer_for, rank_of, tell_by, may_leave, leave_step}
 use Rattle.grs_node.specs.declared.prepared.Prepared.{Prepared}
 use Rattle.grs_node.specs.declared.prepared.Prepared.TheVariants.{Quiet, Call, Nothing}
@@ -103,11 +103,12 @@ no_rest deck n choices.Switch some = by_order (next_order deck n)
     by_order None = tt
     by_order (Some orders.Star) = refl
     by_order (Some (orders.Vary t)) = tt
-no_rest deck n (choices.Purge t) some = by_star n.star
+no_rest deck n (choices.Purge t) some = by_order (next_order deck n)
   where
-    by_star : (o : Option StarPart) → IsNoRest (star_call deck n o (choices.Purge t))
-    by_star None = tt
-    by_star (Some p) = tt
+    by_order : (o : Option Order) → IsNoRest (purge_call n t o)
+    by_order None = tt
+    by_order (Some orders.Star) = tt
+    by_order (Some (orders.Vary named)) = by_test IsNoRest (named.0 == t.0) (Call (record { known = n.known; act = acts.Purge t })) Nothing (λ is. refl) (λ is. tt)
 no_rest deck n choices.Rest some = by_test IsNoRest (is_pending deck n) Nothing (Call (record { known = n.known; act = acts.Rest })) (λ is. tt) (λ is. absurd (true≢false (sym some ∙ is)))
 
 -- ---- what a reply leaves pending

@@ -12,7 +12,7 @@ use Rattle.contention_mgr.specs.Manager.{Ranked, Managed, any_untold_in, any_unt
 use Rattle.grs_base.specs.Limits.{most_additions}
 use Rattle.grs_base.specs.declared.resource.Res.{Res}
 use Rattle.grs_base.specs.declared.resource.TaskId.{TaskId}
-use Rattle.grs_node.specs.Node.{NodeState, goes_on, is_to_send, desk_of, desk_count, is_star_pending, is_pending, may_go, may_send, turn_call, prepared_by, star_call, switch_call, prepare}
+use Rattle.grs_node.specs.Node.{NodeState, goes_on, is_to_send, desk_of, desk_count, is_star_pending, is_pending, may_go, may_send, turn_call, prepared_by, star_call, next_order, switch_call, purge_call, prepare}
 use Rattle.grs_node.specs.Star.{StarPart, to_tell, first_held, is_part_pending, send_of, settle_by, tell_by, may_leave, left_at}
 use Rattle.grs_node.specs.declared.star.Need.{Need}
 use Rattle.grs_node.specs.declared.star.Need.TheVariants.{Asks, Idle}
@@ -22,6 +22,7 @@ use Rattle.grs_wire.specs.declared.deck.Choice.{Choice}
 use Rattle.grs_wire.specs.declared.deck.Choice.TheVariants as choices
 use Rattle.grs_wire.specs.declared.deck.Deck.{Deck}
 use Rattle.grs_wire.specs.declared.deck.Desk.{Desk}
+use Rattle.grs_wire.specs.declared.deck.Order.{Order}
 use Rattle.grs_wire.proofs.WantLaws.{by_test}
 use Rattle.grs_wire.specs.declared.medium.Act.TheVariants as acts
 use Rattle.grs_wire.specs.declared.request.Req.{Req}
@@ -104,6 +105,15 @@ no_tell deck n p e star none =
     by_first None h = refl
     by_first (Some x) h = absurd (true≢false h)
 
+no_order : (deck : Deck) (n : NodeState) → is_pending deck n ≡ false → next_order deck n ≡ None
+no_order deck n none = by_line (slice_get (desk_of (slice_get deck.systems n.tasks.system)) n.done) refl
+  where
+    by_line : (o : Option Desk) → slice_get (desk_of (slice_get deck.systems n.tasks.system)) n.done ≡ o → option_map (λ (c : Desk). c.order) o ≡ None
+    by_line None at = refl
+    by_line (Some l) at =
+        let more : nat_lt n.done (desk_count (slice_get deck.systems n.tasks.system)) ≡ true = lt-ltb _ _ (slice_get_within (desk_of (slice_get deck.systems n.tasks.system)) n.done l at) in
+        absurd (true≢false (sym more ∙ (none_pending_parts deck n none).desk))
+
 -- interest in an entry that is given up makes nothing pending
 none_without : (home : ℕ) (os : List (Option Managed)) (e : ℕ) → any_untold_at home os ≡ false → any_untold_at home (slice_set os e None) ≡ false
 none_without home [] e h = refl
@@ -162,16 +172,6 @@ calm deck n (choices.Leave e) none = by_star n.star refl
     by_star : (o : Option StarPart) → n.star ≡ o → Calm n (choices.Leave e) (star_call deck n o (choices.Leave e))
     by_star None star = tt
     by_star (Some p) star = by_test (λ (need : Need). Calm n (choices.Leave e) (prepared_by n.known need)) (may_leave p n.tasks e) (Asks (acts.Leave e)) Idle (λ is. (p, star, refl)) (λ is. tt)
-calm deck n choices.Switch none = by_line (slice_get (desk_of (slice_get deck.systems n.tasks.system)) n.done) refl
-  where
-    by_line : (o : Option Desk) → slice_get (desk_of (slice_get deck.systems n.tasks.system)) n.done ≡ o → Calm n choices.Switch (switch_call deck n (option_map (λ c. c.order) o))
-    by_line None at = tt
-    by_line (Some l) at =
-        let more : nat_lt n.done (desk_count (slice_get deck.systems n.tasks.system)) ≡ true = lt-ltb _ _ (slice_get_within (desk_of (slice_get deck.systems n.tasks.system)) n.done l at) in
-        absurd (true≢false (sym more ∙ (none_pending_parts deck n none).desk))
-calm deck n (choices.Purge t) none = by_star n.star
-  where
-    by_star : (o : Option StarPart) → Calm n (choices.Purge t) (star_call deck n o (choices.Purge t))
-    by_star None = tt
-    by_star (Some p) = tt
+calm deck n choices.Switch none = subst (λ (o : Option Order). Calm n choices.Switch (switch_call deck n o)) (sym (no_order deck n none)) tt
+calm deck n (choices.Purge t) none = subst (λ (o : Option Order). Calm n (choices.Purge t) (purge_call n t o)) (sym (no_order deck n none)) tt
 calm deck n choices.Rest none = by_test (Calm n choices.Rest) (is_pending deck n) Nothing (Call (record { known = n.known; act = acts.Rest })) (λ is. tt) (λ is. refl)

@@ -1,9 +1,9 @@
 -- What a system prepares fits the medium.
-use Rattle.std.proofs.Common.{◌≡◌, ◌<◌, ◌≤◌, ℕ, true, length, Some, ap, sym, ◌∙◌, subst, arith}
-use Rattle.std.proofs.lemmas.Bool.{and_parts, eqb-true}
+use Rattle.std.proofs.Common.{◌≡◌, refl, ◌≢◌, false, Bool, ◌<◌, ◌≤◌, ℕ, true, length, Some, ap, sym, ◌∙◌, subst, arith}
+use Rattle.std.proofs.lemmas.Bool.{and_parts, eqb-true, eqb-false}
 use Rattle.std.proofs.lemmas.Bool.Decides.{nat_tests}
 use Rattle.std.specs.List.{list_all}
-use Rattle.std.specs.Prelude.{◌==◌, nat_lt, nat_le}
+use Rattle.std.specs.Prelude.{not, ◌==◌, nat_lt, nat_le}
 use Rattle.grs_base.specs.declared.resource.SysId.{SysId}
 use Rattle.grs_medium.specs.Apply.{ActFits, reply_to, medium_after}
 use Rattle.grs_medium.specs.Medium.{MediumState, systems_of}
@@ -26,7 +26,14 @@ below a b c h e = grind (arith, nat_tests, h, e)
 within : (a b : ℕ) → nat_le a b ≡ true → a ≤ b
 within a b h = grind (arith, nat_tests, h)
 
-pub act-fits : (m : MediumState) (c : SysId) (deck : Deck) (act : Act) → is_act_addressed deck act ≡ true → systems_of m ≡ length deck.systems → length m.words ≡ deck.entries → ActFits m c act
+refused : (b : Bool) → not b ≡ true → b ≡ false
+refused true h = cc
+refused false h = refl
+
+unequal : (a b : ℕ) → not (a == b) ≡ true → a ≢ b
+unequal a b h = eqb-false a b (refused (a == b) h)
+
+pub act-fits : (m : MediumState) (c : SysId) (deck : Deck) (act : Act) → is_act_addressed deck c.0 act ≡ true → systems_of m ≡ length deck.systems → length m.words ≡ deck.entries → ActFits m c act
 act-fits m c deck (acts.Turn out) a s w = within (length out) most_additions a
 act-fits m c deck (acts.Switch words) a s w =
     let parts = and_parts (length words == deck.entries) (list_all (word_fits (length deck.systems)) words) a in
@@ -36,7 +43,7 @@ act-fits m c deck acts.Take a s w = tt
 act-fits m c deck (acts.Settle to mail) a s w = below to.0 (length deck.systems) (systems_of m) a s
 act-fits m c deck (acts.Tell to mail) a s w = below to.0 (length deck.systems) (systems_of m) a s
 act-fits m c deck (acts.Leave e) a s w = below e deck.entries (length m.words) a w
-act-fits m c deck (acts.Purge t) a s w = absurd (cc)
+act-fits m c deck (acts.Purge t) a s w = unequal t.0 c.0 (and_parts (nat_lt t.0 (length deck.systems)) (not (t.0 == c.0)) a).1
 act-fits m c deck acts.Rest a s w = tt
 
 -- what a call that was prepared leads to

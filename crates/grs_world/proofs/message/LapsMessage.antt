@@ -1,66 +1,68 @@
 -- The message as it goes round: it passes over no system that has still to process an entry.
-use Rattle.std.proofs.Common.{ℕ, zero, suc, ◌≡◌, ◌≢◌, ◌+◌, ◌-◌, ◌%◌, ◌<◌, ◌≤◌, Bool, true, false, cond, not, List, [], ◌∷◌, ◌++◌, length, map, Option, Some, None, refl, sym, ap, ◌∙◌, subst, arith, add-zero, ◌||◌}
-use Rattle.std.specs.Prelude.{filter, ◌==◌}
+use Rattle.std.proofs.Common.{ℕ, suc, ◌≡◌, ◌≢◌, ◌+◌, ◌-◌, ◌%◌, ◌<◌, ◌≤◌, Bool, true, false, cond, not, List, [], ◌∷◌, ◌++◌, length, map, Option, Some, None, refl, sym, ap, ◌∙◌, subst, arith, add-zero, ◌||◌}
+use Rattle.std.specs.Prelude.{filter, find, ◌==◌}
 use Rattle.std.specs.List.{list_any}
 use Rattle.std.proofs.lemmas.List.Folds.{list_any-append}
 use Rattle.std.proofs.Math.Nat.{mod-eq_of_lt, mod-add-mod}
-use Rattle.std.proofs.lemmas.Bool.{or_left, or_right, or_parts}
+use Rattle.std.proofs.Math.Bool.{or-false}
+use Rattle.std.proofs.lemmas.Bool.{and_parts, eq-eqb, or_left, or_right, or_parts}
 use native.Mathlib.Decide.{ℕ_discrete}
 use Rattle.grs_base.specs.declared.resource.SysId.{SysId}
 use Rattle.grs_wire.specs.declared.medium.RingEntry.{RingEntry}
-use Rattle.grs_wire.specs.declared.medium.RingBody.TheVariants.{Request}
+use Rattle.grs_wire.specs.declared.medium.RingBody.TheVariants.{Request, Remove}
 use Rattle.grs_wire.specs.declared.request.Req.{Req}
-use Rattle.grs_wire.specs.Masks.{has, without, with_also, only, others}
+use Rattle.grs_wire.specs.Masks.{has, without, only}
 use Rattle.grs_wire.proofs.WantLaws.{by_test}
-use Rattle.grs_wire.proofs.MaskLaws.{has-zero, has-with_other, has-without_same, has-without_other}
-use Rattle.rsa_message.specs.Message.{Message, first_after, or_else, any_unseen, left_by, cleared, stamped, is_due, moves, turned_open, turned_closed, closed_by, moved_on, first_number}
+use Rattle.grs_wire.proofs.MaskLaws.{has-without_same, has-without_other}
+use Rattle.rsa_message.specs.Message.{Message, first_after, or_else, any_unseen, left_by, cleared, dropped, stamped, stands_at, is_due, moves, turned_open, turned_closed, closed_by, moved_on, first_number}
 use Rattle.grs_wire.specs.Unseen.{is_unseen, unseen}
 use Rattle.rsa_message.proofs.OrderLaws.{stands_at-exact}
 use Rattle.grs_world.specs.Laps.{OnlyLeft, LastAtHome}
 use Rattle.grs_world.proofs.message.LapsRound.{Ahead, home, inside_round, after_some, first_found, first_inside}
-use Rattle.grs_world.proofs.message.Stands.{has-others}
-use Rattle.grs_known.proofs.lists.Truths.{false_by}
+use Rattle.grs_known.proofs.lists.Truths.{false_by, no_truth}
 
 -- Whoever has still to process an entry: the message comes to it before it has gone once round from the system that
 -- put the entry in.
 abbrev pub Awaited : ℕ → SysId → RingEntry → Type 0
 Awaited systems here e = (u : ℕ) → has e.mask u ≡ true → Ahead systems e.from.0 here.0 u
 
+-- So it is of each request. A removal is put in wherever the message stands, so of it this isn't said.
+abbrev pub IsAwaited : ℕ → SysId → RingEntry → Type 0
+IsAwaited systems here e = (q : Req) → e.body ≡ Request q → Awaited systems here e
+
 abbrev pub AllAwaited : ℕ → SysId → List RingEntry → Type 0
 AllAwaited systems here [] = Unit {0}
-AllAwaited systems here (e ∷ es) = Awaited systems here e × AllAwaited systems here es
+AllAwaited systems here (e ∷ es) = IsAwaited systems here e × AllAwaited systems here es
 
--- Once its own system has processed an entry, nobody has still to process it.
-abbrev pub EndsAtHome : RingEntry → Type 0
-EndsAtHome e = has e.mask e.from.0 ≡ false → (u : ℕ) → has e.mask u ≡ false
+-- Once its own system, if it is one of these live ones, has processed a request, nobody has still to process it.
+abbrev pub EndsAtHome : ℕ → RingEntry → Type 0
+EndsAtHome live e = (q : Req) → e.body ≡ Request q → has live e.from.0 ≡ true → has e.mask e.from.0 ≡ false → (u : ℕ) → has e.mask u ≡ false
 
-abbrev pub AllEndAtHome : List RingEntry → Type 0
-AllEndAtHome [] = Unit {0}
-AllEndAtHome (e ∷ es) = EndsAtHome e × AllEndAtHome es
+abbrev pub AllEndAtHome : ℕ → List RingEntry → Type 0
+AllEndAtHome live [] = Unit {0}
+AllEndAtHome live (e ∷ es) = EndsAtHome live e × AllEndAtHome live es
+
+-- Whoever has still to process one of these is live.
+abbrev pub Masks : ℕ → List RingEntry → Type 0
+Masks live es = (u : ℕ) → any_unseen (record { 0 = u }) es ≡ true → has live u ≡ true
 
 -- A system that has still to process one of these passes the test.
 abbrev pub Passes : ℕ → (SysId → Bool) → List RingEntry → Type 0
 Passes n test es = (u : ℕ) → u < n → any_unseen (record { 0 = u }) es ≡ true → test (record { 0 = u }) ≡ true
 
--- What holds of the message in a run.
-pub record Round (m : Message) : Type 0 where
+-- What holds of the message in a run, where these systems are live.
+pub record Round (m : Message) (live : ℕ) : Type 0 where
   -- Once it is closed, whoever has still to process an entry has yet to change.
   pub shut : m.closed ≡ true → Passes m.systems (λ s. has m.still s.0) m.entries
   -- It stands at one of the systems, if there is any.
   pub inside : (h : SysId) → m.holder ≡ Some h → 0 < m.systems → h.0 < m.systems
   -- Whoever has still to process an entry is not passed over.
   pub awaited : (h : SysId) → m.holder ≡ Some h → AllAwaited m.systems h m.entries
-  -- An entry's own system is the last.
-  pub ends : AllEndAtHome m.entries
-
--- ---- the set of all systems
-all-below : (n u : ℕ) → has (others n 0) u ≡ true → u < n
-all-below zero u e = let no : false ≡ true = sym (has-zero u) ∙ e in absurd cc
-all-below (suc n) u e = go (ℕ_discrete u n) (all-below n u) (rw (has-zero n) at e)
-  where
-    go : Dec (u ≡ n) → (has (others n 0) u ≡ true → u < n) → has (with_also (others n 0) n) u ≡ true → u < suc n
-    go (yes same) below in_it = omega arith
-    go (no other) below in_it = let l : u < n = below (sym (has-with_other (others n 0) n u other) ∙ in_it) in omega arith
+  -- A request's own system is the last.
+  pub ends : AllEndAtHome live m.entries
+  -- It waits for live systems alone, and as long as it is open it stands at one, if there is any.
+  pub masks : Masks live m.entries
+  pub holder : m.closed ≡ false → (u : ℕ) → u < m.systems → has live u ≡ true → (h : SysId) × (m.holder ≡ Some h) × (has live h.0 ≡ true)
 
 -- ---- one entry
 -- A place further on is the same, counted from two systems.
@@ -102,11 +104,11 @@ entry_onward n c h test moved e due ahead u here = go (ℕ_discrete u c.0)
         let short : a.gone ≢ a.whole = λ same. other (sym a.comes ∙ ap (λ (x : ℕ). (e.from.0 + x) % n) (sym same) ∙ a.stands) in
         onward n c h test moved e.from.0 a.gone a.whole u (omega (arith, a.yet, short)) a.once a.stands a.comes (due u (inside_round n e.from.0 c.0 u a) here)
 
--- So it is of a new entry of the caller, which all have still to process.
-new_onward : (n : ℕ) (c h : SysId) (test : SysId → Bool) → or_else (first_after n c test) c ≡ h → (0 < n → c.0 < n) → (e : RingEntry) → e.from ≡ c → e.mask ≡ others n 0
+-- So it is of a new entry of the caller, which systems below the number have still to process.
+new_onward : (n : ℕ) (c h : SysId) (test : SysId → Bool) → or_else (first_after n c test) c ≡ h → (0 < n → c.0 < n) → (e : RingEntry) → e.from ≡ c → ((u : ℕ) → has e.mask u ≡ true → u < n)
     → ((u : ℕ) → u < n → has e.mask u ≡ true → test (record { 0 = u }) ≡ true) → Awaited n h e
-new_onward n c h test moved inside e from all due u here =
-    let low : u < n = all-below n u (subst (λ (x : ℕ). has x u ≡ true) all here) in
+new_onward n c h test moved inside e from below due u here =
+    let low : u < n = below u here in
     let c_low : c.0 < n = inside (omega arith) in
     let k = after_some n c.0 u c_low low in
     let start : (c.0 + 0) % n ≡ c.0 = ap (λ (x : ℕ). x % n) (add-zero c.0) ∙ mod-eq_of_lt c_low in
@@ -121,43 +123,45 @@ only_left n c e from ahead u other = go (has e.mask u) refl
     go false is = is
     go true is = absurd (other (home n c.0 u (subst (λ (x : SysId). Ahead n x.0 c.0 u) from (ahead u is))))
 
-left_ends : (n : ℕ) (c : SysId) (e : RingEntry) → Awaited n c e → EndsAtHome e → EndsAtHome (left_by c e)
-left_ends n c e ahead ends done u = go (ℕ_discrete u c.0)
+left_ends : (n : ℕ) (c : SysId) (live : ℕ) (e : RingEntry) → IsAwaited n c e → EndsAtHome live e → EndsAtHome live (left_by c e)
+left_ends n c live e ahead ends q body lives done u = go (ℕ_discrete u c.0)
   where
     by_home : u ≢ c.0 → Dec (e.from.0 ≡ c.0) → has e.mask u ≡ false
-    by_home other (yes here) = only_left n c e (ap (λ (x : ℕ). let y : SysId = record { 0 = x } in y) here) ahead u other
-    by_home other (no away) = ends (sym (has-without_other e.mask c.0 e.from.0 away) ∙ done) u
+    by_home other (yes here) = only_left n c e (ap (λ (x : ℕ). let y : SysId = record { 0 = x } in y) here) (ahead q body) u other
+    by_home other (no away) = ends q body lives (sym (has-without_other e.mask c.0 e.from.0 away) ∙ done) u
 
     go : Dec (u ≡ c.0) → has (without e.mask c.0) u ≡ false
     go (yes same) = subst (λ (x : ℕ). has (without e.mask c.0) x ≡ false) (sym same) (has-without_same e.mask c.0)
     go (no other) = has-without_other e.mask c.0 u other ∙ by_home other (ℕ_discrete e.from.0 c.0)
 
--- A new entry has its own system in its mask, if any.
-new_ends : (n : ℕ) (c : SysId) → (0 < n → c.0 < n) → has (others n 0) c.0 ≡ false → (u : ℕ) → has (others n 0) u ≡ false
-new_ends n c inside out u = go (has (others n 0) u) refl
-  where
-    go : (b : Bool) → has (others n 0) u ≡ b → has (others n 0) u ≡ false
-    go false is = is
-    go true is = let low : u < n = all-below n u is in let there : has (others n 0) c.0 ≡ true = has-others n c.0 (inside (omega arith)) in absurd cc
-
-cleared_ends : (n : ℕ) (c : SysId) (es : List RingEntry) → AllAwaited n c es → AllEndAtHome es → AllEndAtHome (cleared c es)
+-- all entries that were there, where each that stays ends at home if it did
+each_ends : (before after : ℕ) (c : SysId) → ((e : RingEntry) → EndsAtHome before e → EndsAtHome after (left_by c e)) → (es : List RingEntry) → AllEndAtHome before es → AllEndAtHome after (cleared c es)
 unfolding cleared
-cleared_ends n c [] all ends = tt
-cleared_ends n c (e ∷ es) all ends = go (not (e.mask == only c.0)) (cleared_ends n c es all.1 ends.1)
+each_ends before after c one [] ends = tt
+each_ends before after c one (e ∷ es) ends = go (not (e.mask == only c.0)) (each_ends before after c one es ends.1)
   where
-    go : (b : Bool) → AllEndAtHome (cleared c es) → AllEndAtHome (map (left_by c) (cond b (e ∷ filter (λ x. not (x.mask == only c.0)) es) (filter (λ x. not (x.mask == only c.0)) es)))
-    go true on = (left_ends n c e all.0 ends.0, on)
+    go : (b : Bool) → AllEndAtHome after (cleared c es) → AllEndAtHome after (map (left_by c) (cond b (e ∷ filter (λ x. not (x.mask == only c.0)) es) (filter (λ x. not (x.mask == only c.0)) es)))
+    go true on = (one e ends.0, on)
     go false on = on
 
-stamped_ends : (n : ℕ) (c : SysId) → (0 < n → c.0 < n) → (number mask : ℕ) → mask ≡ others n 0 → (rs : List Req) → AllEndAtHome (stamped number c mask rs)
-unfolding stamped
-stamped_ends n c inside number mask all [] = tt
-stamped_ends n c inside number mask all (r ∷ rs) =
-    (subst (λ (m : ℕ). has m c.0 ≡ false → (u : ℕ) → has m u ≡ false) (sym all) (new_ends n c inside), stamped_ends n c inside (suc number) mask all rs)
+cleared_ends : (n : ℕ) (c : SysId) (live : ℕ) (es : List RingEntry) → AllAwaited n c es → AllEndAtHome live es → AllEndAtHome live (cleared c es)
+unfolding cleared
+cleared_ends n c live [] all ends = tt
+cleared_ends n c live (e ∷ es) all ends = go (not (e.mask == only c.0)) (cleared_ends n c live es all.1 ends.1)
+  where
+    go : (b : Bool) → AllEndAtHome live (cleared c es) → AllEndAtHome live (map (left_by c) (cond b (e ∷ filter (λ x. not (x.mask == only c.0)) es) (filter (λ x. not (x.mask == only c.0)) es)))
+    go true on = (left_ends n c live e all.0 ends.0, on)
+    go false on = on
 
-ends_joined : (xs ys : List RingEntry) → AllEndAtHome xs → AllEndAtHome ys → AllEndAtHome (xs ++ ys)
-ends_joined [] ys a b = b
-ends_joined (x ∷ xs) ys a b = (a.0, ends_joined xs ys a.1 b)
+-- A new request has its own system in its mask, if that one is live.
+stamped_ends : (c : SysId) (number live : ℕ) (rs : List Req) → AllEndAtHome live (stamped number c live rs)
+unfolding stamped
+stamped_ends c number live [] = tt
+stamped_ends c number live (r ∷ rs) = (λ q body lives out u. no_truth (has live c.0) lives out, stamped_ends c (suc number) live rs)
+
+ends_joined : (live : ℕ) (xs ys : List RingEntry) → AllEndAtHome live xs → AllEndAtHome live ys → AllEndAtHome live (xs ++ ys)
+ends_joined live [] ys a b = b
+ends_joined live (x ∷ xs) ys a b = (a.0, ends_joined live xs ys a.1 b)
 
 -- ---- all entries
 passes_head : (n : ℕ) (test : SysId → Bool) (e : RingEntry) (es : List RingEntry) → Passes n test (e ∷ es) → (u : ℕ) → u < n → has e.mask u ≡ true → test (record { 0 = u }) ≡ true
@@ -178,17 +182,17 @@ cleared_onward n c h test moved (e ∷ es) due all = go (not (e.mask == only c.0
     Kept b = map (left_by c) (cond b (e ∷ filter (λ x. not (x.mask == only c.0)) es) (filter (λ x. not (x.mask == only c.0)) es))
 
     go : (b : Bool) → (Passes n test (cleared c es) → AllAwaited n h (cleared c es)) → Passes n test (Kept b) → AllAwaited n h (Kept b)
-    go true on d = (entry_onward n c h test moved e (passes_head n test (left_by c e) (cleared c es) d) all.0, on (passes_tail n test (left_by c e) (cleared c es) d))
+    go true on d = (λ q body. entry_onward n c h test moved e (passes_head n test (left_by c e) (cleared c es) d) (all.0 q body), on (passes_tail n test (left_by c e) (cleared c es) d))
     go false on d = on d
 
-stamped_onward : (n : ℕ) (c h : SysId) (test : SysId → Bool) → or_else (first_after n c test) c ≡ h → (0 < n → c.0 < n) → (number mask : ℕ) → mask ≡ others n 0 → (rs : List Req)
+stamped_onward : (n : ℕ) (c h : SysId) (test : SysId → Bool) → or_else (first_after n c test) c ≡ h → (0 < n → c.0 < n) → (number mask : ℕ) → ((u : ℕ) → has mask u ≡ true → u < n) → (rs : List Req)
     → Passes n test (stamped number c mask rs) → AllAwaited n h (stamped number c mask rs)
 unfolding stamped
-stamped_onward n c h test moved inside number mask all [] due = tt
-stamped_onward n c h test moved inside number mask all (r ∷ rs) due =
+stamped_onward n c h test moved inside number mask below [] due = tt
+stamped_onward n c h test moved inside number mask below (r ∷ rs) due =
     let e : RingEntry = record { number = number; from = c; body = Request r; mask = mask } in (
-      new_onward n c h test moved inside e refl all (passes_head n test e (stamped (suc number) c mask rs) due),
-      stamped_onward n c h test moved inside (suc number) mask all rs (passes_tail n test e (stamped (suc number) c mask rs) due),
+      λ q body. new_onward n c h test moved inside e refl below (passes_head n test e (stamped (suc number) c mask rs) due),
+      stamped_onward n c h test moved inside (suc number) mask below rs (passes_tail n test e (stamped (suc number) c mask rs) due),
     )
 
 joined : (n : ℕ) (h : SysId) (xs ys : List RingEntry) → AllAwaited n h xs → AllAwaited n h ys → AllAwaited n h (xs ++ ys)
@@ -203,35 +207,7 @@ passes_back : (n : ℕ) (test : SysId → Bool) (xs ys : List RingEntry) → Pas
 unfolding any_unseen
 passes_back n test xs ys due u low here = due u low (list_any-append (is_unseen (record { 0 = u })) xs ys ∙ or_right (list_any (is_unseen (record { 0 = u })) xs) _ here)
 
--- ---- a Turn
-due_all : (n live rest : ℕ) (es : List RingEntry) → live ≡ others n 0 → Passes n (is_due es live rest) es
-due_all n live rest es all u low here = let in_it : has live u ≡ true = subst (λ (x : ℕ). has x u ≡ true) (sym all) (has-others n u low) in rw (in_it, here) refl
-
-moved_inside : (n : ℕ) (c : SysId) (first : Option SysId) (h : SysId) → c.0 < n → ((x : SysId) → first ≡ Some x → x.0 < n) → or_else first c ≡ h → h.0 < n
-moved_inside n c None h low each e = subst (λ (x : SysId). x.0 < n) e low
-moved_inside n c (Some x) h low each e = subst (λ (y : SysId). y.0 < n) e (each x refl)
-
--- It is open.
-pub open_round : (m : Message) (c : SysId) (out : List Req) (live rest : ℕ) → Round m → live ≡ others m.systems 0 → m.holder ≡ Some c → m.closed ≡ false → Round (turned_open m c out live rest)
-open_round m c out live rest laws all here opened =
-    let n : ℕ = m.systems in
-    let flags : ℕ = cond (moves m c (length out)) (without rest c.0) rest in
-    let old : List RingEntry = cleared c m.entries in
-    let new : List RingEntry = stamped m.next c live out in
-    let test : SysId → Bool = is_due (old ++ new) live flags in
-    let due : Passes n test (old ++ new) = due_all n live flags (old ++ new) all in
-    record {
-      shut = λ shut. absurd cc;
-      inside = λ h at some. moved_inside n c (first_after n c test) h (laws.inside c here some) (λ x e. first_inside test n c x some e) (cc);
-      awaited = λ h at.
-          let moved : or_else (first_after n c test) c ≡ h = cc in
-          joined n h old new
-          (cleared_onward n c h test moved m.entries (passes_front n test old new due) (laws.awaited c here))
-          (stamped_onward n c h test moved (laws.inside c here) m.next live all out (passes_back n test old new due));
-      ends = ends_joined old new (cleared_ends n c m.entries (laws.awaited c here) laws.ends) (stamped_ends n c (laws.inside c here) m.next live all out);
-    }
-
--- It is closed: the caller changes, and has processed all.
+-- who has still to process one of these, once c has left
 cleared_unseen : (c : SysId) (es : List RingEntry) (u : ℕ) → any_unseen (record { 0 = u }) (cleared c es) ≡ true → (u ≢ c.0) × (any_unseen (record { 0 = u }) es ≡ true)
 unfolding cleared any_unseen
 cleared_unseen c [] u h = absurd (cc)
@@ -254,8 +230,84 @@ cleared_unseen c (e ∷ es) u h = go (not (e.mask == only c.0)) (cleared_unseen 
     go true more k = here (has (without e.mask c.0) u) refl more k
     go false more k = behind more k
 
-pub closed_turn : (m : Message) (c : SysId) → Round m → m.holder ≡ Some c → m.closed ≡ true → Round (turned_closed m c)
-closed_turn m c laws here shut =
+-- who is in no mask has none to process
+no_unseen : (live u : ℕ) (e : RingEntry) → e.mask ≡ live → has live u ≡ false → any_unseen (record { 0 = u }) (e ∷ []) ≡ true → ⊥
+unfolding any_unseen
+no_unseen live u e mask out k = let f : true ≡ false = sym k ∙ (or-false (has e.mask u) ∙ (ap (λ (x : ℕ). has x u) mask ∙ out)) in absurd cc
+
+-- ---- a Turn
+due_all : (n live rest : ℕ) (es : List RingEntry) → Masks live es → Passes n (is_due es live rest) es
+due_all n live rest es masks u low here = let in_it : has live u ≡ true = masks u here in rw (in_it, here) refl
+
+-- new requests are waited for by those in their mask
+stamped_unseen : (c : SysId) (number mask : ℕ) (rs : List Req) (u : ℕ) → any_unseen (record { 0 = u }) (stamped number c mask rs) ≡ true → has mask u ≡ true
+unfolding stamped any_unseen
+stamped_unseen c number mask [] u h = absurd (cc)
+stamped_unseen c number mask (r ∷ rs) u h = go (has mask u) refl (stamped_unseen c (suc number) mask rs u) h
+  where
+    go : (b : Bool) → has mask u ≡ b → (list_any (is_unseen (record { 0 = u })) (stamped (suc number) c mask rs) ≡ true → has mask u ≡ true) → (b || list_any (is_unseen (record { 0 = u })) (stamped (suc number) c mask rs)) ≡ true → has mask u ≡ true
+    go true is more k = is
+    go false is more k = more k
+
+masks_joined : (live : ℕ) (xs ys : List RingEntry) → Masks live xs → Masks live ys → Masks live (xs ++ ys)
+unfolding any_unseen
+masks_joined live xs ys a b u h = go (list_any (is_unseen (record { 0 = u })) xs) refl (sym (list_any-append (is_unseen (record { 0 = u })) xs ys) ∙ h)
+  where
+    go : (k : Bool) → list_any (is_unseen (record { 0 = u })) xs ≡ k → (k || list_any (is_unseen (record { 0 = u })) ys) ≡ true → has live u ≡ true
+    go true is e = a u is
+    go false is e = b u e
+
+masks_cleared : (live : ℕ) (c : SysId) (es : List RingEntry) → Masks live es → Masks live (cleared c es)
+masks_cleared live c es masks u h = masks u (cleared_unseen c es u h).1
+
+-- the first that passes a test passes it
+find_passes : (test : SysId → Bool) (xs : List SysId) (h : SysId) → find test xs ≡ Some h → test h ≡ true
+find_passes test [] h e = absurd cc
+find_passes test (x ∷ xs) h e = go (test x) refl (find_passes test xs h) e
+  where
+    go : (b : Bool) → test x ≡ b → (find test xs ≡ Some h → test h ≡ true) → cond b (Some x) (find test xs) ≡ Some h → test h ≡ true
+    go true is more k = let same : x ≡ h = cc in subst (λ (y : SysId). test y ≡ true) same is
+    go false is more k = more k
+
+first_passes : (test : SysId → Bool) (n : ℕ) (c h : SysId) → first_after n c test ≡ Some h → test h ≡ true
+unfolding first_after
+first_passes test n c h e = find_passes test _ h e
+
+-- where the message moves on from a live system it stands at a live one
+live_onward : (live : ℕ) (c : SysId) (test : SysId → Bool) → ((h : SysId) → test h ≡ true → has live h.0 ≡ true) → has live c.0 ≡ true → (first : Option SysId) → ((h : SysId) → first ≡ Some h → test h ≡ true) → has live (or_else first c).0 ≡ true
+live_onward live c test within here None each = here
+live_onward live c test within here (Some h) each = within h (each h refl)
+
+moved_inside : (n : ℕ) (c : SysId) (first : Option SysId) (h : SysId) → c.0 < n → ((x : SysId) → first ≡ Some x → x.0 < n) → or_else first c ≡ h → h.0 < n
+moved_inside n c None h low each e = subst (λ (x : SysId). x.0 < n) e low
+moved_inside n c (Some x) h low each e = subst (λ (y : SysId). y.0 < n) e (each x refl)
+
+-- It is open.
+pub open_round : (m : Message) (c : SysId) (out : List Req) (live rest : ℕ) → Round m live → ((u : ℕ) → has live u ≡ true → u < m.systems) → has live c.0 ≡ true → m.holder ≡ Some c → m.closed ≡ false → Round (turned_open m c out live rest) live
+open_round m c out live rest laws below alive here opened =
+    let n : ℕ = m.systems in
+    let flags : ℕ = cond (moves m c (length out)) (without rest c.0) rest in
+    let old : List RingEntry = cleared c m.entries in
+    let new : List RingEntry = stamped m.next c live out in
+    let test : SysId → Bool = is_due (old ++ new) live flags in
+    let masks : Masks live (old ++ new) = masks_joined live old new (masks_cleared live c m.entries laws.masks) (stamped_unseen c m.next live out) in
+    let due : Passes n test (old ++ new) = due_all n live flags (old ++ new) masks in
+    record {
+      shut = λ shut. absurd cc;
+      inside = λ h at some. moved_inside n c (first_after n c test) h (laws.inside c here some) (λ x e. first_inside test n c x some e) (cc);
+      awaited = λ h at.
+          let moved : or_else (first_after n c test) c ≡ h = cc in
+          joined n h old new
+          (cleared_onward n c h test moved m.entries (passes_front n test old new due) (laws.awaited c here))
+          (stamped_onward n c h test moved (laws.inside c here) m.next live below out (passes_back n test old new due));
+      ends = ends_joined live old new (cleared_ends n c live m.entries (laws.awaited c here) laws.ends) (stamped_ends c m.next live out);
+      masks = masks;
+      holder = λ z u low lives. (or_else (first_after n c test) c, refl, live_onward live c test (λ h t. (and_parts (has live h.0) _ t).0) alive (first_after n c test) (λ h at. first_passes test n c h at));
+    }
+
+-- It is closed: the caller changes, and has processed all.
+pub closed_turn : (m : Message) (c : SysId) (live : ℕ) → Round m live → m.holder ≡ Some c → m.closed ≡ true → Round (turned_closed m c) live
+closed_turn m c live laws here shut =
     let n : ℕ = m.systems in
     let test : SysId → Bool = λ s. has (without m.still c.0) s.0 in
     let due : Passes n test (cleared c m.entries) = λ u low k. let r = cleared_unseen c m.entries u k in has-without_other m.still c.0 u r.0 ∙ laws.shut shut u low r.1 in
@@ -263,8 +315,84 @@ closed_turn m c laws here shut =
       shut = λ z. due;
       inside = λ h at some. first_inside test n c h some at;
       awaited = λ h at. cleared_onward n c h test (ap (λ o. or_else o c) at) m.entries due (laws.awaited c here);
-      ends = cleared_ends n c m.entries (laws.awaited c here) laws.ends;
+      ends = cleared_ends n c live m.entries (laws.awaited c here) laws.ends;
+      masks = masks_cleared live c m.entries laws.masks;
+      holder = λ z. no_truth m.closed shut z;
     }
+
+-- ---- a system is removed
+-- A request's own system, if it is another one, is still the last.
+gone_ends : (before after : ℕ) (t : SysId) → has after t.0 ≡ false → ((u : ℕ) → has after u ≡ true → has before u ≡ true) → (e : RingEntry) → EndsAtHome before e → EndsAtHome after (left_by t e)
+gone_ends before after t gone fewer e ends q body lives done u = go (ℕ_discrete u t.0)
+  where
+    away : e.from.0 ≢ t.0
+    away same = no_truth (has after e.from.0) lives (ap (has after) same ∙ gone)
+
+    go : Dec (u ≡ t.0) → has (without e.mask t.0) u ≡ false
+    go (yes same) = subst (λ (x : ℕ). has (without e.mask t.0) x ≡ false) (sym same) (has-without_same e.mask t.0)
+    go (no other) = has-without_other e.mask t.0 u other ∙ ends q body (fewer e.from.0 lives) (sym (has-without_other e.mask t.0 e.from.0 away) ∙ done) u
+
+-- Where the message doesn't move, whoever has still to process an entry is ahead as before.
+still_awaited : (n : ℕ) (t h : SysId) (es : List RingEntry) → AllAwaited n h es → AllAwaited n h (cleared t es)
+unfolding cleared
+still_awaited n t h [] all = tt
+still_awaited n t h (e ∷ es) all = go (not (e.mask == only t.0)) (still_awaited n t h es all.1)
+  where
+    go : (b : Bool) → AllAwaited n h (cleared t es) → AllAwaited n h (map (left_by t) (cond b (e ∷ filter (λ x. not (x.mask == only t.0)) es) (filter (λ x. not (x.mask == only t.0)) es)))
+    go true on = (λ q body u k. all.0 q body u (was u k), on)
+      where
+        was : (u : ℕ) → has (without e.mask t.0) u ≡ true → has e.mask u ≡ true
+        was u k = sym (has-without_other e.mask t.0 u (λ same. no_truth (has (without e.mask t.0) u) k (ap (has (without e.mask t.0)) same ∙ has-without_same e.mask t.0))) ∙ k
+    go false on = on
+
+pub dropped_round : (m : Message) (c t : SysId) (before live : ℕ) → Round m before → m.closed ≡ false → t.0 < m.systems → has live t.0 ≡ false → ((u : ℕ) → u ≢ t.0 → has live u ≡ has before u) → Round (dropped m c t live) live
+unfolding dropped
+dropped_round m c t before live laws opened low gone others_same = record {
+  shut = λ z. no_truth m.closed z opened;
+  inside = λ h at some. (stands (stands_at m.holder t) refl h at).0 some;
+  awaited = λ h at. joined m.systems h (cleared t m.entries) (new ∷ []) (stands (stands_at m.holder t) refl h at).1 (λ q body. absurd (cc), tt);
+  ends = ends_joined live (cleared t m.entries) (new ∷ []) (each_ends before live t (gone_ends before live t gone fewer) m.entries laws.ends) (λ q body. absurd (cc), tt);
+  masks = masks_joined live (cleared t m.entries) (new ∷ []) masks new_masks;
+  holder = λ z u below lives. by_holder (stands_at m.holder t) refl u below lives;
+}
+  where
+    new : RingEntry
+    new = record { number = m.next; from = c; body = Remove t; mask = live }
+
+    apart : (u : ℕ) → has live u ≡ true → u ≢ t.0
+    apart u h same = no_truth (has live u) h (ap (has live) same ∙ gone)
+
+    fewer : (u : ℕ) → has live u ≡ true → has before u ≡ true
+    fewer u h = sym (others_same u (apart u h)) ∙ h
+
+    masks : Masks live (cleared t m.entries)
+    masks u h = let r = cleared_unseen t m.entries u h in others_same u r.0 ∙ laws.masks u r.1
+
+    new_masks : Masks live (new ∷ [])
+    new_masks u h = by_mask (has live u) refl h
+      where
+        no_mask : has live u ≡ false → any_unseen (record { 0 = u }) (new ∷ []) ≡ true → ⊥
+        no_mask is k = no_unseen live u new refl is k
+
+        by_mask : (b : Bool) → has live u ≡ b → any_unseen (record { 0 = u }) (new ∷ []) ≡ true → has live u ≡ true
+        by_mask true is k = is
+        by_mask false is k = absurd (no_mask is k)
+
+    stands : (b : Bool) → stands_at m.holder t ≡ b → (h : SysId) → cond b (first_after m.systems t (λ s. has live s.0)) m.holder ≡ Some h → (0 < m.systems → h.0 < m.systems) × AllAwaited m.systems h (cleared t m.entries)
+    stands true here h at = (
+      λ some. first_inside (λ s. has live s.0) m.systems t h some at,
+      cleared_onward m.systems t h (λ s. has live s.0) (ap (λ o. or_else o t) at) m.entries (λ u low k. masks u k) (laws.awaited t (stands_at-exact m.holder t here)),
+    )
+    stands false here h at = (laws.inside h at, still_awaited m.systems t h m.entries (laws.awaited h at))
+
+    by_holder : (b : Bool) → stands_at m.holder t ≡ b → (u : ℕ) → u < m.systems → has live u ≡ true → (h : SysId) × (cond b (first_after m.systems t (λ s. has live s.0)) m.holder ≡ Some h) × (has live h.0 ≡ true)
+    by_holder true here u below lives =
+        let k = after_some m.systems t.0 u low below in
+        let r = first_found (λ s. has live s.0) m.systems t k.0 k.1 k.2 (subst (λ (x : ℕ). has live x ≡ true) (sym k.3) lives) in
+        (record { 0 = (t.0 + r.0) % m.systems }, r.3, first_passes (λ s. has live s.0) m.systems t _ r.3)
+    by_holder false here u below lives =
+        let r = laws.holder opened u below (fewer u lives) in
+        (r.0, r.1, others_same (r.0).0 (λ same. no_truth (stands_at m.holder t) (ap (λ o. stands_at o t) r.1 ∙ eq-eqb (r.0).0 t.0 same) here) ∙ r.2)
 
 -- ---- it is closed by a system that has processed all
 pub none_unseen : (c : SysId) (es : List RingEntry) → first_number (unseen c es) ≡ None → any_unseen c es ≡ false
@@ -282,7 +410,7 @@ unfolding any_unseen
 passed_onward n s h test moved [] idle due all = tt
 passed_onward n s h test moved (e ∷ es) idle due all =
     let parts = or_parts (has e.mask s.0) (list_any (is_unseen s) es) idle in
-    (head parts.0, passed_onward n s h test moved es parts.1 (passes_tail n test e es due) all.1)
+    (λ q body. head parts.0 q body, passed_onward n s h test moved es parts.1 (passes_tail n test e es due) all.1)
   where
     away : has e.mask s.0 ≡ false → (u : ℕ) → has e.mask u ≡ true → u ≢ s.0
     away none u k same = let no : true ≡ false = sym k ∙ (ap (has e.mask) same ∙ none) in absurd (cc)
@@ -292,16 +420,18 @@ passed_onward n s h test moved (e ∷ es) idle due all =
         let ne : u ≢ s.0 = λ same. let no : true ≡ false = sym k ∙ (ap (has (without e.mask s.0)) same ∙ has-without_same e.mask s.0) in absurd (cc) in
         sym (has-without_other e.mask s.0 u ne) ∙ k
 
-    head : has e.mask s.0 ≡ false → Awaited n h e
-    head none u k = entry_onward n s h test moved e (λ v low z. passes_head n test e es due v low (back v z)) all.0 u (has-without_other e.mask s.0 u (away none u k) ∙ k)
+    head : has e.mask s.0 ≡ false → (q : Req) → e.body ≡ Request q → Awaited n h e
+    head none q body u k = entry_onward n s h test moved e (λ v low z. passes_head n test e es due v low (back v z)) (all.0 q body) u (has-without_other e.mask s.0 u (away none u k) ∙ k)
 
-pub closed_round : (m : Message) (c : SysId) (live : ℕ) → Round m → live ≡ others m.systems 0 → any_unseen c m.entries ≡ false → Round (closed_by m c live)
+pub closed_round : (m : Message) (c : SysId) (live : ℕ) → Round m live → any_unseen c m.entries ≡ false → Round (closed_by m c live) live
 unfolding closed_by first_after
-closed_round m c live laws all idle = record {
+closed_round m c live laws idle = record {
   shut = λ z. due;
   inside = λ h at some. (stands m.holder refl h at).0 some;
   awaited = λ h at. (stands m.holder refl h at).1;
   ends = laws.ends;
+  masks = laws.masks;
+  holder = λ z. absurd (cc);
 }
   where
     test : SysId → Bool
@@ -310,7 +440,7 @@ closed_round m c live laws all idle = record {
     due : Passes m.systems (λ s. has (without live c.0) s.0) m.entries
     due u low k =
         let ne : u ≢ c.0 = λ same. let no : true ≡ false = sym k ∙ (ap (λ (i : ℕ). any_unseen (record { 0 = i }) m.entries) same ∙ idle) in absurd (cc) in
-        has-without_other live c.0 u ne ∙ (ap (λ l. has l u) all ∙ has-others m.systems u low)
+        has-without_other live c.0 u ne ∙ laws.masks u k
 
     no_place : (s h : SysId) (k : ℕ) → k ≡ 0 → first_after k s (λ t. has (without live c.0) t.0) ≡ Some h → ⊥
     no_place s h k none at = let z : None ≡ Some h = subst (λ i. first_after i s (λ t. has (without live c.0) t.0) ≡ Some h) none at in absurd (cc)
@@ -334,16 +464,16 @@ closed_round m c live laws all idle = record {
         )
 
 -- ---- where it has come home
-awaited_of : (n : ℕ) (h : SysId) (before behind : List RingEntry) (e : RingEntry) → AllAwaited n h (before ++ e ∷ behind) → Awaited n h e
+awaited_of : (n : ℕ) (h : SysId) (before behind : List RingEntry) (e : RingEntry) → AllAwaited n h (before ++ e ∷ behind) → IsAwaited n h e
 awaited_of n h [] behind e a = a.0
 awaited_of n h (x ∷ before) behind e a = awaited_of n h before behind e a.1
 
--- Of these entries a system's own are left to it alone.
-pub left_at_home : (n : ℕ) (s : SysId) (es before behind : List RingEntry) (e : RingEntry) → AllAwaited n s es → es ≡ before ++ e ∷ behind → e.from ≡ s → OnlyLeft s e
-left_at_home n s es before behind e all is from = only_left n s e from (awaited_of n s before behind e (subst (AllAwaited n s) is all))
+-- Of these requests a system's own are left to it alone.
+pub left_at_home : (n : ℕ) (s : SysId) (es before behind : List RingEntry) (e : RingEntry) (q : Req) → AllAwaited n s es → es ≡ before ++ e ∷ behind → e.body ≡ Request q → e.from ≡ s → OnlyLeft s e
+left_at_home n s es before behind e q all is body from = only_left n s e from (awaited_of n s before behind e (subst (AllAwaited n s) is all) q body)
 
-pub last_at_home : (m : Message) → Round m → LastAtHome m
-last_at_home m laws s before behind e q held body from here = left_at_home m.systems s m.entries before behind e (laws.awaited s (stands_at-exact m.holder s here)) held from
+pub last_at_home : (m : Message) (live : ℕ) → Round m live → LastAtHome m
+last_at_home m live laws s before behind e q held body from here = left_at_home m.systems s m.entries before behind e q (laws.awaited s (stands_at-exact m.holder s here)) held body from
 
 -- The entries that a system has still to process are awaited as all are.
 pub unseen_awaited : (n : ℕ) (s : SysId) (es : List RingEntry) → AllAwaited n s es → AllAwaited n s (unseen s es)

@@ -1,9 +1,10 @@
 -- The complex begins to change: the lock words are those of the table of the system that orders it, and every system is shown
 -- as it will be behind what it has still to process. So the world that is shown is one in star mode.
-use Rattle.std.proofs.Common.{◌≡◌, [], ◌<◌, ◌≤◌, ◌++◌, List, Option, Some, None, ap, append-nil, arith, false, length, refl, set, suc, subst, sym, true, zero, ℕ, ◌∙◌, ◌∷◌, ◌+◌, ◌||◌}
+use Rattle.std.proofs.Common.{◌≡◌, [], ◌<◌, ◌≤◌, ◌++◌, ◌&&◌, Bool, not, List, Option, Some, None, ap, append-nil, arith, false, length, refl, set, suc, subst, sym, true, zero, ℕ, ◌∙◌, ◌∷◌, ◌+◌, ◌||◌}
 use Rattle.std.specs.Prelude.{nat_lt, replicate, slice_get, is_some, slice_index_or}
-use Rattle.std.specs.List.{list_all, All}
-use Rattle.std.proofs.lemmas.Bool.{and_from, and_parts, lt-ltb, ltb-true}
+use Rattle.std.specs.List.{list_all, list_any, All}
+use Rattle.std.proofs.lemmas.Bool.{and_from, and_parts, lt-ltb, ltb-false, ltb-true}
+use Rattle.std.proofs.Math.Bool.{and-true}
 use Rattle.std.proofs.lemmas.List.{length-replicate, length-set}
 use Rattle.std.proofs.lemmas.Option.{same_Some}
 use Rattle.grs_base.specs.State.{State, is_systems}
@@ -15,7 +16,9 @@ use Rattle.grs_known.proofs.lists.Facts.{slice_get-set, slice_get-set_other}
 use Rattle.grs_known.proofs.lists.Parts.{is_res_of}
 use Rattle.grs_known.proofs.ring.Reading.{table-is}
 use Rattle.grs_known.proofs.system.Says.{own_requests}
-use Rattle.grs_known.specs.Items.{RunItem, items, lists, rounds}
+use Rattle.grs_known.specs.Items.{RunItem, history, items, lists, rounds}
+use Rattle.grs_known.proofs.known.ItemLaws.{items_are_history}
+use Rattle.grs_known.proofs.lists.Truths.{no_truth}
 use Rattle.grs_medium.specs.Medium.{awake, inbox, live}
 use Rattle.grs_node.proofs.ChangeFits.{star-changed}
 use Rattle.grs_node.proofs.Fits.{deck-task}
@@ -23,6 +26,9 @@ use Rattle.grs_node.proofs.InRing.{switched-ring}
 use Rattle.grs_node.specs.Change.{part_by_table}
 use Rattle.grs_node.specs.Node.{NodeState, change_to_star, desk_told, next_order, only, own_words, switched, words_by}
 use Rattle.grs_node.specs.Star.{StarPart}
+use Rattle.grs_base.specs.Rows.{rows_of}
+use Rattle.grs_wire.specs.History.{removes}
+use Rattle.grs_wire.specs.Masks.{has}
 use Rattle.grs_wire.specs.declared.deck.Deck.{Deck}
 use Rattle.grs_wire.specs.declared.deck.Order.TheVariants as orders
 use Rattle.grs_wire.specs.declared.medium.Mail.{Mail}
@@ -31,27 +37,27 @@ use Rattle.grs_wire.specs.declared.told.Said.TheVariants as saids
 use Rattle.grs_wire.specs.declared.told.ToldLine.TheVariants as lines
 use Rattle.grs_world.proofs.message.Stands.{Bodies}
 use Rattle.grs_world.proofs.move.Changing.{IsMoved, Shown, Waits, has_changed, view-read, viewed, waits_yet}
-use Rattle.grs_world.proofs.move.Parts.{free-by, near-by, nobody-by, part-by}
+use Rattle.grs_world.proofs.move.Parts.{free-by, near-by, nobody-by, part-by, past-by, removed-by}
 use Rattle.grs_world.proofs.move.Ranks.{changed-at, changed-told}
 use Rattle.grs_world.proofs.run.Desks.{tells_done}
 use Rattle.grs_world.proofs.run.Growing.{asks-rounds, fixeds}
-use Rattle.grs_world.proofs.run.InRing.{IsRing}
+use Rattle.grs_world.proofs.run.InRing.{IsRing, live-there}
+use Rattle.grs_world.proofs.run.Removals.{AreTakenOut, removes-fixed}
 use Rattle.grs_world.proofs.run.Messages.{given-later, message-kept}
 use Rattle.grs_world.proofs.run.Runs.{GoodMessage, GoodSystems, by_node, message_log, seen_at}
 use Rattle.grs_world.proofs.star.Elements.{AreNear}
 use Rattle.grs_world.proofs.star.Members.{IsMember, IsPart, IsStar, has_manager}
 use Rattle.grs_world.proofs.star.Sound.{no_mail}
 use Rattle.grs_world.proofs.star.Systems.{IsSystem}
-use Rattle.grs_world.proofs.star.Worlds.{Hands, IsWhole, in_hands, items-none}
+use Rattle.grs_world.proofs.star.Worlds.{Hands, IsWhole, are_live, in_hands, items-none}
 use Rattle.grs_world.proofs.system.AtNode.{Seen}
 use Rattle.grs_world.proofs.system.Desks.{desk-seen, desk-told}
 use Rattle.grs_world.specs.World.{Turnout, World, fixed_by, placed}
 use Rattle.grs_world.proofs.run.Reading.{read_all}
-use Rattle.grs_world.proofs.move.Waiting.{known-read}
 use Rattle.lock_structure.specs.Laws.{is_interested, manager_at, IsManaged}
 use Rattle.mode_migrate.proofs.TableWords.{table-count, table-managed}
 use Rattle.mode_migrate.specs.Laws.{are_within}
-use Rattle.mode_migrate.specs.Migrate.{table_words}
+use Rattle.mode_migrate.specs.Migrate.{has_elements, table_words}
 use Rattle.rsa_message.specs.Message.{closed_by, first_number}
 use Rattle.grs_wire.specs.Unseen.{unseen}
 
@@ -78,7 +84,6 @@ pub record Arrives (deck : Deck) (s : ℕ) (T : List RunItem) (k : NodeState) : 
   pub from : NodeState
   pub is : k ≡ change_to_star deck from
   pub seen : Seen deck s T (rounds T) [] [] from
-  pub known : from.known ≡ 0
 
 module _ (deck : Deck) (some : 0 < deck.entries) (few : length deck.systems ≤ most_systems) (w : World) (right : IsHistory deck (items w.fixed)) (words_are : w.medium.words ≡ table_words deck.entries (lists (rounds (items w.fixed)))) where
   abbrev T : List RunItem
@@ -110,7 +115,6 @@ module _ (deck : Deck) (some : 0 < deck.entries) (few : length deck.systems ≤ 
     part = part_at s;
     star = part_is s k a;
     outbox = ap (λ (z : NodeState). z.outbox) a.is;
-    known = ap (λ (z : NodeState). z.known) a.is ∙ a.known;
     fits = fits s;
   }
 
@@ -125,27 +129,31 @@ module _ (deck : Deck) (some : 0 < deck.entries) (few : length deck.systems ≤ 
     fits = tt;
   }))
 
-  module _ (view : List NodeState) (count : length view ≡ length deck.systems) (each : (s : ℕ) (k : NodeState) → slice_get view s ≡ Some k → Arrives deck s (items w.fixed) k)
-      (mode : w.medium.star ≡ true) (removed : w.medium.removed ≡ 0) (boxes : w.medium.inboxes ≡ replicate (length deck.systems) []) where
+  module _ (view : List NodeState) (count : length view ≡ length deck.systems) (each : (s : ℕ) (k : NodeState) → slice_get view s ≡ Some k → has w.medium.removed s ≡ false → Arrives deck s (items w.fixed) k)
+      (mode : w.medium.star ≡ true) (gone : (s : SysId) → has w.medium.removed s.0 ≡ list_any (removes s) (history (items w.fixed))) (boxes : w.medium.inboxes ≡ replicate (length deck.systems) []) where
     no_box : (s : ℕ) → inbox w.medium s ≡ []
     no_box s = ap (λ (xs : List (List Mail)). slice_index_or xs s []) boxes ∙ no_mail (length deck.systems) s
+
+    -- who isn't live has no element of an entry
+    none-there : (e s : ℕ) (b : Bool) → has w.medium.removed s ≡ b → (nat_lt s (length view) && not b) ≡ false → has_elements deck.entries e (rows_of (lists (rounds (items w.fixed)))) s ≡ false
+    none-there e s true out h = removed-by deck T right e s (sym (gone (record { 0 = s })) ∙ out)
+    none-there e s false live h = past-by deck some t (lists T) (table-is T) within_most (length deck.systems) within e s (subst (λ n. n ≤ s) count (ltb-false s (length view) (sym (and-true (nat_lt s (length view))) ∙ h)))
 
     roles : IsStar deck (record w { nodes = view })
     roles = record {
       mode = mode;
-      removed = removed;
       words = ap (λ (ws : List ℕ). length ws) words_are ∙ table-count deck.entries some t within_most;
       inboxes = ap (λ (xs : List (List Mail)). length xs) boxes ∙ length-replicate (length deck.systems) [];
       systems = count;
       managed = subst (All IsManaged) (sym words_are) (table-managed deck.entries some t within_most);
-      nobody = λ e s past. subst (λ ws. (is_interested ws e s ≡ false) × (has_manager ws e s ≡ false)) (sym words_are) (nobody-by deck some t (lists T) (table-is T) within_most (length deck.systems) within e s (subst (λ n. n ≤ s) count past));
+      nobody = λ e s out. subst (λ ws. (is_interested ws e s ≡ false) × (has_manager ws e s ≡ false)) (sym words_are) (nobody-by deck some t (lists T) (table-is T) within_most e s (none-there e s (has w.medium.removed s) refl out));
       free = λ e none. free-by deck some t (lists T) (table-is T) within_most e (sym (ap (λ ws. manager_at ws e) words_are) ∙ none);
-      node = λ s k f. member s k (each s k f);
+      node = λ s k f live. member s k (each s k f live);
     }
 
-    hands : (m : ℕ) (k : NodeState) (p : StarPart) → slice_get view m ≡ Some k → k.star ≡ Some p → Hands deck w.medium.words (length view) (λ s. []) (λ s. []) m (in_hands p (inbox w.medium m))
-    hands m k p f is = subst (λ ms. Hands deck w.medium.words (length view) (λ s. []) (λ s. []) m (in_hands p ms)) (sym (no_box m))
-        (subst (λ (q : StarPart). Hands deck w.medium.words (length view) (λ s. []) (λ s. []) m (in_hands q [])) (same_Some (part_at m) p (sym (part_is m k (each m k f)) ∙ is)) (record { each = tt; apart = refl }))
+    hands : (m : ℕ) (k : NodeState) (p : StarPart) → slice_get view m ≡ Some k → has w.medium.removed m ≡ false → k.star ≡ Some p → Hands deck w.medium.words (are_live (record w { nodes = view })) (λ s. []) (λ s. []) m (in_hands p (inbox w.medium m))
+    hands m k p f live is = subst (λ ms. Hands deck w.medium.words (are_live (record w { nodes = view })) (λ s. []) (λ s. []) m (in_hands p ms)) (sym (no_box m))
+        (subst (λ (q : StarPart). Hands deck w.medium.words (are_live (record w { nodes = view })) (λ s. []) (λ s. []) m (in_hands q [])) (same_Some (part_at m) p (sym (part_is m k (each m k f live)) ∙ is)) (record { each = tt; apart = refl }))
 
     pub whole-begun : (h : IsWhole deck (record w { nodes = view })) × ((u : ℕ) → h.out u ≡ [])
     whole-begun = (
@@ -155,7 +163,7 @@ module _ (deck : Deck) (some : 0 < deck.entries) (few : length deck.systems ≤ 
         later = λ s. [];
         out = λ s. [];
         near = subst (λ ws. AreNear deck ws (lists (items w.fixed))) (sym words_are) (near-by deck some t (lists T) (table-is T) within_most);
-        system = λ s k f. system s k (each s k f) (inbox w.medium s) (no_box s);
+        system = λ s k f live. system s k (each s k f live) (inbox w.medium s) (no_box s);
         hands = hands;
       },
       λ u. refl,
@@ -191,9 +199,9 @@ all-seen [] [] e b = refl
 all-seen [] (x ∷ xs) e b = elim b [ ]
 all-seen (y ∷ es) xs e b = absurd (cc)
 
-module _ (deck : Deck) (ring_mode : deck.star ≡ false) (some : 0 < deck.entries) (few : length deck.systems ≤ most_systems) (w : World) (ring : IsRing deck w) (right : IsHistory deck (items w.fixed)) (before later : ℕ → List RunItem)
+module _ (deck : Deck) (ring_mode : deck.star ≡ false) (some : 0 < deck.entries) (few : length deck.systems ≤ most_systems) (w : World) (ring : IsRing deck w) (right : IsHistory deck (items w.fixed)) (gone : AreTakenOut w) (before later : ℕ → List RunItem)
     (whole : (s : ℕ) → rounds (items w.fixed) ≡ before s ++ later s) (message : GoodMessage w.medium (message_log (items w.fixed)) (seen_at before)) (systems : GoodSystems deck w before later)
-    (c : SysId) (n : NodeState) (at : slice_get w.nodes c.0 ≡ Some n) (next : next_order deck n ≡ Some orders.Star) (idle : first_number (unseen c w.medium.message.entries) ≡ None) where
+    (c : SysId) (n : NodeState) (at : slice_get w.nodes c.0 ≡ Some n) (unremoved : has w.medium.removed c.0 ≡ false) (next : next_order deck n ≡ Some orders.Star) (idle : first_number (unseen c w.medium.message.entries) ≡ None) where
   abbrev P : List RunItem
   P = items w.fixed
 
@@ -206,15 +214,22 @@ module _ (deck : Deck) (ring_mode : deck.star ≡ false) (some : 0 < deck.entrie
   same : items (w.fixed ++ fixed_by c []) ≡ items w.fixed
   same = items-none w.fixed c
 
+  -- it is live
+  lives_here : has (live w.medium) c.0 ≡ true
+  lives_here = live-there deck w ring c.0 n at unremoved
+
+  own_seen : Seen deck c.0 (items w.fixed) (before c.0) (later c.0) (own_requests c.0 (later c.0)) n
+  own_seen = systems c.0 n at lives_here
+
   -- its Turn gave it all
   nothing_later : later c.0 ≡ []
-  nothing_later = all-seen (unseen c w.medium.message.entries) (later c.0) idle (given-later w.medium c before (later c.0) P (whole c.0) (systems c.0 n at).0 message)
+  nothing_later = all-seen (unseen c w.medium.message.entries) (later c.0) idle (given-later w.medium c before (later c.0) P (whole c.0) lives_here message)
 
   all_before : before c.0 ≡ rounds (items w.fixed)
   all_before = sym (whole c.0 ∙ (ap (λ xs. before c.0 ++ xs) nothing_later ∙ append-nil (before c.0)))
 
   seen_all : Seen deck c.0 (items w.fixed) (rounds (items w.fixed)) [] [] n
-  seen_all = subst (λ xs. Seen deck c.0 P xs [] [] n) all_before (subst (λ xs. Seen deck c.0 P (before c.0) xs (own_requests c.0 xs) n) nothing_later (systems c.0 n at).1)
+  seen_all = subst (λ xs. Seen deck c.0 P xs [] [] n) all_before (subst (λ xs. Seen deck c.0 P (before c.0) xs (own_requests c.0 xs) n) nothing_later own_seen)
 
   words_are : own_words deck n ≡ table_words deck.entries (lists (rounds (items w.fixed)))
   words_are = ap (λ (p : Option StarPart). words_by deck.entries n.shared p) (ring.alone c.0 n at) ∙ ap (table_words deck.entries) seen_all.shared
@@ -225,38 +240,40 @@ module _ (deck : Deck) (ring_mode : deck.star ≡ false) (some : 0 < deck.entrie
 
   own_arrives : Arrives deck c.0 (items w.fixed) (switched deck n)
   unfolding desk_told
-  own_arrives = record { from = desk_told n saids.StarDone; is = switched-is; seen = desk-seen deck c.0 P (rounds P) [] [] n saids.StarDone seen_all; known = ring.known c.0 n at }
+  own_arrives = record { from = desk_told n saids.StarDone; is = switched-is; seen = desk-seen deck c.0 P (rounds P) [] [] n saids.StarDone seen_all }
 
   -- the others wait
-  other_waits : (u : ℕ) (m : NodeState) → slice_get w.nodes u ≡ Some m → Waits deck u (items w.fixed) (before u) (later u) [] m
-  other_waits u m there = record {
+  other_waits : (u : ℕ) (m : NodeState) → slice_get w.nodes u ≡ Some m → has w.medium.removed u ≡ false → Waits deck u (items w.fixed) (before u) (later u) [] m
+  other_waits u m there live = record {
     alone = ring.alone u m there;
-    known = ring.known u m there;
-    seen = subst (λ xs. Seen deck u P (before u) xs (own_requests u (later u)) m) (sym (append-nil (later u))) (systems u m there).1;
+    seen = subst (λ xs. Seen deck u P (before u) xs (own_requests u (later u)) m) (sym (append-nil (later u))) (systems u m there (live-there deck w ring u m there live));
     away = λ t home. refl;
   }
 
-  other_arrives : (u : ℕ) (m : NodeState) → slice_get w.nodes u ≡ Some m → Arrives deck u (items w.fixed) (viewed deck m (later u))
-  other_arrives u m there =
+  other_arrives : (u : ℕ) (m : NodeState) → slice_get w.nodes u ≡ Some m → has w.medium.removed u ≡ false → Arrives deck u (items w.fixed) (viewed deck m (later u))
+  other_arrives u m there live =
       let all : rounds P ≡ before u ++ (later u ++ []) = whole u ∙ ap (λ xs. before u ++ xs) (sym (append-nil (later u))) in
-      let read = view-read deck u P (before u) (later u) [] right all m (other_waits u m there) in
+      let read = view-read deck u P (before u) (later u) [] right all m (other_waits u m there live) in
       record {
         from = read_all m (later u);
         is = refl;
         seen = subst (λ xs. Seen deck u P xs [] [] (read_all m (later u))) (sym (whole u)) read.seen;
-        known = known-read m (later u) ∙ ring.known u m there;
       }
 
-  each_arrives : (s : ℕ) (k : NodeState) → slice_get view s ≡ Some k → Arrives deck s (items (w.fixed ++ fixed_by c [])) k
-  each_arrives s k f = subst (λ U. Arrives deck s U k) (sym same)
-      (by_node (all_viewed deck later w.nodes) c.0 (viewed deck n (later c.0)) (switched deck n) (viewed-at deck later w.nodes c.0 n at) (λ u z. Arrives deck u P z) own_arrives (λ u z ne there. let old = viewed-of deck later w.nodes u z there in subst (Arrives deck u P) (sym old.2) (other_arrives u old.0 old.1)) s k f)
+  each_arrives : (s : ℕ) (k : NodeState) → slice_get view s ≡ Some k → has w.medium.removed s ≡ false → Arrives deck s (items (w.fixed ++ fixed_by c [])) k
+  each_arrives s k f live = subst (λ U. Arrives deck s U k) (sym same)
+      (by_node (all_viewed deck later w.nodes) c.0 (viewed deck n (later c.0)) (switched deck n) (viewed-at deck later w.nodes c.0 n at) (λ u z. has w.medium.removed u ≡ false → Arrives deck u P z) (λ l. own_arrives) (λ u z ne there l. let old = viewed-of deck later w.nodes u z there in subst (Arrives deck u P) (sym old.2) (other_arrives u old.0 old.1 l)) s k f live)
 
   count : length view ≡ length deck.systems
   count = length-set (all_viewed deck later w.nodes) c.0 (switched deck n) ∙ (viewed-count deck later w.nodes ∙ ring.systems)
 
+  -- who was removed, by the history
+  gone_now : (s : SysId) → has w.medium.removed s.0 ≡ list_any (removes s) (history (items (w.fixed ++ fixed_by c [])))
+  gone_now s = gone s ∙ (sym (removes-fixed w.fixed s) ∙ (sym (ap (list_any (removes s)) (items_are_history w.fixed).0) ∙ sym (ap (λ U. list_any (removes s) (history U)) same)))
+
   begun : (h : IsWhole deck (record (placed w c n o) { nodes = view })) × ((u : ℕ) → h.out u ≡ [])
   unfolding placed
-  begun = whole-begun deck some few (placed w c n o) (subst (IsHistory deck) (sym same) right) (words_are ∙ ap (λ U. table_words deck.entries (lists (rounds U))) (sym same)) view count each_arrives refl ring.removed ring.boxes
+  begun = whole-begun deck some few (placed w c n o) (subst (IsHistory deck) (sym same) right) (words_are ∙ ap (λ U. table_words deck.entries (lists (rounds U))) (sym same)) view count each_arrives refl gone_now ring.boxes
 
   own-told : (switched deck n).tasks.told ≡ n.tasks.told ++ lines.Desk (n.done + 1) saids.StarDone ∷ []
   own-told = ap (λ (z : NodeState). z.tasks.told) switched-is ∙ (changed-told deck c.0 P (rounds P) [] (desk_told n saids.StarDone) (desk-seen deck c.0 P (rounds P) [] [] n saids.StarDone seen_all) (λ u ls o. refl) ∙ desk-told n saids.StarDone)
@@ -281,9 +298,10 @@ module _ (deck : Deck) (ring_mode : deck.star ≡ false) (some : 0 < deck.entrie
       closed = refl;
       around = ring.around;
       count = length-set w.nodes c.0 (switched deck n) ∙ ring.systems;
-      shown = by_node w.nodes c.0 n (switched deck n) at (λ u x. (j : NodeState) × (slice_get view u ≡ Some j) × Shown deck u (items (w.fixed ++ fixed_by c [])) (before u) (later u) [] (begun.0.out u) j x)
-          (switched deck n, slice_get-set (all_viewed deck later w.nodes) c.0 (viewed deck n (later c.0)) (switched deck n) (viewed-at deck later w.nodes c.0 n at), has_changed nothing_later)
-          (λ u x ne there. (viewed deck x (later u), slice_get-set_other (all_viewed deck later w.nodes) c.0 u (switched deck n) ne ∙ viewed-at deck later w.nodes u x there, waits_yet x (subst (λ U. Waits deck u U (before u) (later u) [] x) (sym same) (other_waits u x there)) refl (begun.1 u)));
+      shown = by_node w.nodes c.0 n (switched deck n) at (λ u x. has w.medium.removed u ≡ false → (j : NodeState) × (slice_get view u ≡ Some j) × Shown deck u (items (w.fixed ++ fixed_by c [])) (before u) (later u) [] (begun.0.out u) j x)
+          (λ l. (switched deck n, slice_get-set (all_viewed deck later w.nodes) c.0 (viewed deck n (later c.0)) (switched deck n) (viewed-at deck later w.nodes c.0 n at), has_changed nothing_later))
+          (λ u x ne there l. (viewed deck x (later u), slice_get-set_other (all_viewed deck later w.nodes) c.0 u (switched deck n) ne ∙ viewed-at deck later w.nodes u x there, waits_yet x (subst (λ U. Waits deck u U (before u) (later u) [] x) (sym same) (other_waits u x there l)) refl (begun.1 u)));
+      gone = by_node w.nodes c.0 n (switched deck n) at (λ u x. has w.medium.removed u ≡ true → x.star ≡ None) (λ l. no_truth (has w.medium.removed c.0) l unremoved) (λ u x ne there l. ring.alone u x there);
     };
     news = tells_done next own-told own-done ring_mode ring.mode refl;
   }

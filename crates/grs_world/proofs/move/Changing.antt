@@ -7,7 +7,7 @@ use Rattle.std.specs.Prelude.{slice_get}
 use Rattle.grs_wire.specs.declared.deck.Deck.{Deck}
 use Rattle.grs_wire.specs.declared.medium.Mail.{Mail}
 use Rattle.grs_wire.specs.declared.request.Req.{Req}
-use Rattle.grs_wire.specs.Masks.{others}
+use Rattle.grs_wire.specs.Masks.{has, others}
 use Rattle.grs_world.proofs.run.Desks.{EventTells}
 use Rattle.grs_world.proofs.star.Worlds.{Fixes, IsWhole, none_fixed, one_fixed}
 use Rattle.grs_world.proofs.run.Runs.{GoodMessage, by_node, seen_at}
@@ -24,7 +24,7 @@ use Rattle.grs_known.proofs.system.Ours.{IsOurs}
 use Rattle.grs_known.specs.Items.{RunItem, goes_round, history, is_of, items, lists, mine, rounds}
 use Rattle.grs_known.proofs.told.News.{ToldNews, told-news}
 use Rattle.grs_known.proofs.system.Says.{askers, own_requests}
-use Rattle.grs_known.proofs.lists.Truths.{false_by}
+use Rattle.grs_known.proofs.lists.Truths.{false_by, no_truth}
 use Rattle.grs_known.proofs.lists.Facts.{filter-cons_kept, filter-cons_left, slice_get-set, slice_get-set_other}
 use Rattle.grs_known.proofs.lists.Owners.{is_among}
 use Rattle.grs_legal.specs.declared.meaning.Meaning.{Meaning}
@@ -42,7 +42,6 @@ use Rattle.grs_medium.specs.Medium.{live}
 -- was fixed since the message is closed nothing is of its tasks.
 pub record Waits (deck : Deck) (s : ℕ) (T before due since : List RunItem) (n : NodeState) : Type 0 where
   pub alone : n.star ≡ None
-  pub known : n.known ≡ 0
   pub seen : Seen deck s T before (due ++ since) (own_requests s due) n
   pub away : (t : TaskId) → t.system.0 ≡ s → mine t since ≡ []
 
@@ -70,7 +69,9 @@ pub record IsChanging (deck : Deck) (w : World) : Type 0 where
   pub closed : w.medium.message.closed ≡ true
   pub around : w.medium.message.systems ≡ length deck.systems
   pub count : length w.nodes ≡ length deck.systems
-  pub shown : (s : ℕ) (n : NodeState) → slice_get w.nodes s ≡ Some n → (k : NodeState) × (slice_get view s ≡ Some k) × Shown deck s (items w.fixed) (before s) (due s) since (whole.out s) k n
+  pub shown : (s : ℕ) (n : NodeState) → slice_get w.nodes s ≡ Some n → has w.medium.removed s ≡ false → (k : NodeState) × (slice_get view s ≡ Some k) × Shown deck s (items w.fixed) (before s) (due s) since (whole.out s) k n
+  -- who was removed never changes
+  pub gone : (s : ℕ) (n : NodeState) → slice_get w.nodes s ≡ Some n → has w.medium.removed s ≡ true → n.star ≡ None
 
 -- ---- a system that has sent nothing has nothing to come
 pub nothing-late : (deck : Deck) (words : List ℕ) (T : List RunItem) (s : ℕ) (n : NodeState) (ms : List Mail) (later : List RunItem) (out : List Req) → IsSystem deck words T s n ms later out → out ≡ [] → later ≡ []
@@ -134,7 +135,7 @@ fresh deck c out T T' (one_fixed x a far) = record {
     none t false e = refl
 
 -- ---- the world after an event of system c, where k is shown of it then
-module _ (deck : Deck) (w : World) (g : IsChanging deck w) (c : SysId) (n : NodeState) (at : slice_get w.nodes c.0 ≡ Some n) (o : Turnout) (k : NodeState) where
+module _ (deck : Deck) (w : World) (g : IsChanging deck w) (c : SysId) (n : NodeState) (at : slice_get w.nodes c.0 ≡ Some n) (unremoved : has w.medium.removed c.0 ≡ false) (o : Turnout) (k : NodeState) where
   abbrev after : World
   after = record (placed w c n o) { nodes = set g.view c.0 k }
 
@@ -144,15 +145,14 @@ module _ (deck : Deck) (w : World) (g : IsChanging deck w) (c : SysId) (n : Node
   abbrev T' : List RunItem
   T' = items (w.fixed ++ fixed_by c o.step.fixed)
 
-  others-shown : (whole : IsWhole deck after) → ((u : ℕ) → u ≢ c.0 → whole.out u ≡ g.whole.out u) → (f : Fresh deck c.0 g.whole.out T T') → (u : ℕ) (m : NodeState) → u ≢ c.0 → slice_get w.nodes u ≡ Some m →
+  others-shown : (whole : IsWhole deck after) → ((u : ℕ) → u ≢ c.0 → whole.out u ≡ g.whole.out u) → (f : Fresh deck c.0 g.whole.out T T') → (u : ℕ) (m : NodeState) → u ≢ c.0 → slice_get w.nodes u ≡ Some m → has w.medium.removed u ≡ false →
       (j : NodeState) × (slice_get (set g.view c.0 k) u ≡ Some j) × Shown deck u T' (g.before u) (g.due u) (g.since ++ rounds f.new) (whole.out u) j m
-  others-shown whole sent f u m ne there = let old = g.shown u m there in (old.0, slice_get-set_other g.view c.0 u k ne ∙ old.1, by_shown old.0 m old.2)
+  others-shown whole sent f u m ne there live = let old = g.shown u m there live in (old.0, slice_get-set_other g.view c.0 u k ne ∙ old.1, by_shown old.0 m old.2)
     where
       by_shown : (j m : NodeState) → Shown deck u T (g.before u) (g.due u) g.since (g.whole.out u) j m → Shown deck u T' (g.before u) (g.due u) (g.since ++ rounds f.new) (whole.out u) j m
       by_shown j m (has_changed none) = has_changed none
       by_shown j m (waits_yet y h is empty) = waits_yet y (record {
         alone = h.alone;
-        known = h.known;
         seen = subst (λ xs. Seen deck u T' (g.before u) xs (own_requests u (g.due u)) y) (append_assoc (g.due u) g.since (rounds f.new)) (f.seen u ne empty (g.before u) (g.due u ++ g.since) (own_requests u (g.due u)) y h.seen);
         away = λ t home. filter-append (λ z. is_of t z.fixed) g.since (rounds f.new) ∙ (ap (λ xs. xs ++ mine t (rounds f.new)) (h.away t home) ∙ f.away u ne empty t home);
       }) is (sent u ne ∙ empty)
@@ -173,8 +173,10 @@ module _ (deck : Deck) (w : World) (g : IsChanging deck w) (c : SysId) (n : Node
     closed = ap (λ (z : Message). z.closed) message ∙ g.closed;
     around = ap (λ (z : Message). z.systems) message ∙ g.around;
     count = length-set w.nodes c.0 o.step.node ∙ g.count;
-    shown = by_node w.nodes c.0 n o.step.node at (λ u m. (j : NodeState) × (slice_get (set g.view c.0 k) u ≡ Some j) × Shown deck u T' (g.before u) (g.due u) (g.since ++ rounds f.new) (whole.out u) j m)
-        (k, slice_get-set g.view c.0 (g.shown c.0 n at).0 k (g.shown c.0 n at).1, own) (λ u m ne there. others-shown whole sent f u m ne there);
+    shown = by_node w.nodes c.0 n o.step.node at (λ u m. has o.medium.removed u ≡ false → (j : NodeState) × (slice_get (set g.view c.0 k) u ≡ Some j) × Shown deck u T' (g.before u) (g.due u) (g.since ++ rounds f.new) (whole.out u) j m)
+        (λ l. (k, slice_get-set g.view c.0 (g.shown c.0 n at unremoved).0 k (g.shown c.0 n at unremoved).1, own)) (λ u m ne there l. others-shown whole sent f u m ne there (sym (ap (λ i. has i u) removed) ∙ l));
+    gone = by_node w.nodes c.0 n o.step.node at (λ u m. has o.medium.removed u ≡ true → m.star ≡ None)
+        (λ l. no_truth (has w.medium.removed c.0) (sym (ap (λ i. has i c.0) removed) ∙ l) unremoved) (λ u m ne there l. g.gone u m there (sym (ap (λ i. has i u) removed) ∙ l));
   }
     where
       alive : live o.medium ≡ live w.medium
@@ -183,4 +185,4 @@ module _ (deck : Deck) (w : World) (g : IsChanging deck w) (c : SysId) (n : Node
 -- What an event comes to: the complex goes on to change, and what is told agrees.
 pub record IsMoved (deck : Deck) (w : World) (c : SysId) (n : NodeState) (o : Turnout) : Type 0 where
   pub changing : IsChanging deck (placed w c n o)
-  pub news : EventTells deck c (history (items (w.fixed ++ fixed_by c o.step.fixed))) n o.step.node w.medium.star o.medium.star
+  pub news : EventTells deck c (history (items (w.fixed ++ fixed_by c o.step.fixed))) o.step.fixed n o.step.node w.medium.star o.medium.star

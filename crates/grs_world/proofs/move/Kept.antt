@@ -16,6 +16,7 @@ use Rattle.grs_node.proofs.TableParts.{table-lists}
 use Rattle.grs_node.specs.Change.{part_by_table}
 use Rattle.grs_node.specs.Node.{NodeState}
 use Rattle.grs_node.specs.Star.{StarPart, manages}
+use Rattle.grs_wire.specs.Masks.{has}
 use Rattle.grs_wire.specs.History.{replay}
 use Rattle.grs_wire.specs.declared.deck.Deck.{Deck}
 use Rattle.grs_wire.specs.declared.deck.Event.{Event}
@@ -27,8 +28,8 @@ use Rattle.grs_world.proofs.move.Sound.{GoodRun, every_run, in_ring, in_star}
 use Rattle.grs_world.proofs.move.Waiting.{reads, whole_now}
 use Rattle.grs_world.proofs.run.Growing.{asks-rounds}
 use Rattle.grs_world.proofs.run.KeptPlaces.{kept_is}
-use Rattle.grs_world.proofs.star.Members.{IsMember, all_lists, has_manager, manager-here}
-use Rattle.grs_world.proofs.star.Worlds.{kept-whole}
+use Rattle.grs_world.proofs.star.Members.{IsMember, all_lists, manager-here}
+use Rattle.grs_world.proofs.star.Worlds.{kept-whole, live-below, manager-live}
 use Rattle.grs_world.specs.Decks.{FitsStar, may_be_star}
 use Rattle.grs_world.specs.Kept.{KeptArePlaces, at_manager, at_node, kept, kept_in, managed_list, named_by, places}
 use Rattle.grs_world.specs.World.{World, run}
@@ -45,9 +46,9 @@ module _ (deck : Deck) (some : 0 < deck.entries) (few : length deck.systems ≤ 
   shown = record w { nodes = g.view }
 
   -- ---- a manager keeps the list that is shown of it
-  module _ (r : Res) (x : ℕ) (m : SysId) (of : entry_of_res deck.entries r ≡ Some x) (managed : manager_at w.medium.words x ≡ Some m) (n k : NodeState) (at : slice_get w.nodes m.0 ≡ Some n) (there : slice_get g.view m.0 ≡ Some k) where
+  module _ (r : Res) (x : ℕ) (m : SysId) (of : entry_of_res deck.entries r ≡ Some x) (managed : manager_at w.medium.words x ≡ Some m) (n k : NodeState) (at : slice_get w.nodes m.0 ≡ Some n) (there : slice_get g.view m.0 ≡ Some k) (unremoved : has w.medium.removed m.0 ≡ false) where
     me : IsMember deck w.medium.words (all_lists (record w { nodes = g.view })) m.0 k
-    me = g.whole.roles.node m.0 k there
+    me = g.whole.roles.node m.0 k there unremoved
 
     -- who hasn't changed keeps it in its table
     module _ (h : Waits deck m.0 (items w.fixed) (g.before m.0) (g.due m.0) g.since n) (is : k ≡ viewed deck n (g.due m.0)) (empty : g.whole.out m.0 ≡ []) where
@@ -58,7 +59,7 @@ module _ (deck : Deck) (some : 0 < deck.entries) (few : length deck.systems ≤ 
       by_table = part_by_table deck.entries (record { 0 = m.0 }) (lists (g.before m.0 ++ g.due m.0))
 
       whole_here : rounds (items w.fixed) ≡ g.before m.0 ++ (g.due m.0 ++ g.since)
-      whole_here = whole_now deck w g m n at k there h is empty
+      whole_here = whole_now deck w g m n at unremoved k there h is empty
 
       within : are_within most_systems (lists (g.before m.0 ++ g.due m.0)) ≡ true
       within =
@@ -83,18 +84,18 @@ module _ (deck : Deck) (some : 0 < deck.entries) (few : length deck.systems ≤ 
           ∙ ap (λ b. cond b (list_of t r) []) (of-entry (entry_of_res deck.entries r) x of))
 
       kept-list : managed_list deck w m n None r ≡ list_of t r
-      kept-list = ap (λ (z : NodeState). list_of z.shared r) (reads deck w g m n at k there h is empty (alive deck w g m n at))
+      kept-list = ap (λ (z : NodeState). list_of z.shared r) (reads deck w g m n at unremoved k there h is empty (alive deck w g m n at unremoved))
           ∙ ap (λ s. list_of s r) (view-read deck m.0 (items w.fixed) (g.before m.0) (g.due m.0) g.since g.whole.right whole_here n h).seen.shared
 
       waits-shown : managed_list deck w m n n.star r ≡ managed_list deck (record w { nodes = g.view }) m k k.star r
       waits-shown = ap (λ o. managed_list deck w m n o r) h.alone ∙ (kept-list ∙ (sym shown-list ∙ sym (ap (λ o. managed_list deck shown m k o r) part-is)))
 
-  at_shown : (r : Res) (x : ℕ) (m : SysId) → entry_of_res deck.entries r ≡ Some x → manager_at w.medium.words x ≡ Some m → (n k : NodeState) → slice_get w.nodes m.0 ≡ Some n → slice_get g.view m.0 ≡ Some k → Shown deck m.0 (items w.fixed) (g.before m.0) (g.due m.0) g.since (g.whole.out m.0) k n →
+  at_shown : (r : Res) (x : ℕ) (m : SysId) → entry_of_res deck.entries r ≡ Some x → manager_at w.medium.words x ≡ Some m → (n k : NodeState) → slice_get w.nodes m.0 ≡ Some n → slice_get g.view m.0 ≡ Some k → has w.medium.removed m.0 ≡ false → Shown deck m.0 (items w.fixed) (g.before m.0) (g.due m.0) g.since (g.whole.out m.0) k n →
       at_node deck w m (Some n) r ≡ at_node deck (record w { nodes = g.view }) m (Some k) r
-  at_shown r x m of managed n k at there (has_changed none) =
-      let star = (g.whole.roles.node m.0 k there).star in
+  at_shown r x m of managed n k at there unremoved (has_changed none) =
+      let star = (g.whole.roles.node m.0 k there unremoved).star in
       ap (λ o. managed_list deck w m k o r) star ∙ sym (ap (λ o. managed_list deck shown m k o r) star)
-  at_shown r x m of managed n k at there (waits_yet z h is empty) = waits-shown r x m of managed z k at there h is empty
+  at_shown r x m of managed n k at there unremoved (waits_yet z h is empty) = waits-shown r x m of managed z k at there unremoved h is empty
 
   -- ---- so what is kept is what is shown
   kept_shown : (s : SysId) (r : Res) → kept deck w s r ≡ kept deck (record w { nodes = g.view }) s r
@@ -103,11 +104,12 @@ module _ (deck : Deck) (some : 0 < deck.entries) (few : length deck.systems ≤ 
       by_system : (x : ℕ) (m : SysId) → entry_of_res deck.entries r ≡ Some x → manager_at w.medium.words x ≡ Some m → (o : Option NodeState) → slice_get w.nodes m.0 ≡ o → at_node deck w m (slice_get w.nodes m.0) r ≡ at_node deck (record w { nodes = g.view }) m (slice_get g.view m.0) r
       by_system x m of managed None at =
           let past = slice_get-past w.nodes m.0 at in
-          let none : has_manager w.medium.words x m.0 ≡ false = (g.whole.roles.nobody x m.0 (omega (arith, past, g.count, g.whole.roles.systems))).1 in
-          absurd (let f : false ≡ true = sym none ∙ manager-here w.medium.words x m managed in cc)
+          let there = live-below shown m.0 (manager-live deck shown g.whole.roles x m.0 (manager-here w.medium.words x m managed)) in
+          absurd (omega (arith, past, there.0, g.count, g.whole.roles.systems))
       by_system x m of managed (Some n) at =
-          let old = g.shown m.0 n at in
-          ap (λ o. at_node deck w m o r) at ∙ (at_shown r x m of managed n old.0 at old.1 old.2 ∙ sym (ap (λ o. at_node deck shown m o r) old.1))
+          let there = live-below shown m.0 (manager-live deck shown g.whole.roles x m.0 (manager-here w.medium.words x m managed)) in
+          let old = g.shown m.0 n at there.1 in
+          ap (λ o. at_node deck w m o r) at ∙ (at_shown r x m of managed n old.0 at old.1 there.1 old.2 ∙ sym (ap (λ o. at_node deck shown m o r) old.1))
 
       by_manager : (x : ℕ) → entry_of_res (length w.medium.words) r ≡ Some x → (o : Option SysId) → manager_at w.medium.words x ≡ o → at_manager deck w o r ≡ at_manager deck (record w { nodes = g.view }) o r
       by_manager x of None managed = refl
@@ -124,5 +126,5 @@ pub every_kept : (deck : Deck) → (may_be_star deck ≡ true → FitsStar deck)
 every_kept deck fits es s r live all = by_run (every_run deck fits es)
   where
     by_run : GoodRun deck es (run deck es) → kept deck (run deck es) s r ≡ places deck es r
-    by_run (in_ring begins ring g d) = kept_is deck es r all g ring.mode s live (run deck es).medium.star refl
+    by_run (in_ring begins ring g d) = kept_is deck es r all ring g ring.mode s live (run deck es).medium.star refl
     by_run (in_star f g told d) = kept_changing deck (entries_some deck.entries f.entries) f.few (run deck es) g s r all ∙ ap (λ h. list_of (replay deck.limit h) r) (items_are_history (run deck es).fixed).0

@@ -1,8 +1,9 @@
 -- What a system's part is by the words of a table: it manages the entries that they give to it, with the table's lists.
-use Rattle.std.proofs.Common.{◌≡◌, [], ◌<◌, Bool, List, None, Option, Some, ap, arith, cond, false, refl, subst, sym, true, ◌||◌, ℕ, ◌∙◌, ◌∷◌, ◌≤◌}
+use Rattle.std.proofs.Common.{◌≡◌, [], ◌<◌, Bool, List, None, Option, Some, ap, arith, cond, false, not, refl, subst, sym, true, ◌&&◌, ◌||◌, ℕ, ◌∙◌, ◌∷◌, ◌≤◌}
 use Rattle.std.specs.Prelude.{◌==◌}
-use Rattle.std.proofs.lemmas.Bool.{eq-eqb, eqb-true, ltb-true, or_left, or_parts, or_right}
-use Rattle.std.specs.List.{list_any}
+use Rattle.std.proofs.Math.Bool.{and-false}
+use Rattle.std.proofs.lemmas.Bool.{and_parts, eq-eqb, eqb-true, ltb-true, or_left, or_parts, or_right}
+use Rattle.std.specs.List.{list_all, list_any}
 use Rattle.grs_world.proofs.star.Elements.{AreNear, is_near_res, near-words}
 use Rattle.grs_world.proofs.star.Members.{IsPart, has_manager}
 use Rattle.grs_world.proofs.star.Under.{entry-same, in_entry, list-under, under}
@@ -28,6 +29,10 @@ use Rattle.mode_migrate.proofs.Rows.{any-list}
 use Rattle.lock_structure.specs.Entries.{entry_of_res, is_entry}
 use Rattle.lock_structure.specs.Laws.{is_interested, manager_at}
 use Rattle.grs_known.proofs.lists.Truths.{false_by, no_truth}
+use Rattle.grs_known.proofs.known.Histories.{IsHistory, may_stand, removes-history}
+use Rattle.grs_known.proofs.ring.Reading.{table-is}
+use Rattle.grs_known.specs.Items.{RunItem, history, lists, removes_system_of, rounds}
+use Rattle.grs_wire.specs.History.{removes}
 use Rattle.grs_known.proofs.ring.Parts.{list_of-systems}
 use Rattle.grs_known.proofs.lists.Parts.{part}
 use Rattle.grs_known.specs.Parts.{systems_part}
@@ -116,13 +121,42 @@ module _ (deck : Deck) (some : 0 < deck.entries) (t L : State) (is : t ≡ syste
               ∙ (elements-are deck.entries x t u.system.0
               ∙ any-list (λ q. is_entry x (entry_of_res deck.entries q)) (is_by u.system.0) t r here (has-by u.system.0 (list_of t r) u refl (ap (λ es. has_task es u) (sym listed) ∙ has)))
 
-  -- nobody but a system has interest or manages
-  pub nobody-by : (n : ℕ) → are_within n t ≡ true → (e s : ℕ) → n ≤ s → (is_interested words e s ≡ false) × (has_manager words e s ≡ false)
-  nobody-by n within e s past = (table-interest deck.entries some t few e s ∙ none s past, ap (λ o. is_manager o (record { 0 = s })) (table-manager deck.entries some t few e) ∙ by_manager (manager_by deck.entries e (rows_of t)) refl)
+  -- who has no element of an entry has no interest in it, and doesn't manage it
+  pub nobody-by : (e s : ℕ) → has_elements deck.entries e (rows_of t) s ≡ false → (is_interested words e s ≡ false) × (has_manager words e s ≡ false)
+  nobody-by e s none = (table-interest deck.entries some t few e s ∙ none, ap (λ o. is_manager o (record { 0 = s })) (table-manager deck.entries some t few e) ∙ by_manager (manager_by deck.entries e (rows_of t)) refl)
     where
-      none : (u : ℕ) → n ≤ u → has_elements deck.entries e (rows_of t) u ≡ false
-      none u l = false_by (has_elements deck.entries e (rows_of t) u) (λ h. absurd (let k : u < n = ltb-true u n (elements-within n deck.entries e t u within h) in omega (arith, k, l)))
-
       by_manager : (o : Option SysId) → manager_by deck.entries e (rows_of t) ≡ o → is_manager o (record { 0 = s }) ≡ false
       by_manager None at = refl
-      by_manager (Some m) at = false_by (m.0 == s) (λ same. no_truth (has_elements deck.entries e (rows_of t) m.0) (least-passes most_systems (has_elements deck.entries e (rows_of t)) m at).1 (none m.0 (subst (λ u. n ≤ u) (sym (eqb-true m.0 s same)) past)))
+      by_manager (Some m) at = false_by (m.0 == s) (λ same. no_truth (has_elements deck.entries e (rows_of t) m.0) (least-passes most_systems (has_elements deck.entries e (rows_of t)) m at).1
+          (subst (λ u. has_elements deck.entries e (rows_of t) u ≡ false) (sym (eqb-true m.0 s same)) none))
+
+  -- so it is of a system that isn't there
+  pub past-by : (n : ℕ) → are_within n t ≡ true → (e s : ℕ) → n ≤ s → has_elements deck.entries e (rows_of t) s ≡ false
+  past-by n within e s past = false_by (has_elements deck.entries e (rows_of t) s) (λ h. absurd (let k : s < n = ltb-true s n (elements-within n deck.entries e t s within h) in omega (arith, k, past)))
+
+-- and of one that was removed
+pub removed-by : (deck : Deck) (T : List RunItem) → IsHistory deck T → (e s : ℕ) → list_any (removes (record { 0 = s })) (history T) ≡ true → has_elements deck.entries e (rows_of (lists (rounds T))) s ≡ false
+removed-by deck T right e s gone = elements-are deck.entries e (lists (rounds T)) s ∙ (ap (list_any here) (table-is T) ∙ none (lists T) right.stand)
+  where
+    here : Res × Elem → Bool
+    here h = is_entry e (entry_of_res deck.entries h.0) && (h.1.task.system.0 == s)
+
+    -- no task of it may stand
+    off : (r : Res) (u : TaskId) → is_systems r ≡ true → may_stand T r u ≡ true → u.system.0 ≡ s → ⊥
+    off r u wide may home =
+        let left : list_any (λ x. removes_system_of u x.fixed) T ≡ true = sym (removes-history [] T right.made u) ∙ subst (λ (k : ℕ). list_any (removes (record { 0 = k })) (history T) ≡ true) (sym home) gone in
+        absurd (let z : false ≡ true = sym (ap (λ b. not (b && list_any (λ x. removes_system_of u x.fixed) T)) wide ∙ ap not left) ∙ may in cc)
+
+    none : (st : State) → list_all (λ h. may_stand T h.0 h.1.task) st ≡ true → list_any (λ h. is_entry e (entry_of_res deck.entries h.0) && (h.1.task.system.0 == s)) (systems_part st) ≡ false
+    none [] all = refl
+    none (h ∷ st) all =
+        let both = and_parts (may_stand T h.0 h.1.task) (list_all (λ z. may_stand T z.0 z.1.task) st) all in
+        go (is_systems h.0) refl both.0 (none st both.1)
+      where
+        go : (b : Bool) → is_systems h.0 ≡ b → may_stand T h.0 h.1.task ≡ true → list_any (λ z. is_entry e (entry_of_res deck.entries z.0) && (z.1.task.system.0 == s)) (systems_part st) ≡ false →
+            list_any (λ z. is_entry e (entry_of_res deck.entries z.0) && (z.1.task.system.0 == s)) (cond b (h ∷ systems_part st) (systems_part st)) ≡ false
+        go false is may more = more
+        go true is may more =
+            let apart : (h.1.task.system.0 == s) ≡ false = false_by (h.1.task.system.0 == s) (λ same. absurd (off h.0 h.1.task is may (eqb-true h.1.task.system.0 s same))) in
+            let neither : (is_entry e (entry_of_res deck.entries h.0) && (h.1.task.system.0 == s)) ≡ false = ap (λ b. is_entry e (entry_of_res deck.entries h.0) && b) apart ∙ and-false (is_entry e (entry_of_res deck.entries h.0)) in
+            ap (λ b. b || list_any (λ z. is_entry e (entry_of_res deck.entries z.0) && (z.1.task.system.0 == s)) (systems_part st)) neither ∙ more

@@ -1,5 +1,5 @@
 -- An event of a system that hasn't changed: what is shown of it is what it then comes to.
-use Rattle.std.proofs.Common.{◌≡◌, [], ◌+◌, ◌++◌, List, Some, ap, append-nil, append_assoc, arith, false, length, length-append, refl, set, subst, sym, true, ℕ, ◌∙◌, ◌∷◌, ◌≢◌}
+use Rattle.std.proofs.Common.{◌≡◌, [], ◌+◌, ◌++◌, List, Some, ap, append-nil, append_assoc, arith, false, length, length-append, refl, set, subst, sym, true, ℕ, ◌∙◌, ◌∷◌, ◌≢◌, None}
 use Rattle.std.proofs.lemmas.Bool.{and_parts, eqb-true}
 use Rattle.std.proofs.lemmas.List.Elements.{filter-append}
 use Rattle.std.proofs.lemmas.List.{length-set}
@@ -11,6 +11,7 @@ use Rattle.grs_known.proofs.known.Histories.{AllAsk, IsHistory, asks-behind, ask
 use Rattle.grs_known.specs.Known.{Coming}
 use Rattle.grs_known.specs.Items.{RunItem, goes_round, history, items, lists, mine, rounds}
 use Rattle.grs_known.proofs.told.News.{ToldNews, still-told, told-news}
+use Rattle.grs_known.proofs.lists.Truths.{no_truth}
 use Rattle.grs_known.proofs.lists.Facts.{all-behind, filter-cons_left}
 use Rattle.grs_known.proofs.known.Blank.{blank}
 use Rattle.grs_known.proofs.system.Says.{is_home_at, own_requests}
@@ -18,27 +19,28 @@ use Rattle.grs_known.specs.Parts.{put_at}
 use Rattle.grs_known.proofs.lists.Placed.{put_each, put_both, put_here}
 use Rattle.grs_world.proofs.star.Elements.{AreNear}
 use Rattle.grs_world.proofs.message.Stands.{Bodies}
-use Rattle.grs_world.proofs.star.Worlds.{Fixes, Hands, IsWhole, fixes-own, in_hands, items-none, items-one, near-local, none_fixed, others-item, under-local, whole-still}
-use Rattle.grs_world.proofs.move.Late.{CameLate, desk_late, nothing_late, task_late, turn_late}
+use Rattle.grs_world.proofs.star.Worlds.{Fixes, Hands, IsWhole, are_live, fixes-own, in_hands, items-none, items-one, near-local, none_fixed, others-item, under-local, whole-still}
+use Rattle.grs_world.proofs.move.Late.{CameLate, desk_late, informed_late, nothing_late, task_late, turn_late, vary_late}
 use Rattle.grs_world.proofs.move.Changing.{IsChanging, IsMoved, Waits, fresh, moved, nothing-late, view-at, view-news, view-star, viewed, waits_yet, has_changed, Shown}
 use Rattle.grs_world.proofs.star.Members.{IsMember, IsStar, IsStep, all_lists, framed, lists-grown, lists_after}
 use Rattle.grs_world.proofs.star.Systems.{IsSystem, is_late, news_of}
-use Rattle.grs_world.proofs.system.AtNode.{QuietStep, Seen, keeps, fixes}
+use Rattle.grs_world.proofs.system.AtNode.{QuietStep, Seen, keeps, fixes, seen-known}
 use Rattle.grs_world.specs.World.{Turnout, World, fixed_by, placed, told_by}
 use Rattle.grs_node.specs.Log.{told_in}
-use Rattle.grs_world.proofs.run.Reading.{all-rounds, read-entries, read_all, read_item}
+use Rattle.grs_world.proofs.run.Reading.{all-rounds, read-entries, read_all}
 use Rattle.grs_world.proofs.run.Growing.{asks-rounds, fixeds}
 use Rattle.grs_world.proofs.run.Runs.{by_node}
 use Rattle.grs_world.proofs.star.OwnEvents.{coming-own, want-round}
 use Rattle.grs_world.proofs.system.Desks.{desk-seen, desk-told}
 use Rattle.grs_world.proofs.run.Messages.{given-due, message-closed}
 use Rattle.grs_world.proofs.system.Quiet.{quiet}
-use Rattle.grs_world.proofs.run.Desks.{tells_already, tells_tasks}
+use Rattle.grs_world.proofs.run.Desks.{tells_already, tells_in_star, tells_tasks}
 use Rattle.grs_world.proofs.star.Under.{under}
 use Rattle.grs_wire.specs.declared.deck.Deck.{Deck}
 use Rattle.grs_wire.specs.declared.request.Fixed.{Fixed}
-use Rattle.grs_wire.specs.declared.request.Fixed.TheVariants.{Asked, LocalLook, Purged}
-use Rattle.grs_wire.specs.Masks.{has}
+use Rattle.grs_wire.specs.declared.request.Fixed.TheVariants.{Asked}
+use Rattle.grs_wire.specs.Masks.{has, lives}
+use Rattle.grs_wire.specs.declared.told.Said.{Said}
 use Rattle.grs_wire.specs.declared.deck.Order.TheVariants as orders
 use Rattle.grs_wire.specs.declared.told.Said.TheVariants as saids
 use Rattle.grs_wire.specs.declared.deck.Choice.TheVariants as choices
@@ -54,22 +56,12 @@ use Rattle.grs_legal.specs.Asks.{lines_of}
 use Rattle.rsa_message.specs.Message.{turned_closed}
 use Rattle.grs_wire.specs.Unseen.{unseen}
 
--- what is read of the message leaves what the system knows of removed ones
-known-item : (n : NodeState) (f : Fixed) → (read_item n f).known ≡ n.known
-known-item n (Asked q) = refl
-known-item n (LocalLook t f) = refl
-known-item n (Purged target) = refl
-
-pub known-read : (n : NodeState) (xs : List RunItem) → (read_all n xs).known ≡ n.known
-known-read n [] = refl
-known-read n (x ∷ xs) = known-read (read_item n x.fixed) xs ∙ known-item n x.fixed
-
 -- who has behind some what it had before has nothing there
 nothing-behind : {X : Type 0} (xs ys : List X) → xs ++ ys ≡ xs → ys ≡ []
 nothing-behind xs [] h = refl
 nothing-behind xs (y ∷ ys) h = absurd (omega (arith, ap length h, length-append xs (y ∷ ys)))
 
-module _ (deck : Deck) (w : World) (g : IsChanging deck w) (c : SysId) (n : NodeState) (at : slice_get w.nodes c.0 ≡ Some n) (k : NodeState) (there : slice_get g.view c.0 ≡ Some k) (h : Waits deck c.0 (items w.fixed) (g.before c.0) (g.due c.0) g.since n) (is : k ≡ viewed deck n (g.due c.0)) (empty : g.whole.out c.0 ≡ []) where
+module _ (deck : Deck) (w : World) (g : IsChanging deck w) (c : SysId) (n : NodeState) (at : slice_get w.nodes c.0 ≡ Some n) (unremoved : has w.medium.removed c.0 ≡ false) (k : NodeState) (there : slice_get g.view c.0 ≡ Some k) (h : Waits deck c.0 (items w.fixed) (g.before c.0) (g.due c.0) g.since n) (is : k ≡ viewed deck n (g.due c.0)) (empty : g.whole.out c.0 ≡ []) where
   abbrev shown : World
   shown = record w { nodes = g.view }
 
@@ -80,10 +72,10 @@ module _ (deck : Deck) (w : World) (g : IsChanging deck w) (c : SysId) (n : Node
   whole_now = g.rounds_are ∙ (ap (λ zs. zs ++ g.since) (g.parts c.0) ∙ append_assoc (g.before c.0) (g.due c.0) g.since)
 
   abbrev me : IsMember deck w.medium.words (all_lists (record w { nodes = g.view })) c.0 k
-  me = g.whole.roles.node c.0 k there
+  me = g.whole.roles.node c.0 k there unremoved
 
   abbrev sys : IsSystem deck w.medium.words (items w.fixed) c.0 k (inbox w.medium c.0) (g.whole.later c.0) (g.whole.out c.0)
-  sys = g.whole.system c.0 k there
+  sys = g.whole.system c.0 k there unremoved
 
   late-none : g.whole.later c.0 ≡ []
   late-none = nothing-late deck w.medium.words T c.0 k (inbox w.medium c.0) (g.whole.later c.0) (g.whole.out c.0) sys empty
@@ -93,7 +85,7 @@ module _ (deck : Deck) (w : World) (g : IsChanging deck w) (c : SysId) (n : Node
       (local : (e : ℕ) → under deck.entries e (lists T') ≡ under deck.entries e (lists (items w.fixed))) (near : AreNear deck w.medium.words (lists T'))
       (waits : Waits deck c.0 T' (g.before c.0) (g.due c.0) g.since n') (rounds_now : rounds T' ≡ rounds (items w.fixed))
       (coming : (t : TaskId) → is_home_at deck c.0 t ≡ true → Coming t (blank false) T' (news_of (inbox w.medium c.0)))
-      (others : (s : ℕ) (j : NodeState) → s ≢ c.0 → slice_get g.view s ≡ Some j → IsSystem deck w.medium.words T' s j (inbox w.medium s) (g.whole.later s) (g.whole.out s)) (flags : ℕ) where
+      (others : (s : ℕ) (j : NodeState) → s ≢ c.0 → slice_get g.view s ≡ Some j → has w.medium.removed s ≡ false → IsSystem deck w.medium.words T' s j (inbox w.medium s) (g.whole.later s) (g.whole.out s)) (flags : ℕ) where
     abbrev k' : NodeState
     k' = viewed deck n' (g.due c.0)
 
@@ -117,7 +109,7 @@ module _ (deck : Deck) (w : World) (g : IsChanging deck w) (c : SysId) (n : Node
     unfolding change_to_star
     step = record {
       mode = g.whole.roles.mode;
-      removed = g.whole.roles.removed;
+      removed = refl;
       inboxes = refl;
       message = refl;
       moves = record {
@@ -132,7 +124,6 @@ module _ (deck : Deck) (w : World) (g : IsChanging deck w) (c : SysId) (n : Node
         part = me.part;
         star = same-star ∙ me.star;
         outbox = refl;
-        known = known-read n' (g.due c.0) ∙ waits.known;
         fits = record {
           home = me.fits.home;
           entries = me.fits.entries;
@@ -163,17 +154,17 @@ module _ (deck : Deck) (w : World) (g : IsChanging deck w) (c : SysId) (n : Node
     roles-now : IsStar deck now
     unfolding placed
     roles-now =
-        let f = framed deck shown c k there g.whole.roles o_shown step in
-        record { mode = f.mode; removed = f.removed; words = f.words; inboxes = f.inboxes; systems = f.systems; managed = f.managed; nobody = f.nobody; free = f.free; node = f.node }
+        let f = framed deck shown c k there unremoved g.whole.roles o_shown step in
+        record { mode = f.mode; words = f.words; inboxes = f.inboxes; systems = f.systems; managed = f.managed; nobody = f.nobody; free = f.free; node = f.node }
 
-    system-now : (s : ℕ) (j : NodeState) → slice_get (set g.view c.0 (viewed deck n' (g.due c.0))) s ≡ Some j → IsSystem deck w.medium.words (items (w.fixed ++ fixed_by c fs)) s j (inbox w.medium s) (g.whole.later s) (g.whole.out s)
-    system-now s j found = subst (λ U. IsSystem deck w.medium.words U s j (inbox w.medium s) (g.whole.later s) (g.whole.out s)) (sym grown)
-        (by_node g.view c.0 k k' there (λ u z. IsSystem deck w.medium.words T' u z (inbox w.medium u) (g.whole.later u) (g.whole.out u)) own (λ u z ne f. others u z ne f) s j found)
+    system-now : (s : ℕ) (j : NodeState) → slice_get (set g.view c.0 (viewed deck n' (g.due c.0))) s ≡ Some j → has w.medium.removed s ≡ false → IsSystem deck w.medium.words (items (w.fixed ++ fixed_by c fs)) s j (inbox w.medium s) (g.whole.later s) (g.whole.out s)
+    system-now s j found live = subst (λ U. IsSystem deck w.medium.words U s j (inbox w.medium s) (g.whole.later s) (g.whole.out s)) (sym grown)
+        (by_node g.view c.0 k k' there (λ u z. has w.medium.removed u ≡ false → IsSystem deck w.medium.words T' u z (inbox w.medium u) (g.whole.later u) (g.whole.out u)) (λ l. own) (λ u z ne f l. others u z ne f l) s j found live)
 
-    hands-now : (m : ℕ) (j : NodeState) (p : StarPart) → slice_get (set g.view c.0 (viewed deck n' (g.due c.0))) m ≡ Some j → j.star ≡ Some p → Hands deck w.medium.words (length (set g.view c.0 (viewed deck n' (g.due c.0)))) g.whole.later g.whole.out m (in_hands p (inbox w.medium m))
-    hands-now m j p found star = subst (λ count. Hands deck w.medium.words count g.whole.later g.whole.out m (in_hands p (inbox w.medium m))) (sym (length-set g.view c.0 k'))
-        (by_node g.view c.0 k k' there (λ u z. (q : StarPart) → z.star ≡ Some q → Hands deck w.medium.words (length g.view) g.whole.later g.whole.out u (in_hands q (inbox w.medium u)))
-        (λ q e. g.whole.hands c.0 k q there (sym same-star ∙ e)) (λ u z ne f q e. g.whole.hands u z q f e) m j found p star)
+    hands-now : (m : ℕ) (j : NodeState) (p : StarPart) → slice_get (set g.view c.0 (viewed deck n' (g.due c.0))) m ≡ Some j → has w.medium.removed m ≡ false → j.star ≡ Some p → Hands deck w.medium.words (λ s. lives (length (set g.view c.0 (viewed deck n' (g.due c.0)))) w.medium.removed s) g.whole.later g.whole.out m (in_hands p (inbox w.medium m))
+    hands-now m j p found live star = subst (λ (count : ℕ). Hands deck w.medium.words (λ s. lives count w.medium.removed s) g.whole.later g.whole.out m (in_hands p (inbox w.medium m))) (sym (length-set g.view c.0 k'))
+        (by_node g.view c.0 k k' there (λ u z. has w.medium.removed u ≡ false → (q : StarPart) → z.star ≡ Some q → Hands deck w.medium.words (are_live (record w { nodes = g.view })) g.whole.later g.whole.out u (in_hands q (inbox w.medium u)))
+        (λ l q e. g.whole.hands c.0 k q there l (sym same-star ∙ e)) (λ u z ne f l q e. g.whole.hands u z q f l e) m j found live p star)
 
     pub waiting-moved : IsChanging deck (placed w c n o)
     unfolding placed
@@ -190,9 +181,8 @@ module _ (deck : Deck) (w : World) (g : IsChanging deck w) (c : SysId) (n : Node
         let f = fresh deck c.0 g.whole.out T (items (w.fixed ++ fixed_by c fs)) (subst (Fixes deck c.0 g.whole.out T) (sym grown) fixes) in
         let none : rounds f.new ≡ [] = nothing-behind (rounds T) (rounds f.new) (sym f.is ∙ (ap rounds grown ∙ rounds_now)) in
         let same : g.since ++ rounds f.new ≡ g.since = ap (λ zs. g.since ++ zs) none ∙ append-nil g.since in
-        moved deck w g c n at o k' whole (λ u ne. refl) f refl refl (waits_yet n' (record {
+        moved deck w g c n at unremoved o k' whole (λ u ne. refl) f refl refl (waits_yet n' (record {
           alone = waits.alone;
-          known = waits.known;
           seen = subst (λ U. Seen deck c.0 U (g.before c.0) (g.due c.0 ++ (g.since ++ rounds f.new)) (own_requests c.0 (g.due c.0)) n') (sym grown)
               (subst (λ xs. Seen deck c.0 T' (g.before c.0) (g.due c.0 ++ xs) (own_requests c.0 (g.due c.0)) n') (sym same) waits.seen);
           away = λ t home. ap (mine t) same ∙ waits.away t home;
@@ -204,18 +194,36 @@ module _ (deck : Deck) (w : World) (g : IsChanging deck w) (c : SysId) (n : Node
 
   -- the system becomes n', and fixes nothing
   same-moved : (n' : NodeState) (flags : ℕ) → Waits deck c.0 (items w.fixed) (g.before c.0) (g.due c.0) g.since n' → (fs : List Fixed) → fs ≡ [] → IsChanging deck (placed w c n (record { medium = record w.medium { rest = flags }; step = record { node = n'; fixed = fs } }))
-  same-moved n' flags waits fs none = waiting-moved n' fs T (ap (λ zs. items (w.fixed ++ fixed_by c zs)) none ∙ items-none w.fixed c) g.whole.right none_fixed (λ e. refl) g.whole.near waits refl coming-now (λ s j ne found. g.whole.system s j found) flags
+  same-moved n' flags waits fs none = waiting-moved n' fs T (ap (λ zs. items (w.fixed ++ fixed_by c zs)) none ∙ items-none w.fixed c) g.whole.right none_fixed (λ e. refl) g.whole.near waits refl coming-now (λ s j ne found live. g.whole.system s j found live) flags
 
   -- ---- nothing happens but to a flag of rest
   pub nothing-moved : (flags : ℕ) → IsMoved deck w c n (record { medium = record w.medium { rest = flags }; step = only n })
   nothing-moved flags = record { changing = same-moved n flags h [] refl; news = tells_tasks (still-told refl) refl refl }
 
+  -- ---- it is told which systems were removed
+  pub known-moved : IsMoved deck w c n (record { medium = w.medium; step = only (record n { known = w.medium.removed }) })
+  known-moved = record {
+    changing = same-moved (record n { known = w.medium.removed }) w.medium.rest (record { alone = h.alone; seen = seen-known deck c.0 T (g.before c.0) (g.due c.0 ++ g.since) (own_requests c.0 (g.due c.0)) n w.medium.removed h.seen; away = h.away }) [] refl;
+    news = tells_tasks (still-told refl) refl refl;
+  }
+
   -- ---- its desk is told
+  desk-changing : (said : Said) → IsChanging deck (placed w c n (record { medium = w.medium; step = only (desk_told n said) }))
+  unfolding desk_told
+  desk-changing said = same-moved (desk_told n said) w.medium.rest (record { alone = h.alone; seen = desk-seen deck c.0 T (g.before c.0) (g.due c.0 ++ g.since) (own_requests c.0 (g.due c.0)) n said h.seen; away = h.away }) [] refl
+
   pub desk-moved : next_order deck n ≡ Some orders.Star → IsMoved deck w c n (record { medium = w.medium; step = only (desk_told n saids.StarAlready) })
   unfolding desk_told
   desk-moved next = record {
-    changing = same-moved (desk_told n saids.StarAlready) w.medium.rest (record { alone = h.alone; known = h.known; seen = desk-seen deck c.0 T (g.before c.0) (g.due c.0 ++ g.since) (own_requests c.0 (g.due c.0)) n saids.StarAlready h.seen; away = h.away }) [] refl;
+    changing = desk-changing saids.StarAlready;
     news = tells_already next (desk-told n saids.StarAlready) refl g.whole.roles.mode g.whole.roles.mode;
+  }
+
+  pub vary-moved : (target : SysId) → next_order deck n ≡ Some (orders.Vary target) → IsMoved deck w c n (record { medium = w.medium; step = only (desk_told n saids.VaryInStar) })
+  unfolding desk_told
+  vary-moved target next = record {
+    changing = desk-changing saids.VaryInStar;
+    news = tells_in_star target next (desk-told n saids.VaryInStar) refl g.whole.roles.mode g.whole.roles.mode;
   }
 
   -- ---- a task goes on
@@ -231,7 +239,7 @@ module _ (deck : Deck) (w : World) (g : IsChanging deck w) (c : SysId) (n : Node
 
       by_step : QuietStep deck c.0 c (items w.fixed) (g.before c.0) (g.due c.0 ++ g.since) (own_requests c.0 (g.due c.0)) n (task_step deck.limit n t (lines_of deck t)) → IsMoved deck w c n (record { medium = w.medium; step = task_step deck.limit n t (lines_of deck t) })
       by_step (keeps none seen told) = record {
-        changing = same-moved (task_step deck.limit n t (lines_of deck t)).node w.medium.rest (record { alone = kept.star ∙ h.alone; known = kept.known ∙ h.known; seen = seen; away = h.away }) (task_step deck.limit n t (lines_of deck t)).fixed none;
+        changing = same-moved (task_step deck.limit n t (lines_of deck t)).node w.medium.rest (record { alone = kept.star ∙ h.alone; seen = seen; away = h.away }) (task_step deck.limit n t (lines_of deck t)).fixed none;
         news = tells_tasks (subst (λ U. ToldNews deck c.0 (history U) n.tasks.told (task_step deck.limit n t (lines_of deck t)).node.tasks.told) (sym (ap (λ zs. items (w.fixed ++ fixed_by c zs)) none ∙ items-none w.fixed c)) (told-news told)) kept.done refl;
       }
       by_step (fixes q one home alone follow seen told) =
@@ -243,10 +251,10 @@ module _ (deck : Deck) (w : World) (g : IsChanging deck w) (c : SysId) (n : Node
           record {
             changing = waiting-moved (task_step deck.limit n t (lines_of deck t)).node (task_step deck.limit n t (lines_of deck t)).fixed T' grown (follows deck T item g.whole.right follow) (fixes-own deck c g.whole.out T q follow mine_q)
                 (under-local deck T c q alone) (near-local deck w.medium.words T c q alone g.whole.near)
-                (record { alone = kept.star ∙ h.alone; known = kept.known ∙ h.known; seen = seen; away = h.away }) around
+                (record { alone = kept.star ∙ h.alone; seen = seen; away = h.away }) around
                 (λ u home_u. subst (λ xs. Coming u (blank (is_late u xs)) T' (news_of (inbox w.medium c.0))) late-none
                 (coming-own deck w.medium.words T g.whole.right c.0 k (inbox w.medium c.0) (g.whole.later c.0) (g.whole.out c.0) sys c q home (λ e f. absurd (want-round deck q.want e alone f)) (ap (is_late q.task) late-none) u home_u))
-                (λ s j ne found. others-item deck shown g.whole c k there q follow mine_q s j ne found) w.medium.rest;
+                (λ s j ne found live. others-item deck shown g.whole c k there unremoved q follow mine_q s j ne found live) w.medium.rest;
             news = tells_tasks (subst (λ U. ToldNews deck c.0 (history U) n.tasks.told (task_step deck.limit n t (lines_of deck t)).node.tasks.told) (sym grown) (told-news told)) kept.done refl;
           }
 
@@ -290,7 +298,6 @@ module _ (deck : Deck) (w : World) (g : IsChanging deck w) (c : SysId) (n : Node
         go j x (has_changed none) = has_changed none
         go j x (waits_yet y z shows none) = waits_yet y (record {
           alone = z.alone;
-          known = z.known;
           seen = subst (λ U. Seen deck u U (g.before u) (g.due u ++ g.since) (own_requests u (g.due u)) y) (sym (items-none w.fixed c)) z.seen;
           away = z.away;
         }) shows (still.1 u ∙ none)
@@ -310,9 +317,10 @@ module _ (deck : Deck) (w : World) (g : IsChanging deck w) (c : SysId) (n : Node
       closed = g.closed;
       around = g.around;
       count = length-set w.nodes c.0 m ∙ g.count;
-      shown = by_node w.nodes c.0 n m at (λ u x. (j : NodeState) × (slice_get g.view u ≡ Some j) × Shown deck u (items (w.fixed ++ fixed_by c [])) (put_at g.before c.0 g.log u) (put_at g.due c.0 [] u) g.since (still.0.out u) j x)
-          (k, there, subst (λ x. Shown deck c.0 (items (w.fixed ++ fixed_by c [])) (put_at g.before c.0 g.log c.0) (put_at g.due c.0 [] c.0) g.since (still.0.out c.0) k x) (sym same) (has_changed (put_here g.due c.0 [])))
-          (λ u x ne f. let old = g.shown u x f in (old.0, old.1, stays-shown u old.0 x ne old.2));
+      shown = by_node w.nodes c.0 n m at (λ u x. has w.medium.removed u ≡ false → (j : NodeState) × (slice_get g.view u ≡ Some j) × Shown deck u (items (w.fixed ++ fixed_by c [])) (put_at g.before c.0 g.log u) (put_at g.due c.0 [] u) g.since (still.0.out u) j x)
+          (λ l. (k, there, subst (λ x. Shown deck c.0 (items (w.fixed ++ fixed_by c [])) (put_at g.before c.0 g.log c.0) (put_at g.due c.0 [] c.0) g.since (still.0.out c.0) k x) (sym same) (has_changed (put_here g.due c.0 []))))
+          (λ u x ne f l. let old = g.shown u x f l in (old.0, old.1, stays-shown u old.0 x ne old.2));
+      gone = by_node w.nodes c.0 n m at (λ u x. has w.medium.removed u ≡ true → x.star ≡ None) (λ l. no_truth (has w.medium.removed c.0) l unremoved) (λ u x ne f l. g.gone u x f l);
     }
 
   pub turn-moved : (flags : ℕ) → has (live w.medium) c.0 ≡ true → IsMoved deck w c n (record { medium = record w.medium { message = turned_closed w.medium.message c; rest = flags }; step = only (change_to_star deck (read_entries deck n (unseen c w.medium.message.entries))) })
@@ -328,3 +336,5 @@ module _ (deck : Deck) (w : World) (g : IsChanging deck w) (c : SysId) (n : Node
   waits-moved alive o (task_late t may) = task-moved t may
   waits-moved alive o (turn_late flags here) = turn-moved flags alive
   waits-moved alive o (desk_late next) = desk-moved next
+  waits-moved alive o (vary_late target next) = vary-moved target next
+  waits-moved alive o informed_late = known-moved

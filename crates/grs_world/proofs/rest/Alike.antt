@@ -1,5 +1,5 @@
--- What is still to be heard is the same where two worlds show the same of their systems.
-use Rattle.std.proofs.Common.{◌≡◌, ◌≤◌, ◌⊎◌, inl, inr, ℕ, Bool, true, Some, refl, ap, sym, ◌∙◌, subst, arith}
+-- What is still to be heard is the same where two worlds show the same of their live systems.
+use Rattle.std.proofs.Common.{◌≡◌, ◌≤◌, ◌⊎◌, inl, inr, ℕ, Bool, true, Some, refl, ap, sym, ◌∙◌, subst, arith, false}
 use Rattle.std.specs.Prelude.{slice_get}
 use Rattle.std.specs.List.{list_any}
 use Rattle.grs_base.specs.Lists.{has_task, owns}
@@ -18,6 +18,7 @@ use Rattle.grs_world.proofs.star.Heard.{AreAddressed, IsHeard, IsInHands, IsUnto
 use Rattle.grs_world.proofs.star.Members.{all_lists}
 use Rattle.grs_world.proofs.star.Worlds.{in_hands}
 use Rattle.grs_world.specs.World.{World}
+use Rattle.grs_wire.specs.Masks.{has}
 
 -- a system stood like this, with the same part and the same on record
 pub record IsBack (deck : Deck) (w : World) (s : ℕ) (k' : NodeState) : Type 0 where
@@ -33,8 +34,9 @@ pub record IsForth (w' : World) (s : ℕ) (k : NodeState) : Type 0 where
   pub star : node.star ≡ k.star
 
 pub record SameShown (deck : Deck) (w w' : World) : Type 0 where
-  pub back : (s : ℕ) (k' : NodeState) → slice_get w'.nodes s ≡ Some k' → IsBack deck w s k'
-  pub forth : (s : ℕ) (k : NodeState) → slice_get w.nodes s ≡ Some k → IsForth w' s k
+  pub removed : w'.medium.removed ≡ w.medium.removed
+  pub back : (s : ℕ) (k' : NodeState) → slice_get w'.nodes s ≡ Some k' → has w.medium.removed s ≡ false → IsBack deck w s k'
+  pub forth : (s : ℕ) (k : NodeState) → slice_get w.nodes s ≡ Some k → has w.medium.removed s ≡ false → IsForth w' s k
   pub boxes : (s : ℕ) → inbox w'.medium s ≡ inbox w.medium s
   pub lists : (r : Res) → is_systems r ≡ true → list_of (all_lists w') r ≡ list_of (all_lists w) r
   pub count : enq_count (items w.fixed) ≤ enq_count (items w'.fixed)
@@ -42,28 +44,31 @@ pub record SameShown (deck : Deck) (w w' : World) : Type 0 where
 module _ (deck : Deck) (w w' : World) (z : SameShown deck w w') where
   hands-alike : (t : TaskId) → IsInHands w t → IsInHands w' t
   hands-alike t i =
-      let f = z.forth i.system i.node i.at in
-      record { system = i.system; node = f.node; part = i.part; at = f.at; star = f.star ∙ i.star; among = ap (λ ms. is_among t (askers (in_hands i.part ms))) (z.boxes i.system) ∙ i.among }
+      let f = z.forth i.system i.node i.at i.live in
+      record { system = i.system; node = f.node; part = i.part; at = f.at; live = ap (λ m. has m i.system) z.removed ∙ i.live; star = f.star ∙ i.star; among = ap (λ ms. is_among t (askers (in_hands i.part ms))) (z.boxes i.system) ∙ i.among }
 
   untold-alike : (s : ℕ) (t : TaskId) (r : Res) → IsUntold w s t r → IsUntold w' s t r
   untold-alike s t r i =
-      let f = z.forth i.system i.node i.at in
-      record { system = i.system; node = f.node; part = i.part; at = f.at; star = f.star ∙ i.star; apart = i.apart; untold = i.untold }
+      let f = z.forth i.system i.node i.at i.live in
+      record { system = i.system; node = f.node; part = i.part; at = f.at; live = ap (λ m. has m i.system) z.removed ∙ i.live; star = f.star ∙ i.star; apart = i.apart; untold = i.untold }
 
   pub heard-alike : (sent sent' : ℕ → TaskId → Bool) (had had' : ℕ → TaskId → Res → Bool) →
-      ((s : ℕ) (t : TaskId) → is_home_at deck s t ≡ true → sent' s t ≡ true → sent s t ≡ true) →
-      ((s : ℕ) (k' : NodeState) (t : TaskId) (r : Res) → slice_get w'.nodes s ≡ Some k' → is_home_at deck s t ≡ true → is_systems r ≡ true → had s t r ≡ true → had' s t r ≡ true) →
+      ((s : ℕ) (t : TaskId) → has w.medium.removed s ≡ false → is_home_at deck s t ≡ true → sent' s t ≡ true → sent s t ≡ true) →
+      ((s : ℕ) (k' : NodeState) (t : TaskId) (r : Res) → slice_get w'.nodes s ≡ Some k' → has w.medium.removed s ≡ false → is_home_at deck s t ≡ true → is_systems r ≡ true → had s t r ≡ true → had' s t r ≡ true) →
       IsHeard deck w sent had → IsHeard deck w' sent' had'
   heard-alike sent sent' had had' less more h = record {
-    requests = λ s k' t at home e. let b = z.back s k' at in by-request s t (h.requests s b.node t b.at home (less s t home e));
-    owners = λ s k' t r at home wide own. let b = z.back s k' at in
-        by-owner s k' t r b home wide (λ e. more s k' t r at home wide e) (h.owners s b.node t r b.at home wide (ap (λ es. owns es t) (sym (z.lists r wide)) ∙ own));
-    recorded = λ s k' t r at home wide has. let b = z.back s k' at in
-        by-record s k' t r b home wide (h.recorded s b.node t r b.at home wide (ap (λ es. has_task es t) (sym (z.lists r wide)) ∙ has));
+    requests = λ s k' t at live home e. let l = was s live in let b = z.back s k' at l in by-request s t (h.requests s b.node t b.at l home (less s t l home e));
+    owners = λ s k' t r at live home wide own. let l = was s live in let b = z.back s k' at l in
+        by-owner s k' t r b home wide (λ e. more s k' t r at l home wide e) (h.owners s b.node t r b.at l home wide (ap (λ es. owns es t) (sym (z.lists r wide)) ∙ own));
+    recorded = λ s k' t r at live home wide has_it. let l = was s live in let b = z.back s k' at l in
+        by-record s k' t r b home wide (h.recorded s b.node t r b.at l home wide (ap (λ es. has_task es t) (sym (z.lists r wide)) ∙ has_it));
     mails = λ s. subst (AreAddressed deck) (sym (z.boxes s)) (h.mails s);
-    ranks = λ m k' p e x at star managed. let b = z.back m k' at in let low = h.ranks m b.node p e x b.at (sym b.star ∙ star) managed in let more = z.count in omega (arith, low, more);
+    ranks = λ m k' p e x at live star managed. let l = was m live in let b = z.back m k' at l in let low = h.ranks m b.node p e x b.at l (sym b.star ∙ star) managed in let more = z.count in omega (arith, low, more);
   }
     where
+      was : (s : ℕ) → has w'.medium.removed s ≡ false → has w.medium.removed s ≡ false
+      was s live = sym (ap (λ m. has m s) z.removed) ∙ live
+
       by-request : (s : ℕ) (t : TaskId) → IsInHands w t ⊎ (list_any (is_timely t) (inbox w.medium s) ≡ true) → IsInHands w' t ⊎ (list_any (is_timely t) (inbox w'.medium s) ≡ true)
       by-request s t (inl i) = inl (hands-alike t i)
       by-request s t (inr e) = inr (ap (list_any (is_timely t)) (z.boxes s) ∙ e)
@@ -80,11 +85,12 @@ module _ (deck : Deck) (w w' : World) (z : SameShown deck w w') where
       by-record s k' t r b home wide (inl e) = inl (b.has t r home wide ∙ e)
       by-record s k' t r b home wide (inr e) = inr (ap (list_any (is_timely t)) (z.boxes s) ∙ e)
 
--- the same systems stand there
-pub same-nodes : (deck : Deck) (w w' : World) → w'.nodes ≡ w.nodes → ((s : ℕ) → inbox w'.medium s ≡ inbox w.medium s) → items w'.fixed ≡ items w.fixed → SameShown deck w w'
-same-nodes deck w w' nodes boxes same = record {
-  back = λ s k' at. record { node = k'; at = ap (λ ns. slice_get ns s) (sym nodes) ∙ at; star = refl; has = λ t r home wide. refl };
-  forth = λ s k at. record { node = k; at = ap (λ ns. slice_get ns s) nodes ∙ at; star = refl };
+-- the same live systems stand there
+pub same-nodes : (deck : Deck) (w w' : World) → w'.medium.removed ≡ w.medium.removed → ((s : ℕ) → has w.medium.removed s ≡ false → slice_get w'.nodes s ≡ slice_get w.nodes s) → ((s : ℕ) → inbox w'.medium s ≡ inbox w.medium s) → items w'.fixed ≡ items w.fixed → SameShown deck w w'
+same-nodes deck w w' removed nodes boxes same = record {
+  removed = removed;
+  back = λ s k' at live. record { node = k'; at = sym (nodes s live) ∙ at; star = refl; has = λ t r home wide. refl };
+  forth = λ s k at live. record { node = k; at = nodes s live ∙ at; star = refl };
   boxes = boxes;
   lists = λ r wide. ap (λ T. list_of (lists T) r) same;
   count = subst (λ T. enq_count (items w.fixed) ≤ enq_count T) (sym same) (omega arith);

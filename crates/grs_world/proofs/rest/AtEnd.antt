@@ -2,7 +2,7 @@
 use Rattle.std.proofs.Common.{◌≡◌, ◌≢◌, ◌<◌, ◌≤◌, ◌-◌, ◌+◌, ℕ, zero, suc, Bool, true, false, cond, not, ◌&&◌, ◌||◌, List, [], ◌∷◌, ◌++◌, length, take, Option, Some, None, refl, ap, sym, ◌∙◌, subst, arith, leb, leb-true, leb-false, length-append}
 use Rattle.std.specs.Prelude.{◌==◌, is_some, nat_lt, slice_get}
 use Rattle.std.specs.List.{list_any, list_all}
-use Rattle.std.proofs.lemmas.Bool.{and_from, and_parts, eq-eqb, eqb-true, eqb-false, ltb-true, or_left, or_right}
+use Rattle.std.proofs.lemmas.Bool.{and_from, and_parts, eq-eqb, eqb-true, eqb-false, ltb-true, or_left, or_right, not-true}
 use Rattle.std.proofs.lemmas.Map.Views.{any-filter_same}
 use Rattle.std.proofs.lemmas.Option.{same_Some, slice_get_within}
 use Rattle.grs_base.specs.Lists.{owns, has_task}
@@ -16,7 +16,7 @@ use Rattle.grs_legal.specs.Asks.{asks_in, asks_of, is_silent, lines_of}
 use Rattle.grs_legal.specs.Legal.{line_entries, end_among, entries_of, last_entry}
 use Rattle.grs_legal.specs.declared.meaning.Meaning.{Meaning}
 use Rattle.grs_node.specs.Node.{NodeState, goes_on}
-use Rattle.grs_wire.specs.History.{answered, code_of, replay, is_by}
+use Rattle.grs_wire.specs.History.{code_of, replay, is_by}
 use Rattle.grs_wire.specs.declared.deck.Deck.{Deck}
 use Rattle.grs_wire.specs.declared.deck.Event.{Event}
 use Rattle.grs_wire.specs.declared.history.HistEntry.{HistEntry}
@@ -30,7 +30,7 @@ use Rattle.task_state.specs.declared.state.Phase.{Phase}
 use Rattle.task_state.specs.declared.state.Phase.TheVariants as phases
 use Rattle.task_state.specs.declared.state.Rec.{Rec}
 use Rattle.task_state.specs.declared.state.TaskState.{TaskState}
-use Rattle.grs_known.proofs.known.Histories.{IsHistory, replayed}
+use Rattle.grs_known.proofs.known.Histories.{IsHistory, replayed, OrdersFit}
 use Rattle.grs_known.proofs.known.ItemLaws.{items_are_history, entries_are_of_items}
 use Rattle.grs_known.proofs.known.Knows.{knows-closed, speaks-known, known-all}
 use Rattle.grs_known.proofs.lists.Facts.{slice_get-past, some_of, take-none, all-filter}
@@ -54,7 +54,7 @@ use Rattle.grs_known.proofs.tasks.Keys.{has_res-own}
 use Rattle.grs_known.specs.Known.{learned}
 use Rattle.grs_world.proofs.rest.Control.{is_unmarked}
 use Rattle.grs_world.proofs.rest.Held.{WaitsOn, all-well, first-found, no-tells, none-earlier, not-both, uncoded, unmarked-has, waits-among, waits_well}
-use Rattle.grs_world.specs.Running.{end_at, task_end}
+use Rattle.grs_world.specs.Running.{end_at, task_end, end_of, end_removed}
 use Rattle.grs_world.proofs.rest.Marks.{is_marked}
 use Rattle.grs_world.proofs.rest.Steps.{AllDate, one-task}
 use Rattle.grs_world.proofs.rest.UpToDate.{done_by, has_code, is_code_at, is_placed, is_kept}
@@ -62,6 +62,7 @@ use Rattle.grs_world.proofs.run.Runs.{GoodTold}
 use Rattle.grs_world.specs.Agree.{AgreesBy, AllAgree, lines_of_told, moment}
 use Rattle.grs_world.specs.AtRest.{IsThere, OwnersAreTold, RepliesAreTold, is_coded, is_waiting, lists_after, IsWaiting, TasksWait, first_uncoded, is_next, is_uncoded, is_wait, stands_at, waits_at, waits_on}
 use Rattle.grs_world.specs.World.{hist, run}
+use Rattle.grs_wire.specs.Masks.{has}
 
 -- System s, where these items were fixed: nothing goes on by itself and nothing is outstanding, and who owns by all items is
 -- marked.
@@ -210,7 +211,7 @@ module _ (deck : Deck) (v : TasksView) (t : TaskId) (ls : List Meaning) (lines :
           go false place d z = or_right (same_task t u && d) _ (more z)
 
 -- ---- a run that has come to this
-module _ (deck : Deck) (es : List Event) (right : IsHistory deck (items (run deck es).fixed)) (g : GoodTold deck es (run deck es)) (still : (s : ℕ) (n : NodeState) → slice_get (run deck es).nodes s ≡ Some n → IsStill deck s (items (run deck es).fixed) n) where
+module _ (deck : Deck) (es : List Event) (right : IsHistory deck (items (run deck es).fixed)) (g : GoodTold deck es (run deck es)) (orders : OrdersFit deck) (still : (s : ℕ) (n : NodeState) → slice_get (run deck es).nodes s ≡ Some n → has (run deck es).medium.removed s ≡ false → IsStill deck s (items (run deck es).fixed) n) where
   abbrev P : List RunItem
   P = items (run deck es).fixed
 
@@ -232,11 +233,14 @@ module _ (deck : Deck) (es : List Event) (right : IsHistory deck (items (run dec
             let past : length (run deck es).nodes ≤ t.system.0 = slice_get-past (run deck es).nodes t.system.0 e in
             absurd (omega (arith, within, past))
 
+    alive : has (run deck es).medium.removed t.system.0 ≡ false
+    alive = not-true (has (run deck es).medium.removed t.system.0) (and_parts (nat_lt t.system.0 (length (run deck es).nodes)) (not (has (run deck es).medium.removed t.system.0)) there.live).1
+
     abbrev n : NodeState
     n = found.0
 
     abbrev k : IsStill deck t.system.0 (items (run deck es).fixed) found.0
-    k = still t.system.0 found.0 found.1
+    k = still t.system.0 found.0 found.1 alive
 
     ours : IsOurs deck t.system.0 found.0.tasks t ls
     ours = record { lines = there.lines; home = refl; here = k.good.here t (and_from (t.system.0 == t.system.0) (is_some (lines_of deck t)) (eq-eqb t.system.0 t.system.0 refl) (ap is_some there.lines)) }
@@ -254,7 +258,7 @@ module _ (deck : Deck) (es : List Event) (right : IsHistory deck (items (run dec
     p = past_of t here_is.known (items (run deck es).fixed)
 
     speaks : Speaks deck.limit t p (history (items (run deck es).fixed))
-    speaks = speaks-known deck P t here_is.known right here_is.knows.right (knows-closed P t y.outstanding here_is.known idle here_is.knows)
+    speaks = speaks-known deck P t here_is.known right here_is.knows.live here_is.knows.right (knows-closed P t y.outstanding here_is.known idle here_is.knows)
 
     -- its entries, and how it stands
     entries_are : line_entries t (hist deck es) ≡ p.asked
@@ -272,7 +276,7 @@ module _ (deck : Deck) (es : List Event) (right : IsHistory deck (items (run dec
 
     -- each line up to the one that it is done with has its code line
     code-told : (j m : ℕ) → done_by None (state_of found.0.tasks t).phase (state_of found.0.tasks t).line ≡ m → 0 < j → j ≤ m → has_code (slice_get ls (j - 1)) ≡ true → list_any (is_code_of t j) (lines_of_told (run deck es).told) ≡ true
-    code-told j m is low l has = code-exact deck n.tasks t ls there.lines ours.here es [] (run deck es).told j g.agree
+    code-told j m is low l has = code-exact deck n.tasks t ls there.lines ours.here es [] (run deck es).told j (g.agree orders)
         (all-told (is_code_at t j) (code-home t j) ((k.date t ls there.lines ours.here).coded j low (subst (λ o. j ≤ done_by o y.phase y.line) (sym idle) (subst (λ i. j ≤ i) (sym is) l)) has))
 
     -- an owner was told
@@ -338,8 +342,8 @@ module _ (deck : Deck) (es : List Event) (right : IsHistory deck (items (run dec
     unowned : (r : Res) → (is_marked r (state_of found.0.tasks t).records ≡ true → ⊥) → owns (list_of (lists_after deck es) r) t ≡ false
     unowned r none = false_by (owns (list_of (lists_after deck es) r) t) (λ own. absurd (none (k.marked t ls r ours (ap (λ xs. owns xs t) (sym (lists_are r)) ∙ own))))
 
-    end_is : task_end (run deck es).nodes t ≡ end_in (state_of found.0.tasks t).phase
-    end_is = ap (end_at t) found.1 ∙ ap (λ b. cond b (end_in y.phase) ends.Open) ours.here
+    end_is : task_end (run deck es).medium.removed (run deck es).nodes t ≡ end_in (state_of found.0.tasks t).phase
+    end_is = ap (end_at (run deck es).medium.removed t) found.1 ∙ (ap (λ b. cond b (end_removed (end_of n.tasks t)) (end_of n.tasks t)) alive ∙ ap (λ b. cond b (end_in y.phase) ends.Open) ours.here)
 
     -- at a WAIT line
     held_line : (r : Res) → (state_of found.0.tasks t).phase ≡ phases.HeldLine r → IsWaiting deck es t ls
@@ -423,7 +427,7 @@ module _ (deck : Deck) (es : List Event) (right : IsHistory deck (items (run dec
         none_told = no-tells t ls p.asked w.res y.line n.tasks.told (subst (λ q. list_all (is_code_before t (code_bound q y.line)) n.tasks.told ≡ true) e task_is.codes) task_is.posts hd.unposted
             (none-earlier ls p.asked w.res y.line hd.last (λ a b l. more-asks a b l ls) hd.of_line w.queued)
 
-    task-waits : task_end (run deck es).nodes t ≢ Ended → IsWaiting deck es t ls
+    task-waits : task_end (run deck es).medium.removed (run deck es).nodes t ≢ Ended → IsWaiting deck es t ls
     task-waits going = by_phase y.phase refl
       where
         by_phase : (q : Phase) → (state_of found.0.tasks t).phase ≡ q → IsWaiting deck es t ls

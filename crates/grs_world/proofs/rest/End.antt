@@ -1,5 +1,5 @@
 -- Where a run is at rest, in either mode, nothing is lost.
-use Rattle.std.proofs.Common.{◌≡◌, true, List, Some, ℕ}
+use Rattle.std.proofs.Common.{◌≡◌, true, List, Some, ℕ, false}
 use Rattle.std.specs.Prelude.{slice_get}
 use Rattle.grs_node.specs.Node.{NodeState}
 use Rattle.grs_wire.specs.Decks.{IsDeck}
@@ -20,16 +20,18 @@ use Rattle.grs_world.specs.AtRest.{OwnersAreTold, RepliesAreTold, RestsInTheEnd,
 use Rattle.grs_world.specs.Decks.{FitsStar, may_be_star}
 use Rattle.grs_world.specs.Running.{at_rest}
 use Rattle.grs_world.specs.World.{run}
+use Rattle.grs_wire.specs.Masks.{has}
+use Rattle.grs_world.proofs.rest.Homes.{homes_run}
 
 module _ (deck : Deck) (is_deck : IsDeck deck) (es : List Event) (rest : at_rest deck (run deck es) ≡ true) where
   fits : may_be_star deck ≡ true → FitsStar deck
   fits h = record { few = is_deck.fits.few; entries = is_deck.entries }
 
-  -- each system, in either mode
-  pub all-still : (s : ℕ) (n : NodeState) → slice_get (run deck es).nodes s ≡ Some n → IsStill deck s (items (run deck es).fixed) n
+  -- each live system, in either mode
+  pub all-still : (s : ℕ) (n : NodeState) → slice_get (run deck es).nodes s ≡ Some n → has (run deck es).medium.removed s ≡ false → IsStill deck s (items (run deck es).fixed) n
   all-still = go (every_run deck fits es)
     where
-      go : GoodRun deck es (run deck es) → (s : ℕ) (n : NodeState) → slice_get (run deck es).nodes s ≡ Some n → IsStill deck s (items (run deck es).fixed) n
+      go : GoodRun deck es (run deck es) → (s : ℕ) (n : NodeState) → slice_get (run deck es).nodes s ≡ Some n → has (run deck es).medium.removed s ≡ false → IsStill deck s (items (run deck es).fixed) n
       go (in_ring begins ring g d) = still-ring deck es (run deck es) ring g (ring_read deck fits es ring.mode) rest
       go (in_star f g told d) = still-star deck (run deck es) g (restful_run deck is_deck es g.whole.roles.mode) rest
 
@@ -40,16 +42,16 @@ module _ (deck : Deck) (is_deck : IsDeck deck) (es : List Event) (rest : at_rest
   end-told = good_told deck es (run deck es) (every_run deck fits es)
 
   pub owners-at-rest : OwnersAreTold deck es
-  owners-at-rest = owners-told deck es end-history end-told all-still
+  owners-at-rest = owners-told deck es end-history end-told is_deck.orders all-still
 
   pub replies-at-rest : RepliesAreTold deck es
-  replies-at-rest = replies-told deck es end-history end-told all-still
+  replies-at-rest = replies-told deck es end-history end-told is_deck.orders all-still
 
   pub tasks-at-rest : TasksWait deck es
-  tasks-at-rest = tasks-wait deck es end-history end-told all-still
+  tasks-at-rest = tasks-wait deck es end-history end-told is_deck.orders all-still
 
   pub units-at-rest : UnitsAreReserved deck es
-  units-at-rest = units-reserved deck es end-history (full_run deck es) all-still
+  units-at-rest = units-reserved deck es end-history (full_run deck es) (homes_run deck fits es) all-still
 
 -- so nothing is lost
 pub rests : (deck : Deck) → IsDeck deck → (es : List Event) → RestsInTheEnd deck es

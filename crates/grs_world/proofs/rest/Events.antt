@@ -41,6 +41,8 @@ use Rattle.grs_world.proofs.rest.Answers.{IsCoded, answer-told}
 use Rattle.grs_world.proofs.rest.Control.{is_unmarked}
 use Rattle.grs_world.proofs.rest.Steps.{AllDate, date-did, date-new, date-own, placed-here}
 use Rattle.grs_world.proofs.rest.UpToDate.{AreCoded, HasUnit, IsUpToDate, IsWanted, IsWantedBy, done_by, is_kept, more-told}
+use Rattle.grs_base.specs.Rows.{rows_of}
+use Rattle.grs_world.proofs.rest.Freed.{date-freed}
 
 -- ---- the answer to an outstanding request
 -- a task of the deck that has this outstanding gets its answer
@@ -84,7 +86,7 @@ date-answer_own deck v q s h of_deck = by_test (AllDate deck) (is_task v q.task 
 -- ---- what the message gave
 date-entry : (deck : Deck) (n : NodeState) (body : RingBody) → AllDate deck n.tasks → AllDate deck (read_entry deck n body).tasks
 unfolding process_entry process
-date-entry deck n (Remove target) h = h
+date-entry deck n (Remove target) h = date-freed deck target.0 (rows_of n.shared) n.tasks h
 date-entry deck n (Request q) h = by_test (λ (k : NodeState). AllDate deck k.tasks) (is_of_deck deck q.task) _ n (λ of_deck. by_test (λ (side : Side). AllDate deck side.tasks) (is_for_all (res_wanted q.want)) _ (side_of n.tasks n.shared)
     (λ wide. date-new deck (res_wanted q.want) (new_owners n.shared q.task q.want) (answer_own n.tasks q (answer_to n.shared q.task q.want)) (date-answer_own deck n.tasks q n.shared h of_deck)) (λ narrow. h)) (λ away. h)
 

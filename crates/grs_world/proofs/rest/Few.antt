@@ -1,5 +1,5 @@
 -- A deck that is read has so few lines that no run of it asks more ENQs than there are ranks.
-use Rattle.std.proofs.Common.{◌≡◌, ◌≢◌, ◌<◌, ◌≤◌, ◌-◌, ◌+◌, ◌*◌, ℕ, zero, suc, Bool, true, false, cond, not, ◌&&◌, List, [], ◌∷◌, ◌++◌, length, map, Option, Some, None, refl, ap, sym, ◌∙◌, subst, arith, append-nil, append_assoc, length-append, leb-true, le-leb}
+use Rattle.std.proofs.Common.{◌≡◌, ◌≢◌, ◌<◌, ◌≤◌, ◌+◌, ◌*◌, ℕ, zero, suc, Bool, true, false, cond, not, ◌&&◌, List, [], ◌∷◌, ◌++◌, length, map, Option, Some, None, refl, ap, sym, ◌∙◌, subst, arith, append-nil, append_assoc, length-append, leb-true, le-leb}
 use Rattle.std.specs.Prelude.{◌==◌, All, filter, get_or, is_some, nat_le, nat_lt, slice_get}
 use Rattle.std.specs.List.{list_all}
 use Rattle.std.proofs.lemmas.Bool.{and_from, and_parts, eq-eqb, and_right, eqb-true, eqb-false, ltb-true, lt-ltb}
@@ -14,7 +14,7 @@ use Rattle.grs_legal.specs.Asks.{Ask, AsksEnq, AsksDeq, AsksLook, AsksRelease, S
 use Rattle.grs_legal.specs.Legal.{ask_in, LegalFrom, IsLegalOf, MayStand, is_of_line, line_entries, or_else, release_next}
 use Rattle.grs_legal.specs.declared.meaning.Meaning.{Meaning}
 use Rattle.grs_legal.specs.declared.meaning.Meaning.TheVariants as lines
-use Rattle.grs_wire.specs.History.{is_by}
+use Rattle.grs_wire.specs.History.{is_by, entries_for, fixed_entries, look_entries}
 use Rattle.grs_wire.specs.Decks.{IsDeck, IsWithin, task_count}
 use Rattle.grs_wire.specs.declared.deck.Deck.{Deck}
 use Rattle.grs_wire.specs.declared.deck.JobDef.{JobDef}
@@ -23,16 +23,14 @@ use Rattle.grs_wire.specs.declared.deck.TaskDef.{TaskDef}
 use Rattle.grs_wire.proofs.DeckLaws.{lines_few}
 use Rattle.task_state.specs.View.{TasksView, is_task, new_tasks}
 use Rattle.grs_known.proofs.system.Ours.{same_place, script_at}
-use Rattle.grs_base.specs.Limits.{most_lines}
+use Rattle.grs_base.specs.Limits.{most_lines, last_number}
 use Rattle.grs_wire.specs.declared.history.HistEntry.{HistEntry}
 use Rattle.grs_wire.specs.declared.history.HistEntry.TheVariants as entries
 use Rattle.grs_known.proofs.lists.Facts.{filter-push_kept, filter-push_left, some_of}
 use Rattle.grs_known.proofs.lists.Truths.{no_truth}
-use Rattle.grs_base.specs.Limits.{last_number}
 use Rattle.grs_base.specs.State.{State}
 use Rattle.grs_base.specs.declared.resource.SysId.{SysId}
 use Rattle.grs_base.specs.declared.look.Filter.{Filter}
-use Rattle.grs_wire.specs.History.{entries_for, fixed_entries, look_entries}
 use Rattle.grs_wire.specs.declared.request.Fixed.{Fixed}
 use Rattle.grs_wire.specs.declared.request.Fixed.TheVariants as fixing
 use Rattle.grs_wire.specs.declared.request.Want.{Want}
@@ -153,7 +151,7 @@ module _ (deck : Deck) (t : TaskId) (ls : List Meaning) (lines_are : lines_of de
   may-more front (entries.Deq u r have code) k e = may-line u (AsksDeq r have) front (entries.Deq u r have code) (and_parts (same_task t u) true e).0 (λ q f. absurd (cc)) refl k
   may-more front (entries.Look u place f rows) k e = may-line u (AsksLook place f) front (entries.Look u place f rows) (and_parts (same_task t u) true e).0 (λ q g. absurd (cc)) refl k
   may-more front (entries.Release u r) k e = absurd (let f : (same_task t u && false) ≡ false = and_right (same_task t u) false refl in no_truth (same_task t u && false) e f)
-  may-more front (entries.Remove by target) k e = absurd k
+  may-more front (entries.Remove by target) k e = absurd (let no : false ≡ true = e in cc)
 
   lines-few : (front hs : List HistEntry) → LegalFrom deck front hs → length (line_entries t front) ≤ length (asks_of ls) → length (line_entries t (front ++ hs)) ≤ length (asks_of ls)
   lines-few front [] legal h = subst (λ xs. length (line_entries t xs) ≤ length (asks_of ls)) (sym (append-nil front)) h
@@ -206,7 +204,7 @@ known-enqs deck front (entries.Enq u r c ret code ∷ hs) legal = and_from (is_s
 known-enqs deck front (entries.Deq u r have code ∷ hs) legal = known-enqs deck (front ++ entries.Deq u r have code ∷ []) hs legal.1
 known-enqs deck front (entries.Release u r ∷ hs) legal = known-enqs deck (front ++ entries.Release u r ∷ []) hs legal.1
 known-enqs deck front (entries.Look u at f rows ∷ hs) legal = known-enqs deck (front ++ entries.Look u at f rows ∷ []) hs legal.1
-known-enqs deck front (entries.Remove by target ∷ hs) legal = absurd legal.0
+known-enqs deck front (entries.Remove by target ∷ hs) legal = known-enqs deck (front ++ entries.Remove by target ∷ []) hs legal.1
 
 -- ---- the scripts of a deck
 length-scripts : (k : ℕ) (js : List JobDef) → length (scripts_from k js) ≡ task_count js
@@ -360,5 +358,5 @@ enqs-counted F (x ∷ T) made = subst (λ hs. length (cond (is_enq x.fixed) (x �
 pub ranks-few : (deck : Deck) → IsDeck deck → (T : List RunItem) → IsHistory deck T → enq_count T ≤ last_number
 ranks-few deck h T right =
     let a = enqs-counted [] T right.made in
-    let b = enqs-few deck h (history T) right.legal in
+    let b = enqs-few deck h (history T) (right.legal h.orders) in
     omega (arith, a, b)

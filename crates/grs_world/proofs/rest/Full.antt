@@ -29,7 +29,7 @@ use Rattle.grs_world.specs.World.{Turnout, World, carry_out, chosen, placed, run
 use Rattle.grs_legal.specs.declared.meaning.Meaning.{Meaning}
 use Rattle.grs_legal.specs.declared.meaning.Meaning.TheVariants as lines
 use Rattle.grs_node.specs.Change.{one_by_one, with_first_look, with_list_ranks, with_rank_by, with_ranks}
-use Rattle.grs_node.specs.Node.{NodeState, Step, all_sent, ask, change_to_star, decide, desk_told, end_step, finish, finish_call, finish_quiet, finish_star, first_node, is_for_deck, is_of_deck, phase_step, post, prepare, put_in, read_entries, read_entry, ready_step, send_own, star_step, switched, take_line, take_step, task_step, turned, wait, with_side, with_tasks}
+use Rattle.grs_node.specs.Node.{NodeState, Step, all_sent, ask, change_to_star, decide, desk_told, end_step, finish, finish_call, finish_quiet, finish_star, first_node, is_for_deck, is_of_deck, phase_step, post, prepare, put_in, read_entries, read_entry, ready_step, send_own, star_step, switched, take_line, take_step, task_step, turned, wait, with_side, with_tasks, purged}
 use Rattle.grs_wire.specs.Wants.{answer_to, new_owners, res_wanted}
 use Rattle.grs_wire.specs.declared.deck.Deck.{Deck}
 use Rattle.grs_wire.specs.declared.medium.RingBody.{RingBody}
@@ -55,6 +55,9 @@ use Rattle.task_state.specs.declared.state.Phase.TheVariants as phases
 use Rattle.task_state.specs.declared.state.Rec.{Rec}
 use Rattle.task_state.proofs.Keeps.{count-enq}
 use Rattle.task_state.proofs.Stays.{count-line, count-outstanding, count-phase, count-rank, count-telling, count-told, count-without}
+use Rattle.grs_base.specs.Rows.{rows_of}
+use Rattle.grs_base.specs.declared.resource.Row.{Row}
+use Rattle.system_purge.specs.Purge.{freed, tell_freed}
 
 -- how many tasks there are
 abbrev size : TasksView → ℕ
@@ -229,13 +232,18 @@ size-step limit n t None = refl
 size-step limit n t (Some ls) = size-phase limit n t ls (state_of n.tasks t).phase
 
 -- ---- what the message gave
+size-freed : (s : ℕ) (rows : List Row) (v : TasksView) → size (tell_freed v s rows) ≡ size v
+unfolding tell_freed
+size-freed s [] v = refl
+size-freed s (x ∷ xs) v = size-freed s xs (tell_new v (Some x.res) (freed s x.res x.elems)) ∙ size-new v (Some x.res) (freed s x.res x.elems)
+
 size-process : (n : NodeState) (q : Req) → size (process (side_of n.tasks n.shared) q).tasks ≡ size n.tasks
 unfolding process
 size-process n q = size-new (answer_own n.tasks q (answer_to n.shared q.task q.want)) (res_wanted q.want) (new_owners n.shared q.task q.want) ∙ size-own n.tasks q (answer_to n.shared q.task q.want)
 
 size-entry : (deck : Deck) (n : NodeState) (b : RingBody) → size (read_entry deck n b).tasks ≡ size n.tasks
 unfolding process_entry
-size-entry deck n (Remove target) = refl
+size-entry deck n (Remove target) = size-freed target.0 (rows_of n.shared) n.tasks
 size-entry deck n (Request q) = go (is_of_deck deck q.task) (is_for_all (res_wanted q.want))
   where
     go : (a b : Bool) → size (cond a (with_side n (cond b (process (side_of n.tasks n.shared) q) (side_of n.tasks n.shared))) n).tasks ≡ size n.tasks
@@ -427,7 +435,7 @@ size-star deck n (Some p) choice r = size-starred deck n.tasks p choice r
 
 -- ---- any event
 size-call : (deck : Deck) (n : NodeState) (choice : Choice) (r : Reply) → size (finish_call deck n choice r).node.tasks ≡ size n.tasks
-unfolding finish_call
+unfolding finish_call purged
 size-call deck n choice (replies.Turned es taken closed) = size-turned deck n es taken closed
 size-call deck n choice (replies.Stale set) = refl
 size-call deck n choice replies.Switched = size-switched deck n
@@ -442,9 +450,9 @@ size-call deck n choice replies.Settled = size-star deck n n.star choice replies
 size-call deck n choice replies.Told = size-star deck n n.star choice replies.Told
 size-call deck n choice replies.Left = size-star deck n n.star choice replies.Left
 size-call deck n choice (replies.Kept mask) = size-star deck n n.star choice (replies.Kept mask)
-size-call deck n choice replies.Purged = size-star deck n n.star choice replies.Purged
-size-call deck n choice replies.NoSuch = size-star deck n n.star choice replies.NoSuch
-size-call deck n choice replies.InStar = size-star deck n n.star choice replies.InStar
+size-call deck n choice replies.Purged = size-desk n saids.VaryDone
+size-call deck n choice replies.NoSuch = size-desk n saids.VaryNoSuch
+size-call deck n choice replies.InStar = size-desk n saids.VaryInStar
 size-call deck n choice replies.Resting = size-star deck n n.star choice replies.Resting
 size-call deck n choice replies.Over = size-star deck n n.star choice replies.Over
 size-call deck n choice replies.Removed = size-star deck n n.star choice replies.Removed

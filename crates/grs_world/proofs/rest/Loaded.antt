@@ -1,6 +1,6 @@
 -- The ranks that a table's elements get are no more than the elements, and these no more than the ENQs that were fixed.
 use Rattle.std.proofs.Common.{◌≡◌, ◌<◌, ◌≤◌, ◌+◌, ℕ, zero, suc, Bool, true, false, cond, not, ◌&&◌, ◌||◌, List, [], ◌∷◌, length, map, Some, None, refl, ap, sym, ◌∙◌, subst, arith, length-append}
-use Rattle.std.specs.Prelude.{filter, max}
+use Rattle.std.specs.Prelude.{filter, max, ◌==◌}
 use Rattle.std.specs.List.{range_with_len}
 use Rattle.std.proofs.lemmas.Option.{same_Some}
 use Rattle.contention_mgr.proofs.LoadLemmas.{greatest-append}
@@ -9,7 +9,7 @@ use Rattle.contention_mgr.specs.Manager.{Managed, managed_at}
 use Rattle.grs_base.specs.Limits.{most_systems}
 use Rattle.grs_base.specs.Rows.{lists_of, row_of, rows_of}
 use Rattle.grs_base.specs.Same.{same_res, same_task}
-use Rattle.grs_base.specs.State.{State, after_effect, list_of, with_exclusive}
+use Rattle.grs_base.specs.State.{State, after_effect, list_of, with_exclusive, is_systems, remove_state}
 use Rattle.grs_base.specs.Lists.{decide_enq, is_owner, standing_of}
 use Rattle.grs_base.specs.declared.decision.Effect.{Effect}
 use Rattle.grs_base.specs.declared.decision.Effect.TheVariants.{Nothing, Append, MakeExclusive}
@@ -20,7 +20,7 @@ use Rattle.grs_base.specs.declared.resource.Row.{Row}
 use Rattle.grs_base.specs.declared.resource.SysId.{SysId}
 use Rattle.grs_base.specs.declared.resource.TaskId.{TaskId}
 use Rattle.grs_base.proofs.SameLaws.{same_res-exact, same_res-itself}
-use Rattle.grs_known.proofs.known.Histories.{AllAsk, IsAsk}
+use Rattle.grs_known.proofs.known.Histories.{AllAsk, AsksOrRemoves, a_removal, an_ask}
 use Rattle.grs_known.proofs.lists.Truths.{no_truth}
 use Rattle.grs_known.specs.Items.{RunItem, goes_round, lists, lists_from, rounds}
 use Rattle.grs_node.proofs.TableParts.{table-kept}
@@ -156,12 +156,16 @@ want-few s t (wants.Deq r have) = let h = go (is_owner (standing_of (list_of s r
 want-few s t (wants.Release r) = let h = gone-few s r t in omega (arith, h)
 want-few s t (wants.Look first count f) = omega arith
 
+left-few : (s : State) (n : ℕ) → length (remove_state s n) ≤ length s
+left-few s n = length-few (λ (h : Res × Elem). not (is_systems h.0 && (n == h.1.task.system.0))) s
+
 lists-few : (deck : Deck) (s : State) (T : List RunItem) → AllAsk deck T → length (lists_from s T) ≤ enq_count T + length s
 lists-few deck s [] a = omega arith
 lists-few deck s (x ∷ T) a = go (is_enq x.fixed) (one a.0) (lists-few deck (after_fixed s x.fixed) T a.1)
   where
-    one : IsAsk deck x → length (after_fixed s x.fixed) ≤ cond (is_enq x.fixed) 1 0 + length s
-    one i = subst (λ f. length (after_fixed s f) ≤ cond (is_enq f) 1 0 + length s) (sym i.asked) (want-few s i.req.task i.req.want)
+    one : AsksOrRemoves deck x → length (after_fixed s x.fixed) ≤ cond (is_enq x.fixed) 1 0 + length s
+    one (a_removal target purged) = subst (λ f. length (after_fixed s f) ≤ cond (is_enq f) 1 0 + length s) (sym purged) (let h = left-few s target.0 in omega (arith, h))
+    one (an_ask i) = subst (λ f. length (after_fixed s f) ≤ cond (is_enq f) 1 0 + length s) (sym i.asked) (want-few s i.req.task i.req.want)
 
     go : (b : Bool) → length (after_fixed s x.fixed) ≤ cond b 1 0 + length s → length (lists_from (after_fixed s x.fixed) T) ≤ enq_count T + length (after_fixed s x.fixed) → length (lists_from (after_fixed s x.fixed) T) ≤ length (cond b (x ∷ filter (λ (z : RunItem). is_enq z.fixed) T) (filter (λ (z : RunItem). is_enq z.fixed) T)) + length s
     go true h k = omega (arith, h, k)

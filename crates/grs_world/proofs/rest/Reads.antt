@@ -23,7 +23,7 @@ use Rattle.grs_known.proofs.system.Ours.{IsOurs}
 use Rattle.grs_known.proofs.system.Says.{is_home_at, own_requests}
 use Rattle.grs_known.specs.Items.{items, rounds}
 use Rattle.grs_world.proofs.move.Changing.{IsChanging, view-read}
-use Rattle.grs_world.proofs.move.Moved.{alive}
+use Rattle.grs_world.proofs.move.Moved.{alive as lives-on}
 use Rattle.grs_world.proofs.move.Ranks.{box-none}
 use Rattle.grs_world.proofs.move.Waiting.{given, reads, whole_now}
 use Rattle.grs_world.proofs.rest.Ring.{IsRead, kept-all}
@@ -34,11 +34,12 @@ use Rattle.grs_world.proofs.run.Reading.{read_all}
 use Rattle.grs_world.proofs.system.AtNode.{Seen, opens_of}
 use Rattle.grs_world.proofs.system.Puts.{home-task}
 use Rattle.grs_world.specs.World.{World}
+use Rattle.grs_base.specs.State.{remove_state}
 
 -- ---- the table
 shared-entry : (deck : Deck) (n m : NodeState) (b : RingBody) → m.shared ≡ n.shared → (read_entry deck m b).shared ≡ (read_entry deck n b).shared
 unfolding process_entry process
-shared-entry deck n m (Remove target) e = e
+shared-entry deck n m (Remove target) e = ap (λ s. remove_state s target.0) e
 shared-entry deck n m (Request q) e = go (is_of_deck deck q.task) (is_for_all (res_wanted q.want))
   where
     by_all : (b : Bool) → (cond b (process (side_of m.tasks m.shared) q) (side_of m.tasks m.shared)).shared ≡ (cond b (process (side_of n.tasks n.shared) q) (side_of n.tasks n.shared)).shared
@@ -76,18 +77,18 @@ read-cleared deck c s ne (e ∷ es) n = go (has e.mask s.0) refl (e.mask == only
         ∙ more (read_entry deck n e.body)
 
 -- ---- a system that waits to change
-module _ (deck : Deck) (w : World) (g : IsChanging deck w) (s : ℕ) (n : NodeState) (at : slice_get w.nodes s ≡ Some n) (alone : n.star ≡ None) where
+module _ (deck : Deck) (w : World) (g : IsChanging deck w) (s : ℕ) (n : NodeState) (at : slice_get w.nodes s ≡ Some n) (alive : has w.medium.removed s ≡ false) (alone : n.star ≡ None) where
   abbrev entries : List RingEntry
   entries = w.medium.message.entries
 
   abbrev z : IsWaitingHere deck w g s n
-  z = waits-here deck w g s n at alone
+  z = waits-here deck w g s n at alive alone
 
   whole : rounds (items w.fixed) ≡ g.before s ++ (g.due s ++ g.since)
-  whole = whole_now deck w g (system_of s) n at z.shows z.there z.waits z.is z.empty
+  whole = whole_now deck w g (system_of s) n at alive z.shows z.there z.waits z.is z.empty
 
   read-is : read_by deck w.medium.message.entries s n ≡ read_all n (g.due s)
-  read-is = reads deck w g (system_of s) n at z.shows z.there z.waits z.is z.empty (alive deck w g (system_of s) n at)
+  read-is = reads deck w g (system_of s) n at alive z.shows z.there z.waits z.is z.empty (lives-on deck w g (system_of s) n at alive)
 
   pub read-seen : Seen deck s (items w.fixed) (g.before s ++ g.due s) g.since [] (read_by deck w.medium.message.entries s n)
   read-seen = subst (Seen deck s (items w.fixed) (g.before s ++ g.due s) g.since []) (sym read-is) (view-read deck s (items w.fixed) (g.before s) (g.due s) g.since g.whole.right whole n z.waits).seen
@@ -101,4 +102,4 @@ module _ (deck : Deck) (w : World) (g : IsChanging deck w) (s : ℕ) (n : NodeSt
   -- so its records go by its table then, and nothing that it sent is outstanding
   pub read-due : IsRead deck s n (still_of s w.medium.message.entries) → IsRead deck s (read_by deck w.medium.message.entries s n) []
   read-due h = subst (λ k. IsRead deck s k []) (sym read-is) (kept-all deck s (items w.fixed) g.whole.right g.since (g.due s) (g.before s) n whole z.waits.seen
-      (read-more deck s n (still_of s entries) (own_requests s (g.due s)) (λ t home k. own-among s t home (g.due s) (unseen (system_of s) entries) (given deck w g (system_of s) n at z.shows z.there z.waits z.is z.empty (alive deck w g (system_of s) n at)) k) h))
+      (read-more deck s n (still_of s entries) (own_requests s (g.due s)) (λ t home k. own-among s t home (g.due s) (unseen (system_of s) entries) (given deck w g (system_of s) n at alive z.shows z.there z.waits z.is z.empty (lives-on deck w g (system_of s) n at alive)) k) h))

@@ -62,9 +62,9 @@ abbrev pub had_of : Deck → List RingEntry → List NodeState → ℕ → TaskI
 had_of deck es ns s t r = had_in deck es s (slice_get ns s) t r
 
 pub record IsRestful (deck : Deck) (w : World) : Type 0 where
-  pub dated : (s : ℕ) (n : NodeState) → slice_get w.nodes s ≡ Some n → IsDated deck s n
-  pub still : (s : ℕ) (n : NodeState) → slice_get w.nodes s ≡ Some n → n.star ≡ None → has w.medium.message.still s ≡ true
-  pub read : (s : ℕ) (n : NodeState) → slice_get w.nodes s ≡ Some n → n.star ≡ None → IsRead deck s n (still_of s w.medium.message.entries)
+  pub dated : (s : ℕ) (n : NodeState) → slice_get w.nodes s ≡ Some n → has w.medium.removed s ≡ false → IsDated deck s n
+  pub still : (s : ℕ) (n : NodeState) → slice_get w.nodes s ≡ Some n → has w.medium.removed s ≡ false → n.star ≡ None → has w.medium.message.still s ≡ true
+  pub read : (s : ℕ) (n : NodeState) → slice_get w.nodes s ≡ Some n → has w.medium.removed s ≡ false → n.star ≡ None → IsRead deck s n (still_of s w.medium.message.entries)
   pub heard : (g : IsChanging deck w) → IsHeard deck (record w { nodes = g.view }) (sent_of w.nodes) (had_of deck w.medium.message.entries w.nodes)
 
 -- one system stands otherwise
@@ -95,11 +95,11 @@ restful-counted deck w g h = record {
   still = h.still;
   read = h.read;
   heard = λ g'. heard-alike deck (record w { nodes = g.view }) (record (counted w) { nodes = g'.view })
-      (same-nodes deck (record w { nodes = g.view }) (record (counted w) { nodes = g'.view }) (sym (view-is deck (counted w) g' g.view (g.whole.roles.systems ∙ sym g.count) (λ s n at. view-of deck w g s n at))) (λ s. refl) refl)
-      (sent_of w.nodes) (sent_of w.nodes) (had_of deck w.medium.message.entries w.nodes) (had_of deck w.medium.message.entries w.nodes) (λ s t home e. e) (λ s k t r f home wide e. e) (h.heard g);
+      (same-nodes deck (record w { nodes = g.view }) (record (counted w) { nodes = g'.view }) refl (λ s l. sym (view-is deck (counted w) g' g.view (g.whole.roles.systems ∙ sym g.count) (λ u n at live. view-of deck w g u n at live) s l)) (λ s. refl) refl)
+      (sent_of w.nodes) (sent_of w.nodes) (had_of deck w.medium.message.entries w.nodes) (had_of deck w.medium.message.entries w.nodes) (λ s t l home e. e) (λ s k t r f l home wide e. e) (h.heard g);
 }
 
-module _ (deck : Deck) (w : World) (g : IsChanging deck w) (h : IsRestful deck w) (c : SysId) (n : NodeState) (at : slice_get w.nodes c.0 ≡ Some n) where
+module _ (deck : Deck) (w : World) (g : IsChanging deck w) (h : IsRestful deck w) (c : SysId) (n : NodeState) (at : slice_get w.nodes c.0 ≡ Some n) (alive : has w.medium.removed c.0 ≡ false) where
   abbrev es : List RingEntry
   es = w.medium.message.entries
 
@@ -118,27 +118,30 @@ module _ (deck : Deck) (w : World) (g : IsChanging deck w) (h : IsRestful deck w
     o = chosen deck w.medium c n choice
 
     there : slice_get g.view c.0 ≡ Some n
-    there = view-of deck w g c.0 n at ∙ ap (λ (z : NodeState). Some z) (shown-star deck es c.0 n p star)
+    there = view-of deck w g c.0 n at alive ∙ ap (λ (z : NodeState). Some z) (shown-star deck es c.0 n p star)
 
     step : IsStep deck (record w { nodes = g.view }) c n (chosen deck w.medium c n choice)
-    step = good_choice deck some (record w { nodes = g.view }) c inside n there g.whole.roles (g.whole.roles.node c.0 n there) choice
+    step = good_choice deck some (record w { nodes = g.view }) c inside n there alive g.whole.roles (g.whole.roles.node c.0 n there alive) choice
 
     out : IsOutcome deck (record w { nodes = g.view }) g.whole c n (chosen deck w.medium c n choice)
-    out = outcome deck some (record w { nodes = g.view }) g.whole c inside n there choice step
+    out = outcome deck some (record w { nodes = g.view }) g.whole c inside n there alive choice step
 
     changed : (chosen deck w.medium c n choice).step.node.star ≡ None → ⊥
     changed none = absurd (let no : Some step.member.part ≡ None = sym step.member.star ∙ none in cc)
 
-    view-star : (g' : IsChanging deck (placed w c n (chosen deck w.medium c n choice))) → set g.view c.0 (chosen deck w.medium c n choice).step.node ≡ g'.view
+    was-live : (s : ℕ) → has (chosen deck w.medium c n choice).medium.removed s ≡ false → has w.medium.removed s ≡ false
+    was-live s l = sym (ap (λ i. has i s) step.removed) ∙ l
+
+    view-star : (g' : IsChanging deck (placed w c n (chosen deck w.medium c n choice))) → (s : ℕ) → has (chosen deck w.medium c n choice).medium.removed s ≡ false → slice_get (set g.view c.0 (chosen deck w.medium c n choice).step.node) s ≡ slice_get g'.view s
     unfolding placed
     view-star g' = view-is deck (placed w c n o) g' (set g.view c.0 o.step.node) (length-set g.view c.0 o.step.node ∙ (g.whole.roles.systems ∙ (sym g.count ∙ sym (length-set w.nodes c.0 o.step.node))))
-        (by_node w.nodes c.0 n o.step.node at (λ s z. slice_get (set g.view c.0 o.step.node) s ≡ Some (shown_at deck o.medium.message.entries s z))
-        (slice_get-set g.view c.0 n o.step.node there ∙ ap (λ (z : NodeState). Some z) (sym (shown-star deck o.medium.message.entries c.0 o.step.node step.member.part step.member.star)))
-        (λ s m ne f. slice_get-set_other g.view c.0 s o.step.node ne ∙ (view-of deck w g s m f ∙ ap (λ (x : Message). Some (shown_at deck x.entries s m)) (sym step.message))))
+        (by_node w.nodes c.0 n o.step.node at (λ s z. has o.medium.removed s ≡ false → slice_get (set g.view c.0 o.step.node) s ≡ Some (shown_at deck o.medium.message.entries s z))
+        (λ l. slice_get-set g.view c.0 n o.step.node there ∙ ap (λ (z : NodeState). Some z) (sym (shown-star deck o.medium.message.entries c.0 o.step.node step.member.part step.member.star)))
+        (λ s m ne f l. slice_get-set_other g.view c.0 s o.step.node ne ∙ (view-of deck w g s m f (was-live s l) ∙ ap (λ (x : Message). Some (shown_at deck x.entries s m)) (sym step.message))))
 
     same-star : (g' : IsChanging deck (placed w c n (chosen deck w.medium c n choice))) → SameShown deck (placed (record w { nodes = g.view }) c n (chosen deck w.medium c n choice)) (record (placed w c n (chosen deck w.medium c n choice)) { nodes = g'.view })
     unfolding placed
-    same-star g' = same-nodes deck (placed shown c n o) (record (placed w c n o) { nodes = g'.view }) (sym (view-star g')) (λ s. refl) refl
+    same-star g' = same-nodes deck (placed shown c n o) (record (placed w c n o) { nodes = g'.view }) refl (λ s l. sym (view-star g' s l)) (λ s. refl) refl
 
     sent-before : (s : ℕ) (t : TaskId) → sent_with (sent_of w.nodes) c n s t ≡ true → sent_of w.nodes s t ≡ true
     sent-before s t = put_one S c.0 s (sent_by n) (λ f. f t ≡ true → S s t ≡ true)
@@ -160,7 +163,7 @@ module _ (deck : Deck) (w : World) (g : IsChanging deck w) (h : IsRestful deck w
         (λ ne e. ap (λ z. had_in deck o.medium.message.entries s z t r) (slice_get-set_other w.nodes c.0 s o.step.node ne) ∙ (ap (λ (x : Message). had_in deck x.entries s (slice_get w.nodes s) t r) step.message ∙ e))
 
     before : IsHeard deck (record w { nodes = g.view }) (sent_with (sent_of w.nodes) c n) (had_with (had_of deck w.medium.message.entries w.nodes) c n)
-    before = heard-alike deck shown shown (same-nodes deck shown shown refl (λ s. refl) refl) S (sent_with S c n) H (had_with H c n) (λ s t home e. sent-before s t e) (λ s k t r f home wide e. had-before s t r e) (h.heard g)
+    before = heard-alike deck shown shown (same-nodes deck shown shown refl (λ s l. refl) (λ s. refl) refl) S (sent_with S c n) H (had_with H c n) (λ s t l home e. sent-before s t e) (λ s k t r f l home wide e. had-before s t r e) (h.heard g)
 
     module _ (few : enq_count (items (w.fixed ++ fixed_by c (chosen deck w.medium c n choice).step.fixed)) ≤ last_number) where
       heard-star : (g' : IsChanging deck (placed w c n (chosen deck w.medium c n choice))) →
@@ -168,34 +171,34 @@ module _ (deck : Deck) (w : World) (g : IsChanging deck w) (h : IsRestful deck w
       unfolding placed
       heard-star g' = heard-alike deck (placed shown c n o) (record (placed w c n o) { nodes = g'.view }) (same-star g')
           (sent_with S c o.step.node) (sent_of (set w.nodes c.0 o.step.node)) (had_with H c o.step.node) (had_of deck o.medium.message.entries (set w.nodes c.0 o.step.node))
-          (λ s t home e. sent-after s t e) (λ s k t r f home wide e. had-after s t r e) (out.heard out.stays.whole S H few before)
+          (λ s t l home e. sent-after s t e) (λ s k t r f l home wide e. had-after s t r e) (out.heard out.stays.whole S H few before)
 
       pub restful-star : IsRestful deck (placed w c n (chosen deck w.medium c n choice))
       unfolding placed
       restful-star = record {
-        dated = by_node w.nodes c.0 n o.step.node at (λ u z. IsDated deck u z) (out.dated (h.dated c.0 n at)) (λ u m ne f. h.dated u m f);
-        still = by_node w.nodes c.0 n o.step.node at (λ u z. z.star ≡ None → has o.medium.message.still u ≡ true) (λ none. absurd (changed none)) (λ u m ne f none. ap (λ (x : Message). has x.still u) step.message ∙ h.still u m f none);
-        read = by_node w.nodes c.0 n o.step.node at (λ u z. z.star ≡ None → IsRead deck u z (still_of u o.medium.message.entries)) (λ none. absurd (changed none))
-            (λ u m ne f none. subst (λ (x : Message). IsRead deck u m (still_of u x.entries)) (sym step.message) (h.read u m f none));
+        dated = by_node w.nodes c.0 n o.step.node at (λ u z. has o.medium.removed u ≡ false → IsDated deck u z) (λ l. out.dated (h.dated c.0 n at alive)) (λ u m ne f l. h.dated u m f (was-live u l));
+        still = by_node w.nodes c.0 n o.step.node at (λ u z. has o.medium.removed u ≡ false → z.star ≡ None → has o.medium.message.still u ≡ true) (λ l none. absurd (changed none)) (λ u m ne f l none. ap (λ (x : Message). has x.still u) step.message ∙ h.still u m f (was-live u l) none);
+        read = by_node w.nodes c.0 n o.step.node at (λ u z. has o.medium.removed u ≡ false → z.star ≡ None → IsRead deck u z (still_of u o.medium.message.entries)) (λ l none. absurd (changed none))
+            (λ u m ne f l none. subst (λ (x : Message). IsRead deck u m (still_of u x.entries)) (sym step.message) (h.read u m f (was-live u l) none));
         heard = heard-star;
       }
 
   -- ---- an event of a system that waits to change
   module _ (alone : n.star ≡ None) where
     -- what is shown of it goes by its table then
-    shown-part : (v : World) (f : IsChanging deck v) (k : NodeState) (here : slice_get v.nodes c.0 ≡ Some k) (free : k.star ≡ None) → (shown_at deck v.medium.message.entries c.0 k).star ≡ Some (part_by_table deck.entries (system_of c.0) (read_by deck v.medium.message.entries c.0 k).shared)
-    shown-part v f k here free = ap (λ (z : NodeState). z.star) (shown-waits deck v.medium.message.entries c.0 k free) ∙ (star-changed deck (read_by deck v.medium.message.entries c.0 k)
-        ∙ ap (λ (i : ℕ). Some (part_by_table deck.entries (system_of i) (read_by deck v.medium.message.entries c.0 k).shared)) (read-seen deck v f c.0 k here free).good.system)
+    shown-part : (v : World) (f : IsChanging deck v) (k : NodeState) (here : slice_get v.nodes c.0 ≡ Some k) (l : has v.medium.removed c.0 ≡ false) (free : k.star ≡ None) → (shown_at deck v.medium.message.entries c.0 k).star ≡ Some (part_by_table deck.entries (system_of c.0) (read_by deck v.medium.message.entries c.0 k).shared)
+    shown-part v f k here l free = ap (λ (z : NodeState). z.star) (shown-waits deck v.medium.message.entries c.0 k free) ∙ (star-changed deck (read_by deck v.medium.message.entries c.0 k)
+        ∙ ap (λ (i : ℕ). Some (part_by_table deck.entries (system_of i) (read_by deck v.medium.message.entries c.0 k).shared)) (read-seen deck v f c.0 k here l free).good.system)
 
-    shown-has : (v : World) (f : IsChanging deck v) (k : NodeState) (here : slice_get v.nodes c.0 ≡ Some k) (free : k.star ≡ None) → IsRead deck c.0 k (still_of c.0 v.medium.message.entries) → (t : TaskId) (r : Res) → is_home_at deck c.0 t ≡ true → is_systems r ≡ true →
+    shown-has : (v : World) (f : IsChanging deck v) (k : NodeState) (here : slice_get v.nodes c.0 ≡ Some k) (l : has v.medium.removed c.0 ≡ false) (free : k.star ≡ None) → IsRead deck c.0 k (still_of c.0 v.medium.message.entries) → (t : TaskId) (r : Res) → is_home_at deck c.0 t ≡ true → is_systems r ≡ true →
         has_res r (state_of (shown_at deck v.medium.message.entries c.0 k).tasks t).records ≡ has_task (list_of (read_by deck v.medium.message.entries c.0 k).shared r) t
-    shown-has v f k here free rd t r home wide =
-        let ours = read-home deck v f c.0 k here free t home in
+    shown-has v f k here l free rd t r home wide =
+        let ours = read-home deck v f c.0 k here l free t home in
         ap (λ (z : NodeState). has_res r (state_of z.tasks t).records) (shown-waits deck v.medium.message.entries c.0 k free)
-        ∙ change-has deck c.0 (read_by deck v.medium.message.entries c.0 k) (read-box deck v f c.0 k here free) (read-due deck v f c.0 k here free rd) t ours.0 r ours.1 wide
+        ∙ change-has deck c.0 (read_by deck v.medium.message.entries c.0 k) (read-box deck v f c.0 k here l free) (read-due deck v f c.0 k here l free rd) t ours.0 r ours.1 wide
 
     there_waits : slice_get g.view c.0 ≡ Some (shown_at deck w.medium.message.entries c.0 n)
-    there_waits = view-of deck w g c.0 n at
+    there_waits = view-of deck w g c.0 n at alive
 
     -- it stands as k then, and fixes this
     module _ (k : NodeState) (fs : List Fixed) (flags : ℕ) (free : k.star ≡ None) (table : k.shared ≡ n.shared) (dated : IsDated deck c.0 k) (rd : IsRead deck c.0 k (still_of c.0 w.medium.message.entries))
@@ -212,36 +215,37 @@ module _ (deck : Deck) (w : World) (g : IsChanging deck w) (h : IsRestful deck w
       tables : (read_by deck w.medium.message.entries c.0 k).shared ≡ (read_by deck w.medium.message.entries c.0 n).shared
       tables = shared-read deck _ n k table
 
-      view-waits : (g' : IsChanging deck (placed w c n (record { medium = record w.medium { rest = flags }; step = record { node = k; fixed = fs } }))) → set g.view c.0 (shown_at deck w.medium.message.entries c.0 k) ≡ g'.view
+      view-waits : (g' : IsChanging deck (placed w c n (record { medium = record w.medium { rest = flags }; step = record { node = k; fixed = fs } }))) → (s : ℕ) → has w.medium.removed s ≡ false → slice_get (set g.view c.0 (shown_at deck w.medium.message.entries c.0 k)) s ≡ slice_get g'.view s
       unfolding placed
       view-waits g' = view-is deck (placed w c n ow) g' (set g.view c.0 kk) (length-set g.view c.0 kk ∙ (g.whole.roles.systems ∙ (sym g.count ∙ sym (length-set w.nodes c.0 k))))
-          (by_node w.nodes c.0 n k at (λ s z. slice_get (set g.view c.0 kk) s ≡ Some (shown_at deck es s z)) (slice_get-set g.view c.0 kn kk there_waits) (λ s m ne f. slice_get-set_other g.view c.0 s kk ne ∙ view-of deck w g s m f))
+          (by_node w.nodes c.0 n k at (λ s z. has w.medium.removed s ≡ false → slice_get (set g.view c.0 kk) s ≡ Some (shown_at deck es s z)) (λ l. slice_get-set g.view c.0 kn kk there_waits) (λ s m ne f l. slice_get-set_other g.view c.0 s kk ne ∙ view-of deck w g s m f l))
 
       star-waits : (g' : IsChanging deck (placed w c n (record { medium = record w.medium { rest = flags }; step = record { node = k; fixed = fs } }))) → (shown_at deck w.medium.message.entries c.0 k).star ≡ (shown_at deck w.medium.message.entries c.0 n).star
       unfolding placed
-      star-waits g' = shown-part (placed w c n ow) g' k (slice_get-set w.nodes c.0 n k at) free ∙ (ap (λ x. Some (part_by_table deck.entries (system_of c.0) x)) tables ∙ sym (shown-part w g n at alone))
+      star-waits g' = shown-part (placed w c n ow) g' k (slice_get-set w.nodes c.0 n k at) alive free ∙ (ap (λ x. Some (part_by_table deck.entries (system_of c.0) x)) tables ∙ sym (shown-part w g n at alive alone))
 
       has-waits : (g' : IsChanging deck (placed w c n (record { medium = record w.medium { rest = flags }; step = record { node = k; fixed = fs } }))) → (t : TaskId) (r : Res) → is_home_at deck c.0 t ≡ true → is_systems r ≡ true →
           has_res r (state_of (shown_at deck w.medium.message.entries c.0 k).tasks t).records ≡ has_res r (state_of (shown_at deck w.medium.message.entries c.0 n).tasks t).records
       unfolding placed
-      has-waits g' t r home wide = shown-has (placed w c n ow) g' k (slice_get-set w.nodes c.0 n k at) free rd t r home wide ∙ (ap (λ x. has_task (list_of x r) t) tables ∙ sym (shown-has w g n at alone (h.read c.0 n at alone) t r home wide))
+      has-waits g' t r home wide = shown-has (placed w c n ow) g' k (slice_get-set w.nodes c.0 n k at) alive free rd t r home wide ∙ (ap (λ x. has_task (list_of x r) t) tables ∙ sym (shown-has w g n at alive alone (h.read c.0 n at alive alone) t r home wide))
 
       same-waits : (g' : IsChanging deck (placed w c n (record { medium = record w.medium { rest = flags }; step = record { node = k; fixed = fs } }))) → SameShown deck (record w { nodes = g.view }) (record (placed w c n (record { medium = record w.medium { rest = flags }; step = record { node = k; fixed = fs } })) { nodes = g'.view })
       unfolding placed
       same-waits g' = record {
-        back = λ s k' f. by_node g.view c.0 kn kk there_waits (λ u z. IsBack deck shown u z) (record { node = kn; at = there_waits; star = star-waits g'; has = has-waits g' }) (λ u z ne q. record { node = z; at = q; star = refl; has = λ t r home wide. refl }) s k' (ap (λ ns. slice_get ns s) (view-waits g') ∙ f);
-        forth = λ s m f. forth s m f (s == c.0) refl;
+        removed = refl;
+        back = λ s k' f l. by_node g.view c.0 kn kk there_waits (λ u z. IsBack deck shown u z) (record { node = kn; at = there_waits; star = star-waits g'; has = has-waits g' }) (λ u z ne q. record { node = z; at = q; star = refl; has = λ t r home wide. refl }) s k' (view-waits g' s l ∙ f);
+        forth = λ s m f l. forth s m f l (s == c.0) refl;
         boxes = λ s. refl;
         lists = same_lists;
         count = count;
       }
         where
-          forth : (s : ℕ) (m : NodeState) → slice_get g.view s ≡ Some m → (b : Bool) → (s == c.0) ≡ b → IsForth (record (placed w c n (record { medium = record w.medium { rest = flags }; step = record { node = k; fixed = fs } })) { nodes = g'.view }) s m
-          forth s m f true e =
+          forth : (s : ℕ) (m : NodeState) → slice_get g.view s ≡ Some m → has w.medium.removed s ≡ false → (b : Bool) → (s == c.0) ≡ b → IsForth (record (placed w c n (record { medium = record w.medium { rest = flags }; step = record { node = k; fixed = fs } })) { nodes = g'.view }) s m
+          forth s m f l true e =
               let same : s ≡ c.0 = eqb-true s c.0 e in
               let is : kn ≡ m = same_Some kn m (sym there_waits ∙ (ap (slice_get g.view) (sym same) ∙ f)) in
-              record { node = kk; at = ap (λ ns. slice_get ns s) (sym (view-waits g')) ∙ (ap (slice_get (set g.view c.0 kk)) same ∙ slice_get-set g.view c.0 kn kk there_waits); star = star-waits g' ∙ ap (λ (z : NodeState). z.star) is }
-          forth s m f false e = let ne : s ≢ c.0 = eqb-false s c.0 e in record { node = m; at = ap (λ ns. slice_get ns s) (sym (view-waits g')) ∙ (slice_get-set_other g.view c.0 s kk ne ∙ f); star = refl }
+              record { node = kk; at = sym (view-waits g' s l) ∙ (ap (slice_get (set g.view c.0 kk)) same ∙ slice_get-set g.view c.0 kn kk there_waits); star = star-waits g' ∙ ap (λ (z : NodeState). z.star) is }
+          forth s m f l false e = let ne : s ≢ c.0 = eqb-false s c.0 e in record { node = m; at = sym (view-waits g' s l) ∙ (slice_get-set_other g.view c.0 s kk ne ∙ f); star = refl }
 
       sent-waits : (s : ℕ) (t : TaskId) → sent_of (set w.nodes c.0 k) s t ≡ true → sent_of w.nodes s t ≡ true
       sent-waits s t = by_set w.nodes c.0 n k at s (λ u z. sent_in z t ≡ true → sent_of w.nodes u t ≡ true) (λ e. absurd (no_truth (sent_in (Some k) t) e (sent-ring k t free))) (λ ne e. e)
@@ -252,14 +256,14 @@ module _ (deck : Deck) (w : World) (g : IsChanging deck w) (h : IsRestful deck w
 
       heard-waits : (g' : IsChanging deck (placed w c n (record { medium = record w.medium { rest = flags }; step = record { node = k; fixed = fs } }))) →
           IsHeard deck (record (placed w c n (record { medium = record w.medium { rest = flags }; step = record { node = k; fixed = fs } })) { nodes = g'.view }) (sent_of (set w.nodes c.0 k)) (had_of deck w.medium.message.entries (set w.nodes c.0 k))
-      heard-waits g' = heard-alike deck shown (record (placed w c n ow) { nodes = g'.view }) (same-waits g') S (sent_of (set w.nodes c.0 k)) H (had_of deck es (set w.nodes c.0 k)) (λ s t home e. sent-waits s t e) (λ s k' t r f home wide e. had-waits s t r e) (h.heard g)
+      heard-waits g' = heard-alike deck shown (record (placed w c n ow) { nodes = g'.view }) (same-waits g') S (sent_of (set w.nodes c.0 k)) H (had_of deck es (set w.nodes c.0 k)) (λ s t l home e. sent-waits s t e) (λ s k' t r f l home wide e. had-waits s t r e) (h.heard g)
 
       pub restful-waits : IsRestful deck (placed w c n (record { medium = record w.medium { rest = flags }; step = record { node = k; fixed = fs } }))
       unfolding placed
       restful-waits = record {
-        dated = by_node w.nodes c.0 n k at (λ u z. IsDated deck u z) dated (λ u m ne f. h.dated u m f);
-        still = by_node w.nodes c.0 n k at (λ u z. z.star ≡ None → has w.medium.message.still u ≡ true) (λ none. h.still c.0 n at alone) (λ u m ne f none. h.still u m f none);
-        read = by_node w.nodes c.0 n k at (λ u z. z.star ≡ None → IsRead deck u z (still_of u es)) (λ none. rd) (λ u m ne f none. h.read u m f none);
+        dated = by_node w.nodes c.0 n k at (λ u z. has w.medium.removed u ≡ false → IsDated deck u z) (λ l. dated) (λ u m ne f l. h.dated u m f l);
+        still = by_node w.nodes c.0 n k at (λ u z. has w.medium.removed u ≡ false → z.star ≡ None → has w.medium.message.still u ≡ true) (λ l none. h.still c.0 n at l alone) (λ u m ne f l none. h.still u m f l none);
+        read = by_node w.nodes c.0 n k at (λ u z. has w.medium.removed u ≡ false → z.star ≡ None → IsRead deck u z (still_of u es)) (λ l none. rd) (λ u m ne f l none. h.read u m f l none);
         heard = heard-waits;
       }
 
@@ -275,10 +279,10 @@ module _ (deck : Deck) (w : World) (g : IsChanging deck w) (h : IsRestful deck w
       ot = record { medium = record w.medium { message = turned_closed w.medium.message c; rest = flags }; step = only (change_to_star deck (read_by deck w.medium.message.entries c.0 n)) }
 
       due : IsRead deck c.0 (read_by deck w.medium.message.entries c.0 n) []
-      due = read-due deck w g c.0 n at alone (h.read c.0 n at alone)
+      due = read-due deck w g c.0 n at alive alone (h.read c.0 n at alive alone)
 
       box : one_by_one (read_by deck w.medium.message.entries c.0 n).tasks (read_by deck w.medium.message.entries c.0 n).outbox ≡ (read_by deck w.medium.message.entries c.0 n).tasks
-      box = read-box deck w g c.0 n at alone
+      box = read-box deck w g c.0 n at alive alone
 
       abbrev part : StarPart
       part = part_by_table deck.entries (system_of m.tasks.system) m.shared
@@ -289,26 +293,26 @@ module _ (deck : Deck) (w : World) (g : IsChanging deck w) (h : IsRestful deck w
       turned : (change_to_star deck (read_by deck w.medium.message.entries c.0 n)).star ≡ None → ⊥
       turned none = absurd (let no : Some part ≡ None = sym turned-star ∙ none in cc)
 
-      view-turned : (g' : IsChanging deck (placed w c n (record { medium = record w.medium { message = turned_closed w.medium.message c; rest = flags }; step = only (change_to_star deck (read_by deck w.medium.message.entries c.0 n)) }))) → g.view ≡ g'.view
+      view-turned : (g' : IsChanging deck (placed w c n (record { medium = record w.medium { message = turned_closed w.medium.message c; rest = flags }; step = only (change_to_star deck (read_by deck w.medium.message.entries c.0 n)) }))) → (s : ℕ) → has w.medium.removed s ≡ false → slice_get g.view s ≡ slice_get g'.view s
       unfolding placed
       view-turned g' = view-is deck (placed w c n ot) g' g.view (g.whole.roles.systems ∙ (sym g.count ∙ sym (length-set w.nodes c.0 kt)))
-          (by_node w.nodes c.0 n kt at (λ s z. slice_get g.view s ≡ Some (shown_at deck (cleared c es) s z))
-          (there_waits ∙ ap (λ (z : NodeState). Some z) (shown-waits deck es c.0 n alone ∙ sym (shown-star deck (cleared c es) c.0 kt part turned-star)))
-          (λ s z ne f. view-of deck w g s z f ∙ ap (λ x. Some (cond (is_none z.star) (change_to_star deck x) z)) (sym (read-cleared deck c (system_of s) ne es z))))
+          (by_node w.nodes c.0 n kt at (λ s z. has w.medium.removed s ≡ false → slice_get g.view s ≡ Some (shown_at deck (cleared c es) s z))
+          (λ l. there_waits ∙ ap (λ (z : NodeState). Some z) (shown-waits deck es c.0 n alone ∙ sym (shown-star deck (cleared c es) c.0 kt part turned-star)))
+          (λ s z ne f l. view-of deck w g s z f l ∙ ap (λ x. Some (cond (is_none z.star) (change_to_star deck x) z)) (sym (read-cleared deck c (system_of s) ne es z))))
 
       same-turned : (g' : IsChanging deck (placed w c n (record { medium = record w.medium { message = turned_closed w.medium.message c; rest = flags }; step = only (change_to_star deck (read_by deck w.medium.message.entries c.0 n)) }))) →
           SameShown deck (record w { nodes = g.view }) (record (placed w c n (record { medium = record w.medium { message = turned_closed w.medium.message c; rest = flags }; step = only (change_to_star deck (read_by deck w.medium.message.entries c.0 n)) })) { nodes = g'.view })
       unfolding placed
-      same-turned g' = same-nodes deck shown (record (placed w c n ot) { nodes = g'.view }) (sym (view-turned g')) (λ s. refl) (ap items (append-nil w.fixed))
+      same-turned g' = same-nodes deck shown (record (placed w c n ot) { nodes = g'.view }) refl (λ s l. sym (view-turned g' s l)) (λ s. refl) (ap items (append-nil w.fixed))
 
       sent-turned : (s : ℕ) (t : TaskId) → is_home_at deck s t ≡ true → sent_of (set w.nodes c.0 (change_to_star deck (read_by deck w.medium.message.entries c.0 n))) s t ≡ true → sent_of w.nodes s t ≡ true
       sent-turned s t = by_set w.nodes c.0 n kt at s (λ u z. is_home_at deck u t ≡ true → sent_in z t ≡ true → sent_of w.nodes u t ≡ true)
-          (λ home e. let ours = read-home deck w g c.0 n at alone t home in absurd (no_truth (sent_in (Some kt) t) e (sent-star kt part t turned-star ∙ change-unsent deck c.0 m box due t ours.0 ours.1))) (λ ne home e. e)
+          (λ home e. let ours = read-home deck w g c.0 n at alive alone t home in absurd (no_truth (sent_in (Some kt) t) e (sent-star kt part t turned-star ∙ change-unsent deck c.0 m box due t ours.0 ours.1))) (λ ne home e. e)
 
       had-turned : (s : ℕ) (t : TaskId) (r : Res) → is_home_at deck s t ≡ true → is_systems r ≡ true → had_of deck w.medium.message.entries w.nodes s t r ≡ true → had_of deck (cleared c w.medium.message.entries) (set w.nodes c.0 (change_to_star deck (read_by deck w.medium.message.entries c.0 n))) s t r ≡ true
       had-turned s t r = by_set w.nodes c.0 n kt at s (λ u z. is_home_at deck u t ≡ true → is_systems r ≡ true → had_of deck es w.nodes u t r ≡ true → had_in deck (cleared c es) u z t r ≡ true)
           (λ home wide e.
-          let ours = read-home deck w g c.0 n at alone t home in
+          let ours = read-home deck w g c.0 n at alive alone t home in
           had-star deck (cleared c es) c.0 kt part t r turned-star ∙ change-had deck c.0 m box due t ours.0 r ours.1 wide (sym (had-ring deck es c.0 n t r alone) ∙ (sym (ap (λ z. had_in deck es c.0 z t r) at) ∙ e)))
           (λ ne home wide e. by_old ne (slice_get w.nodes s) e)
         where
@@ -318,14 +322,14 @@ module _ (deck : Deck) (w : World) (g : IsChanging deck w) (h : IsRestful deck w
 
       heard-turned : (g' : IsChanging deck (placed w c n (record { medium = record w.medium { message = turned_closed w.medium.message c; rest = flags }; step = only (change_to_star deck (read_by deck w.medium.message.entries c.0 n)) }))) →
           IsHeard deck (record (placed w c n (record { medium = record w.medium { message = turned_closed w.medium.message c; rest = flags }; step = only (change_to_star deck (read_by deck w.medium.message.entries c.0 n)) })) { nodes = g'.view }) (sent_of (set w.nodes c.0 (change_to_star deck (read_by deck w.medium.message.entries c.0 n)))) (had_of deck (cleared c w.medium.message.entries) (set w.nodes c.0 (change_to_star deck (read_by deck w.medium.message.entries c.0 n))))
-      heard-turned g' = heard-alike deck shown (record (placed w c n ot) { nodes = g'.view }) (same-turned g') S (sent_of (set w.nodes c.0 kt)) H (had_of deck (cleared c es) (set w.nodes c.0 kt)) (λ s t home e. sent-turned s t home e) (λ s k' t r f home wide e. had-turned s t r home wide e) (h.heard g)
+      heard-turned g' = heard-alike deck shown (record (placed w c n ot) { nodes = g'.view }) (same-turned g') S (sent_of (set w.nodes c.0 kt)) H (had_of deck (cleared c es) (set w.nodes c.0 kt)) (λ s t l home e. sent-turned s t home e) (λ s k' t r f l home wide e. had-turned s t r home wide e) (h.heard g)
 
       pub restful-turned : IsRestful deck (placed w c n (record { medium = record w.medium { message = turned_closed w.medium.message c; rest = flags }; step = only (change_to_star deck (read_by deck w.medium.message.entries c.0 n)) }))
       unfolding placed
       restful-turned = record {
-        dated = by_node w.nodes c.0 n kt at (λ u z. IsDated deck u z) (change-dated deck c.0 m box due) (λ u z ne f. h.dated u z f);
-        still = by_node w.nodes c.0 n kt at (λ u z. z.star ≡ None → has (turned_closed w.medium.message c).still u ≡ true) (λ none. absurd (turned none)) (λ u z ne f none. has-without_other w.medium.message.still c.0 u ne ∙ h.still u z f none);
-        read = by_node w.nodes c.0 n kt at (λ u z. z.star ≡ None → IsRead deck u z (still_of u (cleared c es))) (λ none. absurd (turned none))
-            (λ u z ne f none. read-more deck u z (still_of u es) (still_of u (cleared c es)) (λ t home e. subst (λ xs. is_among t (askers (still_of u xs)) ≡ true) (append-nil (cleared c es)) (waits-elsewhere c (system_of u) ne t es [] e)) (h.read u z f none));
+        dated = by_node w.nodes c.0 n kt at (λ u z. has w.medium.removed u ≡ false → IsDated deck u z) (λ l. change-dated deck c.0 m box due) (λ u z ne f l. h.dated u z f l);
+        still = by_node w.nodes c.0 n kt at (λ u z. has w.medium.removed u ≡ false → z.star ≡ None → has (turned_closed w.medium.message c).still u ≡ true) (λ l none. absurd (turned none)) (λ u z ne f l none. has-without_other w.medium.message.still c.0 u ne ∙ h.still u z f l none);
+        read = by_node w.nodes c.0 n kt at (λ u z. has w.medium.removed u ≡ false → z.star ≡ None → IsRead deck u z (still_of u (cleared c es))) (λ l none. absurd (turned none))
+            (λ u z ne f l none. read-more deck u z (still_of u es) (still_of u (cleared c es)) (λ t home e. subst (λ xs. is_among t (askers (still_of u xs)) ≡ true) (append-nil (cleared c es)) (waits-elsewhere c (system_of u) ne t es [] e)) (h.read u z f l none));
         heard = heard-turned;
       }

@@ -1,10 +1,9 @@
 -- A system of the ring, by its own lists and its table: who owns by them is marked, and who has sent a request has it among
 -- what the system has still to process.
-use Rattle.std.proofs.Common.{◌≡◌, ◌≢◌, ℕ, suc, Bool, true, false, cond, not, ◌||◌, List, [], ◌∷◌, ◌++◌, Option, Some, None, refl, ap, sym, ◌∙◌, subst, append_assoc, take-append-drop}
-use Rattle.std.specs.Prelude.{◌==◌, take, drop, get_or, set, is_some, zero}
-use Rattle.std.specs.List.{list_all}
-use Rattle.std.proofs.lemmas.Bool.{and_parts, eqb-true, eqb-false, or_left, or_right}
-use Rattle.grs_base.specs.Lists.{owns}
+use Rattle.std.proofs.Common.{◌≡◌, ◌≢◌, ℕ, suc, Bool, true, false, cond, not, ◌||◌, List, [], ◌∷◌, ◌++◌, Option, Some, None, refl, ap, sym, ◌∙◌, subst, append_assoc, take-append-drop, ◌+◌}
+use Rattle.std.specs.Prelude.{◌==◌, take, drop, get_or, set, is_some, zero, filter}
+use Rattle.std.specs.List.{list_all, list_any}
+use Rattle.std.proofs.lemmas.Bool.{and_parts, eqb-true, eqb-false, or_left, or_right, or_parts}
 use Rattle.grs_base.specs.Same.{same_task}
 use Rattle.grs_base.specs.State.{is_systems}
 use Rattle.grs_base.specs.declared.resource.Res.{Res}
@@ -12,7 +11,7 @@ use Rattle.grs_base.specs.declared.resource.TaskId.{TaskId}
 use Rattle.grs_base.proofs.SameLaws.{same_task-exact, same_task-itself}
 use Rattle.grs_legal.specs.Asks.{lines_of}
 use Rattle.grs_legal.specs.declared.meaning.Meaning.{Meaning}
-use Rattle.grs_node.specs.Node.{NodeState, all_sent, is_of_deck, is_to_send, put_in}
+use Rattle.grs_node.specs.Node.{NodeState, all_sent, is_of_deck, is_to_send, put_in, process_removal, desk_told}
 use Rattle.grs_wire.specs.Wants.{after_want, answer_to, new_owners, res_wanted}
 use Rattle.grs_wire.specs.declared.deck.Deck.{Deck}
 use Rattle.grs_wire.specs.declared.request.Fixed.TheVariants as fixing
@@ -21,13 +20,13 @@ use Rattle.grs_wire.specs.declared.request.Want.{Want}
 use Rattle.grs_wire.specs.declared.request.Want.TheVariants.{Enq, Deq, Release, Look}
 use Rattle.ring_mode.specs.Ring.{answer_own}
 use Rattle.task_state.specs.Replies.{phase_asking, recalled, replied, tell_new}
-use Rattle.task_state.specs.View.{TasksView, code_in, is_sent, is_task, new_task, state_of, with_phase, with_state}
+use Rattle.task_state.specs.View.{TasksView, code_in, is_sent, is_task, new_task, state_of, with_phase, with_state, telling}
 use Rattle.task_state.specs.declared.state.Asked.{Asked}
 use Rattle.task_state.specs.declared.state.Phase.{Phase}
 use Rattle.task_state.specs.declared.state.Phase.TheVariants as phases
 use Rattle.task_state.specs.declared.state.TaskState.{TaskState}
-use Rattle.task_state.proofs.ViewLaws.{is_task-state, is_task-system}
-use Rattle.grs_known.proofs.known.Histories.{IsAsk, IsHistory, AllAsk, asks-behind, goes-ask}
+use Rattle.task_state.proofs.ViewLaws.{is_task-state, is_task-system, is_task-telling, state_of-telling}
+use Rattle.grs_known.proofs.known.Histories.{IsAsk, IsHistory, AllAsk, asks-behind, goes-ask, AsksOrRemoves, an_ask, a_removal, live-behind}
 use Rattle.grs_known.proofs.lists.Facts.{all-kept, all-middle, some_of}
 use Rattle.grs_known.proofs.lists.Owners.{is_among}
 use Rattle.grs_known.proofs.lists.Truths.{false_by, no_truth}
@@ -36,16 +35,24 @@ use Rattle.grs_known.proofs.system.Did.{Did, did-none, did-outstanding, did-phas
 use Rattle.grs_known.proofs.system.Ours.{IsOurs, IsHere, same_place}
 use Rattle.grs_known.proofs.system.Says.{askers, is_home_at, own_asked, own_requests}
 use Rattle.grs_known.proofs.tasks.Invariant.{is_distinct}
-use Rattle.grs_known.specs.Items.{RunItem, goes_round, lists, rounds}
+use Rattle.grs_known.specs.Items.{RunItem, goes_round, rounds, removes_system_of}
 use Rattle.grs_world.proofs.rest.Deciding.{AllKept, IsQuiet, asker-waits, foreign-kept, own-kept}
-use Rattle.grs_world.proofs.rest.Events.{date-all_sent, date-answer_own}
+use Rattle.grs_world.proofs.rest.Events.{date-all_sent, date-answer_own, date-telling}
 use Rattle.grs_world.proofs.rest.Steps.{AllDate, date-new}
-use Rattle.grs_world.proofs.rest.Lists.{Matches}
+use Rattle.grs_world.proofs.rest.Lists.{Matches, matches-records}
 use Rattle.grs_world.proofs.run.Growing.{asks-rounds}
 use Rattle.grs_world.proofs.run.Reading.{all-rounds, read_all, read_item}
 use Rattle.grs_world.proofs.system.AtNode.{Seen, opens_of}
 use Rattle.grs_world.proofs.system.Processed.{Reads, after_read, answers-none, answers-own, read, read-shared, read-tasks}
 use Rattle.grs_world.proofs.system.Puts.{home-task}
+use Rattle.grs_base.specs.Rows.{rows_of}
+use Rattle.grs_base.specs.declared.resource.SysId.{SysId}
+use Rattle.system_purge.specs.Purge.{tell_freed}
+use Rattle.grs_world.proofs.rest.Freed.{ToldFreed, date-freed, matches-freed, told-freed}
+use Rattle.grs_world.proofs.system.Removed.{Frees, read-removal}
+use Rattle.grs_wire.specs.declared.told.Said.{Said}
+use Rattle.grs_wire.specs.declared.told.ToldLine.{ToldLine}
+use Rattle.grs_wire.specs.declared.told.ToldLine.TheVariants as told
 
 -- the resources of one system
 abbrev pub is_local : Res → Bool
@@ -206,19 +213,68 @@ module _ (deck : Deck) (s : ℕ) (P before : List RunItem) (x : RunItem) (later 
       go true e seen h = kept-own seen h
       go false e seen h = kept-other (eqb-false _ _ e) seen h
 
+-- ---- a removal is processed
+none-left : {X : Type 0} (p q : X → Bool) (xs : List X) → list_any p xs ≡ false → list_any p (filter q xs) ≡ false
+none-left p q [] h = refl
+none-left p q (x ∷ xs) h = let both = or_parts (p x) (list_any p xs) h in go (q x) both.0 (none-left p q xs both.1)
+  where
+    go : (b : Bool) → p x ≡ false → list_any p (filter q xs) ≡ false → list_any p (cond b (x ∷ filter q xs) (filter q xs)) ≡ false
+    go true e more = ap (λ c. c || list_any p (filter q xs)) e ∙ more
+    go false e more = more
+
+module _ (deck : Deck) (s : ℕ) (P before : List RunItem) (x : RunItem) (later : List RunItem) (n : NodeState) (out : List Req) (target : SysId) (purged : x.fixed ≡ fixing.Purged target) (whole : rounds P ≡ before ++ x ∷ later) where
+  -- no task of the system is of the removed one
+  not-removed : Seen deck s P before (x ∷ later) out n → (t : TaskId) (ls : List Meaning) → IsOurs deck s n.tasks t ls → (target.0 == t.system.0) ≡ false
+  not-removed seen t ls ours =
+      let away = λ (y : RunItem). removes_system_of t y.fixed in
+      let left : list_any away (rounds P) ≡ false = none-left away (λ y. goes_round y.fixed) P (seen.good.tasks.each t ls ours).knows.live in
+      let behind : list_any away (x ∷ later) ≡ false = live-behind t before (x ∷ later) (ap (list_any away) (sym whole) ∙ left) in
+      ap (removes_system_of t) (sym purged) ∙ (or_parts (removes_system_of t x.fixed) (list_any away later) behind).0
+
+  pub kept-removal : Seen deck s P before (x ∷ later) out n → IsRead deck s n out → IsRead deck s (process_removal n target) out
+  kept-removal seen h = record {
+    own = λ t ls ours. let o = was t ls ours in matches-records is_local n.own t (state_of n.tasks t).records (state_of after t).records (λ r narrow. z.has t r o.here) (λ r narrow. z.marks t r o.here) (h.own t ls o);
+    shared = λ t ls ours. let o = was t ls ours in matches-freed n.shared target.0 n.tasks t o.here (not-removed seen t ls o) (h.shared t ls o);
+    sent = λ t ls ours e. let o = was t ls ours in h.sent t ls o (z.phase t is_sent o.here refl e);
+    boxed = λ t ls ours e. let o = was t ls ours in h.boxed t ls o (z.phase t is_to_send o.here refl e);
+    date = date-freed deck target.0 (rows_of n.shared) n.tasks h.date;
+  }
+    where
+      after : TasksView
+      after = tell_freed n.tasks target.0 (rows_of n.shared)
+
+      z : ToldFreed n.tasks (tell_freed n.tasks target.0 (rows_of n.shared)) target.0 (rows_of n.shared)
+      z = told-freed target.0 (rows_of n.shared) n.tasks
+
+      was : (t : TaskId) (ls : List Meaning) → IsOurs deck s (tell_freed n.tasks target.0 (rows_of n.shared)) t ls → IsOurs deck s n.tasks t ls
+      was = ours-was deck s n.tasks after z.here
+
 -- ---- all that is due is processed
 module _ (deck : Deck) (s : ℕ) (P : List RunItem) (right : IsHistory deck P) (extra : List RunItem) where
   pub kept-all : (later before : List RunItem) (n : NodeState) → rounds P ≡ before ++ (later ++ extra) → Seen deck s P before (later ++ extra) (own_requests s later) n → IsRead deck s n (own_requests s later) → IsRead deck s (read_all n later) []
   kept-all [] before n whole seen h = h
-  kept-all (x ∷ later) before n whole seen h =
-      let out = own_requests s later in
-      let a : IsAsk deck x = (asks-behind deck before (x ∷ later ++ extra) (subst (AllAsk deck) whole (asks-rounds deck P right.asks))).0 in
-      let round : goes_round x.fixed ≡ true = all-middle (λ y. goes_round y.fixed) before x (later ++ extra) (ap (list_all (λ y. goes_round y.fixed)) (sym whole) ∙ all-rounds P) in
-      let wide : is_systems a.res ≡ true = sym (goes-ask deck x a) ∙ round in
-      let seen1 = subst (λ f. Seen deck s P before (x ∷ later ++ extra) (own_asked s f ++ out) n) a.asked seen in
-      let reads : Reads deck s P before x (later ++ extra) out n a.req = read deck s P before right x (later ++ extra) whole n out a wide seen1 in
-      let next : IsRead deck s (after_read n a.req) out = kept-read deck s P before x (later ++ extra) n out a wide seen1 (subst (λ f. IsRead deck s n (own_asked s f ++ out)) a.asked h) in
-      subst (λ f. IsRead deck s (read_all (read_item n f) later) []) (sym a.asked) (kept-all later (before ++ x ∷ []) (after_read n a.req) (whole ∙ sym (append_assoc before (x ∷ []) (later ++ extra))) reads.seen next)
+  kept-all (x ∷ later) before n whole seen h = by_item (λ m now k. kept-all later (before ++ x ∷ []) m (whole ∙ sym (append_assoc before (x ∷ []) (later ++ extra))) now k) (asks-behind deck before (x ∷ later ++ extra) (subst (AllAsk deck) whole (asks-rounds deck P right.asks))).0
+    where
+      out : List Req
+      out = own_requests s later
+
+      -- how what is left is processed
+      More : Type 0
+      More = (m : NodeState) → Seen deck s P (before ++ x ∷ []) (later ++ extra) (own_requests s later) m → IsRead deck s m (own_requests s later) → IsRead deck s (read_all m later) []
+
+      by_item : More → AsksOrRemoves deck x → IsRead deck s (read_all (read_item n x.fixed) later) []
+      by_item goes (an_ask a) =
+          let round : goes_round x.fixed ≡ true = all-middle (λ y. goes_round y.fixed) before x (later ++ extra) (ap (list_all (λ y. goes_round y.fixed)) (sym whole) ∙ all-rounds P) in
+          let wide : is_systems a.res ≡ true = sym (goes-ask deck x a) ∙ round in
+          let seen1 = subst (λ f. Seen deck s P before (x ∷ later ++ extra) (own_asked s f ++ out) n) a.asked seen in
+          let reads : Reads deck s P before x (later ++ extra) out n a.req = read deck s P before right x (later ++ extra) whole n out a wide seen1 in
+          let next : IsRead deck s (after_read n a.req) out = kept-read deck s P before x (later ++ extra) n out a wide seen1 (subst (λ f. IsRead deck s n (own_asked s f ++ out)) a.asked h) in
+          subst (λ f. IsRead deck s (read_all (read_item n f) later) []) (sym a.asked) (goes (after_read n a.req) reads.seen next)
+      by_item goes (a_removal target purged) =
+          let seen1 = subst (λ f. Seen deck s P before (x ∷ later ++ extra) (own_asked s f ++ out) n) purged seen in
+          let frees : Frees deck s P before x (later ++ extra) out n target = read-removal deck s P before right x (later ++ extra) whole n out target purged seen1 in
+          let next : IsRead deck s (process_removal n target) out = kept-removal deck s P before x (later ++ extra) n out target purged whole seen1 (subst (λ f. IsRead deck s n (own_asked s f ++ out)) purged h) in
+          subst (λ f. IsRead deck s (read_all (read_item n f) later) []) (sym purged) (goes (process_removal n target) frees.seen next)
 
 -- ---- requests are put in
 same-records : (qs : List Req) (v : TasksView) (t : TaskId) → (state_of (all_sent v qs) t).records ≡ (state_of v t).records
@@ -289,3 +345,24 @@ kept-put deck s n k homes here h = record {
 
     no_one : false ≡ true → ⊥
     no_one e = absurd (cc)
+
+-- ---- its desk is told
+pub desk-read : (deck : Deck) (s : ℕ) (n : NodeState) (said : Said) (qs : List Req) → IsRead deck s n qs → IsRead deck s (desk_told n said) qs
+unfolding desk_told
+desk-read deck s n said qs h = record {
+  own = λ t ls o. subst (λ (y : TaskState). Matches is_local n.own t y.records) (sym (state_of-telling n.tasks t l)) (h.own t ls (was t ls o));
+  shared = λ t ls o. subst (λ (y : TaskState). Matches is_systems n.shared t y.records) (sym (state_of-telling n.tasks t l)) (h.shared t ls (was t ls o));
+  sent = λ t ls o e. h.sent t ls (was t ls o) (ap (λ (y : TaskState). is_sent y.phase) (sym (state_of-telling n.tasks t l)) ∙ e);
+  boxed = λ t ls o e. h.boxed t ls (was t ls o) (ap (λ (y : TaskState). is_to_send y.phase) (sym (state_of-telling n.tasks t l)) ∙ e);
+  date = date-telling deck n.tasks l h.date;
+}
+  where
+    l : ToldLine
+    l = told.Desk (n.done + 1) said
+
+    was : (t : TaskId) (ls : List Meaning) → IsOurs deck s (telling n.tasks (told.Desk (n.done + 1) said)) t ls → IsOurs deck s n.tasks t ls
+    was t ls o = record { lines = o.lines; home = o.home; here = sym (is_task-telling n.tasks t l) ∙ o.here }
+
+-- what it knows of removed systems says nothing of its tasks and its lists
+pub known-read : (deck : Deck) (s : ℕ) (n : NodeState) (known : ℕ) (qs : List Req) → IsRead deck s n qs → IsRead deck s (record n { known = known }) qs
+known-read deck s n known qs h = record { own = h.own; shared = h.shared; sent = h.sent; boxed = h.boxed; date = h.date }

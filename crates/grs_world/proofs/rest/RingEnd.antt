@@ -8,7 +8,7 @@ use Rattle.grs_base.specs.State.{is_systems, list_of}
 use Rattle.grs_base.specs.declared.resource.Res.{Res}
 use Rattle.grs_base.specs.declared.resource.TaskId.{TaskId}
 use Rattle.grs_legal.specs.declared.meaning.Meaning.{Meaning}
-use Rattle.grs_medium.specs.Medium.{medium_at_end}
+use Rattle.grs_medium.specs.Medium.{medium_at_end, live}
 use Rattle.grs_node.specs.Node.{NodeState, goes_on, is_pending, is_to_send}
 use Rattle.grs_wire.specs.Masks.{has}
 use Rattle.grs_wire.specs.Unseen.{unseen}
@@ -16,7 +16,6 @@ use Rattle.grs_wire.specs.declared.deck.Deck.{Deck}
 use Rattle.grs_wire.specs.declared.deck.Event.{Event}
 use Rattle.grs_wire.specs.declared.medium.RingEntry.{RingEntry}
 use Rattle.grs_wire.specs.declared.request.Req.{Req}
-use Rattle.grs_wire.proofs.MaskLaws.{has-zero}
 use Rattle.task_state.specs.View.{TasksView, is_sent, is_task, new_task, state_of}
 use Rattle.task_state.specs.declared.state.Phase.{Phase}
 use Rattle.task_state.specs.declared.state.Phase.TheVariants as phases
@@ -32,31 +31,34 @@ use Rattle.grs_known.proofs.system.Ours.{IsOurs}
 use Rattle.grs_known.proofs.system.Says.{askers, own_requests}
 use Rattle.grs_known.proofs.tasks.Invariant.{is_unsent}
 use Rattle.grs_known.specs.Items.{RunItem, items, lists, rounds}
-use Rattle.grs_world.proofs.message.Stands.{Bodies, more}
+use Rattle.grs_world.proofs.message.Stands.{Bodies}
 use Rattle.grs_world.proofs.rest.AtEnd.{IsStill}
 use Rattle.grs_world.proofs.rest.Marks.{is_marked}
 use Rattle.grs_world.proofs.rest.Unseen.{requests_of}
 use Rattle.grs_world.proofs.rest.RingRun.{AllRead, still_of}
 use Rattle.grs_world.proofs.run.Growing.{fixeds}
-use Rattle.grs_world.proofs.run.InRing.{IsRing}
+use Rattle.grs_world.proofs.run.InRing.{IsRing, live-there}
 use Rattle.grs_world.proofs.run.Messages.{given-later}
 use Rattle.grs_world.proofs.run.Runs.{GoodWorld}
 use Rattle.grs_world.proofs.system.AtNode.{Seen, opens_of}
 use Rattle.grs_world.specs.Running.{at_rest, none_pending}
-use Rattle.grs_world.specs.World.{World, run}
+use Rattle.grs_world.specs.World.{World}
 
 -- ---- nothing is pending
-pub pending-at : (deck : Deck) (k : ℕ) (ns : List NodeState) (s : ℕ) (n : NodeState) → none_pending 0 k (map (is_pending deck) ns) ≡ true → slice_get ns s ≡ Some n → is_pending deck n ≡ false
-pending-at deck k [] s n h at = absurd (cc)
-pending-at deck k (m ∷ ns) zero n h at =
+pub pending-at : (deck : Deck) (removed k : ℕ) (ns : List NodeState) (s : ℕ) (n : NodeState) → none_pending removed k (map (is_pending deck) ns) ≡ true → slice_get ns s ≡ Some n → has removed (k + s) ≡ false → is_pending deck n ≡ false
+pending-at deck removed k [] s n h at live = absurd (cc)
+pending-at deck removed k (m ∷ ns) zero n h at live =
     let same : m ≡ n = cc in
-    subst (λ z. is_pending deck z ≡ false) same (free (has 0 k) (is_pending deck m) (has-zero k) (and_parts (has 0 k || not (is_pending deck m)) _ h).0)
+    let here : k ≡ k + zero = omega arith in
+    subst (λ z. is_pending deck z ≡ false) same (free (has removed k) (is_pending deck m) (ap (has removed) here ∙ live) (and_parts (has removed k || not (is_pending deck m)) _ h).0)
   where
     free : (a b : Bool) → a ≡ false → (a || not b) ≡ true → b ≡ false
     free true b e f = absurd (cc)
     free false true e f = absurd (cc)
     free false false e f = refl
-pending-at deck k (m ∷ ns) (suc s) n h at = pending-at deck (k + 1) ns s n (and_parts (has 0 k || not (is_pending deck m)) _ h).1 at
+pending-at deck removed k (m ∷ ns) (suc s) n h at live =
+    let next : k + 1 + s ≡ k + suc s = omega arith in
+    pending-at deck removed (k + 1) ns s n (and_parts (has removed k || not (is_pending deck m)) _ h).1 at (ap (has removed) next ∙ live)
 
 pub none-at : (p : TaskState → Bool) (xs : List TaskState) (i : ℕ) (d : TaskState) → list_any p xs ≡ false → i < length xs → p (get_or xs i d) ≡ false
 none-at p [] i d h l = absurd (omega (arith, l))
@@ -83,9 +85,6 @@ module _ (deck : Deck) (es : List Event) (w : World) (ring : IsRing deck w) (g :
   unfolding at_rest
   both = and_parts (none_pending w.medium.removed 0 (map (is_pending deck) w.nodes)) (medium_at_end w.medium) rest
 
-  quiet : none_pending 0 0 (map (is_pending deck) w.nodes) ≡ true
-  quiet = subst (λ r. none_pending r 0 (map (is_pending deck) w.nodes) ≡ true) ring.removed both.0
-
   no_entries : w.medium.message.entries ≡ []
   unfolding medium_at_end
   no_entries = no_length w.medium.message.entries (and_parts (length w.medium.message.entries == 0) _ (and_parts _ ((length w.medium.message.entries == 0) && (w.medium.message.still == 0)) both.1).1).0
@@ -93,22 +92,25 @@ module _ (deck : Deck) (es : List Event) (w : World) (ring : IsRing deck w) (g :
   abbrev P : List RunItem
   P = items w.fixed
 
-  module _ (s : ℕ) (n : NodeState) (at : slice_get w.nodes s ≡ Some n) where
+  module _ (s : ℕ) (n : NodeState) (at : slice_get w.nodes s ≡ Some n) (alive : has w.medium.removed s ≡ false) where
+    lives : has (live w.medium) s ≡ true
+    lives = live-there deck w ring s n at alive
+
     seen : Seen deck s P (g.before s) (g.later s) (own_requests s (g.later s)) n
-    seen = (g.systems s n at).1
+    seen = g.systems s n at lives
 
     none_unseen : unseen (record { 0 = s }) w.medium.message.entries ≡ []
     unfolding unseen
     none_unseen = ap (λ xs. unseen (record { 0 = s }) xs) no_entries
 
     none_later : g.later s ≡ []
-    none_later = none-due (g.later s) (unseen (record { 0 = s }) w.medium.message.entries) none_unseen (given-later w.medium (record { 0 = s }) g.before (g.later s) P (g.whole s) (g.systems s n at).0 g.message)
+    none_later = none-due (g.later s) (unseen (record { 0 = s }) w.medium.message.entries) none_unseen (given-later w.medium (record { 0 = s }) g.before (g.later s) P (g.whole s) lives g.message)
 
     all_before : rounds P ≡ g.before s
     all_before = g.whole s ∙ (ap (λ xs. g.before s ++ xs) none_later ∙ append-nil (g.before s))
 
     idle_node : is_pending deck n ≡ false
-    idle_node = pending-at deck 0 w.nodes s n quiet at
+    idle_node = let same : 0 + s ≡ s = omega arith in pending-at deck w.medium.removed 0 w.nodes s n both.0 at (ap (has w.medium.removed) same ∙ alive)
 
     parts : (list_any (λ x. goes_on x.phase) n.tasks.tasks ≡ false) × (not (length n.outbox == 0) ≡ false)
     unfolding is_pending
@@ -128,8 +130,8 @@ module _ (deck : Deck) (es : List Event) (w : World) (ring : IsRing deck w) (g :
         nobody qs e f = absurd (let g1 : is_among t (askers []) ≡ true = subst (λ (z : List Req). is_among t (askers z) ≡ true) e f in cc)
 
         unsent : (p : Phase) → (state_of n.tasks t).phase ≡ p → is_unsent p ≡ false
-        unsent phases.ToSend e = absurd (nobody n.outbox no_box ((h s n at).boxed t ls ours (ap is_to_send e)))
-        unsent phases.Sent e = absurd (nobody (still_of s w.medium.message.entries) (ap requests_of none_unseen) ((h s n at).sent t ls ours (ap is_sent e)))
+        unsent phases.ToSend e = absurd (nobody n.outbox no_box ((h s n at alive).boxed t ls ours (ap is_to_send e)))
+        unsent phases.Sent e = absurd (nobody (still_of s w.medium.message.entries) (ap requests_of none_unseen) ((h s n at alive).sent t ls ours (ap is_sent e)))
         unsent phases.Ready e = refl
         unsent phases.HeldAnswer e = refl
         unsent (phases.HeldLine r) e = refl
@@ -143,10 +145,10 @@ module _ (deck : Deck) (es : List Event) (w : World) (ring : IsRing deck w) (g :
         place = (and_parts _ (is_systems r || is_res_of t.system.0 r) (owns-may deck P r t g.history.asks own)).1
 
         go : (b : Bool) → is_systems r ≡ b → is_marked r (state_of n.tasks t).records ≡ true
-        go true wide = ((h s n at).shared t ls ours).told r wide (ap (λ z. owns (list_of z r) t) (seen.shared ∙ (ap lists (sym all_before) ∙ table-is P)) ∙ (ap (λ zs. owns zs t) (list_of-part is_systems (lists P) r wide) ∙ own))
+        go true wide = ((h s n at alive).shared t ls ours).told r wide (ap (λ z. owns (list_of z r) t) (seen.shared ∙ (ap lists (sym all_before) ∙ table-is P)) ∙ (ap (λ zs. owns zs t) (list_of-part is_systems (lists P) r wide) ∙ own))
         go false narrow =
             let here : is_res_of s r ≡ true = subst (λ i. is_res_of i r ≡ true) ours.home (or_other (is_systems r) (is_res_of t.system.0 r) place narrow) in
-            ((h s n at).own t ls ours).told r (ap not narrow) (ap (λ z. owns (list_of z r) t) seen.own ∙ (ap (λ zs. owns zs t) (list_of-part (is_res_of s) (lists P) r here) ∙ own))
+            ((h s n at alive).own t ls ours).told r (ap not narrow) (ap (λ z. owns (list_of z r) t) seen.own ∙ (ap (λ zs. owns zs t) (list_of-part (is_res_of s) (lists P) r here) ∙ own))
 
     pub still-ring : IsStill deck s (items w.fixed) n
     still-ring = record {
@@ -155,5 +157,5 @@ module _ (deck : Deck) (es : List Event) (w : World) (ring : IsRing deck w) (g :
       idle = λ t ls ours. held-none deck.limit ls t (state_of n.tasks t) (seen.good.tasks.each t ls ours).opened (calm t ls ours).1;
       calm = calm;
       marked = marked_at;
-      date = (h s n at).date;
+      date = (h s n at alive).date;
     }

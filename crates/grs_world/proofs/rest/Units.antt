@@ -2,7 +2,7 @@
 use Rattle.std.proofs.Common.{◌≡◌, ◌≢◌, ◌<◌, ◌≤◌, ◌+◌, ◌-◌, ℕ, zero, suc, Bool, true, false, cond, not, ◌&&◌, ◌||◌, List, [], ◌∷◌, ◌++◌, length, map, Option, Some, None, refl, ap, sym, ◌∙◌, subst, arith, length-append}
 use Rattle.std.specs.Prelude.{◌==◌, filter, get_or, is_some, nat_lt, option_to_list, slice_get}
 use Rattle.std.specs.List.{count_by, list_any, list_all, range_with_len}
-use Rattle.std.proofs.lemmas.Bool.{and_parts, and_from, eqb-true, eqb-false, eq-eqb, ltb-false, ltb-true, ne_eqb}
+use Rattle.std.proofs.lemmas.Bool.{and_parts, and_from, eqb-true, eqb-false, eq-eqb, ltb-false, ltb-true, ne_eqb, not-true}
 use Rattle.std.proofs.lemmas.List.Sums.{length-filter}
 use Rattle.std.proofs.lemmas.List.Elements.{filter-append}
 use Rattle.grs_base.specs.Lists.{owns}
@@ -50,6 +50,7 @@ use Rattle.grs_world.proofs.rest.UpToDate.{HasUnit, unit_of}
 use Rattle.grs_world.specs.AtRest.{UnitsAreReserved, is_reserve, is_unit, lists_after, queued_with, queued_with_by, reserves, unit_count}
 use Rattle.grs_world.specs.Running.{units_of}
 use Rattle.grs_world.specs.World.{hist, run}
+use Rattle.grs_wire.specs.Masks.{has}
 
 -- ---- counts of units
 abbrev occ : ℕ → List ℕ → ℕ
@@ -310,7 +311,8 @@ task-at deck s i l = go (slice_get (scripts_of deck s) i) refl
         let found : lines_at z.job (slice_get (scripts_of deck s) i) ≡ Some z.lines = ap (lines_at z.job) e ∙ ap (λ b. cond b (Some z.lines) None) (eq-eqb z.job z.job refl) in
         (t, _, ap (meanings deck.lists t) found, refl, refl)
 
-module _ (deck : Deck) (es : List Event) (right : IsHistory deck (items (run deck es).fixed)) (full : AreFull deck (run deck es)) (still : (s : ℕ) (n : NodeState) → slice_get (run deck es).nodes s ≡ Some n → IsStill deck s (items (run deck es).fixed) n) where
+module _ (deck : Deck) (es : List Event) (right : IsHistory deck (items (run deck es).fixed)) (full : AreFull deck (run deck es)) (home : (s : ℕ) (n : NodeState) → slice_get (run deck es).nodes s ≡ Some n → n.tasks.system ≡ s)
+    (still : (s : ℕ) (n : NodeState) → slice_get (run deck es).nodes s ≡ Some n → has (run deck es).medium.removed s ≡ false → IsStill deck s (items (run deck es).fixed) n) where
   abbrev P : List RunItem
   P = items (run deck es).fixed
 
@@ -326,9 +328,9 @@ module _ (deck : Deck) (es : List Event) (right : IsHistory deck (items (run dec
   known_all : list_all (λ h. may_have deck h.0 h.1.task) (lists_after deck es) ≡ true
   known_all = subst (λ z. list_all (λ h. may_have deck h.0 h.1.task) z ≡ true) (sym lists_are) (elements-ask deck [] P right.asks refl)
 
-  module _ (s : ℕ) (n : NodeState) (at : slice_get (run deck es).nodes s ≡ Some n) (u : ℕ) where
+  module _ (s : ℕ) (n : NodeState) (at : slice_get (run deck es).nodes s ≡ Some n) (alive : has (run deck es).medium.removed s ≡ false) (u : ℕ) where
     abbrev k : IsStill deck s (items (run deck es).fixed) n
-    k = still s n at
+    k = still s n at alive
 
     -- whether an owner's element reserves, of one task
     abbrev Q : TaskId → Res → Bool
@@ -349,7 +351,7 @@ module _ (deck : Deck) (es : List Event) (right : IsHistory deck (items (run dec
       p = past_of t here_is.known (items (run deck es).fixed)
 
       speaks : Speaks deck.limit t p (history (items (run deck es).fixed))
-      speaks = speaks-known deck P t here_is.known right here_is.knows.right (knows-closed P t y.outstanding here_is.known idle here_is.knows)
+      speaks = speaks-known deck P t here_is.known right here_is.knows.live here_is.knows.right (knows-closed P t y.outstanding here_is.known idle here_is.knows)
 
       task_is : IsTask ls p n.tasks.told (λ r. false) t (state_of n.tasks t)
       task_is = subst (λ o. IsTask ls p n.tasks.told (λ r. is_leaving r o) t y) idle (subst (λ x. IsTask ls p n.tasks.told (λ r. is_leaving r y.outstanding) t x) (unasked-none y idle) here_is.task)
@@ -454,8 +456,11 @@ module _ (deck : Deck) (es : List Event) (right : IsHistory deck (items (run dec
   pub units-reserved : UnitsAreReserved deck es
   units-reserved s u live = go (slice_get (run deck es).nodes s.0) refl
     where
+      alive : has (run deck es).medium.removed s.0 ≡ false
+      alive = not-true (has (run deck es).medium.removed s.0) (and_parts (nat_lt s.0 (length (run deck es).nodes)) (not (has (run deck es).medium.removed s.0)) live).1
+
       go : (o : Option NodeState) → slice_get (run deck es).nodes s.0 ≡ o → unit_count s u (units_of (run deck es).nodes) ≡ count_by (is_reserve deck (hist deck es) s u) (lists_after deck es)
-      go (Some n) at = units-found s u 0 s.0 (run deck es).nodes n (λ j m f. let own = (still j m f).good.system in omega (arith, own)) at (omega arith) ∙ units-here s.0 n at u
+      go (Some n) at = units-found s u 0 s.0 (run deck es).nodes n (λ j m f. let own = home j m f in omega (arith, own)) at (omega arith) ∙ units-here s.0 n at alive u
       go None at =
           let within : s.0 < length (run deck es).nodes = ltb-true _ _ (and_parts (nat_lt s.0 (length (run deck es).nodes)) _ live).0 in
           let past : length (run deck es).nodes ≤ s.0 = slice_get-past (run deck es).nodes s.0 at in

@@ -1,37 +1,27 @@
 -- An event of a system that waits to change to star mode leaves what rests.
-use Rattle.std.proofs.Common.{◌≡◌, ◌≤◌, ◌+◌, ℕ, true, List, [], ◌∷◌, ◌++◌, Some, None, refl, ap, sym, ◌∙◌, subst, arith}
+use Rattle.std.proofs.Common.{◌≡◌, ◌≤◌, ◌+◌, ℕ, true, List, [], ◌∷◌, ◌++◌, Some, None, refl, ap, sym, ◌∙◌, subst, arith, false}
 use Rattle.std.specs.Prelude.{slice_get}
-use Rattle.grs_base.specs.State.{is_systems, list_of}
+use Rattle.grs_base.specs.State.{list_of}
 use Rattle.grs_base.specs.declared.resource.SysId.{SysId}
 use Rattle.grs_base.specs.declared.resource.TaskId.{TaskId}
 use Rattle.grs_legal.specs.Asks.{lines_of}
-use Rattle.grs_legal.specs.declared.meaning.Meaning.{Meaning}
 use Rattle.grs_node.proofs.Keeping.{Stays, stays-task}
-use Rattle.grs_node.specs.Node.{NodeState, desk_told, finish_quiet, is_to_send, may_go, task_step}
+use Rattle.grs_node.specs.Node.{NodeState, desk_told, finish_quiet, may_go, task_step, only}
 use Rattle.grs_wire.specs.declared.deck.Choice.TheVariants as choices
 use Rattle.grs_wire.specs.declared.deck.Deck.{Deck}
 use Rattle.grs_wire.specs.declared.request.Fixed.{Fixed}
 use Rattle.grs_wire.specs.declared.request.Fixed.TheVariants as fixing
-use Rattle.grs_wire.specs.declared.request.Req.{Req}
 use Rattle.grs_wire.specs.declared.told.Said.{Said}
 use Rattle.grs_wire.specs.declared.told.Said.TheVariants as saids
-use Rattle.grs_wire.specs.declared.told.ToldLine.{ToldLine}
-use Rattle.grs_wire.specs.declared.told.ToldLine.TheVariants as told
-use Rattle.task_state.specs.View.{is_sent, telling}
-use Rattle.task_state.specs.declared.state.TaskState.{TaskState}
-use Rattle.task_state.proofs.ViewLaws.{is_task-telling, state_of-telling}
 use Rattle.grs_known.proofs.known.Histories.{made_item}
 use Rattle.grs_known.proofs.known.ItemLaws.{lists-push}
 use Rattle.grs_wire.proofs.WantLaws.{list_of-want_other}
-use Rattle.grs_known.proofs.system.Ours.{IsOurs}
 use Rattle.grs_known.proofs.system.Says.{own_requests}
 use Rattle.grs_known.specs.Items.{RunItem, items, lists}
 use Rattle.grs_world.proofs.move.Changing.{IsChanging}
-use Rattle.grs_world.proofs.move.Late.{CameLate, desk_late, nothing_late, task_late, turn_late}
-use Rattle.grs_world.proofs.rest.Events.{date-telling}
-use Rattle.grs_world.proofs.rest.Lists.{Matches}
+use Rattle.grs_world.proofs.move.Late.{CameLate, desk_late, nothing_late, task_late, turn_late, informed_late, vary_late}
 use Rattle.grs_world.proofs.rest.Restful.{IsRestful, restful-turned, restful-waits}
-use Rattle.grs_world.proofs.rest.Ring.{IsRead, distinct-at, is_local}
+use Rattle.grs_world.proofs.rest.Ring.{IsRead, distinct-at, desk-read, known-read}
 use Rattle.grs_world.proofs.rest.RingRun.{still_of}
 use Rattle.grs_world.proofs.rest.Tasks.{read-task}
 use Rattle.grs_world.proofs.rest.View.{IsWaitingHere, shown_at, view-of, waits-here}
@@ -42,24 +32,9 @@ use Rattle.grs_world.proofs.star.hearing.Quiet.{other-kind}
 use Rattle.grs_world.proofs.system.AtNode.{QuietStep, Seen, fixes, keeps}
 use Rattle.grs_world.proofs.system.Quiet.{quiet}
 use Rattle.grs_world.specs.World.{Turnout, World, fixed_by, placed}
+use Rattle.grs_wire.specs.Masks.{has}
 
 -- ---- its desk is told
-pub desk-read : (deck : Deck) (s : ℕ) (n : NodeState) (said : Said) (qs : List Req) → IsRead deck s n qs → IsRead deck s (desk_told n said) qs
-unfolding desk_told
-desk-read deck s n said qs h = record {
-  own = λ t ls o. subst (λ (y : TaskState). Matches is_local n.own t y.records) (sym (state_of-telling n.tasks t l)) (h.own t ls (was t ls o));
-  shared = λ t ls o. subst (λ (y : TaskState). Matches is_systems n.shared t y.records) (sym (state_of-telling n.tasks t l)) (h.shared t ls (was t ls o));
-  sent = λ t ls o e. h.sent t ls (was t ls o) (ap (λ (y : TaskState). is_sent y.phase) (sym (state_of-telling n.tasks t l)) ∙ e);
-  boxed = λ t ls o e. h.boxed t ls (was t ls o) (ap (λ (y : TaskState). is_to_send y.phase) (sym (state_of-telling n.tasks t l)) ∙ e);
-  date = date-telling deck n.tasks l h.date;
-}
-  where
-    l : ToldLine
-    l = told.Desk (n.done + 1) said
-
-    was : (t : TaskId) (ls : List Meaning) → IsOurs deck s (telling n.tasks (told.Desk (n.done + 1) said)) t ls → IsOurs deck s n.tasks t ls
-    was t ls o = record { lines = o.lines; home = o.home; here = sym (is_task-telling n.tasks t l) ∙ o.here }
-
 pub desk-shared : (n : NodeState) (said : Said) → (desk_told n said).shared ≡ n.shared
 unfolding desk_told
 desk-shared n said = refl
@@ -68,15 +43,15 @@ desk-star : (n : NodeState) (said : Said) → (desk_told n said).star ≡ n.star
 unfolding desk_told
 desk-star n said = refl
 
-module _ (deck : Deck) (w : World) (g : IsChanging deck w) (h : IsRestful deck w) (c : SysId) (n : NodeState) (at : slice_get w.nodes c.0 ≡ Some n) (alone : n.star ≡ None) where
+module _ (deck : Deck) (w : World) (g : IsChanging deck w) (h : IsRestful deck w) (c : SysId) (n : NodeState) (at : slice_get w.nodes c.0 ≡ Some n) (alive : has w.medium.removed c.0 ≡ false) (alone : n.star ≡ None) where
   abbrev T : List RunItem
   T = items w.fixed
 
   abbrev rd : IsRead deck c.0 n (still_of c.0 w.medium.message.entries)
-  rd = h.read c.0 n at alone
+  rd = h.read c.0 n at alive alone
 
   abbrev z : IsWaitingHere deck w g c.0 n
-  z = waits-here deck w g c.0 n at alone
+  z = waits-here deck w g c.0 n at alive alone
 
   seen : Seen deck c.0 (items w.fixed) (g.before c.0) (g.due c.0 ++ g.since) (own_requests c.0 (g.due c.0)) n
   seen = z.waits.seen
@@ -85,7 +60,7 @@ module _ (deck : Deck) (w : World) (g : IsChanging deck w) (h : IsRestful deck w
   still-restful : (k : NodeState) (flags : ℕ) (fs : List Fixed) → fs ≡ [] → k.star ≡ None → k.shared ≡ n.shared → IsRead deck c.0 k (still_of c.0 w.medium.message.entries) → IsRestful deck (placed w c n (record { medium = record w.medium { rest = flags }; step = record { node = k; fixed = fs } }))
   still-restful k flags fs none free table rk =
       let same : items (w.fixed ++ fixed_by c fs) ≡ items w.fixed = ap (λ zs. items (w.fixed ++ fixed_by c zs)) none ∙ items-none w.fixed c in
-      restful-waits deck w g h c n at alone k fs flags free table (record { date = rk.date; own = rk.own }) rk (λ r wide. ap (λ U. list_of (lists U) r) same) (subst (λ U. enq_count (items w.fixed) ≤ enq_count U) (sym same) (omega arith))
+      restful-waits deck w g h c n at alive alone k fs flags free table (record { date = rk.date; own = rk.own }) rk (λ r wide. ap (λ U. list_of (lists U) r) same) (subst (λ U. enq_count (items w.fixed) ≤ enq_count U) (sym same) (omega arith))
 
   -- ---- a task goes on
   task-restful : (t : TaskId) → may_go deck n t ≡ true → IsRestful deck (placed w c n (record { medium = w.medium; step = finish_quiet deck n (choices.Task t) }))
@@ -103,13 +78,19 @@ module _ (deck : Deck) (w : World) (g : IsChanging deck w) (h : IsRestful deck w
       by_step (fixes q one home away follow then told) =
           let item : RunItem = made_item c T (fixing.Asked q) in
           let same : items (w.fixed ++ fixed_by c (task_step deck.limit n t (lines_of deck t)).fixed) ≡ T ++ item ∷ [] = ap (λ zs. items (w.fixed ++ fixed_by c zs)) one ∙ items-one w.fixed c (fixing.Asked q) in
-          restful-waits deck w g h c n at alone (task_step deck.limit n t (lines_of deck t)).node (task_step deck.limit n t (lines_of deck t)).fixed w.medium.rest (kept.star ∙ alone) (then.shared ∙ sym seen.shared) (record { date = rk.date; own = rk.own }) rk
-          (λ r wide. ap (λ U. list_of (lists U) r) same ∙ (ap (λ s. list_of s r) (lists-push T item) ∙ list_of-want_other (lists T) q.task q.want r (other-kind deck (record w { nodes = g.view }) g.whole c (shown_at deck w.medium.message.entries c.0 n) (view-of deck w g c.0 n at) q.want r wide away)))
+          restful-waits deck w g h c n at alive alone (task_step deck.limit n t (lines_of deck t)).node (task_step deck.limit n t (lines_of deck t)).fixed w.medium.rest (kept.star ∙ alone) (then.shared ∙ sym seen.shared) (record { date = rk.date; own = rk.own }) rk
+          (λ r wide. ap (λ U. list_of (lists U) r) same ∙ (ap (λ s. list_of s r) (lists-push T item) ∙ list_of-want_other (lists T) q.task q.want r (other-kind deck (record w { nodes = g.view }) g.whole c (shown_at deck w.medium.message.entries c.0 n) (view-of deck w g c.0 n at alive) alive q.want r wide away)))
           (subst (λ U. enq_count (items w.fixed) ≤ enq_count U) (sym same) (enq_count-grown (items w.fixed) (item ∷ [])))
+
+  -- its desk is told
+  desk-restful : (said : Said) → IsRestful deck (placed w c n (record { medium = w.medium; step = only (desk_told n said) }))
+  desk-restful said = still-restful (desk_told n said) w.medium.rest [] refl (desk-star n said ∙ alone) (desk-shared n said) (desk-read deck c.0 n said (still_of c.0 w.medium.message.entries) rd)
 
   -- whatever came of it
   pub restful-late : (o : Turnout) → CameLate deck w c n o → IsRestful deck (placed w c n o)
   restful-late o (nothing_late flags) = still-restful n flags [] refl alone refl rd
   restful-late o (task_late t may) = task-restful t may
-  restful-late o (turn_late flags here) = restful-turned deck w g h c n at alone flags
-  restful-late o (desk_late next) = still-restful (desk_told n saids.StarAlready) w.medium.rest [] refl (desk-star n saids.StarAlready ∙ alone) (desk-shared n saids.StarAlready) (desk-read deck c.0 n saids.StarAlready (still_of c.0 w.medium.message.entries) rd)
+  restful-late o (turn_late flags here) = restful-turned deck w g h c n at alive alone flags
+  restful-late o (desk_late next) = desk-restful saids.StarAlready
+  restful-late o (vary_late target next) = desk-restful saids.VaryInStar
+  restful-late o informed_late = still-restful (record n { known = w.medium.removed }) w.medium.rest [] refl alone refl (known-read deck c.0 n w.medium.removed (still_of c.0 w.medium.message.entries) rd)

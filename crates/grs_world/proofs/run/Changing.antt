@@ -5,11 +5,11 @@ use Rattle.std.proofs.lemmas.Bool.{and_parts}
 use Rattle.grs_base.specs.Limits.{most_additions}
 use Rattle.grs_base.specs.declared.resource.SysId.{SysId}
 use Rattle.grs_legal.specs.Asks.{lines_of}
-use Rattle.grs_medium.specs.Apply.{reply_to, rest_row, resting, row, switch_ring, switch_row, turn_row}
+use Rattle.grs_medium.specs.Apply.{is_live, purge_row, reply_to, rest_row, resting, row, switch_ring, switch_row, turn_row, without_system}
 use Rattle.grs_medium.specs.Medium.{MediumState, all_rest, medium_at_end}
 use Rattle.grs_node.proofs.InRing.{closed-turned, open-turned, ring_finish}
 use Rattle.grs_node.proofs.Keeping.{stays-task, stays-turned}
-use Rattle.grs_node.specs.Node.{NodeState, Step, finish, finish_call, finish_quiet, finish_star, next_order, own_words, prepare, switch_call}
+use Rattle.grs_node.specs.Node.{NodeState, Step, desk_told, finish, finish_call, finish_quiet, finish_star, next_order, own_words, prepare, purged, switch_call}
 use Rattle.grs_node.specs.Star.{StarPart}
 use Rattle.grs_node.specs.declared.prepared.Prepared.TheVariants.{Call}
 use Rattle.grs_wire.proofs.WantLaws.{by_test}
@@ -82,27 +82,33 @@ module _ (deck : Deck) (m : MediumState) (s : SysId) (n : NodeState) where
   MovesFree st = (st.node.star ≡ None) ⊎ (st.fixed ≡ [])
 
   module _ (alone : n.star ≡ None) where
-    turn_free : MovesFree (ring_finish deck n (row m s (acts.Turn (take most_additions n.outbox))).0)
+    turn_free : MovesFree (ring_finish deck n choices.Turn (row m s (acts.Turn (take most_additions n.outbox))).0)
     unfolding row turn_row turn_reply
-    turn_free = by_test (λ r. MovesFree (ring_finish deck n r)) (stands_at m.message.holder s)
+    turn_free = by_test (λ r. MovesFree (ring_finish deck n choices.Turn r)) (stands_at m.message.holder s)
         (replies.Turned (unseen s m.message.entries) (cond m.message.closed 0 (length (take most_additions n.outbox))) m.message.closed) (replies.NotYours m.message.holder)
         (λ here. go m.message.closed) (λ away. inr refl)
       where
-        go : (d : Bool) → MovesFree (ring_finish deck n (replies.Turned (unseen s m.message.entries) (cond d 0 (length (take most_additions n.outbox))) d))
+        go : (d : Bool) → MovesFree (ring_finish deck n choices.Turn (replies.Turned (unseen s m.message.entries) (cond d 0 (length (take most_additions n.outbox))) d))
         go false =
             let put : ℕ = length (take most_additions n.outbox) in
             subst MovesFree (sym (open-turned deck n (unseen s m.message.entries) put)) (inl ((stays-turned deck n (unseen s m.message.entries) put).star ∙ alone))
         go true = inr (ap (λ (st : Step). st.fixed) (closed-turned deck n (unseen s m.message.entries) alone))
 
-    rest_free : MovesFree (ring_finish deck n (row m s acts.Rest).0)
+    rest_free : MovesFree (ring_finish deck n choices.Rest (row m s acts.Rest).0)
     unfolding row rest_row
-    rest_free = by_test (λ r. MovesFree (ring_finish deck n r)) (all_rest (resting m s) && medium_at_end (resting m s)) replies.Over replies.Resting (λ t. inr refl) (λ t. inr refl)
+    rest_free = by_test (λ r. MovesFree (ring_finish deck n choices.Rest r)) (all_rest (resting m s) && medium_at_end (resting m s)) replies.Over replies.Resting (λ t. inr refl) (λ t. inr refl)
 
-    called : (choice : Choice) (act : Act) → MovesFree (ring_finish deck n (row m s act).0) → MovesFree (carry_out deck m s n choice (Call (record { known = n.known; act = act }))).step
+    -- a removal fixes one, and its system stays as it is
+    purge_free : (target : SysId) → MovesFree (ring_finish deck n (choices.Purge target) (row m s (acts.Purge target)).0)
+    unfolding row purge_row purged desk_told
+    purge_free target = by_test (λ (r : Reply × MediumState). MovesFree (ring_finish deck n (choices.Purge target) r.0)) m.star (replies.InStar, m) (cond (is_live m target) (replies.Purged, without_system m s target) (replies.NoSuch, m)) (λ a. inr refl)
+        (λ b. by_test (λ (r : Reply × MediumState). MovesFree (ring_finish deck n (choices.Purge target) r.0)) (is_live m target) (replies.Purged, without_system m s target) (replies.NoSuch, m) (λ l. inl alone) (λ l. inr refl))
+
+    called : (choice : Choice) (act : Act) → MovesFree (ring_finish deck n choice (row m s act).0) → MovesFree (carry_out deck m s n choice (Call (record { known = n.known; act = act }))).step
     unfolding carry_out
     called choice act here =
         let call : CallOfMedium = record { known = n.known; act = act } in
-        subst MovesFree (sym (finished-ring deck n choice (reply_to m s call) alone)) (each_answer m s call (λ a. MovesFree (ring_finish deck n a.0)) (inr refl) (inr refl) here)
+        subst MovesFree (sym (finished-ring deck n choice (reply_to m s call) alone)) (each_answer m s call (λ a. MovesFree (ring_finish deck n choice a.0)) (inr refl) (inr refl) here)
 
     called_switch : (words : List ℕ) → MovesFree (carry_out deck m s n choices.Switch (Call (record { known = n.known; act = acts.Switch words }))).step
     unfolding carry_out
@@ -111,7 +117,7 @@ module _ (deck : Deck) (m : MediumState) (s : SysId) (n : NodeState) where
     moves-free : (choice : Choice) → MovesFree (chosen deck m s n choice).step
     unfolding chosen carry_out finish finish_quiet
     moves-free = each_prepared deck n (λ c p. MovesFree (carry_out deck m s n c p).step) alone (λ t may. inl ((stays-task deck.limit n t (lines_of deck t)).star ∙ alone))
-        (called choices.Turn (acts.Turn (take most_additions n.outbox)) turn_free) (called choices.Rest acts.Rest rest_free) (λ next. called_switch (own_words deck n)) (λ c. inr refl)
+        (called choices.Turn (acts.Turn (take most_additions n.outbox)) turn_free) (called choices.Rest acts.Rest rest_free) (λ next. called_switch (own_words deck n)) (λ t next. called (choices.Purge t) (acts.Purge t) (purge_free t)) (λ c. inr refl)
 
   fixes-none : (choice : Choice) → (is_switch choice || has_moved (Some n) (Some (chosen deck m s n choice).step.node)) ≡ true → (chosen deck m s n choice).step.fixed ≡ []
   fixes-none choice h = by_choice (is_switch choice) refl h

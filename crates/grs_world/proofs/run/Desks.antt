@@ -1,37 +1,45 @@
 -- What an event tells at a desk, and what all lines told at desks so far say.
 use Rattle.std.proofs.Common.{◌≡◌, [], ◌+◌, ◌++◌, ◌-◌, ◌<◌, Bool, List, Option, Some, ap, arith, drop, false, length, not, refl, subst, sym, true, ◌||◌, ℕ, ◌∙◌, ◌∷◌, ◌≢◌, None}
 use Rattle.std.specs.Prelude.{◌&&◌, ◌==◌, nat_lt, slice_get}
-use Rattle.std.proofs.lemmas.Bool.{and_from, and_parts, lt-ltb, ltb-true, ne_eqb, or_left, or_right}
+use Rattle.std.proofs.lemmas.Bool.{and_from, and_parts, eq-eqb, lt-ltb, ltb-true, ne_eqb, or_left, or_right}
 use Rattle.std.proofs.Math.Seq.{drop-append_seam}
 use Rattle.std.specs.List.{list_all, list_any}
 use Rattle.std.proofs.lemmas.List.Folds.{list_all-append, list_any-append}
 use Rattle.std.specs.Option.{option_map}
 use Rattle.std.proofs.Math.Bool.{or-false, or-true}
+use Rattle.grs_known.proofs.known.Histories.{OrdersFit}
 use Rattle.grs_world.proofs.run.Runs.{AllBy, GoodTold, Tells, at_desk, by_node, to_tasks}
-use Rattle.grs_world.specs.Agree.{HasCause, is_desk_before, order_in, order_of, tells_star, was_star}
-use Rattle.grs_world.specs.World.{Turnout, World, counted, placed, told_by}
+use Rattle.grs_world.specs.Agree.{DeskAgrees, HasCause, Moment, purges, is_desk_before, order_in, order_of, tells_star, was_star}
+use Rattle.grs_world.specs.World.{Turnout, World, counted, placed, told_by, fixed_by}
 use Rattle.grs_node.specs.Log.{told_in}
 use Rattle.grs_wire.specs.declared.deck.Deck.{Deck}
 use Rattle.grs_wire.specs.declared.deck.Desk.{Desk as DeskLine}
 use Rattle.grs_wire.specs.declared.deck.Event.{Event}
+use Rattle.grs_wire.specs.History.{removes}
 use Rattle.grs_wire.specs.declared.history.HistEntry.{HistEntry}
+use Rattle.grs_wire.specs.declared.request.Fixed.{Fixed}
+use Rattle.grs_wire.specs.declared.request.Fixed.TheVariants.{Purged}
 use Rattle.grs_wire.specs.declared.told.Said.{Said}
 use Rattle.grs_wire.specs.declared.told.Told.{Told}
 use Rattle.grs_wire.specs.declared.told.ToldLine.{ToldLine}
 use Rattle.grs_wire.specs.declared.told.Said.TheVariants as saids
 use Rattle.grs_node.specs.Node.{NodeState, desk_of, next_order}
 use Rattle.grs_base.specs.declared.resource.SysId.{SysId}
+use Rattle.grs_wire.specs.declared.deck.Order.{Order}
 use Rattle.grs_wire.specs.declared.deck.Order.TheVariants as orders
 use Rattle.grs_wire.specs.declared.told.ToldLine.TheVariants as lines
 use Rattle.grs_known.proofs.told.News.{ToldNews}
 use Rattle.grs_known.proofs.system.Says.{is_line_of}
 
--- What an event of a system tells, by the system before and after it and by the mode of the medium: lines of its tasks, which
--- agree with the history H; or a line of its desk that orders the change to star mode.
-pub data EventTells (deck : Deck) (c : SysId) (H : List HistEntry) (n k : NodeState) (before after : Bool) : Type 0 where
-  tells_tasks : ToldNews deck c.0 H n.tasks.told k.tasks.told → k.done ≡ n.done → after ≡ before → EventTells deck c H n k before after
-  tells_done : next_order deck n ≡ Some orders.Star → k.tasks.told ≡ n.tasks.told ++ lines.Desk (n.done + 1) saids.StarDone ∷ [] → k.done ≡ n.done + 1 → deck.star ≡ false → before ≡ false → after ≡ true → EventTells deck c H n k before after
-  tells_already : next_order deck n ≡ Some orders.Star → k.tasks.told ≡ n.tasks.told ++ lines.Desk (n.done + 1) saids.StarAlready ∷ [] → k.done ≡ n.done + 1 → before ≡ true → after ≡ true → EventTells deck c H n k before after
+-- What an event of a system tells that fixed this, by the system before and after it and by the mode of the medium: lines of its
+-- tasks, which agree with the history H; or a line of its desk that orders the change to star mode, or the removal of a system.
+pub data EventTells (deck : Deck) (c : SysId) (H : List HistEntry) (fixed : List Fixed) (n k : NodeState) (before after : Bool) : Type 0 where
+  tells_tasks : ToldNews deck c.0 H n.tasks.told k.tasks.told → k.done ≡ n.done → after ≡ before → EventTells deck c H fixed n k before after
+  tells_done : next_order deck n ≡ Some orders.Star → k.tasks.told ≡ n.tasks.told ++ lines.Desk (n.done + 1) saids.StarDone ∷ [] → k.done ≡ n.done + 1 → deck.star ≡ false → before ≡ false → after ≡ true → EventTells deck c H fixed n k before after
+  tells_already : next_order deck n ≡ Some orders.Star → k.tasks.told ≡ n.tasks.told ++ lines.Desk (n.done + 1) saids.StarAlready ∷ [] → k.done ≡ n.done + 1 → before ≡ true → after ≡ true → EventTells deck c H fixed n k before after
+  tells_removed : (target : SysId) → next_order deck n ≡ Some (orders.Vary target) → k.tasks.told ≡ n.tasks.told ++ lines.Desk (n.done + 1) saids.VaryDone ∷ [] → k.done ≡ n.done + 1 → after ≡ before → fixed ≡ Purged target ∷ [] → EventTells deck c H fixed n k before after
+  tells_no_such : (target : SysId) → next_order deck n ≡ Some (orders.Vary target) → k.tasks.told ≡ n.tasks.told ++ lines.Desk (n.done + 1) saids.VaryNoSuch ∷ [] → k.done ≡ n.done + 1 → after ≡ before → (OrdersFit deck → list_any (removes target) H ≡ true) → EventTells deck c H fixed n k before after
+  tells_in_star : (target : SysId) → next_order deck n ≡ Some (orders.Vary target) → k.tasks.told ≡ n.tasks.told ++ lines.Desk (n.done + 1) saids.VaryInStar ∷ [] → k.done ≡ n.done + 1 → before ≡ true → after ≡ true → EventTells deck c H fixed n k before after
 
 -- whether a line isn't told at this system's desk, or is of a desk line before this one
 abbrev pub is_desk_told : ℕ → ℕ → Told → Bool
@@ -44,8 +52,8 @@ pub record GoodDesks (deck : Deck) (w : World) : Type 0 where
 
 -- ---- the line agrees
 -- what a desk line orders
-order-is : (deck : Deck) (s : SysId) (n : NodeState) → n.tasks.system ≡ s.0 → next_order deck n ≡ Some orders.Star → order_of deck s (n.done + 1) ≡ Some orders.Star
-order-is deck s n home next =
+pub order-is : (deck : Deck) (s : SysId) (n : NodeState) (order : Order) → n.tasks.system ≡ s.0 → next_order deck n ≡ Some order → order_of deck s (n.done + 1) ≡ Some order
+order-is deck s n order home next =
     let place : n.done + 1 - 1 ≡ n.done = omega arith in
     ap (λ k. order_in (slice_get (desk_of (slice_get deck.systems s.0)) k)) place ∙ (ap (λ u. order_in (slice_get (desk_of (slice_get deck.systems u)) n.done)) (sym home) ∙ (by_line (slice_get (desk_of (slice_get deck.systems n.tasks.system)) n.done) ∙ next))
   where
@@ -69,12 +77,26 @@ module _ (deck : Deck) (es : List Event) (w : World) (g : GoodTold deck es w) (d
       go true h = or_left deck.star (list_any (λ x. nat_lt x.event (w.events + 1) && tells_star x.line) w.told) h
       go false h = or_right deck.star (list_any (λ x. nat_lt x.event (w.events + 1) && tells_star x.line) w.told) (earlier (length es) (w.events + 1) (omega (arith, g.counted)) w.told g.by_now (d.changes ∙ (ap (λ b. b && not deck.star) mode ∙ ap not h)))
 
-  pub desk-agrees : (H : List HistEntry) (k : NodeState) (after : Bool) → EventTells deck c H n k w.medium.star after → Tells deck w c H n.tasks.told k.tasks.told
-  desk-agrees H k after (tells_tasks news done mode) = to_tasks news
-  desk-agrees H k after (tells_done next told done ring before now) = at_desk (n.done + 1) saids.StarDone told (λ m same.
-      (omega arith, ap (list_all (is_desk_told c.0 (n.done + 1))) same ∙ d.lines c.0 n at, subst (λ o. HasCause deck m (w.events + 1) c o saids.StarDone) (sym (order-is deck c n home next)) (ap (list_any (λ x. tells_star x.line)) same ∙ (d.changes ∙ ap (λ b. b && not deck.star) before))))
-  desk-agrees H k after (tells_already next told done before now) = at_desk (n.done + 1) saids.StarAlready told (λ m same.
-      (omega arith, ap (list_all (is_desk_told c.0 (n.done + 1))) same ∙ d.lines c.0 n at, subst (λ o. HasCause deck m (w.events + 1) c o saids.StarAlready) (sym (order-is deck c n home next)) (ap (was_star deck (w.events + 1)) same ∙ was_star-is before)))
+  -- a line of the desk that comes behind those told before, and has its cause
+  by_cause : (m : Moment) (order : Order) (said : Said) → next_order deck n ≡ Some order → m.before ≡ w.told → HasCause deck m (w.events + 1) c (Some order) said → DeskAgrees deck m (w.events + 1) c (n.done + 1) said
+  by_cause m order said next same cause =
+      (omega arith, ap (list_all (is_desk_told c.0 (n.done + 1))) same ∙ d.lines c.0 n at, subst (λ o. HasCause deck m (w.events + 1) c o said) (sym (order-is deck c n order home next)) cause)
+
+  purged-now : (target : SysId) → purges c target (fixed_by c (Purged target ∷ [])) ≡ true
+  purged-now target = rw (eq-eqb c.0 c.0 refl, eq-eqb target.0 target.0 refl) refl
+
+  pub desk-agrees : (H : List HistEntry) (fixed : List Fixed) (k : NodeState) (after : Bool) → EventTells deck c H fixed n k w.medium.star after → Tells deck w c H fixed n.tasks.told k.tasks.told
+  desk-agrees H fixed k after (tells_tasks news done mode) = to_tasks news
+  desk-agrees H fixed k after (tells_done next told done ring before now) = at_desk (n.done + 1) saids.StarDone told (λ m is fit.
+      by_cause m orders.Star saids.StarDone next is.before (ap (list_any (λ x. tells_star x.line)) is.before ∙ (d.changes ∙ ap (λ b. b && not deck.star) before)))
+  desk-agrees H fixed k after (tells_already next told done before now) = at_desk (n.done + 1) saids.StarAlready told (λ m is fit.
+      by_cause m orders.Star saids.StarAlready next is.before (ap (was_star deck (w.events + 1)) is.before ∙ was_star-is before))
+  desk-agrees H fixed k after (tells_removed target next told done mode one) = at_desk (n.done + 1) saids.VaryDone told (λ m is fit.
+      by_cause m (orders.Vary target) saids.VaryDone next is.before (ap (purges c target) (is.fixed ∙ ap (fixed_by c) one) ∙ purged-now target))
+  desk-agrees H fixed k after (tells_no_such target next told done mode gone) = at_desk (n.done + 1) saids.VaryNoSuch told (λ m is fit.
+      by_cause m (orders.Vary target) saids.VaryNoSuch next is.before (ap (list_any (removes target)) is.history ∙ gone fit))
+  desk-agrees H fixed k after (tells_in_star target next told done before now) = at_desk (n.done + 1) saids.VaryInStar told (λ m is fit.
+      by_cause m (orders.Vary target) saids.VaryInStar next is.before (ap (was_star deck (w.events + 1)) is.before ∙ was_star-is before))
 
 -- ---- one event more
 pub desks-counted : (deck : Deck) (w : World) → GoodDesks deck w → GoodDesks deck (counted w)
@@ -154,8 +176,11 @@ module _ (deck : Deck) (w : World) (d : GoodDesks deck w) (c : SysId) (n : NodeS
   more-done : o.step.node.done ≡ n.done + 1 → list_all (is_desk_told c.0 (o.step.node.done + 1)) w.told ≡ true
   more-done done = ap (λ k. list_all (is_desk_told c.0 (k + 1)) w.told) done ∙ all-next c.0 (n.done + 1) w.told (d.lines c.0 n at)
 
-  pub desks-after : (H : List HistEntry) → EventTells deck c H n o.step.node w.medium.star o.medium.star → GoodDesks deck (placed w c n o)
+  pub desks-after : (H : List HistEntry) → EventTells deck c H o.step.fixed n o.step.node w.medium.star o.medium.star → GoodDesks deck (placed w c n o)
   desks-after H (tells_tasks news done mode) = desks-behind news.lines news.is (ap (λ b. (w.medium.star && not deck.star) || b) (none-star c.0 news.lines news.ours) ∙ (or-false (w.medium.star && not deck.star) ∙ ap (λ b. b && not deck.star) (sym mode)))
       (ap (λ k. list_all (is_desk_told c.0 (k + 1)) w.told) done ∙ d.lines c.0 n at) (tasks-before c.0 (o.step.node.done + 1) e c news.lines news.ours)
   desks-after H (tells_done next told done ring before now) = desks-behind (lines.Desk (n.done + 1) saids.StarDone ∷ []) told (or-true (w.medium.star && not deck.star) ∙ sym (ap (λ b. b && not deck.star) now ∙ ap not ring)) (more-done done) (one-desk saids.StarDone done)
   desks-after H (tells_already next told done before now) = desks-behind (lines.Desk (n.done + 1) saids.StarAlready ∷ []) told (or-false (w.medium.star && not deck.star) ∙ ap (λ b. b && not deck.star) (before ∙ sym now)) (more-done done) (one-desk saids.StarAlready done)
+  desks-after H (tells_removed target next told done mode one) = desks-behind (lines.Desk (n.done + 1) saids.VaryDone ∷ []) told (or-false (w.medium.star && not deck.star) ∙ ap (λ b. b && not deck.star) (sym mode)) (more-done done) (one-desk saids.VaryDone done)
+  desks-after H (tells_no_such target next told done mode gone) = desks-behind (lines.Desk (n.done + 1) saids.VaryNoSuch ∷ []) told (or-false (w.medium.star && not deck.star) ∙ ap (λ b. b && not deck.star) (sym mode)) (more-done done) (one-desk saids.VaryNoSuch done)
+  desks-after H (tells_in_star target next told done before now) = desks-behind (lines.Desk (n.done + 1) saids.VaryInStar ∷ []) told (or-false (w.medium.star && not deck.star) ∙ ap (λ b. b && not deck.star) (before ∙ sym now)) (more-done done) (one-desk saids.VaryInStar done)

@@ -1,6 +1,6 @@
 -- Each system's table is that of a front of the history, as it is counted by what was fixed.
-use Rattle.std.proofs.Common.{◌≡◌, ◌-◌, cond, Bool, true, false, ℕ, zero, suc, List, [], ◌∷◌, ◌++◌, length, take, Option, Some, None, refl, ap, sym, ◌∙◌, subst, arith, append-nil, ne_eqb, append_assoc}
-use Rattle.std.specs.Prelude.{slice_get, unwrap_or, ◌==◌, is_none}
+use Rattle.std.proofs.Common.{◌≡◌, ◌-◌, not, cond, Bool, true, false, ℕ, zero, suc, List, [], ◌∷◌, ◌++◌, length, take, Option, Some, None, refl, ap, sym, ◌∙◌, subst, arith, append-nil, ne_eqb, append_assoc}
+use Rattle.std.specs.Prelude.{slice_get, unwrap_or, ◌==◌, is_none, nat_lt}
 use Rattle.std.proofs.Math.Seq.{take-append_seam}
 use Rattle.grs_base.specs.State.{State}
 use Rattle.grs_base.specs.declared.resource.SysId.{SysId}
@@ -22,6 +22,7 @@ use Rattle.grs_world.specs.Tables.{before_number, processed, TablesAreFronts}
 use Rattle.grs_world.specs.World.{World, run}
 use Rattle.grs_world.proofs.message.Stands.{Bodies, waits_live, first_number-seen}
 use Rattle.grs_world.proofs.run.Growing.{fixeds}
+use Rattle.grs_world.proofs.run.InRing.{live-is}
 use Rattle.grs_world.proofs.run.Messages.{length-fixeds, given-due}
 use Rattle.grs_world.proofs.run.Runs.{seen_at, GoodMessage}
 use Rattle.grs_world.proofs.move.Changing.{IsChanging, Shown, has_changed, waits_yet}
@@ -30,8 +31,8 @@ use Rattle.grs_world.proofs.move.Sound.{GoodRun, every_run, in_ring, in_star}
 use Rattle.grs_world.specs.Decks.{FitsStar, may_be_star}
 use Rattle.grs_world.specs.Running.{is_live}
 use Rattle.grs_node.specs.Star.{StarPart}
-use Rattle.grs_wire.specs.Masks.{has}
-use Rattle.std.proofs.lemmas.Bool.{and_parts}
+use Rattle.grs_wire.specs.Masks.{has, lives}
+use Rattle.std.proofs.lemmas.Bool.{and_parts, not-true}
 
 -- ---- fronts by number
 -- The items that went with the message before this number are so many first ones.
@@ -119,6 +120,12 @@ tables_fronts deck fits es s n at keeps = by_run (every_run deck fits es)
     w : World
     w = run deck es
 
+    live_there : lives (length w.nodes) w.medium.removed s.0 ≡ true
+    live_there = (and_parts (is_live w s) (is_none n.star) keeps).0
+
+    unremoved : has w.medium.removed s.0 ≡ false
+    unremoved = not-true _ (and_parts (nat_lt s.0 (length w.nodes)) (not (has w.medium.removed s.0)) live_there).1
+
     alone : n.star ≡ None
     alone = none_is n.star (and_parts (is_live w s) (is_none n.star) keeps).1
       where
@@ -127,9 +134,11 @@ tables_fronts deck fits es s n at keeps = by_run (every_run deck fits es)
         none_is (Some p) h = absurd (cc)
 
     by_shown : (g : IsChanging deck (run deck es)) (k m : NodeState) → slice_get (run deck es).nodes s.0 ≡ Some m → m.star ≡ None → slice_get g.view s.0 ≡ Some k → Shown deck s.0 (items (run deck es).fixed) (g.before s.0) (g.due s.0) g.since (g.whole.out s.0) k m → m.shared ≡ systems_part (replay deck.limit (answered (processed (run deck es) s)))
-    by_shown g k m here none there (has_changed z) = absurd (let e : None ≡ Some (g.whole.roles.node s.0 k there).part = sym none ∙ (g.whole.roles.node s.0 k there).star in cc)
-    by_shown g k m here none there (waits_yet x h is empty) = table_is deck w g.whole.right g.before g.log g.since (g.due s.0) s x g.rounds_are (g.parts s.0) (alive deck w g s x here) g.message h.seen.shared
+    by_shown g k m here none there (has_changed z) = absurd (let e : None ≡ Some (g.whole.roles.node s.0 k there unremoved).part = sym none ∙ (g.whole.roles.node s.0 k there unremoved).star in cc)
+    by_shown g k m here none there (waits_yet x h is empty) = table_is deck w g.whole.right g.before g.log g.since (g.due s.0) s x g.rounds_are (g.parts s.0) (alive deck w g s x here unremoved) g.message h.seen.shared
 
     by_run : GoodRun deck es (run deck es) → n.shared ≡ systems_part (replay deck.limit (answered (processed (run deck es) s)))
-    by_run (in_ring begins ring g d) = table_is deck w g.history g.before (rounds (items w.fixed)) [] (g.later s.0) s n (sym (append-nil (rounds (items w.fixed)))) (g.whole s.0) (g.systems s.0 n at).0 g.message (g.systems s.0 n at).1.shared
-    by_run (in_star f g told d) = let old = g.shown s.0 n at in by_shown g old.0 n at alone old.1 old.2
+    by_run (in_ring begins ring g d) =
+        let here : has (live w.medium) s.0 ≡ true = live-is deck w ring s.0 ∙ live_there in
+        table_is deck w g.history g.before (rounds (items w.fixed)) [] (g.later s.0) s n (sym (append-nil (rounds (items w.fixed)))) (g.whole s.0) here g.message (g.systems s.0 n at here).shared
+    by_run (in_star f g told d) = let old = g.shown s.0 n at unremoved in by_shown g old.0 n at alone old.1 old.2

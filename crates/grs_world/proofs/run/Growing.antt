@@ -14,7 +14,7 @@ use Rattle.grs_wire.specs.declared.request.Fixed.{Fixed}
 use Rattle.grs_wire.specs.declared.request.Fixed.TheVariants.{Asked}
 use Rattle.grs_wire.specs.declared.request.Req.{Req}
 use Rattle.grs_known.specs.Items.{RunItem, is_of, goes_round, rounds, mine, items}
-use Rattle.grs_known.proofs.known.Histories.{IsAsk, AllAsk, IsHistory, MayFollow, made_item, follows, items-append}
+use Rattle.grs_known.proofs.known.Histories.{IsAsk, AsksOrRemoves, an_ask, a_removal, AllAsk, IsHistory, MayFollow, made_item, follows, items-append}
 use Rattle.grs_known.proofs.lists.Facts.{filter-cons_left}
 use Rattle.grs_known.proofs.lists.Owners.{is_among}
 use Rattle.grs_known.proofs.lists.Truths.{false_by}
@@ -89,7 +89,7 @@ asks-rounds deck (x ∷ xs) a = go (goes_round x.fixed) (asks-rounds deck xs a.1
 -- a task of the system that has no request among these has no item among them
 pub idle-asks : (deck : Deck) (s : ℕ) (t : TaskId) → t.system.0 ≡ s → (xs : List RunItem) → AllAsk deck xs → is_among t (askers (own_requests s xs)) ≡ false → mine t xs ≡ []
 idle-asks deck s t home [] a e = refl
-idle-asks deck s t home (x ∷ xs) a e = go a.0 (idle-asks deck s t home xs a.1)
+idle-asks deck s t home (x ∷ xs) a e = by_item a.0 (idle-asks deck s t home xs a.1)
   where
     go : (i : IsAsk deck x) → (is_among t (askers (own_requests s xs)) ≡ false → mine t xs ≡ []) → mine t (x ∷ xs) ≡ []
     go i ih = by_own (i.req.task.system.0 == s) refl (subst (λ f. is_among t (askers (own_asked s f ++ own_requests s xs)) ≡ false) i.asked e)
@@ -100,3 +100,7 @@ idle-asks deck s t home (x ∷ xs) a e = go a.0 (idle-asks deck s t home xs a.1)
         by_own : (b : Bool) → (i.req.task.system.0 == s) ≡ b → is_among t (askers (cond b (i.req ∷ []) [] ++ own_requests s xs)) ≡ false → mine t (x ∷ xs) ≡ []
         by_own true f d = let parts = or_parts (same_task t i.req.task) (is_among t (askers (own_requests s xs))) d in filter-cons_left (λ z. is_of t z.fixed) x xs (apart parts.0) ∙ ih parts.1
         by_own false f d = filter-cons_left (λ z. is_of t z.fixed) x xs (apart (false_by (same_task t i.req.task) (λ k. absurd (eqb-false i.req.task.system.0 s f (ap (λ (z : TaskId). z.system.0) (sym (same_task-exact t i.req.task k)) ∙ home))))) ∙ ih d
+
+    by_item : AsksOrRemoves deck x → (is_among t (askers (own_requests s xs)) ≡ false → mine t xs ≡ []) → mine t (x ∷ xs) ≡ []
+    by_item (an_ask i) ih = go i ih
+    by_item (a_removal target purged) ih = filter-cons_left (λ z. is_of t z.fixed) x xs (ap (is_of t) purged) ∙ ih (subst (λ f. is_among t (askers (own_asked s f ++ own_requests s xs)) ≡ false) purged e)

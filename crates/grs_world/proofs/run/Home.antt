@@ -7,7 +7,7 @@ use Rattle.grs_base.specs.declared.resource.SysId.{SysId}
 use Rattle.grs_medium.specs.Medium.{live}
 use Rattle.grs_node.specs.Node.{NodeState}
 use Rattle.grs_base.specs.Limits.{most_additions}
-use Rattle.grs_wire.specs.Masks.{only}
+use Rattle.grs_wire.specs.Masks.{has, only}
 use Rattle.grs_wire.specs.declared.deck.Deck.{Deck}
 use Rattle.grs_wire.specs.declared.deck.Event.{Event}
 use Rattle.grs_wire.specs.declared.medium.RingBody.{RingBody}
@@ -15,10 +15,10 @@ use Rattle.grs_wire.specs.declared.medium.RingBody.TheVariants.{Request, Remove}
 use Rattle.grs_wire.specs.declared.medium.RingEntry.{RingEntry}
 use Rattle.grs_wire.specs.declared.request.Req.{Req}
 use Rattle.grs_wire.proofs.WantLaws.{by_test}
-use Rattle.rsa_message.specs.Message.{Message, stands_at, opened, never_opened, left_by, cleared, stamped, closed_by, turned, turned_closed}
+use Rattle.rsa_message.specs.Message.{Message, stands_at, opened, never_opened, left_by, cleared, dropped, stamped, closed_by, turned, turned_closed}
 use Rattle.grs_known.proofs.lists.Facts.{all-behind, take-none}
 use Rattle.grs_world.specs.World.{World, Turnout, placed, happens, run, first_world}
-use Rattle.grs_world.proofs.run.InRing.{Came, IsRing, changed, each_came, each_in_star, nothing, turn, went_on}
+use Rattle.grs_world.proofs.run.InRing.{Came, IsRing, changed, each_came, each_in_star, informed, live-there, no_such, nothing, removes_one, turn, went_on}
 use Rattle.grs_world.proofs.run.Laps.{turned_shut}
 use Rattle.grs_world.proofs.move.Changing.{IsChanging}
 use Rattle.grs_world.proofs.move.Sound.{GoodRun, every_run, in_ring, in_star}
@@ -28,10 +28,10 @@ use Rattle.grs_world.proofs.run.Each.{each_run}
 use Rattle.grs_known.proofs.system.Says.{is_home_at, own_requests}
 
 -- ---- what stands in the message
--- An entry of the message is a request of a task of the system that put it in.
+-- A request of the message is of a task of the system that put it in.
 abbrev pub IsHome : SysId → RingBody → Type 0
 IsHome s (Request q) = q.task.system.0 ≡ s.0
-IsHome s (Remove t) = ⊥
+IsHome s (Remove t) = Unit {0}
 
 abbrev pub AllHome : List RingEntry → Type 0
 AllHome [] = Unit {0}
@@ -60,17 +60,20 @@ home_put deck c number mask (suc k) (q ∷ qs) h = (eqb-true q.task.system.0 c.0
 module _ (deck : Deck) (fits : may_be_star deck ≡ true → FitsStar deck) where
   module _ (es : List Event) (e : Event) (h : AllHome (run deck es).medium.message.entries) where
     in_ring_next : IsRing deck (run deck es) → GoodWorld deck es (run deck es) → AllHome (happens deck (run deck es) e).medium.message.entries
-    unfolding placed closed_by
+    unfolding placed closed_by dropped
     in_ring_next ring g = each_came deck (run deck es) e (λ (x : World). AllHome x.medium.message.entries) ring h by_case
       where
-        by_case : (n : NodeState) (o : Turnout) → slice_get (run deck es).nodes e.system.0 ≡ Some n → Came deck (run deck es) e.system n o → AllHome o.medium.message.entries
-        by_case n o at (nothing flags) = h
-        by_case n o at (went_on t m) = h
-        by_case n o at (turn flags here) =
+        by_case : (n : NodeState) (o : Turnout) → slice_get (run deck es).nodes e.system.0 ≡ Some n → has (run deck es).medium.removed e.system.0 ≡ false → Came deck (run deck es) e.system n o → AllHome o.medium.message.entries
+        by_case n o at alive (nothing flags) = h
+        by_case n o at alive (went_on t m) = h
+        by_case n o at alive (turn flags here) =
             let old = (run deck es).medium.message in
             home_append (cleared e.system old.entries) (stamped old.next e.system (live (run deck es).medium) (take most_additions n.outbox)) (home_cleared e.system old.entries h)
-            (home_put deck e.system old.next (live (run deck es).medium) most_additions n.outbox (all-behind (λ q. is_home_at deck e.system.0 q.task) (own_requests e.system.0 (g.later e.system.0)) n.outbox ((g.systems e.system.0 n at).1).homes))
-        by_case n o at (changed next idle) = h
+            (home_put deck e.system old.next (live (run deck es).medium) most_additions n.outbox (all-behind (λ q. is_home_at deck e.system.0 q.task) (own_requests e.system.0 (g.later e.system.0)) n.outbox (g.systems e.system.0 n at (live-there deck (run deck es) ring e.system.0 n at alive)).homes))
+        by_case n o at alive (changed next idle) = h
+        by_case n o at alive informed = h
+        by_case n o at alive (removes_one target next there) = home_append (cleared target (run deck es).medium.message.entries) _ (home_cleared target (run deck es).medium.message.entries h) (tt, tt)
+        by_case n o at alive (no_such target next gone) = h
 
     in_star_next : IsChanging deck (run deck es) → AllHome (happens deck (run deck es) e).medium.message.entries
     in_star_next g = each_in_star deck (run deck es) e g.whole.roles.mode (λ m b. AllHome m.entries) h turns

@@ -8,6 +8,7 @@ use Rattle.grs_node.specs.Node.{NodeState, read_entries}
 use Rattle.grs_wire.specs.History.{replay}
 use Rattle.grs_wire.specs.declared.deck.Deck.{Deck}
 use Rattle.grs_wire.specs.declared.deck.Event.{Event}
+use Rattle.grs_wire.specs.Masks.{has}
 use Rattle.grs_wire.specs.Unseen.{unseen}
 use Rattle.grs_known.specs.Items.{rounds, lists, items}
 use Rattle.grs_known.proofs.known.Histories.{replayed}
@@ -18,11 +19,13 @@ use Rattle.grs_known.proofs.lists.Facts.{slice_get-past}
 use Rattle.grs_world.specs.Kept.{places, in_table, kept_in}
 use Rattle.grs_world.specs.Running.{is_live}
 use Rattle.grs_world.specs.World.{World, run}
+use Rattle.grs_medium.specs.Medium.{live as live_of}
+use Rattle.grs_world.proofs.run.InRing.{IsRing, live-is}
 use Rattle.grs_world.proofs.run.Messages.{given-later}
 use Rattle.grs_world.proofs.run.Outcomes.{turn_table}
 use Rattle.grs_world.proofs.run.Runs.{GoodWorld}
 
-module _ (deck : Deck) (es : List Event) (r : Res) (all : is_systems r ≡ true) (g : GoodWorld deck es (run deck es)) (mode : (run deck es).medium.star ≡ false) where
+module _ (deck : Deck) (es : List Event) (r : Res) (all : is_systems r ≡ true) (ring : IsRing deck (run deck es)) (g : GoodWorld deck es (run deck es)) (mode : (run deck es).medium.star ≡ false) where
   abbrev w : World
   w = run deck es
 
@@ -33,10 +36,10 @@ module _ (deck : Deck) (es : List Event) (r : Res) (all : is_systems r ≡ true)
       ∙ ap (λ s. list_of s r) (replayed deck (items w.fixed) g.history ∙ ap (replay deck.limit) (items_are_history w.fixed).0)
 
   -- A system that processes what it hasn't seen has processed all of them.
-  in_ring : (s : SysId) (n : NodeState) → slice_get (run deck es).nodes s.0 ≡ Some n → list_of (read_entries deck n (unseen s (run deck es).medium.message.entries)).shared r ≡ places deck es r
-  in_ring s n at =
-      let given = given-later w.medium s g.before (g.later s.0) (items w.fixed) (g.whole s.0) (g.systems s.0 n at).0 g.message in
-      ap (λ t. list_of t r) (turn_table deck s (items w.fixed) (g.before s.0) (g.later s.0) g.history (g.whole s.0) n (g.systems s.0 n at).1 (unseen s w.medium.message.entries) given) ∙ by_rounds
+  in_ring : (s : SysId) (n : NodeState) → slice_get (run deck es).nodes s.0 ≡ Some n → has (live_of (run deck es).medium) s.0 ≡ true → list_of (read_entries deck n (unseen s (run deck es).medium.message.entries)).shared r ≡ places deck es r
+  in_ring s n at alive =
+      let given = given-later w.medium s g.before (g.later s.0) (items w.fixed) (g.whole s.0) alive g.message in
+      ap (λ t. list_of t r) (turn_table deck s (items w.fixed) (g.before s.0) (g.later s.0) g.history (g.whole s.0) n (g.systems s.0 n at alive) (unseen s w.medium.message.entries) given) ∙ by_rounds
 
   pub kept_is : (s : SysId) → is_live (run deck es) s ≡ true → (star : Bool) → (run deck es).medium.star ≡ star → kept_in star deck (run deck es) s r ≡ places deck es r
   kept_is s live true is = let no : true ≡ false = sym is ∙ mode in absurd (cc)
@@ -44,4 +47,4 @@ module _ (deck : Deck) (es : List Event) (r : Res) (all : is_systems r ≡ true)
     where
       go : (o : Option NodeState) → slice_get (run deck es).nodes s.0 ≡ o → in_table deck (run deck es) s o r ≡ places deck es r
       go None at = let past = slice_get-past w.nodes s.0 at in absurd (grind (arith, live, past))
-      go (Some n) at = in_ring s n at
+      go (Some n) at = in_ring s n at (live-is deck w ring s.0 ∙ live)

@@ -1,9 +1,11 @@
 -- A request comes back last: the message goes round in each world that a run reaches, so what an event gives a system
 -- of its own is left to it alone.
-use Rattle.std.proofs.Common.{ℕ, ◌≡◌, Bool, true, false, cond, ◌&&◌, List, [], ◌∷◌, ◌++◌, length, Option, Some, None, refl, sym, ap, subst, arith, ◌∙◌}
-use Rattle.std.specs.Prelude.{slice_get, take}
+use Rattle.std.proofs.Common.{ℕ, ◌≡◌, ◌<◌, not, Bool, true, false, cond, ◌&&◌, List, [], ◌∷◌, ◌++◌, length, Option, Some, None, refl, sym, ap, subst, arith, ◌∙◌}
+use Rattle.std.specs.Prelude.{slice_get, take, nat_lt}
+use Rattle.std.proofs.lemmas.Bool.{and_parts, and_right, ltb-true}
 use Rattle.grs_base.specs.declared.resource.SysId.{SysId}
-use Rattle.grs_wire.specs.Masks.{others}
+use Rattle.grs_wire.specs.Masks.{has, others, with_also}
+use Rattle.grs_wire.proofs.MaskLaws.{has-with_same, has-with_other}
 use Rattle.grs_wire.specs.declared.deck.Deck.{Deck}
 use Rattle.grs_wire.specs.declared.deck.Event.{Event}
 use Rattle.grs_wire.specs.declared.medium.Act.{Act}
@@ -13,7 +15,7 @@ use Rattle.grs_wire.specs.declared.medium.RingBody.TheVariants.{Request}
 use Rattle.grs_wire.specs.declared.medium.RingEntry.{RingEntry}
 use Rattle.grs_wire.specs.declared.request.Req.{Req}
 use Rattle.grs_wire.proofs.WantLaws.{by_test}
-use Rattle.rsa_message.specs.Message.{Message, stands_at, opened, never_opened, turn_reply, turned, turned_open, turned_closed, any_unseen, closed_by, first_number}
+use Rattle.rsa_message.specs.Message.{Message, stands_at, opened, never_opened, turn_reply, turned, turned_open, turned_closed, any_unseen, closed_by, dropped, first_number}
 use Rattle.grs_wire.specs.Unseen.{unseen}
 use Rattle.rsa_message.proofs.OrderLaws.{stands_at-exact}
 use Rattle.grs_medium.specs.Medium.{MediumState, first_medium, live, all_rest, medium_at_end, inbox, word}
@@ -23,7 +25,8 @@ use Rattle.grs_base.specs.Limits.{most_additions}
 use Rattle.grs_world.proofs.run.Each.{each_answer, each_run}
 use Rattle.grs_world.specs.Laps.{OnlyLeft, ComesBackLast, given_by, given_when, given_at, ProcessedLast}
 use Rattle.grs_world.specs.World.{World, first_world, placed, happens, run, Turnout}
-use Rattle.grs_world.proofs.message.LapsMessage.{Round, left_at_home, last_at_home, unseen_awaited, closed_round, closed_turn, none_unseen, open_round}
+use Rattle.grs_world.proofs.message.LapsMessage.{Round, left_at_home, last_at_home, unseen_awaited, closed_round, closed_turn, dropped_round, none_unseen, open_round}
+use Rattle.grs_world.proofs.message.Stands.{has-live, has-others}
 use Rattle.grs_wire.specs.declared.medium.Mail.{Mail}
 use Rattle.grs_wire.specs.declared.medium.Reply.{Reply}
 use Rattle.grs_wire.specs.LockWords.{interest, is_kept, leave_reply}
@@ -32,38 +35,46 @@ use Rattle.lock_structure.specs.declared.word.Route.{Route}
 use Rattle.lock_structure.specs.declared.word.Route.TheVariants as routes
 use Rattle.grs_node.specs.declared.prepared.Prepared.{Prepared}
 use Rattle.grs_node.specs.declared.prepared.Prepared.TheVariants.{Call, Nothing, Quiet}
-use Rattle.grs_world.proofs.run.InRing.{Came, IsRing, changed, each_came, each_in_star, is_ring, nothing, turn, went_on}
+use Rattle.grs_world.proofs.run.InRing.{Came, IsRing, changed, each_came, each_in_star, informed, is_ring, live-there, no_such, nothing, removes_one, star-stays, turn, went_on}
+use Rattle.grs_world.proofs.run.Purges.{star_keeps}
 
--- This holds of the medium in a run.
-pub record Goes (m : MediumState) : Type 0 where
+-- This holds of the medium in a run of so many systems.
+pub record Goes (count : ℕ) (m : MediumState) : Type 0 where
   -- The message goes round.
-  pub round : Round m.message
+  pub round : Round m.message (live m)
   -- In star mode it is closed.
   pub closed : m.star ≡ true → m.message.closed ≡ true
+  -- It goes round so many systems.
+  pub around : m.message.systems ≡ count
 
 -- ---- at the start
-closed_at_start : (n : ℕ) → Round (never_opened n)
+closed_at_start : (n : ℕ) → Round (never_opened n) (others n 0)
 unfolding any_unseen
 closed_at_start n = record {
   shut = λ e u low h. absurd cc;
   inside = λ h e. absurd cc;
   awaited = λ h e. absurd cc;
   ends = tt;
+  masks = λ u h. absurd cc;
+  holder = λ e. absurd cc;
 }
 
-open_at_start : (n : ℕ) → Round (opened n)
+open_at_start : (n : ℕ) → Round (opened n) (others n 0)
+unfolding any_unseen
 open_at_start n = record {
   shut = λ e. absurd cc;
   inside = λ h e some. let zero_at : h.0 ≡ 0 = cc in omega arith;
   awaited = λ h e. tt;
   ends = tt;
+  masks = λ u h. absurd cc;
+  holder = λ e u low lives. (record { 0 = 0 }, refl, has-others n 0 (omega (arith, low)));
 }
 
-goes_at_start : (n entries : ℕ) (star : Bool) → Goes (first_medium n entries star)
-goes_at_start n entries false = record { round = open_at_start n; closed = λ e. absurd cc }
-goes_at_start n entries true = record { round = closed_at_start n; closed = λ e. refl }
+goes_at_start : (n entries : ℕ) (star : Bool) → Goes n (first_medium n entries star)
+goes_at_start n entries false = record { round = open_at_start n; closed = λ e. absurd cc; around = refl }
+goes_at_start n entries true = record { round = closed_at_start n; closed = λ e. refl; around = refl }
 
-begun : (deck : Deck) → Goes (first_world deck).medium
+begun : (deck : Deck) → Goes (length deck.systems) (first_world deck).medium
 unfolding first_world
 begun deck = goes_at_start (length deck.systems) deck.entries deck.star
 
@@ -73,46 +84,81 @@ pub turned_shut : (m : Message) (c : SysId) (out : List Req) (live rest : ℕ) �
 unfolding turned
 turned_shut m c out live rest shut = ap (λ b. cond (stands_at m.holder c) (cond b (turned_closed m c) (turned_open m c out live rest)) m) shut
 
-shut_goes : (m : Message) (c : SysId) (out : List Req) (live rest : ℕ) → Round m → m.closed ≡ true → Round (turned m c out live rest) × ((turned m c out live rest).closed ≡ true)
-shut_goes m c out live rest round shut = subst (λ x. Round x × (x.closed ≡ true)) (sym (turned_shut m c out live rest shut))
-    (by_test (λ x. Round x × (x.closed ≡ true)) (stands_at m.holder c) (turned_closed m c) m (λ here. (closed_turn m c round (stands_at-exact m.holder c here) shut, shut)) (λ away. (round, shut)))
+-- what stays so of the message in star mode
+abbrev Stays : Message → ℕ → Message → Type 0
+Stays m live x = Round x live × (x.closed ≡ true) × (x.systems ≡ m.systems)
 
-star_goes : (deck : Deck) (w : World) (e : Event) → w.medium.star ≡ true → Goes w.medium → Goes (happens deck w e).medium
+shut_goes : (m : Message) (c : SysId) (out : List Req) (live rest : ℕ) → Round m live → m.closed ≡ true → Stays m live (turned m c out live rest)
+shut_goes m c out live rest round shut = subst (Stays m live) (sym (turned_shut m c out live rest shut))
+    (by_test (Stays m live) (stands_at m.holder c) (turned_closed m c) m (λ here. (closed_turn m c live round (stands_at-exact m.holder c here) shut, shut, refl)) (λ away. (round, shut, refl)))
+
+star_goes : (deck : Deck) (w : World) (e : Event) → w.medium.star ≡ true → Goes (length deck.systems) w.medium → Goes (length deck.systems) (happens deck w e).medium
 star_goes deck w e star g =
-    let all = each_in_star deck w e star (λ x b. Round x × (x.closed ≡ true)) (g.round, g.closed star) (λ out. shut_goes w.medium.message e.system out (live w.medium) w.medium.rest g.round (g.closed star)) in
-    record { round = all.0; closed = λ z. all.1 }
+    let all = each_in_star deck w e star (λ x b. Stays w.medium.message (live w.medium) x) (g.round, g.closed star, refl) (λ out. shut_goes w.medium.message e.system out (live w.medium) w.medium.rest g.round (g.closed star)) in
+    let same : live (happens deck w e).medium ≡ live w.medium = ap (λ i. others i (happens deck w e).medium.removed) all.2 ∙ ap (others w.medium.message.systems) (star_keeps deck w e star) in
+    record { round = subst (Round (happens deck w e).medium.message) (sym same) all.0; closed = λ z. all.1; around = all.2 ∙ g.around }
 
-ring_goes : (deck : Deck) (w : World) (e : Event) → IsRing deck w → Goes w.medium → Goes (happens deck w e).medium
-unfolding placed closed_by
-ring_goes deck w e ring g = each_came deck w e (λ (x : World). Goes x.medium) ring (record { round = g.round; closed = g.closed }) (λ n o at came. by_case n o came)
+ring_goes : (deck : Deck) (w : World) (e : Event) → IsRing deck w → Goes (length deck.systems) w.medium → Goes (length deck.systems) (happens deck w e).medium
+unfolding placed closed_by dropped
+ring_goes deck w e ring g = each_came deck w e (λ (x : World). Goes (length deck.systems) x.medium) ring (record { round = g.round; closed = g.closed; around = g.around }) (λ n o at alive came. by_case n o (live-there deck w ring e.system.0 n at alive) came)
   where
-    all : live w.medium ≡ others w.medium.message.systems 0
-    all = ap (others w.medium.message.systems) ring.removed
+    below : (u : ℕ) → has (live w.medium) u ≡ true → u < w.medium.message.systems
+    below u h = ltb-true u w.medium.message.systems (and_parts (nat_lt u w.medium.message.systems) (not (has w.medium.removed u)) (sym (has-live w.medium.message.systems w.medium.removed u) ∙ h)).0
 
-    by_case : (n : NodeState) (o : Turnout) → Came deck w e.system n o → Goes o.medium
-    by_case n o (nothing flags) = record { round = g.round; closed = g.closed }
-    by_case n o (went_on t may) = g
-    by_case n o (turn flags here) = record {
-      round = open_round w.medium.message e.system (take most_additions n.outbox) (live w.medium) w.medium.rest g.round all (stands_at-exact w.medium.message.holder e.system here) ring.unclosed;
+    -- a system is removed
+    without_one : (target : SysId) → is_live w.medium target ≡ true → Goes (length deck.systems) (without_system w.medium e.system target)
+    without_one target lives =
+        let n : ℕ = w.medium.message.systems in
+        let now : ℕ = with_also w.medium.removed target.0 in
+        record {
+          round = dropped_round w.medium.message e.system target (live w.medium) (others n now) g.round ring.unclosed (ltb-true target.0 n (and_parts (nat_lt target.0 n) (not (has w.medium.removed target.0)) lives).0)
+              (has-live n now target.0 ∙ and_right (nat_lt target.0 n) (not (has now target.0)) (ap not (has-with_same w.medium.removed target.0)))
+              (λ u ne. has-live n now u ∙ (ap (λ b. nat_lt u n && not b) (has-with_other w.medium.removed target.0 u ne) ∙ sym (has-live n w.medium.removed u)));
+          closed = λ z. absurd (let no : true ≡ false = sym z ∙ ring.mode in cc);
+          around = g.around;
+        }
+
+    by_case : (n : NodeState) (o : Turnout) → has (live w.medium) e.system.0 ≡ true → Came deck w e.system n o → Goes (length deck.systems) o.medium
+    by_case n o alive (nothing flags) = record { round = g.round; closed = g.closed; around = g.around }
+    by_case n o alive (went_on t may) = g
+    by_case n o alive informed = g
+    by_case n o alive (no_such target next gone) = g
+    by_case n o alive (removes_one target next there) = without_one target there
+    by_case n o alive (turn flags here) = record {
+      round = open_round w.medium.message e.system (take most_additions n.outbox) (live w.medium) w.medium.rest g.round below alive (stands_at-exact w.medium.message.holder e.system here) ring.unclosed;
       closed = λ z. absurd (let no : true ≡ false = sym z ∙ ring.mode in cc);
+      around = g.around;
     }
-    by_case n o (changed next idle) = record {
-      round = closed_round w.medium.message e.system (live w.medium) g.round all (none_unseen e.system w.medium.message.entries idle);
+    by_case n o alive (changed next idle) = record {
+      round = closed_round w.medium.message e.system (live w.medium) g.round (none_unseen e.system w.medium.message.entries idle);
       closed = λ z. refl;
+      around = g.around;
     }
 
-pub goes : (deck : Deck) → deck.star ≡ false → (es : List Event) → Goes (run deck es).medium
-goes deck h = each_run deck (λ es (w : World). Goes w.medium) (begun deck) step
+pub goes : (deck : Deck) → deck.star ≡ false → (es : List Event) → Goes (length deck.systems) (run deck es).medium
+goes deck h = each_run deck (λ es (w : World). Goes (length deck.systems) w.medium) (begun deck) step
   where
-    step : (es : List Event) (e : Event) → Goes (run deck es).medium → Goes (happens deck (run deck es) e).medium
+    step : (es : List Event) (e : Event) → Goes (length deck.systems) (run deck es).medium → Goes (length deck.systems) (happens deck (run deck es) e).medium
     step es e g = go (run deck es).medium.star refl
       where
-        go : (b : Bool) → (run deck es).medium.star ≡ b → Goes (happens deck (run deck es) e).medium
+        go : (b : Bool) → (run deck es).medium.star ≡ b → Goes (length deck.systems) (happens deck (run deck es) e).medium
         go true is = star_goes deck (run deck es) e is g
         go false is = ring_goes deck (run deck es) e (is_ring deck h es is) g
 
+-- So it is of a deck that begins in star mode, which stays in it.
+stays_star : (deck : Deck) → deck.star ≡ true → (es : List Event) → ((run deck es).medium.star ≡ true) × Goes (length deck.systems) (run deck es).medium
+unfolding first_world
+stays_star deck h = each_run deck (λ es w. (w.medium.star ≡ true) × Goes (length deck.systems) w.medium) (h, begun deck) (λ es e g. (star-stays deck (run deck es) e g.0, star_goes deck (run deck es) e g.0 g.1))
+
+pub goes_on : (deck : Deck) (es : List Event) → Goes (length deck.systems) (run deck es).medium
+goes_on deck es = go deck.star refl
+  where
+    go : (b : Bool) → deck.star ≡ b → Goes (length deck.systems) (run deck es).medium
+    go true h = (stays_star deck h es).1
+    go false h = goes deck h es
+
 pub comes_back_last : ComesBackLast
-comes_back_last deck h es = last_at_home (run deck es).medium.message (goes deck h es).round
+comes_back_last deck h es = last_at_home (run deck es).medium.message (live (run deck es).medium) (goes deck h es).round
 
 -- ---- what the next event gives
 -- Of these entries a system's own are left to it alone.
@@ -123,15 +169,15 @@ no_gift : (s : SysId) → Gives s []
 no_gift s [] behind entry q is body from = absurd cc
 no_gift s (x ∷ before) behind entry q is body from = absurd cc
 
-turn_gift : (m : MediumState) (s : SysId) (out : List Req) → Round m.message → Gives s (given_by (row m s (Turn out)).0)
+turn_gift : (m : MediumState) (s : SysId) (out : List Req) → Round m.message (live m) → Gives s (given_by (row m s (Turn out)).0)
 unfolding row turn_row turn_reply
 turn_gift m s out round =
     by_test (λ r. Gives s (given_by r)) (stands_at m.message.holder s) (Turned (unseen s m.message.entries) (cond m.message.closed 0 (length out)) m.message.closed) (NotYours m.message.holder)
-    (λ here before behind entry q is body from. left_at_home m.message.systems s (unseen s m.message.entries) before behind entry (unseen_awaited m.message.systems s m.message.entries (round.awaited s (stands_at-exact m.message.holder s here))) is from)
+    (λ here before behind entry q is body from. left_at_home m.message.systems s (unseen s m.message.entries) before behind entry q (unseen_awaited m.message.systems s m.message.entries (round.awaited s (stands_at-exact m.message.holder s here))) is body from)
     (λ away. no_gift s)
 
 -- No other call gives any.
-row_gift : (m : MediumState) (s : SysId) (act : Act) → Round m.message → Gives s (given_by (row m s act).0)
+row_gift : (m : MediumState) (s : SysId) (act : Act) → Round m.message (live m) → Gives s (given_by (row m s act).0)
 unfolding row switch_row submit_row take_row mail_row leave_row leave_reply purge_row rest_row
 row_gift m s (Turn out) round = turn_gift m s out round
 row_gift m s (Switch words) round = go m.star (first_number (unseen s m.message.entries))
@@ -161,7 +207,7 @@ row_gift m s (Purge target) round = go m.star (is_live m target)
     go false false = no_gift s
 row_gift m s Rest round = by_test (λ r. Gives s (given_by r)) (all_rest (resting m s) && medium_at_end (resting m s)) Over Resting (λ t. no_gift s) (λ t. no_gift s)
 
-prepared_gift : (m : MediumState) (s : SysId) (p : Prepared) → Round m.message → Gives s (given_when m s p)
+prepared_gift : (m : MediumState) (s : SysId) (p : Prepared) → Round m.message (live m) → Gives s (given_when m s p)
 prepared_gift m s Nothing round = no_gift s
 prepared_gift m s Quiet round = no_gift s
 prepared_gift m s (Call call) round = each_answer m s call (λ a. Gives s (given_by a.0)) (no_gift s) (no_gift s) (row_gift m s call.act round)

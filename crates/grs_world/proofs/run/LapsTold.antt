@@ -44,14 +44,14 @@ use Rattle.grs_world.proofs.run.Messages.{given-later, given-due}
 use Rattle.grs_known.proofs.told.News.{told-fewer, ToldNews}
 use Rattle.grs_world.proofs.run.Outcomes.{turn_told}
 use Rattle.grs_world.proofs.run.Runs.{GoodWorld}
-use Rattle.grs_world.proofs.run.Each.{run-push, each_event}
+use Rattle.grs_world.proofs.run.Each.{run-push, each_live}
 use Rattle.grs_known.proofs.system.Askers.{among-front, askers-append}
 use Rattle.grs_world.proofs.system.AtNode.{QuietStep, keeps, fixes}
 use Rattle.grs_world.proofs.system.Quiet.{quiet}
 use Rattle.grs_known.proofs.system.Says.{ToldBy, askers, own_asked, own_requests, is_line_of}
 use Rattle.grs_world.proofs.run.Home.{IsHome, AllHome, all_home}
-use Rattle.grs_world.proofs.run.Desks.{EventTells, tells_already, tells_done, tells_tasks}
-use Rattle.grs_world.proofs.move.Late.{CameLate, came_late, desk_late, nothing_late, task_late, turn_late}
+use Rattle.grs_world.proofs.run.Desks.{EventTells, tells_already, tells_done, tells_in_star, tells_no_such, tells_removed, tells_tasks}
+use Rattle.grs_world.proofs.move.Late.{CameLate, came_late, desk_late, informed_late, nothing_late, task_late, turn_late, vary_late}
 use Rattle.grs_world.proofs.move.Changing.{IsChanging, Shown, Waits, has_changed, waits_yet}
 use Rattle.grs_world.proofs.move.Begin.{switch-moved}
 use Rattle.grs_world.proofs.move.Decks.{order-may}
@@ -66,16 +66,18 @@ use Rattle.grs_wire.specs.declared.told.Said.{Said}
 use Rattle.grs_wire.specs.declared.told.Said.TheVariants as saids
 use Rattle.grs_wire.specs.declared.told.Told.{Told}
 use Rattle.std.proofs.lemmas.Option.{slice_get_within}
-use Rattle.grs_world.proofs.run.InRing.{Came, IsRing, changed, each_came, nothing, turn, went_on}
+use Rattle.grs_world.proofs.run.InRing.{Came, IsRing, changed, each_came, informed, live-there, no_such, nothing, removes_one, turn, went_on}
+use Rattle.grs_world.proofs.run.Removals.{taken_out}
+use Rattle.grs_world.proofs.run.Sound.{removed-told}
 
 -- ---- the entries of the message, one of them
 home_of : (before behind : List RingEntry) (e : RingEntry) → AllHome (before ++ e ∷ behind) → IsHome e.from e.body
 home_of [] behind e a = a.0
 home_of (x ∷ before) behind e a = home_of before behind e a.1
 
-ends_of : (before behind : List RingEntry) (e : RingEntry) → AllEndAtHome (before ++ e ∷ behind) → EndsAtHome e
-ends_of [] behind e a = a.0
-ends_of (x ∷ before) behind e a = ends_of before behind e a.1
+ends_of : (live : ℕ) (before behind : List RingEntry) (e : RingEntry) → AllEndAtHome live (before ++ e ∷ behind) → EndsAtHome live e
+ends_of live [] behind e a = a.0
+ends_of live (x ∷ before) behind e a = ends_of live before behind e a.1
 
 -- The request of a system's task that an entry is waits there.
 among_bodies : (s : ℕ) (xs : List RunItem) (before behind : List RingEntry) (e : RingEntry) (q : Req) → Bodies (fixeds xs) (before ++ e ∷ behind) → e.body ≡ Request q → q.task.system.0 ≡ s → is_among q.task (askers (own_requests s xs)) ≡ true
@@ -153,18 +155,18 @@ module _ (deck : Deck) (begins : deck.star ≡ false) (fits : may_be_star deck �
       let m = w.medium.message in
       let mine : IsHome entry.from entry.body = home_of before behind entry (subst AllHome is (all_home deck fits es)) in
       let from : entry.from ≡ t.system = ap (λ (x : ℕ). let y : SysId = record { 0 = x } in y) (from_home t entry q body same mine) in
-      left_at_home m.systems t.system m.entries before behind entry ((goes deck begins es).round.awaited t.system (stands_at-exact m.holder e.system here ∙ ap Some (sym (its_system t home)))) is from
+      left_at_home m.systems t.system m.entries before behind entry q ((goes deck begins es).round.awaited t.system (stands_at-exact m.holder e.system here ∙ ap Some (sym (its_system t home)))) is body from
 
   -- nobody was told an answer
   none_told : (m : MediumState) (told : List Told) → ((t : TaskId) → list_any (λ x. answers t x.line) (drop (length w.told) told) ≡ false) →
       (t : TaskId) → list_any (λ x. answers t x.line) (drop (length w.told) told) ≡ true → Last t × LeftHome t m.message.entries
   none_told m told none t a = absurd (let f : true ≡ false = sym a ∙ none t in cc)
 
-  module _ (n : NodeState) (due : List RunItem) (given : Bodies (fixeds due) (unseen e.system w.medium.message.entries)) where
+  module _ (n : NodeState) (alive : has (live w.medium) e.system.0 ≡ true) (due : List RunItem) (given : Bodies (fixeds due) (unseen e.system w.medium.message.entries)) where
     -- and where the task has no request that its system has still to process.
     at_rest : (t : TaskId) → t.system.0 ≡ s → is_among t (askers (own_requests e.system.0 due)) ≡ false → Last t
     unfolding unseen
-    at_rest t home none before behind entry q is body same u other = ends_of before behind entry (subst AllEndAtHome is (goes deck begins es).round.ends) (seen_by (has entry.mask entry.from.0) refl) u
+    at_rest t home none before behind entry q is body same u other = ends_of (live w.medium) before behind entry (subst (AllEndAtHome (live w.medium)) is (goes deck begins es).round.ends) q body (ap (has (live w.medium)) mine ∙ alive) (seen_by (has entry.mask entry.from.0) refl) u
       where
         mine : entry.from.0 ≡ e.system.0
         mine = from_home t entry q body same (home_of before behind entry (subst AllHome is (all_home deck fits es))) ∙ home
@@ -213,68 +215,86 @@ module _ (deck : Deck) (begins : deck.star ≡ false) (fits : may_be_star deck �
     unfolding placed
     by_lines o news each t a = each t (lines_home s t news.lines news.ours (sym (told_now o.step.node news.lines news.is t) ∙ a))
 
-    by_tells : (H : List HistEntry) (o : Turnout) (before after : Bool) → EventTells deck e.system H n o.step.node before after → ((t : TaskId) → t.system.0 ≡ s → Last t × LeftHome t o.medium.message.entries) → Right (placed w e.system n o)
+    by_tells : (H : List HistEntry) (o : Turnout) (before after : Bool) → EventTells deck e.system H o.step.fixed n o.step.node before after → ((t : TaskId) → t.system.0 ≡ s → Last t × LeftHome t o.medium.message.entries) → Right (placed w e.system n o)
     by_tells H o before after (tells_tasks news done mode) each = by_lines o news each
     by_tells H o before after (tells_done next told done ring was now) each = by_desk o (n.done + 1) saids.StarDone told
     by_tells H o before after (tells_already next told done was now) each = by_desk o (n.done + 1) saids.StarAlready told
+    by_tells H o before after (tells_removed target next told done mode one) each = by_desk o (n.done + 1) saids.VaryDone told
+    by_tells H o before after (tells_no_such target next told done mode gone) each = by_desk o (n.done + 1) saids.VaryNoSuch told
+    by_tells H o before after (tells_in_star target next told done was now) each = by_desk o (n.done + 1) saids.VaryInStar told
 
   -- ---- in ring mode
-  module _ (ring : IsRing deck w) (g : GoodWorld deck es w) (n : NodeState) (at : slice_get w.nodes e.system.0 ≡ Some n) where
+  module _ (ring : IsRing deck w) (g : GoodWorld deck es w) (n : NodeState) (at : slice_get w.nodes e.system.0 ≡ Some n) (there : has w.medium.removed e.system.0 ≡ false) where
+    alive_here : has (live w.medium) e.system.0 ≡ true
+    alive_here = live-there deck w ring s n at there
+
     given : Bodies (fixeds (g.later e.system.0)) (unseen e.system w.medium.message.entries)
-    given = given-later w.medium e.system g.before (g.later s) (items w.fixed) (g.whole s) (g.systems s n at).0 g.message
+    given = given-later w.medium e.system g.before (g.later s) (items w.fixed) (g.whole s) alive_here g.message
 
     right : (o : Turnout) → Came deck w e.system n o → Right (placed w e.system n o)
     unfolding placed
-    right o (nothing flags) = by_nothing n (g.later s) given o refl
-    right o (went_on task may) = by_quiet n (g.later s) given (items w.fixed) (g.before s) (g.later s) o.step (quiet deck s e.system (items w.fixed) (g.before s) (g.later s) (own_requests s (g.later s)) n task (ring.alone s n at) g.history (g.systems s n at).1 may)
+    right o (nothing flags) = by_nothing n alive_here (g.later s) given o refl
+    right o informed = by_nothing n alive_here (g.later s) given o refl
+    right o (removes_one target next lives) = by_desk n alive_here (g.later s) given o (n.done + 1) saids.VaryDone (removed-told n target)
+    right o (no_such target next gone) = by_desk n alive_here (g.later s) given o (n.done + 1) saids.VaryNoSuch (desk-told n saids.VaryNoSuch)
+    right o (went_on task may) = by_quiet n alive_here (g.later s) given (items w.fixed) (g.before s) (g.later s) o.step (quiet deck s e.system (items w.fixed) (g.before s) (g.later s) (own_requests s (g.later s)) n task (ring.alone s n at) g.history (g.systems s n at alive_here) may)
     right o (turn flags here) = λ t a.
         let out = take most_additions n.outbox in
         let after : NodeState = (put_in (read_entries deck n (unseen e.system w.medium.message.entries)) (length out)).node in
-        let m : Answered s n.outbox n.tasks.told after.tasks.told = answered-by (turn_told deck e.system (items w.fixed) (g.before s) (g.later s) g.history (g.whole s) n (length out) (g.systems s n at).1 (unseen e.system w.medium.message.entries) given) in
-        let answered = sym (told_now n (g.later s) given after m.lines m.is t) ∙ a in
+        let m : Answered s n.outbox n.tasks.told after.tasks.told = answered-by (turn_told deck e.system (items w.fixed) (g.before s) (g.later s) g.history (g.whole s) n (length out) (g.systems s n at alive_here) (unseen e.system w.medium.message.entries) given) in
+        let answered = sym (told_now n alive_here (g.later s) given after m.lines m.is t) ∙ a in
         let last : Last t = at_home here t (lines_home s t m.lines m.ours answered) in
         (last, left_turned t e.system w.medium.message.next (live w.medium) most_additions n.outbox w.medium.message.entries last (m.clear t answered))
     right o (changed next idle) =
         let f : FitsStar deck = fits (order-may deck n next) in
-        let moved = switch-moved deck begins (entries_some deck.entries f.entries) f.few w ring g.history g.before g.later g.whole g.message g.systems e.system n at next idle in
+        let moved = switch-moved deck begins (entries_some deck.entries f.entries) f.few w ring g.history (taken_out deck es) g.before g.later g.whole g.message g.systems e.system n at there next idle in
         changes (history (items (w.fixed ++ fixed_by e.system []))) o moved.news
       where
-        changes : (H : List HistEntry) (x : Turnout) → EventTells deck e.system H n x.step.node w.medium.star true → Right (placed w e.system n x)
+        changes : (H : List HistEntry) (x : Turnout) → EventTells deck e.system H x.step.fixed n x.step.node w.medium.star true → Right (placed w e.system n x)
         changes H x (tells_tasks news done mode) = absurd (let z : true ≡ false = mode ∙ ring.mode in cc)
-        changes H x (tells_done next told done star was now) = by_desk n (g.later s) given x (n.done + 1) saids.StarDone told
-        changes H x (tells_already next told done was now) = by_desk n (g.later s) given x (n.done + 1) saids.StarAlready told
+        changes H x (tells_done next told done star was now) = by_desk n alive_here (g.later s) given x (n.done + 1) saids.StarDone told
+        changes H x (tells_already next told done was now) = by_desk n alive_here (g.later s) given x (n.done + 1) saids.StarAlready told
+        changes H x (tells_removed target next told done mode one) = absurd (let z : true ≡ false = mode ∙ ring.mode in cc)
+        changes H x (tells_no_such target next told done mode gone) = absurd (let z : true ≡ false = mode ∙ ring.mode in cc)
+        changes H x (tells_in_star target next told done was now) = by_desk n alive_here (g.later s) given x (n.done + 1) saids.VaryInStar told
 
   -- ---- once the medium is in star mode
   module _ (f : FitsStar deck) (g : IsChanging deck w) where
-    given_star : (n : NodeState) → slice_get w.nodes e.system.0 ≡ Some n → Bodies (fixeds (g.due e.system.0)) (unseen e.system w.medium.message.entries)
-    given_star n at = given-due w.medium e.system g.before (g.due s) g.log (g.parts s) (alive deck w g e.system n at) g.message
+    given_star : has (live w.medium) e.system.0 ≡ true → Bodies (fixeds (g.due e.system.0)) (unseen e.system w.medium.message.entries)
+    given_star lives = given-due w.medium e.system g.before (g.due s) g.log (g.parts s) lives g.message
 
     inside : (n : NodeState) → slice_get w.nodes e.system.0 ≡ Some n → e.system.0 < most_systems
     inside n at = let here = slice_get_within w.nodes e.system.0 n at in omega (arith, here, g.count, f.few)
 
-    -- a system that hasn't changed
-    late_right : (n : NodeState) (at : slice_get w.nodes e.system.0 ≡ Some n) → Waits deck e.system.0 (items w.fixed) (g.before e.system.0) (g.due e.system.0) g.since n → (o : Turnout) → CameLate deck w e.system n o → EventTells deck e.system (history (items (w.fixed ++ fixed_by e.system o.step.fixed))) n o.step.node w.medium.star o.medium.star → Right (placed w e.system n o)
-    late_right n at h o (nothing_late flags) tells = by_nothing n (g.due s) (given_star n at) o refl
-    late_right n at h o (task_late task may) tells = by_quiet n (g.due s) (given_star n at) (items w.fixed) (g.before s) (g.due s ++ g.since) o.step (quiet deck s e.system (items w.fixed) (g.before s) (g.due s ++ g.since) (own_requests s (g.due s)) n task h.alone g.whole.right h.seen may)
-    late_right n at h o (turn_late flags here) tells = by_tells n (g.due s) (given_star n at) (history (items (w.fixed ++ fixed_by e.system o.step.fixed))) o w.medium.star o.medium.star tells
-        (λ t home. let last : Last t = at_home here t home in (last, left_behind t e.system w.medium.message.entries last))
-    late_right n at h o (desk_late next) tells = by_desk n (g.due s) (given_star n at) o (n.done + 1) saids.StarAlready (desk-told n saids.StarAlready)
+    module _ (unremoved : has w.medium.removed e.system.0 ≡ false) where
+      lives_at : (n : NodeState) → slice_get w.nodes e.system.0 ≡ Some n → has (live w.medium) e.system.0 ≡ true
+      lives_at n at = alive deck w g e.system n at unremoved
 
-    star_right : (n : NodeState) (at : slice_get w.nodes e.system.0 ≡ Some n) → Right (placed w e.system n (chosen deck w.medium e.system n e.choice))
-    star_right n at = by_shown (g.shown s n at).0 n at (g.shown s n at).1 (g.shown s n at).2
-      where
-        some : 0 < deck.entries
-        some = entries_some deck.entries f.entries
+      -- a system that hasn't changed
+      late_right : (n : NodeState) (at : slice_get w.nodes e.system.0 ≡ Some n) → Waits deck e.system.0 (items w.fixed) (g.before e.system.0) (g.due e.system.0) g.since n → (o : Turnout) → CameLate deck w e.system n o → EventTells deck e.system (history (items (w.fixed ++ fixed_by e.system o.step.fixed))) o.step.fixed n o.step.node w.medium.star o.medium.star → Right (placed w e.system n o)
+      late_right n at h o (nothing_late flags) tells = by_nothing n (lives_at n at) (g.due s) (given_star (lives_at n at)) o refl
+      late_right n at h o informed_late tells = by_nothing n (lives_at n at) (g.due s) (given_star (lives_at n at)) o refl
+      late_right n at h o (task_late task may) tells = by_quiet n (lives_at n at) (g.due s) (given_star (lives_at n at)) (items w.fixed) (g.before s) (g.due s ++ g.since) o.step (quiet deck s e.system (items w.fixed) (g.before s) (g.due s ++ g.since) (own_requests s (g.due s)) n task h.alone g.whole.right h.seen may)
+      late_right n at h o (turn_late flags here) tells = by_tells n (lives_at n at) (g.due s) (given_star (lives_at n at)) (history (items (w.fixed ++ fixed_by e.system o.step.fixed))) o w.medium.star o.medium.star tells
+          (λ t home. let last : Last t = at_home here t home in (last, left_behind t e.system w.medium.message.entries last))
+      late_right n at h o (desk_late next) tells = by_desk n (lives_at n at) (g.due s) (given_star (lives_at n at)) o (n.done + 1) saids.StarAlready (desk-told n saids.StarAlready)
+      late_right n at h o (vary_late target next) tells = by_desk n (lives_at n at) (g.due s) (given_star (lives_at n at)) o (n.done + 1) saids.VaryInStar (desk-told n saids.VaryInStar)
 
-        by_shown : (k m : NodeState) (here : slice_get w.nodes e.system.0 ≡ Some m) → slice_get g.view e.system.0 ≡ Some k → Shown deck e.system.0 (items w.fixed) (g.before e.system.0) (g.due e.system.0) g.since (g.whole.out e.system.0) k m → Right (placed w e.system m (chosen deck w.medium e.system m e.choice))
-        by_shown k m here there (waits_yet x h is empty) = late_right x here h (chosen deck w.medium e.system x e.choice)
-            (came_late deck w g.whole.roles.mode g.closed g.whole.roles.removed e.system x h.alone h.known e.choice) (event-moved deck some w g e.system (inside x here) x here e.choice).news
-        by_shown k m here there (has_changed none) =
-            let o : Turnout = chosen deck w.medium e.system k e.choice in
-            let step : IsStep deck (record w { nodes = g.view }) e.system k o = good_choice deck some (record w { nodes = g.view }) e.system (inside k here) k there g.whole.roles (g.whole.roles.node s k there) e.choice in
-            let rest : (t : TaskId) → t.system.0 ≡ s → Last t = λ t home. at_rest k (g.due s) (given_star k here) t home (ap (λ xs. is_among t (askers (own_requests s xs))) none) in
-            by_tells k (g.due s) (given_star k here) (history (items (w.fixed ++ fixed_by e.system o.step.fixed))) o w.medium.star o.medium.star (event-moved deck some w g e.system (inside k here) k here e.choice).news
-            (λ t home. (rest t home, subst (λ (x : Message). LeftHome t x.entries) (sym step.message) (rest t home)))
+      star_right : (n : NodeState) (at : slice_get w.nodes e.system.0 ≡ Some n) → Right (placed w e.system n (chosen deck w.medium e.system n e.choice))
+      star_right n at = by_shown (g.shown s n at unremoved).0 n at (g.shown s n at unremoved).1 (g.shown s n at unremoved).2
+        where
+          some : 0 < deck.entries
+          some = entries_some deck.entries f.entries
+
+          by_shown : (k m : NodeState) (here : slice_get w.nodes e.system.0 ≡ Some m) → slice_get g.view e.system.0 ≡ Some k → Shown deck e.system.0 (items w.fixed) (g.before e.system.0) (g.due e.system.0) g.since (g.whole.out e.system.0) k m → Right (placed w e.system m (chosen deck w.medium e.system m e.choice))
+          by_shown k m here there (waits_yet x h is empty) = late_right x here h (chosen deck w.medium e.system x e.choice)
+              (came_late deck w g.whole.roles.mode g.closed e.system x h.alone unremoved e.choice) (event-moved deck some w g e.system (inside x here) x here unremoved e.choice).news
+          by_shown k m here there (has_changed none) =
+              let o : Turnout = chosen deck w.medium e.system k e.choice in
+              let step : IsStep deck (record w { nodes = g.view }) e.system k o = good_choice deck some (record w { nodes = g.view }) e.system (inside k here) k there unremoved g.whole.roles (g.whole.roles.node s k there unremoved) e.choice in
+              let rest : (t : TaskId) → t.system.0 ≡ s → Last t = λ t home. at_rest k (lives_at k here) (g.due s) (given_star (lives_at k here)) t home (ap (λ xs. is_among t (askers (own_requests s xs))) none) in
+              by_tells k (lives_at k here) (g.due s) (given_star (lives_at k here)) (history (items (w.fixed ++ fixed_by e.system o.step.fixed))) o w.medium.star o.medium.star (event-moved deck some w g e.system (inside k here) k here unremoved e.choice).news
+              (λ t home. (rest t home, subst (λ (x : Message). LeftHome t x.entries) (sym step.message) (rest t home)))
 
   answers_right : Right (happens deck w e)
   answers_right = by_run (every_run deck fits es)
@@ -283,8 +303,8 @@ module _ (deck : Deck) (begins : deck.star ≡ false) (fits : may_be_star deck �
       idle t a = absurd (let f : true ≡ false = sym a ∙ ap (list_any (λ x. answers t x.line)) (ap (drop (length w.told)) (sym (append-nil w.told)) ∙ drop-append_seam w.told []) in cc)
 
       by_run : GoodRun deck es w → Right (happens deck w e)
-      by_run (in_ring z ring g d) = each_came deck w e Right ring idle (λ n o at c. right ring g n at o c)
-      by_run (in_star f g told d) = each_event deck w e Right idle (λ n at. star_right f g n at)
+      by_run (in_ring z ring g d) = each_came deck w e Right ring idle (λ n o at alive c. right ring g n at alive o c)
+      by_run (in_star f g told d) = each_live deck w e Right idle (λ n at alive. star_right f g alive n at)
 
 pub answered_last : (deck : Deck) → deck.star ≡ false → (may_be_star deck ≡ true → FitsStar deck) → (es : List Event) (e : Event) → AnsweredLast deck es e
 answered_last deck begins fits es e t a = subst (Right deck begins fits es e) (sym (run-push deck es (first_world deck) e)) (answers_right deck begins fits es e) t a

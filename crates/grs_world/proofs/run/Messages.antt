@@ -8,9 +8,10 @@ use Rattle.grs_medium.specs.Medium.{MediumState, live}
 use Rattle.grs_wire.specs.Masks.{has}
 use Rattle.grs_wire.specs.declared.medium.RingEntry.{RingEntry}
 use Rattle.grs_wire.specs.declared.request.Fixed.{Fixed}
-use Rattle.grs_wire.specs.declared.request.Fixed.TheVariants.{Asked}
+use Rattle.grs_wire.specs.declared.medium.RingBody.TheVariants.{Remove}
+use Rattle.grs_wire.specs.declared.request.Fixed.TheVariants.{Asked, Purged}
 use Rattle.grs_wire.specs.declared.request.Req.{Req}
-use Rattle.rsa_message.specs.Message.{Message, turned_open, cleared, stamped}
+use Rattle.rsa_message.specs.Message.{Message, turned_open, cleared, dropped, stamped}
 use Rattle.grs_wire.specs.Unseen.{unseen}
 use Rattle.grs_world.proofs.run.Runs.{GoodMessage, seen_at, message_log}
 use Rattle.grs_world.proofs.message.Stands.{Stands, none, gone, kept, Bodies, Stands-cleared, Stands-append, Stands-stamped, unseen-drop, waits_for, waits_new, waits_seen, waits_live}
@@ -117,3 +118,22 @@ message-turned m m' c out flags before later T whole same same_live g =
     all_within : (u : ℕ) (b : Bool) → eqb u c.0 ≡ b → length (cond (eqb u c.0) (rounds T) (before u)) ≤ length (message_log T)
     all_within u true e = subst (λ b. length (cond b (rounds T) (before u)) ≤ length (message_log T)) (sym e) (seen-within (rounds T) [] (rounds T) (sym (append-nil (rounds T))))
     all_within u false e = subst (λ b. length (cond b (rounds T) (before u)) ≤ length (message_log T)) (sym e) (seen-within (before u) (later u) (rounds T) (whole u))
+
+-- System t was removed by c: it leaves all masks, and the removal is to be processed by all that are live then.
+pub message-removed : (m m' : MediumState) (c t : SysId) (before later : ℕ → List RunItem) (T : List RunItem) → ((u : ℕ) → rounds T ≡ before u ++ later u)
+    → m'.message ≡ dropped m.message c t (live m') → has (live m') t.0 ≡ false → ((u : ℕ) → u ≢ t.0 → has (live m') u ≡ has (live m) u) → GoodMessage m (message_log T) (seen_at before) → GoodMessage m' (message_log T ++ Purged t ∷ []) (seen_at before)
+unfolding dropped
+message-removed m m' c t before later T whole is out others g =
+    let log = message_log T in
+    let U = waits_for (live m) (seen_at before) in
+    let V = waits_for (live m') (seen_at before) in
+    let at_t : (j : ℕ) → j < length log → V j t.0 ≡ false = λ j l. ap (λ b. b && leb (seen_at before t.0) j) out in
+    let apart : (j u : ℕ) → j < length log → u ≢ t.0 → V j u ≡ U j u = λ j u l ne. ap (λ b. b && leb (seen_at before u) j) (others u ne) in
+    let within : (u : ℕ) → has (live m') u ≡ true → seen_at before u ≤ length log = λ u h. seen-within (before u) (later u) (rounds T) (whole u) in
+    let new : Stands V (length log) (Purged t ∷ []) (record { number = m.message.next; from = c; body = Remove t; mask = live m' } ∷ []) =
+    kept g.next refl (λ u. waits_new (live m') (seen_at before) (length log) within (length log) u (omega arith)) none in
+    let more : length (log ++ Purged t ∷ []) ≡ length log + 1 = length-append log (Purged t ∷ []) in
+    record {
+      stands = subst (λ (x : Message). Stands V 0 (log ++ Purged t ∷ []) x.entries) (sym is) (Stands-append (length log) (Purged t ∷ []) _ (omega arith) (Stands-cleared U V t (length log) at_t apart (omega arith) g.stands) new);
+      next = ap (λ (x : Message). x.next) is ∙ (ap suc g.next ∙ ap suc (let e : suc (length log) ≡ length (log ++ Purged t ∷ []) = omega (arith, more) in e));
+    }

@@ -1,64 +1,217 @@
--- No event removes a system yet: a history with a removal isn't legal.
-use Rattle.std.proofs.Common.{◌≡◌, ℕ, zero, suc, Bool, true, false, ◌&&◌, ◌||◌, List, [], ◌∷◌, ◌++◌, drop, refl, sym, ◌∙◌, arith}
-use Rattle.std.specs.Prelude.{◌==◌}
+-- Who is removed in a run is who was removed by what was fixed, and each removal is told by the event that fixes it.
+use Rattle.std.proofs.Common.{◌≡◌, ◌+◌, ◌-◌, ℕ, zero, suc, Bool, true, false, ◌&&◌, ◌||◌, List, [], ◌∷◌, ◌++◌, length, take, drop, Option, Some, None, refl, ap, sym, ◌∙◌, subst, arith, length-append, take-append-drop}
+use Rattle.std.specs.Prelude.{◌==◌, slice_get}
 use Rattle.std.specs.List.{list_any}
-use Rattle.std.proofs.lemmas.Bool.{cases_Bool}
+use Rattle.std.proofs.Math.Bool.{or-false}
+use Rattle.std.proofs.Math.Seq.{drop-append_seam}
+use Rattle.std.proofs.lemmas.Bool.{and_from, and_parts, eqb-true, eqb-false, eq-eqb, or_left, or_right}
 use Rattle.std.proofs.lemmas.List.Folds.{list_any-append}
+use Rattle.std.proofs.lemmas.Option.{same_Some}
 use Rattle.grs_base.specs.State.{State}
+use Rattle.grs_base.specs.declared.look.Filter.{Filter}
 use Rattle.grs_base.specs.declared.resource.SysId.{SysId}
-use Rattle.grs_legal.specs.Legal.{Legal, LegalFrom}
-use Rattle.grs_wire.specs.History.{fixed_entries, after_fixed, answered_from, answered}
+use Rattle.grs_base.specs.declared.resource.TaskId.{TaskId}
+use Rattle.grs_medium.specs.Apply.{without_system}
+use Rattle.grs_node.specs.Log.{told_in}
+use Rattle.grs_node.specs.Node.{NodeState, next_order, purged}
+use Rattle.grs_wire.specs.History.{removes, look_entries, entries_for, fixed_entries, after_fixed, answered_from, answered}
+use Rattle.grs_wire.specs.Masks.{has, with_also}
+use Rattle.grs_wire.specs.declared.deck.Choice.TheVariants as choices
 use Rattle.grs_wire.specs.declared.deck.Deck.{Deck}
-use Rattle.grs_wire.specs.declared.history.HistEntry.{HistEntry}
-use Rattle.grs_wire.specs.declared.history.HistEntry.TheVariants.{Enq, Deq, Release, Look, Remove}
+use Rattle.grs_wire.specs.declared.deck.Event.{Event}
+use Rattle.grs_wire.specs.declared.deck.Order.TheVariants as orders
 use Rattle.grs_wire.specs.declared.request.Fixed.{Fixed}
 use Rattle.grs_wire.specs.declared.request.Fixed.TheVariants.{Asked, LocalLook, Purged}
-use Rattle.grs_world.specs.Agree.{is_purge, purges, removes}
+use Rattle.grs_wire.specs.declared.request.Want.{Want}
+use Rattle.grs_wire.specs.declared.request.Want.TheVariants as wants
+use Rattle.grs_wire.specs.declared.told.Said.TheVariants as saids
+use Rattle.grs_wire.specs.declared.told.Told.{Told}
+use Rattle.grs_wire.specs.declared.told.ToldLine.TheVariants as lines
+use Rattle.grs_wire.proofs.MaskLaws.{has-zero, has-with_same, has-with_other}
+use Rattle.grs_known.proofs.lists.Truths.{false_by, no_truth}
+use Rattle.grs_world.specs.Agree.{is_purge, purges, is_removal, is_vary, order_of, fixed_in, RemovalsTold}
+use Rattle.grs_world.specs.Removing.{RemovedAreInHistory}
+use Rattle.grs_world.specs.World.{World, Turnout, chosen, placed, first_world, fixed_by, told_by, happens, run_from, run}
+use Rattle.grs_world.proofs.run.Desks.{order-is}
+use Rattle.grs_world.proofs.run.Each.{each_event, each_live, each_run, run-push}
+use Rattle.grs_world.proofs.run.Purges.{Removes, RemovesNone, nobody, one, what_removes}
+use Rattle.grs_world.proofs.system.Desks.{desk-told}
 
-legal-none : (deck : Deck) (P hs : List HistEntry) (target : SysId) → LegalFrom deck P hs → list_any (removes target) hs ≡ false
-legal-none deck P [] target a = refl
-legal-none deck P (Enq t r c ret code ∷ hs) target a = legal-none deck (P ++ Enq t r c ret code ∷ []) hs target a.1
-legal-none deck P (Deq t r have code ∷ hs) target a = legal-none deck (P ++ Deq t r have code ∷ []) hs target a.1
-legal-none deck P (Release t r ∷ hs) target a = legal-none deck (P ++ Release t r ∷ []) hs target a.1
-legal-none deck P (Look t place f rows ∷ hs) target a = legal-none deck (P ++ Look t place f rows ∷ []) hs target a.1
-legal-none deck P (Remove by removed ∷ hs) target a = absurd a.0
+-- ---- what was fixed, and the history
+-- whether one of these removes a system
+abbrev pub takes_out : SysId → List (SysId × Fixed) → Bool
+takes_out s fs = list_any (λ x. is_purge s x.1) fs
 
--- a removal that was fixed stands in the history
-module _ (s target : SysId) where
-  purge-stands : (x : State) (fs : List (SysId × Fixed)) → purges s target fs ≡ true → list_any (removes target) (answered_from x fs) ≡ true
-  purge-stands x [] h = absurd (cc)
-  purge-stands x (f ∷ fs) h = one f.0 f.1 h (purge-stands (after_fixed x f.1) fs)
+looks-keep : (st : State) (t : TaskId) (first count : ℕ) (f : Filter) (s : SysId) → list_any (removes s) (look_entries st t first count f) ≡ false
+looks-keep st t first zero f s = refl
+looks-keep st t first (suc count) f s = looks-keep st t (suc first) count f s
+
+asked-keep : (st : State) (t : TaskId) (w : Want) (s : SysId) → list_any (removes s) (entries_for st t w) ≡ false
+asked-keep st t (wants.Enq r c ret full) s = refl
+asked-keep st t (wants.Deq r have) s = refl
+asked-keep st t (wants.Release r) s = refl
+asked-keep st t (wants.Look first count f) s = looks-keep st t first count f s
+
+one-removes : (st : State) (by : SysId) (f : Fixed) (s : SysId) → list_any (removes s) (fixed_entries st by f) ≡ is_purge s f
+one-removes st by (Asked q) s = asked-keep st q.task q.want s
+one-removes st by (LocalLook t f) s = refl
+one-removes st by (Purged target) s = or-false (s.0 == target.0)
+
+from-fixed : (st : State) (fs : List (SysId × Fixed)) (s : SysId) → list_any (removes s) (answered_from st fs) ≡ takes_out s fs
+from-fixed st [] s = refl
+from-fixed st (f ∷ fs) s =
+    list_any-append (removes s) (fixed_entries st f.0 f.1) (answered_from (after_fixed st f.1) fs)
+    ∙ ap (λ b. b || list_any (removes s) (answered_from (after_fixed st f.1) fs)) (one-removes st f.0 f.1 s)
+    ∙ ap (λ b. is_purge s f.1 || b) (from-fixed (after_fixed st f.1) fs s)
+
+pub removes-fixed : (fs : List (SysId × Fixed)) (s : SysId) → list_any (removes s) (answered fs) ≡ takes_out s fs
+removes-fixed fs s = from-fixed [] fs s
+
+by-system : (s c : SysId) (fs : List Fixed) → takes_out s (fixed_by c fs) ≡ list_any (is_purge s) fs
+by-system s c [] = refl
+by-system s c (f ∷ fs) = ap (λ b. is_purge s f || b) (by-system s c fs)
+
+-- ---- who is removed
+abbrev pub AreTakenOut : World → Type 0
+AreTakenOut w = (s : SysId) → has w.medium.removed s.0 ≡ takes_out s w.fixed
+
+module _ (deck : Deck) where
+  taken_next : (w : World) (e : Event) → AreTakenOut w → AreTakenOut (happens deck w e)
+  unfolding placed purged
+  taken_next w e g = each_event deck w e AreTakenOut g (λ n at. by_event n (what_removes deck w.medium e.system n e.choice))
     where
-      behind : (hs gs : List HistEntry) → list_any (removes target) gs ≡ true → list_any (removes target) (hs ++ gs) ≡ true
-      behind hs gs e = grind (arith, e, list_any-append (removes target) hs gs, cases_Bool (list_any (removes target) hs))
+      grown : (o : Turnout) (s : SysId) → takes_out s (w.fixed ++ fixed_by e.system o.step.fixed) ≡ (takes_out s w.fixed || list_any (is_purge s) o.step.fixed)
+      grown o s = list_any-append (λ (x : SysId × Fixed). is_purge s x.1) w.fixed (fixed_by e.system o.step.fixed) ∙ ap (λ b. takes_out s w.fixed || b) (by-system s e.system o.step.fixed)
 
-      other : (a b : Bool) → ((a && false) || b) ≡ true → b ≡ true
-      other true b e = e
-      other false b e = e
+      same : (o : Turnout) → o.medium.removed ≡ w.medium.removed → RemovesNone o.step.fixed → (n : NodeState) → AreTakenOut (placed w e.system n o)
+      same o kept none n s = ap (λ i. has i s.0) kept ∙ (g s ∙ sym (grown o s ∙ (ap (λ b. takes_out s w.fixed || b) (none s) ∙ or-false (takes_out s w.fixed))))
 
-      one : (by : SysId) (g : Fixed) → (((by.0 == s.0) && is_purge target g) || purges s target fs) ≡ true → (purges s target fs ≡ true → list_any (removes target) (answered_from (after_fixed x g) fs) ≡ true) →
-          list_any (removes target) (fixed_entries x by g ++ answered_from (after_fixed x g) fs) ≡ true
-      one by (Asked q) e more = behind (fixed_entries x by (Asked q)) (answered_from (after_fixed x (Asked q)) fs) (more (other (by.0 == s.0) (purges s target fs) e))
-      one by (LocalLook t f) e more = behind (fixed_entries x by (LocalLook t f)) (answered_from (after_fixed x (LocalLook t f)) fs) (more (other (by.0 == s.0) (purges s target fs) e))
-      one by (Purged removed) e more = go (by.0 == s.0) (target.0 == removed.0) e
+      -- one more
+      with_one : (target : SysId) (s : SysId) (b : Bool) → (s.0 == target.0) ≡ b → has (with_also w.medium.removed target.0) s.0 ≡ (takes_out s w.fixed || (b || false))
+      with_one target s true is = ap (has (with_also w.medium.removed target.0)) (eqb-true s.0 target.0 is) ∙ (has-with_same w.medium.removed target.0 ∙ sym (or_right (takes_out s w.fixed) true refl))
+      with_one target s false is = has-with_other w.medium.removed target.0 s.0 (eqb-false s.0 target.0 is) ∙ (g s ∙ sym (or-false (takes_out s w.fixed)))
+
+      removal : (n : NodeState) (target : SysId) → AreTakenOut (placed w e.system n (record { medium = without_system w.medium e.system target; step = purged n (choices.Purge target) }))
+      removal n target s =
+          with_one target s (s.0 == target.0) refl ∙ sym (grown (record { medium = without_system w.medium e.system target; step = purged n (choices.Purge target) }) s)
+
+      by_event : (n : NodeState) → Removes deck w.medium e.system n e.choice (chosen deck w.medium e.system n e.choice) → AreTakenOut (placed w e.system n (chosen deck w.medium e.system n e.choice))
+      by_event n (nobody kept none) = same (chosen deck w.medium e.system n e.choice) kept none n
+      by_event n (one target choice next lives ring is) = subst (λ (o : Turnout). AreTakenOut (placed w e.system n o)) (sym is) (removal n target)
+
+  taken_first : AreTakenOut (first_world deck)
+  unfolding first_world
+  taken_first s = has-zero s.0
+
+  pub taken_out : (es : List Event) → AreTakenOut (run deck es)
+  taken_out es = each_run deck (λ us w. AreTakenOut w) taken_first (λ us e g. taken_next (run deck us) e g) es
+
+  pub removed_in_history : (es : List Event) → RemovedAreInHistory deck es
+  removed_in_history es s = taken_out es s ∙ sym (removes-fixed (run deck es).fixed s)
+
+-- ---- each removal is told by the event that fixes it
+dropped-all : {X : Type 0} (xs : List X) → drop (length xs) xs ≡ []
+dropped-all [] = refl
+dropped-all (x ∷ xs) = dropped-all xs
+
+-- the first elements, and one more, if there is one
+take-more : (es : List Event) (k : ℕ) (e : Event) → slice_get es k ≡ Some e → (take (suc k) es ≡ take k es ++ e ∷ []) × (length (take k es) ≡ k)
+take-more [] k e at = absurd (cc)
+take-more (x ∷ es) zero e at = (ap (λ z. z ∷ []) (same_Some x e at), refl)
+take-more (x ∷ es) (suc k) e at = let more = take-more es k e at in (ap (λ ys. x ∷ ys) more.0, ap suc more.1)
+
+take-no_more : (es : List Event) (k : ℕ) → slice_get es k ≡ None → take (suc k) es ≡ take k es
+take-no_more [] zero at = refl
+take-no_more [] (suc k) at = refl
+take-no_more (x ∷ es) zero at = absurd (cc)
+take-no_more (x ∷ es) (suc k) at = ap (λ ys. x ∷ ys) (take-no_more es k at)
+
+module _ (deck : Deck) where
+  counted_events : (es : List Event) → (run deck es).events ≡ length es
+  unfolding placed first_world
+  counted_events es = each_run deck (λ us w. w.events ≡ length us) refl
+      (λ us e g. each_event deck (run deck us) e (λ w. w.events ≡ length (us ++ e ∷ [])) (ap (λ k. k + 1) g ∙ sym (length-append us (e ∷ []))) (λ n at. ap (λ k. k + 1) g ∙ sym (length-append us (e ∷ [])))) es
+
+  -- what was told stays, whatever events come
+  run-behind : (w : World) (xs ys : List Event) → run_from deck w (xs ++ ys) ≡ run_from deck (run_from deck w xs) ys
+  run-behind w [] ys = refl
+  run-behind w (x ∷ xs) ys = run-behind (happens deck w x) xs ys
+
+  told-stays : (p : Told → Bool) (w : World) (es : List Event) → list_any p w.told ≡ true → list_any p (run_from deck w es).told ≡ true
+  unfolding placed
+  told-stays p w [] h = h
+  told-stays p w (e ∷ es) h = told-stays p (happens deck w e) es (each_event deck w e (λ x. list_any p x.told ≡ true) h
+      (λ n at. list_any-append p w.told _ ∙ or_left (list_any p w.told) _ h))
+
+  purges-none : (s target c : SysId) (fs : List Fixed) → RemovesNone fs → purges s target (fixed_by c fs) ≡ false
+  purges-none s target c fs none = false_by (purges s target (fixed_by c fs)) (λ h. no_truth (list_any (is_purge target) fs) (among fs h) (none target))
+    where
+      among : (gs : List Fixed) → purges s target (fixed_by c gs) ≡ true → list_any (is_purge target) gs ≡ true
+      among [] h = h
+      among (g ∷ gs) h = go (is_purge target g) (c.0 == s.0) h (among gs)
         where
-          go : (a b : Bool) → ((a && b) || purges s target fs) ≡ true → (b || list_any (removes target) (answered_from (after_fixed x (Purged removed)) fs)) ≡ true
-          go a true k = refl
-          go true false k = more k
-          go false false k = more k
+          go : (b d : Bool) → ((d && b) || purges s target (fixed_by c gs)) ≡ true → (purges s target (fixed_by c gs) ≡ true → list_any (is_purge target) gs ≡ true) → (b || list_any (is_purge target) gs) ≡ true
+          go true d k more = refl
+          go false true k more = more k
+          go false false k more = more k
 
-  purges-dropped : (n : ℕ) (fs : List (SysId × Fixed)) → purges s target (drop n fs) ≡ true → purges s target fs ≡ true
-  purges-dropped zero [] h = h
-  purges-dropped (suc n) [] h = h
-  purges-dropped zero (f ∷ fs) h = h
-  purges-dropped (suc n) (f ∷ fs) h = go ((f.0.0 == s.0) && is_purge target f.1) (purges-dropped n fs h)
+  -- a system shows its number where it is live
+  abbrev pub AreHome : List Event → Type 0
+  AreHome es = (s : ℕ) (n : NodeState) → slice_get (run deck es).nodes s ≡ Some n → has (run deck es).medium.removed s ≡ false → n.tasks.system ≡ s
+
+  module _ (vs : List Event) (e : Event) (home : AreHome vs) (s target : SysId) where
+    abbrev w : World
+    w = run deck vs
+
+    abbrev Told_in : World → Type 0
+    Told_in x = purges s target (drop (length (run deck vs).fixed) x.fixed) ≡ true → list_any (is_removal deck (length vs + 1) s target) x.told ≡ true
+
+    -- the event removed a system
+    removal_told : (n : NodeState) (named : SysId) → slice_get w.nodes e.system.0 ≡ Some n → has w.medium.removed e.system.0 ≡ false → next_order deck n ≡ Some (orders.Vary named) →
+        Told_in (placed w e.system n (record { medium = without_system w.medium e.system named; step = purged n (choices.Purge named) }))
+    unfolding placed purged
+    removal_told n named at alive next h =
+        let c : SysId = e.system in
+        let parts = and_parts (c.0 == s.0) (target.0 == named.0) (sym (or-false ((c.0 == s.0) && (target.0 == named.0))) ∙ (ap (purges s target) (sym (drop-append_seam w.fixed (fixed_by c (Purged named ∷ [])))) ∙ h)) in
+        let same : c ≡ s = ap (λ (k : ℕ). let z : SysId = record { 0 = k } in z) (eqb-true c.0 s.0 parts.0) in
+        let order = ap (λ (z : SysId). order_of deck z (n.done + 1)) (sym same) ∙ order-is deck c n (orders.Vary named) (home c.0 n at alive) next in
+        let number : (w.events + 1 == length vs + 1) ≡ true = eq-eqb (w.events + 1) (length vs + 1) (ap (λ k. k + 1) (counted_events vs)) in
+        let line : Told = record { event = w.events + 1; system = c; line = lines.Desk (n.done + 1) saids.VaryDone } in
+        let told_is : told_by (w.events + 1) c (told_in n (purged n (choices.Purge named))) ≡ line ∷ [] =
+        ap (λ ls. told_by (w.events + 1) c (drop (length n.tasks.told) ls)) (desk-told n saids.VaryDone) ∙ ap (told_by (w.events + 1) c) (drop-append_seam n.tasks.told (lines.Desk (n.done + 1) saids.VaryDone ∷ [])) in
+        let here : is_removal deck (length vs + 1) s target line ≡ true = and_from _ _ number (and_from _ _ parts.0 (ap (is_vary target) order ∙ parts.1)) in
+        list_any-append (is_removal deck (length vs + 1) s target) w.told (told_by (w.events + 1) c (told_in n (purged n (choices.Purge named))))
+        ∙ or_right (list_any (is_removal deck (length vs + 1) s target) w.told) _ (ap (list_any (is_removal deck (length vs + 1) s target)) told_is ∙ or_left _ false here)
+
+    by_event : (n : NodeState) → slice_get w.nodes e.system.0 ≡ Some n → has w.medium.removed e.system.0 ≡ false → (o : Turnout) → Removes deck w.medium e.system n e.choice o → Told_in (placed w e.system n o)
+    unfolding placed
+    by_event n at alive o (nobody kept none) h =
+        no_truth (purges s target (fixed_by e.system o.step.fixed)) (ap (purges s target) (sym (drop-append_seam w.fixed (fixed_by e.system o.step.fixed))) ∙ h) (purges-none s target e.system o.step.fixed none)
+    by_event n at alive o (one named choice next lives ring is) h = subst (λ (x : Turnout). Told_in (placed w e.system n x)) (sym is) (removal_told n named at alive next) h
+
+    told_by_event : Told_in (run deck (vs ++ e ∷ []))
+    told_by_event = subst Told_in (sym (run-push deck vs (first_world deck) e))
+        (each_live deck w e Told_in (λ h. absurd (let none : false ≡ true = ap (purges s target) (sym (dropped-all w.fixed)) ∙ h in cc)) (λ n at alive. by_event n at alive (chosen deck w.medium e.system n e.choice) (what_removes deck w.medium e.system n e.choice)))
+
+  pub removals_told : ((vs : List Event) → AreHome vs) → (es : List Event) (e : ℕ) → RemovalsTold deck e (fixed_in deck es e) (run deck es).told
+  removals_told home es zero s target h = absurd (let none : false ≡ true = ap (purges s target) (sym (dropped-all (run deck []).fixed)) ∙ h in cc)
+  removals_told home es (suc k) s target h = go (slice_get es k) refl
     where
-      go : (b : Bool) → purges s target fs ≡ true → (b || purges s target fs) ≡ true
-      go true k = refl
-      go false k = k
+      less : suc k - 1 ≡ k
+      less = omega arith
 
-  -- so behind a legal history none was fixed
-  pub none_purged : (deck : Deck) (fs : List (SysId × Fixed)) → Legal deck (answered fs) → (n : ℕ) → purges s target (drop n fs) ≡ true → ⊥
-  none_purged deck fs legal n h =
-      let e : false ≡ true = sym (legal-none deck [] (answered fs) target legal) ∙ purge-stands [] fs (purges-dropped n fs h) in
-      absurd (cc)
+      now : purges s target (drop (length (run deck (take k es)).fixed) (run deck (take (suc k) es)).fixed) ≡ true
+      now = ap (λ i. purges s target (drop (length (run deck (take i es)).fixed) (run deck (take (suc k) es)).fixed)) (sym less) ∙ h
+
+      go : (o : Option Event) → slice_get es k ≡ o → list_any (is_removal deck (suc k) s target) (run deck es).told ≡ true
+      go None at = absurd (let none : false ≡ true = ap (purges s target) (sym (dropped-all (run deck (take k es)).fixed)) ∙ (ap (λ us. purges s target (drop (length (run deck (take k es)).fixed) (run deck us).fixed)) (sym (take-no_more es k at)) ∙ now) in cc)
+      go (Some e) at =
+          let more = take-more es k e at in
+          let vs : List Event = take k es in
+          let number : length vs + 1 ≡ suc k = omega (arith, more.1) in
+          let told : list_any (is_removal deck (length vs + 1) s target) (run deck (vs ++ e ∷ [])).told ≡ true =
+          told_by_event vs e (home vs) s target (subst (λ us. purges s target (drop (length (run deck vs).fixed) (run deck us).fixed) ≡ true) more.0 now) in
+          let all : es ≡ (vs ++ e ∷ []) ++ drop (suc k) es = sym (take-append-drop (suc k) es) ∙ ap (λ us. us ++ drop (suc k) es) more.0 in
+          subst (λ us. list_any (is_removal deck (suc k) s target) (run deck us).told ≡ true) (sym all)
+          (subst (λ (x : World). list_any (is_removal deck (suc k) s target) x.told ≡ true) (sym (run-behind (first_world deck) (vs ++ e ∷ []) (drop (suc k) es)))
+          (told-stays (is_removal deck (suc k) s target) (run deck (vs ++ e ∷ [])) (drop (suc k) es) (subst (λ j. list_any (is_removal deck j s target) (run deck (vs ++ e ∷ [])).told ≡ true) number told)))

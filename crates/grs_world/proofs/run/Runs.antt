@@ -3,7 +3,7 @@ use Rattle.std.proofs.Common.{◌≡◌, ◌≢◌, ◌≤◌, ◌+◌, ◌-◌,
 use Rattle.std.specs.Prelude.{filter, slice_get, set, ◌==◌}
 use Rattle.std.specs.List.{list_all}
 use Rattle.std.proofs.lemmas.Bool.{and_parts, eqb-true, eqb-false}
-use Rattle.std.proofs.Math.Seq.{drop-append_seam, take-length}
+use Rattle.std.proofs.Math.Seq.{drop-append_seam, take-append_seam, take-length}
 use Rattle.std.proofs.lemmas.List.Elements.{filter-append}
 use Rattle.std.proofs.lemmas.Option.{same_Some}
 use Rattle.std.proofs.lemmas.List.{take-append-le, map-append}
@@ -21,7 +21,7 @@ use Rattle.grs_wire.specs.declared.told.ToldLine.{ToldLine}
 use Rattle.grs_wire.specs.declared.told.ToldLine.TheVariants as lines
 use Rattle.grs_known.specs.Items.{RunItem, rounds, history, items}
 use Rattle.grs_known.specs.Parts.{put_at}
-use Rattle.grs_known.proofs.known.Histories.{IsHistory}
+use Rattle.grs_known.proofs.known.Histories.{IsHistory, OrdersFit}
 use Rattle.grs_known.proofs.known.ItemLaws.{items_are_history}
 use Rattle.grs_known.proofs.lists.Facts.{slice_get-set, slice_get-set_other}
 use Rattle.grs_known.proofs.lists.Truths.{false_by}
@@ -124,12 +124,12 @@ by_node ns s n m at P here there u k e = go (eqb u s) refl
     go false f = let ne : u ≢ s = eqb-false u s f in there u k ne (sym (slice_get-set_other ns s u m ne) ∙ e)
 
 -- ---- the parts
--- What was told: it is counted by events, each line agrees with its event, and each system has told its part of it; the
--- lines of its desk are in no part of that.
+-- What was told: it is counted by events, each line agrees with its event, where the desks' commands are of other systems that
+-- are there, and each system has told its part of it; the lines of its desk are in no part of that.
 pub record GoodTold (deck : Deck) (es : List Event) (w : World) : Type 0 where
   pub counted : w.events ≡ length es
   pub by_now : AllBy (length es) w.told
-  pub agree : AllAgree deck es [] w.told
+  pub agree : OrdersFit deck → AllAgree deck es [] w.told
   pub lines : (s : ℕ) (n : NodeState) → slice_get w.nodes s ≡ Some n → filter (is_line_of s) n.tasks.told ≡ filter (is_line_of s) (lines_of_told w.told)
 
 -- The message holds, of all that was put in, what a system has yet to process, under its number.
@@ -144,9 +144,9 @@ message_log T = fixeds (rounds T)
 abbrev pub seen_at : (ℕ → List RunItem) → ℕ → ℕ
 seen_at before s = length (before s)
 
--- each system is as it should be by the items, and none is removed
+-- each system that is live is as it should be by the items
 abbrev pub GoodSystems : Deck → World → (ℕ → List RunItem) → (ℕ → List RunItem) → Type 0
-GoodSystems deck w before later = (s : ℕ) (n : NodeState) → slice_get w.nodes s ≡ Some n → (has (live w.medium) s ≡ true) × Seen deck s (items w.fixed) (before s) (later s) (own_requests s (later s)) n
+GoodSystems deck w before later = (s : ℕ) (n : NodeState) → slice_get w.nodes s ≡ Some n → has (live w.medium) s ≡ true → Seen deck s (items w.fixed) (before s) (later s) (own_requests s (later s)) n
 
 -- What holds of the world w after these events. Of each system it says which of the items that went with the message it
 -- has processed.
@@ -165,15 +165,21 @@ pub told-counted : (deck : Deck) (es : List Event) (e : Event) (w : World) → G
 told-counted deck es e w g = record {
   counted = ap (λ k. k + 1) g.counted ∙ sym (length-append es (e ∷ []));
   by_now = by-later (length es) (length (es ++ e ∷ [])) (omega (arith, length-append es (e ∷ []))) w.told g.by_now;
-  agree = agree-longer deck es e [] w.told g.by_now g.agree;
+  agree = λ fit. agree-longer deck es e [] w.told g.by_now (g.agree fit);
   lines = g.lines;
 }
 
--- What an event of system c tells, where this was told before it: lines of its tasks that agree with the history H, or one line
--- of its desk.
-pub data Tells (deck : Deck) (w : World) (c : SysId) (H : List HistEntry) (T0 T : List ToldLine) : Type 0 where
-  to_tasks : ToldNews deck c.0 H T0 T → Tells deck w c H T0 T
-  at_desk : (k : ℕ) (said : Said) → T ≡ T0 ++ lines.Desk k said ∷ [] → ((m : Moment) → m.before ≡ w.told → DeskAgrees deck m (w.events + 1) c k said) → Tells deck w c H T0 T
+-- The moment of an event behind this world: the history up to it, and what it fixed.
+pub record IsMoment (w : World) (H : List HistEntry) (fs : List (SysId × Fixed)) (m : Moment) : Type 0 where
+  pub before : m.before ≡ w.told
+  pub history : m.history ≡ H
+  pub fixed : m.fixed ≡ fs
+
+-- What an event of system c tells that fixed this, where this was told before it: lines of its tasks that agree with the history
+-- H, or one line of its desk.
+pub data Tells (deck : Deck) (w : World) (c : SysId) (H : List HistEntry) (fixed : List Fixed) (T0 T : List ToldLine) : Type 0 where
+  to_tasks : ToldNews deck c.0 H T0 T → Tells deck w c H fixed T0 T
+  at_desk : (k : ℕ) (said : Said) → T ≡ T0 ++ lines.Desk k said ∷ [] → ((m : Moment) → IsMoment w H (fixed_by c fixed) m → OrdersFit deck → DeskAgrees deck m (w.events + 1) c k said) → Tells deck w c H fixed T0 T
 
 module _ (deck : Deck) (es : List Event) (e : Event) (n : NodeState) (at : slice_get (run deck es).nodes e.system.0 ≡ Some n) (g : GoodTold deck es (run deck es)) (o : Turnout) (T : List RunItem) (items_now : items (placed (run deck es) e.system n o).fixed ≡ T) (is : happens deck (run deck es) e ≡ placed (run deck es) e.system n o) where
   abbrev told_world : World
@@ -189,7 +195,7 @@ module _ (deck : Deck) (es : List Event) (e : Event) (n : NodeState) (at : slice
 
   -- it tells these lines, each of which agrees, and none is of another system's task
   told-behind : (ls : List ToldLine) → o.step.node.tasks.told ≡ n.tasks.told ++ ls → ((u : ℕ) → u ≢ e.system.0 → filter (is_line_of u) ls ≡ []) →
-      AllAgree deck (es ++ e ∷ []) (run deck es).told (told_by ((run deck es).events + 1) e.system ls) → GoodTold deck (es ++ e ∷ []) (placed (run deck es) e.system n o)
+      (OrdersFit deck → AllAgree deck (es ++ e ∷ []) (run deck es).told (told_by ((run deck es).events + 1) e.system ls)) → GoodTold deck (es ++ e ∷ []) (placed (run deck es) e.system n o)
   unfolding placed
   told-behind ls now apart agree =
       let w : World = run deck es in
@@ -203,19 +209,35 @@ module _ (deck : Deck) (es : List Event) (e : Event) (n : NodeState) (at : slice
         counted = told_number;
         by_now = subst (λ xs. AllBy (length (es ++ e ∷ [])) xs) (sym told_is) (by-append (length (es ++ e ∷ [])) w.told (told_by (w.events + 1) e.system ls) (by-later (length es) (length (es ++ e ∷ [])) (omega (arith, length-append es (e ∷ []))) w.told g.by_now)
             (subst (λ k. AllBy k (told_by (w.events + 1) e.system ls)) told_number (by-told (w.events + 1) e.system ls)));
-        agree = subst (λ xs. AllAgree deck (es ++ e ∷ []) [] xs) (sym told_is) (agree-append deck (es ++ e ∷ []) [] w.told (told_by (w.events + 1) e.system ls) (agree-longer deck es e [] w.told g.by_now g.agree) agree);
+        agree = λ fit. subst (λ xs. AllAgree deck (es ++ e ∷ []) [] xs) (sym told_is) (agree-append deck (es ++ e ∷ []) [] w.told (told_by (w.events + 1) e.system ls) (agree-longer deck es e [] w.told g.by_now (g.agree fit)) (agree fit));
         lines = by_node w.nodes s n o.step.node at (λ u k. filter (is_line_of u) k.tasks.told ≡ filter (is_line_of u) (lines_of_told (w.told ++ told_by (w.events + 1) e.system (drop (length n.tasks.told) after))))
             (ap (filter (is_line_of s)) now ∙ (filter-append (is_line_of s) n.tasks.told ls ∙ (ap (λ z. z ++ filter (is_line_of s) ls) (g.lines s n at) ∙ (sym (filter-append (is_line_of s) (lines_of_told w.told) ls) ∙ ap (filter (is_line_of s)) (sym all_lines)))))
             (λ u k ne f. g.lines u k f ∙ (sym (append-nil (filter (is_line_of u) (lines_of_told w.told))) ∙ (ap (λ z. filter (is_line_of u) (lines_of_told w.told) ++ z) (sym (apart u ne))
             ∙ (sym (filter-append (is_line_of u) (lines_of_told w.told) ls) ∙ ap (filter (is_line_of u)) (sym all_lines)))));
       }
 
+  -- the moment of the event
+  told_moment : IsMoment (run deck es) (history T) (fixed_by e.system o.step.fixed) (moment deck (es ++ e ∷ []) ((run deck es).events + 1) (run deck es).told)
+  unfolding placed
+  told_moment =
+      let us : List Event = es ++ e ∷ [] in
+      let now : take (told_world.events + 1) us ≡ us = ap (λ k. take k us) told_number ∙ take-length us in
+      let place : told_world.events + 1 - 1 ≡ length es = omega (arith, g.counted) in
+      let earlier : take (told_world.events + 1 - 1) us ≡ es = ap (λ k. take k us) place ∙ take-append_seam es (e ∷ []) in
+      record {
+        before = refl;
+        history = ap (hist deck) now ∙ told_history;
+        fixed = ap (λ vs. drop (length (run deck vs).fixed) (run deck (take (told_world.events + 1) us)).fixed) earlier
+            ∙ (ap (λ vs. drop (length told_world.fixed) (run deck vs).fixed) now
+            ∙ (ap (λ (x : World). drop (length told_world.fixed) x.fixed) (run-push deck es (first_world deck) e ∙ is) ∙ drop-append_seam told_world.fixed (fixed_by e.system o.step.fixed)));
+      }
+
   -- What the system of an event tells agrees with the history after the event: so does all that was told.
-  pub told-after : Tells deck (run deck es) e.system (history T) n.tasks.told o.step.node.tasks.told → GoodTold deck (es ++ e ∷ []) (placed (run deck es) e.system n o)
+  pub told-after : Tells deck (run deck es) e.system (history T) o.step.fixed n.tasks.told o.step.node.tasks.told → GoodTold deck (es ++ e ∷ []) (placed (run deck es) e.system n o)
   told-after (to_tasks news) = told-behind news.lines news.is (λ u ne. lines-apart e.system.0 u news.lines ne news.ours)
-      (agree-new deck (es ++ e ∷ []) (told_world.events + 1) e.system told_world.told news.lines told_number news.ours
+      (λ fit. agree-new deck (es ++ e ∷ []) (told_world.events + 1) e.system told_world.told news.lines told_number news.ours
       (subst (λ H. LinesAgree deck H (lines_of_told told_world.told) news.lines) (sym told_history) (news.agree (lines_of_told told_world.told) (g.lines e.system.0 n at))))
-  told-after (at_desk k said now agrees) = told-behind (lines.Desk k said ∷ []) now (λ u ne. refl) (agrees (moment deck (es ++ e ∷ []) (told_world.events + 1) told_world.told) refl, tt)
+  told-after (at_desk k said now agrees) = told-behind (lines.Desk k said ∷ []) now (λ u ne. refl) (λ fit. (agrees (moment deck (es ++ e ∷ []) (told_world.events + 1) told_world.told) told_moment fit, tt))
 
 -- the world after an event of a system, whose outcome is known
 module _ (deck : Deck) (es : List Event) (e : Event) (g : GoodWorld deck es (run deck es)) (n : NodeState) (at : slice_get (run deck es).nodes e.system.0 ≡ Some n) where
@@ -250,13 +272,13 @@ module _ (deck : Deck) (es : List Event) (e : Event) (g : GoodWorld deck es (run
     whole-now = put_each g.before (λ u. g.later u ++ o.new) s before' later' (λ u b l. rounds o.items ≡ b ++ l) o.whole
         (λ u ne. grows-rounds o.grows ∙ ap (λ zs. zs ++ o.new) (g.whole u) ∙ append_assoc (g.before u) (g.later u) o.new)
 
-    systems-now : live m ≡ live (run deck es).medium → (u : ℕ) (k : NodeState) → slice_get (set (run deck es).nodes e.system.0 st.node) u ≡ Some k → (has (live m) u ≡ true) × Seen deck u o.items (before_now u) (later_now u) (own_requests u (later_now u)) k
-    systems-now alive = put_each g.before (λ u. g.later u ++ o.new) s before' later' (λ u b l. (k : NodeState) → slice_get (set w.nodes s st.node) u ≡ Some k → (has (live m) u ≡ true) × Seen deck u o.items b l (own_requests u l) k)
-        (λ k f. (subst (λ l. has l s ≡ true) (sym alive) (g.systems s n at).0, subst (λ (z : NodeState). Seen deck s o.items before' later' (own_requests s later') z) (same_Some st.node k (sym (slice_get-set w.nodes s n st.node at) ∙ f)) o.seen))
-        (λ u ne k f.
-        let was = g.systems u k (sym (slice_get-set_other w.nodes s u st.node ne) ∙ f) in
+    systems-now : live m ≡ live (run deck es).medium → (u : ℕ) (k : NodeState) → slice_get (set (run deck es).nodes e.system.0 st.node) u ≡ Some k → has (live m) u ≡ true → Seen deck u o.items (before_now u) (later_now u) (own_requests u (later_now u)) k
+    systems-now alive = put_each g.before (λ u. g.later u ++ o.new) s before' later' (λ u b l. (k : NodeState) → slice_get (set w.nodes s st.node) u ≡ Some k → has (live m) u ≡ true → Seen deck u o.items b l (own_requests u l) k)
+        (λ k f lives. subst (λ (z : NodeState). Seen deck s o.items before' later' (own_requests s later') z) (same_Some st.node k (sym (slice_get-set w.nodes s n st.node at) ∙ f)) o.seen)
+        (λ u ne k f lives.
+        let was = g.systems u k (sym (slice_get-set_other w.nodes s u st.node ne) ∙ f) (subst (λ l. has l u ≡ true) alive lives) in
         let requests : own_requests u (g.later u) ≡ own_requests u (g.later u ++ o.new) = sym (own_requests-append u (g.later u) o.new ∙ ap (λ zs. own_requests u (g.later u) ++ zs) (grows-requests u ne o.grows) ∙ append-nil (own_requests u (g.later u))) in
-        (subst (λ l. has l u ≡ true) (sym alive) was.0, subst (λ zs. Seen deck u o.items (g.before u) (g.later u ++ o.new) zs k) requests (grows-seen u (g.before u) (g.later u) (own_requests u (g.later u)) k ne was.1 o.grows)))
+        subst (λ zs. Seen deck u o.items (g.before u) (g.later u ++ o.new) zs k) requests (grows-seen u (g.before u) (g.later u) (own_requests u (g.later u)) k ne was o.grows))
 
     pub push : happens deck (run deck es) e ≡ after → live m ≡ live (run deck es).medium → GoodMessage m (message_log P ++ out) (seen_at before_now) → GoodWorld deck (es ++ e ∷ []) after
     unfolding placed
@@ -267,5 +289,5 @@ module _ (deck : Deck) (es : List Event) (e : Event) (g : GoodWorld deck es (run
       later = later_now;
       whole = λ u. ap rounds items-now ∙ whole-now u;
       message = subst (λ log. GoodMessage m log (seen_at before_now)) (ap (λ zs. message_log P ++ zs) (sym o.message) ∙ sym (map-append (λ (x : RunItem). x.fixed) (rounds P) o.new) ∙ ap fixeds (sym (grows-rounds o.grows)) ∙ ap message_log (sym items-now)) message;
-      systems = λ u k f. subst (λ T. (has (live m) u ≡ true) × Seen deck u T (before_now u) (later_now u) (own_requests u (later_now u)) k) (sym items-now) (systems-now alive u k f);
+      systems = λ u k f lives. subst (λ T. Seen deck u T (before_now u) (later_now u) (own_requests u (later_now u)) k) (sym items-now) (systems-now alive u k f lives);
     }

@@ -1,48 +1,73 @@
 -- One event of a run in ring mode, and when a run is sound.
-use Rattle.std.proofs.Common.{◌≡◌, ◌<◌, ◌+◌, ◌-◌, Bool, true, false, ℕ, zero, suc, List, [], ◌∷◌, ◌++◌, length, map, take, Some, refl, ap, sym, ◌∙◌, subst, arith}
+use Rattle.std.proofs.Common.{◌≡◌, ◌<◌, ◌+◌, ◌-◌, Bool, true, false, ℕ, zero, suc, List, [], ◌∷◌, ◌++◌, length, map, take, not, ◌&&◌, Some, refl, ap, sym, ◌∙◌, subst, arith, append-nil}
 use Rattle.std.proofs.lemmas.Option.{same_Some}
-use Rattle.std.specs.Prelude.{slice_get, filter}
+use Rattle.std.specs.Prelude.{slice_get, filter, nat_lt}
+use Rattle.std.specs.List.{list_any}
+use Rattle.std.proofs.lemmas.Bool.{lt-ltb}
 use Rattle.grs_base.specs.declared.resource.SysId.{SysId}
 use Rattle.grs_base.specs.declared.resource.TaskId.{TaskId}
 use Rattle.grs_legal.specs.Legal.{Legal}
+use Rattle.grs_medium.specs.Apply.{is_live}
 use Rattle.grs_medium.specs.Medium.{MediumState, live, first_medium}
-use Rattle.grs_node.specs.Node.{NodeState, Step, finish_quiet, read_entries, put_in, may_go, first_node, only}
+use Rattle.grs_node.specs.Node.{NodeState, Step, desk_told, finish_quiet, purged, read_entries, put_in, may_go, first_node, only}
 use Rattle.grs_base.specs.Limits.{most_additions}
-use Rattle.grs_wire.specs.Masks.{has, others}
+use Rattle.grs_wire.specs.Masks.{has}
 use Rattle.grs_wire.specs.declared.deck.Deck.{Deck}
 use Rattle.grs_wire.specs.declared.deck.SystemDef.{SystemDef}
 use Rattle.grs_wire.specs.declared.deck.Event.{Event}
 use Rattle.grs_wire.specs.declared.deck.Choice.TheVariants as choices
-use Rattle.grs_wire.specs.declared.request.Fixed.TheVariants.{Asked}
+use Rattle.grs_wire.specs.declared.request.Fixed.TheVariants.{Asked, Purged}
+use Rattle.grs_wire.specs.History.{removes}
+use Rattle.grs_wire.specs.declared.told.Said.{Said}
+use Rattle.grs_wire.specs.declared.told.Said.TheVariants as saids
+use Rattle.grs_wire.specs.declared.told.ToldLine.TheVariants as lines
 use Rattle.grs_wire.specs.declared.request.Req.{Req}
-use Rattle.grs_wire.proofs.WantLaws.{by_test}
-use Rattle.rsa_message.specs.Message.{Message, turned_open, opened, never_opened}
+use Rattle.rsa_message.specs.Message.{turned_open}
 use Rattle.grs_wire.specs.Unseen.{unseen}
 use Rattle.grs_known.specs.Items.{RunItem, rounds, items, history}
 use Rattle.grs_known.specs.Parts.{put_at}
-use Rattle.grs_known.proofs.known.Histories.{IsHistory}
+use Rattle.grs_known.proofs.known.Histories.{IsHistory, OrdersFit}
 use Rattle.grs_known.proofs.known.ItemLaws.{items_are_history}
 use Rattle.grs_known.proofs.lists.Facts.{take-taken}
 use Rattle.grs_world.specs.Agree.{Sound}
-use Rattle.grs_world.specs.World.{World, Turnout, placed, counted, happens, run, hist, first_nodes, first_world, fixed_by}
-use Rattle.grs_world.proofs.message.Stands.{none, has-others, Bodies}
+use Rattle.grs_world.specs.World.{World, Turnout, placed, counted, happens, run, first_nodes, first_world, fixed_by}
+use Rattle.grs_world.proofs.message.Stands.{none, Bodies}
 use Rattle.grs_world.proofs.run.Messages.{message-same, message-turned, given-later}
 use Rattle.grs_world.proofs.run.OfEvents.{told_of_events}
 use Rattle.grs_world.proofs.run.Outcomes.{Outcome, quiet_outcome, still_outcome, turn_outcome, puts}
-use Rattle.grs_world.proofs.run.Removals.{none_purged}
+use Rattle.grs_world.proofs.run.Purging.{desk_world, removed_world, target-fits}
+use Rattle.grs_world.proofs.run.Removals.{AreHome, removals_told, removed_in_history}
 use Rattle.grs_world.proofs.run.Runs.{GoodTold, GoodWorld, GoodMessage, push, told-counted, seen_at, message_log}
-use Rattle.grs_world.proofs.system.AtNode.{Seen}
+use Rattle.grs_world.proofs.system.AtNode.{Seen, seen-known}
 use Rattle.grs_world.proofs.system.Begun.{first_seen}
+use Rattle.grs_world.proofs.system.Desks.{desk-told}
 use Rattle.grs_world.proofs.system.First.{first_told}
 use Rattle.grs_world.proofs.system.Quiet.{quiet}
 use Rattle.grs_known.proofs.system.Says.{own_requests, is_line_of}
 use Rattle.grs_legal.specs.Asks.{lines_of}
 use Rattle.grs_node.proofs.Keeping.{stays-task, stays-turned}
 use Rattle.grs_wire.specs.declared.request.Fixed.{Fixed}
-use Rattle.grs_world.proofs.run.InRing.{Came, IsRing, changed, nothing, turn, went_on}
-use Rattle.grs_world.proofs.run.Desks.{EventTells, tells_tasks}
+use Rattle.grs_world.proofs.run.InRing.{Came, IsRing, changed, informed, live-there, no_such, nothing, removes_one, turn, went_on}
+use Rattle.grs_world.proofs.run.Desks.{EventTells, tells_no_such, tells_removed, tells_tasks}
 use Rattle.grs_world.proofs.run.Growing.{fixeds, grows-items}
 use Rattle.grs_known.proofs.told.News.{ToldNews}
+
+-- ---- what a desk is told of a removal
+pub desk-done : (n : NodeState) (said : Said) → (desk_told n said).done ≡ n.done + 1
+unfolding desk_told
+desk-done n said = refl
+
+pub removed-told : (n : NodeState) (target : SysId) → (purged n (choices.Purge target)).node.tasks.told ≡ n.tasks.told ++ lines.Desk (n.done + 1) saids.VaryDone ∷ []
+unfolding purged
+removed-told n target = desk-told n saids.VaryDone
+
+pub removed-done : (n : NodeState) (target : SysId) → (purged n (choices.Purge target)).node.done ≡ n.done + 1
+unfolding purged
+removed-done n target = desk-done n saids.VaryDone
+
+pub removed-fixed : (n : NodeState) (target : SysId) → (purged n (choices.Purge target)).fixed ≡ Purged target ∷ []
+unfolding purged
+removed-fixed n target = refl
 
 -- ---- one event, behind which the medium is still in ring mode
 module _ (deck : Deck) (es : List Event) (e : Event) (ring : IsRing deck (run deck es)) (g : GoodWorld deck es (run deck es)) where
@@ -67,15 +92,19 @@ module _ (deck : Deck) (es : List Event) (e : Event) (ring : IsRing deck (run de
     systems = g.systems;
   }
 
-  module _ (n : NodeState) (at : slice_get (run deck es).nodes e.system.0 ≡ Some n) where
+  module _ (n : NodeState) (at : slice_get (run deck es).nodes e.system.0 ≡ Some n) (alive : has (run deck es).medium.removed e.system.0 ≡ false) where
     abbrev s : ℕ
     s = e.system.0
 
     abbrev P : List RunItem
     P = items (run deck es).fixed
 
+    -- it is live
+    lives : has (live (run deck es).medium) e.system.0 ≡ true
+    lives = live-there deck w ring s n at alive
+
     seen : Seen deck e.system.0 P (g.before e.system.0) (g.later e.system.0) (own_requests e.system.0 (g.later e.system.0)) n
-    seen = (g.systems s n at).1
+    seen = g.systems s n at lives
 
     -- the world after this came of the event
     abbrev Leads : Turnout → Type 0
@@ -96,7 +125,7 @@ module _ (deck : Deck) (es : List Event) (e : Event) (ring : IsRing deck (run de
     task_done t = (stays-task deck.limit n t (lines_of deck t)).done
 
     given : Bodies (fixeds (g.later e.system.0)) (unseen e.system (run deck es).medium.message.entries)
-    given = given-later w.medium c g.before (g.later s) P (g.whole s) (g.systems s n at).0 g.message
+    given = given-later w.medium c g.before (g.later s) P (g.whole s) lives g.message
 
     abbrev puts_new : List RunItem
     puts_new = (puts deck e.system P (g.before e.system.0) (g.later e.system.0) g.history (g.whole e.system.0) n (length (take most_additions n.outbox)) seen (unseen e.system (run deck es).medium.message.entries) given).new
@@ -112,22 +141,41 @@ module _ (deck : Deck) (es : List Event) (e : Event) (ring : IsRing deck (run de
         (subst (λ qs. GoodMessage m (message_log P ++ map Asked qs) (seen_at (put_at g.before s (rounds P)))) (sym (take-taken most_additions n.outbox))
         (message-turned w.medium m c out w.medium.rest g.before g.later P g.whole refl refl g.message))
 
+    -- it is told which systems were removed
+    informed_outcome : Outcome deck e.system P n (g.before e.system.0) (g.later e.system.0) [] (only (record n { known = (run deck es).medium.removed }))
+    informed_outcome = still_outcome deck c P (g.before s) (g.later s) g.history (g.whole s) n (record n { known = w.medium.removed }) refl (seen-known deck s P (g.before s) (g.later s) (own_requests s (g.later s)) n w.medium.removed seen)
+
     -- whatever came of it, but the change to star mode
-    pub good_came : (o : Turnout) → Came deck (run deck es) e.system n o → o.medium.star ≡ false → Leads o
-    good_came o (nothing flags) mode = quiet_push (record w.medium { rest = flags }) (only n) refl refl nothing_outcome
-    good_came o (went_on t may) mode = quiet_push w.medium (finish_quiet deck n (choices.Task t)) refl refl (task_outcome t may)
-    good_came o (turn flags here) mode = good_turn flags
-    good_came o (changed next idle) mode = absurd (cc)
+    pub good_came : (o : Turnout) → Came deck (run deck es) e.system n o → o.medium.star ≡ false → GoodTold deck (es ++ e ∷ []) (placed (run deck es) e.system n o) → Leads o
+    good_came o (nothing flags) mode told = quiet_push (record w.medium { rest = flags }) (only n) refl refl nothing_outcome
+    good_came o (went_on t may) mode told = quiet_push w.medium (finish_quiet deck n (choices.Task t)) refl refl (task_outcome t may)
+    good_came o (turn flags here) mode told = good_turn flags
+    good_came o (changed next idle) mode told = absurd (cc)
+    good_came o informed mode told = quiet_push w.medium (only (record n { known = w.medium.removed })) refl refl informed_outcome
+    good_came o (removes_one target next there) mode told = λ is. removed_world deck es e ring g n at alive target next there told
+    good_came o (no_such target next gone) mode told = λ is. desk_world deck es e ring g n at alive saids.VaryNoSuch told
 
     -- what it tells
-    tells : (m : MediumState) (st : Step) (before' later' : List RunItem) (out : List Fixed) → m.star ≡ w.medium.star → st.node.done ≡ n.done → Outcome deck e.system P n before' later' out st → EventTells deck e.system (history (items (w.fixed ++ fixed_by e.system st.fixed))) n st.node w.medium.star m.star
+    tells : (m : MediumState) (st : Step) (before' later' : List RunItem) (out : List Fixed) → m.star ≡ w.medium.star → st.node.done ≡ n.done → Outcome deck e.system P n before' later' out st → EventTells deck e.system (history (items (w.fixed ++ fixed_by e.system st.fixed))) st.fixed n st.node w.medium.star m.star
     tells m st before' later' out mode done o = tells_tasks (subst (λ U. ToldNews deck c.0 (history U) n.tasks.told st.node.tasks.told) (sym (grows-items w.fixed o.grows)) o.news) done mode
 
-    pub came_tells : (o : Turnout) → Came deck (run deck es) e.system n o → o.medium.star ≡ false → EventTells deck e.system (history (items ((run deck es).fixed ++ fixed_by e.system o.step.fixed))) n o.step.node (run deck es).medium.star o.medium.star
+    pub came_tells : (o : Turnout) → Came deck (run deck es) e.system n o → o.medium.star ≡ false → EventTells deck e.system (history (items ((run deck es).fixed ++ fixed_by e.system o.step.fixed))) o.step.fixed n o.step.node (run deck es).medium.star o.medium.star
     came_tells o (nothing flags) mode = tells (record w.medium { rest = flags }) (only n) (g.before s) (g.later s) [] refl refl nothing_outcome
     came_tells o (went_on t may) mode = tells w.medium (finish_quiet deck n (choices.Task t)) (g.before s) (g.later s) [] refl (task_done t) (task_outcome t may)
     came_tells o (turn flags here) mode = tells o.medium o.step (rounds P) puts_new (map Asked (take (length (take most_additions n.outbox)) n.outbox)) refl (stays-turned deck n (unseen c w.medium.message.entries) (length (take most_additions n.outbox))).done turned_outcome
     came_tells o (changed next idle) mode = absurd (cc)
+    came_tells o informed mode = tells w.medium (only (record n { known = w.medium.removed })) (g.before s) (g.later s) [] refl refl informed_outcome
+    came_tells o (removes_one target next there) mode = tells_removed target next (removed-told n target) (removed-done n target) refl (removed-fixed n target)
+    came_tells o (no_such target next gone) mode = tells_no_such target next (desk-told n saids.VaryNoSuch) (desk-done n saids.VaryNoSuch) refl (λ fit.
+        let below = (target-fits deck n target fit next).0 in
+        ap (λ gs. list_any (removes target) (history (items gs))) (append-nil w.fixed) ∙ (ap (list_any (removes target)) (items_are_history w.fixed).0 ∙ (sym (removed_in_history deck es target) ∙ was_removed (lt-ltb target.0 w.medium.message.systems (omega (arith, below, ring.around))) gone)))
+      where
+        was_removed : nat_lt target.0 (run deck es).medium.message.systems ≡ true → is_live (run deck es).medium target ≡ false → has (run deck es).medium.removed target.0 ≡ true
+        was_removed below out = go (has w.medium.removed target.0) (sym (ap (λ b. b && not (has w.medium.removed target.0)) below) ∙ out)
+          where
+            go : (b : Bool) → (true && not b) ≡ false → b ≡ true
+            go true h = refl
+            go false h = absurd (cc)
 
 -- ---- the first world
 first_at : (deck : Deck) (k : ℕ) (ds : List SystemDef) (i : ℕ) (n : NodeState) → slice_get (first_nodes deck k ds) i ≡ Some n → (n ≡ first_node deck (k + i)) × (i < length ds)
@@ -149,9 +197,6 @@ first_is deck s n h = (first_at deck 0 deck.systems s n h).0 ∙ ap (first_node 
     zero_plus : (a : ℕ) → 0 + a ≡ a
     zero_plus a = omega arith
 
-first_live : (deck : Deck) → live (first_medium (length deck.systems) deck.entries deck.star) ≡ others (length deck.systems) 0
-first_live deck = by_test (λ (m : Message). others m.systems 0 ≡ others (length deck.systems) 0) deck.star (never_opened (length deck.systems)) (opened (length deck.systems)) (λ h. refl) (λ h. refl)
-
 pub first_message : (deck : Deck) → GoodMessage (first_medium (length deck.systems) deck.entries deck.star) [] (seen_at (λ u. []))
 first_message deck = go deck.star
   where
@@ -161,10 +206,10 @@ first_message deck = go deck.star
 
 pub first_good_told : (deck : Deck) → GoodTold deck [] (first_world deck)
 unfolding first_world
-first_good_told deck = record { counted = refl; by_now = tt; agree = tt; lines = λ s n h. ap (λ (m : NodeState). filter (is_line_of s) m.tasks.told) (first_is deck s n h) ∙ ap (filter (is_line_of s)) (first_told deck s) }
+first_good_told deck = record { counted = refl; by_now = tt; agree = λ fit. tt; lines = λ s n h. ap (λ (m : NodeState). filter (is_line_of s) m.tasks.told) (first_is deck s n h) ∙ ap (filter (is_line_of s)) (first_told deck s) }
 
 pub first_history : (deck : Deck) → IsHistory deck []
-first_history deck = record { made = tt; count = tt; asks = tt; legal = tt }
+first_history deck = record { made = tt; count = tt; asks = tt; stand = refl; legal = λ fit. tt }
 
 pub first_good : (deck : Deck) → GoodWorld deck [] (first_world deck)
 unfolding first_world
@@ -175,22 +220,17 @@ first_good deck = record {
   later = λ u. [];
   whole = λ u. refl;
   message = first_message deck;
-  systems = λ s n h. (
-    subst (λ l. has l s ≡ true) (sym (first_live deck)) (has-others (length deck.systems) s (first_at deck 0 deck.systems s n h).1),
-    subst (λ (m : NodeState). Seen deck s [] [] [] [] m) (sym (first_is deck s n h)) (first_seen deck s),
-  );
+  systems = λ s n h lives. subst (λ (m : NodeState). Seen deck s [] [] [] [] m) (sym (first_is deck s n h)) (first_seen deck s);
 }
 
--- ---- So a run is sound, if what was fixed makes a history after each list of events, and what was told agrees.
-pub sound-of : (deck : Deck) → ((us : List Event) → IsHistory deck (items (run deck us).fixed)) → (es : List Event) → GoodTold deck es (run deck es) → Sound deck es
-sound-of deck right es told = record {
-  legal = legal_at es;
+-- ---- So a run is sound, if what was fixed makes a history, what was told agrees, and live systems show their numbers, and the
+-- desks' commands are of other systems that are there.
+pub sound-of : (deck : Deck) → OrdersFit deck → ((us : List Event) → AreHome deck us) → (es : List Event) → IsHistory deck (items (run deck es).fixed) → GoodTold deck es (run deck es) → Sound deck es
+sound-of deck fit home es right told = record {
+  legal = subst (Legal deck) (items_are_history (run deck es).fixed).0 (right.legal fit);
   agree = record {
-    lines = told.agree;
+    lines = told.agree fit;
     events = told_of_events deck es;
-    removals = λ e s target h. absurd (none_purged s target deck (run deck (take e es)).fixed (legal_at (take e es)) (length (run deck (take (e - 1) es)).fixed) h);
+    removals = removals_told deck home es;
   };
 }
-  where
-    legal_at : (us : List Event) → Legal deck (hist deck us)
-    legal_at us = subst (Legal deck) (items_are_history (run deck us).fixed).0 (right us).legal

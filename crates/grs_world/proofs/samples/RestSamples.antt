@@ -85,7 +85,7 @@ pub crosses :
     × (goes_on_with first script (hist crossed both) (lines_of_told (told crossed both)) (volume 50) ≡ true)
     × (goes_on_with first script (hist crossed both) (lines_of_told (told crossed both)) (volume 49) ≡ false)
     × (owns (list_of (lists_after crossed both) (volume 50)) first ≡ false)
-    × (task_end (run crossed both).nodes first ≡ Waits)
+    × (task_end (run crossed both).medium.removed (run crossed both).nodes first ≡ Waits)
     × (unit_count (system 0) 6657 (units_of (run crossed both).nodes) ≡ 1)
     × (count_by (is_reserve crossed (hist crossed both) (system 0) 6657) (lists_after crossed both) ≡ 1)
     × (unit_count (system 0) 6659 (units_of (run crossed both).nodes) ≡ 0)
@@ -118,6 +118,6 @@ pub waits_in_order :
     × (first_uncoded second its_lines (lines_of_told (told waits_twice held_second)) ≡ Some 4)
     × (goes_on_with second its_lines (hist waits_twice held_second) (lines_of_told (told waits_twice held_second)) (own 65) ≡ false)
     × (goes_on_with second its_lines (hist waits_twice held_second) (lines_of_told (told waits_twice held_second)) (own 66) ≡ true)
-    × (task_end (run waits_twice held_second).nodes second ≡ Waits)
+    × (task_end (run waits_twice held_second).medium.removed (run waits_twice held_second).nodes second ≡ Waits)
 unfolding state_of with_state with_line with_phase with_outstanding with_record without_record with_told with_exclusive telling tell_code record_enq after_code replied passes_wait tell_line tell_untold tell_control tell_all tell_new decide post ask wait take_line end_step ready_step phase_step may_go prepare finish_quiet finish has first_node first_world carry_out chosen placed happens_at happens
 waits_in_order = (refl, refl, refl, refl, refl, refl, refl)

@@ -34,7 +34,7 @@ use Rattle.grs_known.specs.Items.{RunItem, is_of, gives_back, goes_round, rounds
 use Rattle.grs_known.specs.Known.{outstanding, Still}
 use Rattle.grs_known.specs.Past.{Past, past_of, may_leave}
 use Rattle.grs_known.proofs.known.Knowing.{one, one-none, one-some}
-use Rattle.grs_known.proofs.known.Histories.{IsHistory, MayFollow, made_item, follows, owns-may}
+use Rattle.grs_known.proofs.known.Histories.{IsHistory, MayFollow, made_item, follows, live-push, owns-may}
 use Rattle.grs_known.proofs.known.Knows.{known-all, owns-still, entry-learned, entry-decided}
 use Rattle.grs_known.proofs.lists.Facts.{filter-cons_kept, all-filter, list_all-push}
 use Rattle.grs_known.proofs.lists.Owners.{is_among}
@@ -170,7 +170,7 @@ module _ (deck : Deck) (s : ℕ) (T later : List RunItem) (right : IsHistory dec
       decides : (h : HistEntry) (r : Res) → entries_for S t a.req.want ≡ h ∷ [] → Decides deck (opens_of later out (ghosted n)) os' T T t (past_of t (k.good.tasks.each t ls ours).known T) h r []
       decides h r e = record {
         right = right;
-        learns = entry-learned deck T x t (k.good.tasks.each t ls ours).known h right (k.good.tasks.each t ls ours).knows.right is_due (made ∙ e);
+        learns = entry-learned deck T x t (k.good.tasks.each t ls ours).known h right (k.good.tasks.each t ls ours).knows.live (k.good.tasks.each t ls ours).knows.right is_due (made ∙ e);
         due = mine-none t later;
         leaves = λ u ms T1 T2 y apart told j. here-kept deck (opens_of later out (ghosted n)) os' T T1 T2 u ms y (mine-others t u later apart) (fewer u y.outstanding) (λ f. all-filter (λ q. not (same_task u q.task) || is_sent y.phase) (λ q. not (same_task t q.task)) out f) told j;
         away = ap (λ qs. is_among t (askers qs)) (append-nil (without_asker t out)) ∙ among-without t out;
@@ -197,7 +197,7 @@ module _ (deck : Deck) (s : ℕ) (T later : List RunItem) (right : IsHistory dec
       decides : (h : HistEntry) (r : Res) → entries_for (lists T) t a.req.want ≡ h ∷ [] → Decides deck (opens_of later out (ghosted n)) (opens_of later out (ghosted n)) T (T ++ x_own c ∷ []) t (past_of t (k.good.tasks.each t ls ours).known T) h r []
       decides h r e = record {
         right = follows deck T (x_own c) right m;
-        learns = entry-decided deck T (x_own c) t (k.good.tasks.each t ls ours).known h (follows deck T (x_own c) right m) (same_task-itself t) refl (k.good.tasks.each t ls ours).knows.right
+        learns = entry-decided deck T (x_own c) t (k.good.tasks.each t ls ours).known h (follows deck T (x_own c) right m) (same_task-itself t) refl (live-push t T (x_own c) (k.good.tasks.each t ls ours).knows.live refl) (k.good.tasks.each t ls ours).knows.right
             (known-all T t (k.good.tasks.each t ls ours).known (k.good.tasks.each t ls ours).knows.right none_open) e;
         due = idle;
         leaves = λ u ms T1 T2 y apart told j. here-kept deck (opens_of later out (ghosted n)) (opens_of later out (ghosted n)) (T ++ x_own c ∷ []) T1 T2 u ms y refl (λ f. f) (λ f. f) told (here-other deck (opens_of later out (ghosted n)) T (x_own c) T1 u ms y apart refl j);

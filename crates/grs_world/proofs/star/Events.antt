@@ -13,17 +13,17 @@ use Rattle.grs_base.specs.declared.resource.Res.{Res}
 use Rattle.grs_base.specs.declared.resource.SysId.{SysId}
 use Rattle.grs_base.specs.declared.resource.TaskId.{TaskId}
 use Rattle.grs_legal.specs.Asks.{lines_of}
-use Rattle.grs_medium.specs.Apply.{row, submit_row, submit_on, joined, take_row, take_from, mail_row, leave_row, rest_row, resting, manages as manages_word, switch_ring, switch_row}
+use Rattle.grs_medium.specs.Apply.{row, is_live, purge_row, without_system, submit_row, submit_on, joined, take_row, take_from, mail_row, leave_row, rest_row, resting, manages as manages_word, switch_ring, switch_row}
 use Rattle.grs_medium.specs.Inboxes.{with_mail, without_first}
 use Rattle.grs_medium.specs.Medium.{MediumState, inbox, awake, all_rest, medium_at_end}
-use Rattle.grs_node.specs.Node.{NodeState, prepare, prepared_by, star_call, star_need, may_go, may_send, is_pending, finish, finish_quiet, finish_call, finish_star, with_star, send_own, turn_call, is_for_deck, desk_told, next_order, own_words, switch_call}
+use Rattle.grs_node.specs.Node.{NodeState, only, purge_call, prepare, prepared_by, star_call, star_need, may_go, may_send, is_pending, finish, finish_quiet, finish_call, finish_star, with_star, send_own, turn_call, is_for_deck, desk_told, next_order, own_words, switch_call}
 use Rattle.grs_node.specs.Star.{StarPart, StarStep, request_of, entry_for, entry_asked, manages, has_interest, with_interest, serves, answer_for, rank_of, to_tell, first_held, may_leave, is_busy_in, is_done_with, send_to, send_of, settle_by, tell_by, fixing_none, decide_own, own_step, begun, begin_at, sent_to, with_held, took_mail, settled_first, settled_by, told_by, left_at}
 use Rattle.lock_structure.specs.Entries.{is_entry}
 use Rattle.grs_node.specs.declared.star.Need.{Need}
 use Rattle.grs_node.specs.declared.star.Need.TheVariants.{Alone, Asks, Idle}
 use Rattle.grs_node.specs.declared.prepared.Prepared.TheVariants.{Quiet, Call, Nothing}
 use Rattle.grs_wire.specs.LockWords.{manager, is_manager, lock_word, epoch, leave_reply, is_kept, leave_changes, left_word, interest}
-use Rattle.grs_wire.specs.Masks.{without}
+use Rattle.grs_wire.specs.Masks.{has, without}
 use Rattle.grs_wire.specs.Wants.{after_want}
 use Rattle.grs_wire.specs.declared.deck.Choice.{Choice}
 use Rattle.grs_wire.specs.declared.deck.Choice.TheVariants as choices
@@ -54,11 +54,13 @@ use Rattle.grs_world.proofs.star.Under.{under, under-other}
 use Rattle.grs_wire.specs.declared.deck.Order.TheVariants as orders
 use Rattle.grs_wire.specs.declared.deck.Order.{Order}
 use Rattle.grs_known.proofs.lists.Alike.{Alike, alike-itself, alike-none}
-use Rattle.grs_world.proofs.run.InRing.{heard}
+use Rattle.grs_world.proofs.run.Each.{each_heard}
+use Rattle.grs_wire.specs.declared.told.Said.{Said}
+use Rattle.grs_wire.specs.declared.told.Said.TheVariants as saids
 use Rattle.rsa_message.specs.Message.{first_number}
 use Rattle.grs_wire.specs.Unseen.{unseen}
 
-module _ (deck : Deck) (some : 0 < deck.entries) (w : World) (c : SysId) (few : c.0 < most_systems) (n : NodeState) (at : slice_get w.nodes c.0 ≡ Some n) (g : IsStar deck w) (me : IsMember deck w.medium.words (all_lists w) c.0 n) where
+module _ (deck : Deck) (some : 0 < deck.entries) (w : World) (c : SysId) (few : c.0 < most_systems) (n : NodeState) (at : slice_get w.nodes c.0 ≡ Some n) (alive : has w.medium.removed c.0 ≡ false) (g : IsStar deck w) (me : IsMember deck w.medium.words (all_lists w) c.0 n) where
   abbrev words : List ℕ
   words = w.medium.words
 
@@ -80,11 +82,11 @@ module _ (deck : Deck) (some : 0 < deck.entries) (w : World) (c : SysId) (few : 
       Leads (record { medium = med ws boxes flags; step = with_star n (record { tasks = v; part = q; fixed = fs }) })
   step ws boxes flags v q fs same m k = record {
     mode = g.mode;
-    removed = g.removed;
+    removed = refl;
     inboxes = same;
     message = refl;
     moves = m;
-    member = record { part = q; star = refl; outbox = me.outbox; known = me.known; fits = k };
+    member = record { part = q; star = refl; outbox = me.outbox; fits = k };
   }
 
   -- one that leaves words and lists
@@ -93,7 +95,7 @@ module _ (deck : Deck) (some : 0 < deck.entries) (w : World) (c : SysId) (few : 
   still boxes flags v q same k = step words boxes flags v q [] same (stays deck w c.0 g) k
 
   good_idle : Leads (idle w.medium n)
-  good_idle = record { mode = g.mode; removed = g.removed; inboxes = refl; message = refl; moves = stays deck w c.0 g; member = me }
+  good_idle = record { mode = g.mode; removed = refl; inboxes = refl; message = refl; moves = stays deck w c.0 g; member = me }
 
   -- what an event comes to by what it needs
   abbrev Needs : Choice → Need → Type 0
@@ -106,9 +108,14 @@ module _ (deck : Deck) (some : 0 < deck.entries) (w : World) (c : SysId) (few : 
   unfolding carry_out
   good_none choice = good_idle
 
+  -- a system is told which were removed
+  good_known : (choice : Choice) → LeadsBy choice (replies.Stale w.medium.removed, w.medium)
+  unfolding finish finish_call
+  good_known choice = record { mode = g.mode; removed = refl; inboxes = refl; message = refl; moves = stays deck w c.0 g; member = record { part = me.part; star = me.star; outbox = me.outbox; fits = me.fits } }
+
   called : (choice : Choice) (act : Act) → LeadsBy choice (row w.medium c act) → Leads (carry_out deck w.medium c n choice (Call (record { known = n.known; act = act })))
   unfolding carry_out
-  called choice act h = subst (LeadsBy choice) (sym (heard w.medium c (record { known = n.known; act = act }) g.removed me.known)) h
+  called choice act h = each_heard w.medium c (record { known = n.known; act = act }) (LeadsBy choice) alive (good_known choice) h
 
   -- the reply to a call is finished by the system's part
   finished : (m : MediumState) (choice : Choice) (reply : Reply) → Leads (record { medium = m; step = finish_star deck n (Some me.part) choice reply }) → Leads (record { medium = m; step = finish_star deck n n.star choice reply })
@@ -129,7 +136,7 @@ module _ (deck : Deck) (some : 0 < deck.entries) (w : World) (c : SysId) (few : 
       let st = finish_quiet deck n (choices.Task t) in
       record {
         mode = g.mode;
-        removed = g.removed;
+        removed = refl;
         inboxes = refl;
         message = refl;
         moves = record {
@@ -144,7 +151,6 @@ module _ (deck : Deck) (some : 0 < deck.entries) (w : World) (c : SysId) (few : 
           part = p;
           star = k.star ∙ me.star;
           outbox = k.outbox ∙ me.outbox;
-          known = k.known ∙ me.known;
           fits = record {
             home = me.fits.home;
             entries = me.fits.entries;
@@ -509,10 +515,22 @@ module _ (deck : Deck) (some : 0 < deck.entries) (w : World) (c : SysId) (few : 
   unfolding carry_out
   nothing_done choice = good_idle
 
-  -- the complex changed before, and the system's desk is told so
+  -- a line of the system's desk: the complex changed before, or is in star mode, where nobody is removed
+  good_desk : (said : Said) → Leads (record { medium = w.medium; step = only (desk_told n said) })
+  unfolding desk_told
+  good_desk said = record { mode = g.mode; removed = refl; inboxes = refl; message = refl; moves = stays deck w c.0 g; member = record { part = me.part; star = me.star; outbox = me.outbox; fits = me.fits } }
+
   good_told : LeadsBy choices.Switch (replies.Already, w.medium)
-  unfolding finish finish_call desk_told
-  good_told = record { mode = g.mode; removed = g.removed; inboxes = refl; message = refl; moves = stays deck w c.0 g; member = record { part = me.part; star = me.star; outbox = me.outbox; known = me.known; fits = me.fits } }
+  unfolding finish finish_call
+  good_told = good_desk saids.StarAlready
+
+  good_in_star : (target : SysId) → LeadsBy (choices.Purge target) (replies.InStar, w.medium)
+  unfolding finish finish_call
+  good_in_star target = good_desk saids.VaryInStar
+
+  good_purge : (target : SysId) → LeadsBy (choices.Purge target) (row w.medium c (acts.Purge target))
+  unfolding row purge_row
+  good_purge target = subst (λ b. LeadsBy (choices.Purge target) (cond b (replies.InStar, w.medium) (cond (is_live w.medium target) (replies.Purged, without_system w.medium c target) (replies.NoSuch, w.medium)))) (sym g.mode) (good_in_star target)
 
   good_already : LeadsBy choices.Switch (row w.medium c (acts.Switch (own_words deck n)))
   unfolding row switch_row
@@ -522,6 +540,12 @@ module _ (deck : Deck) (some : 0 < deck.entries) (w : World) (c : SysId) (few : 
   good_switch None = nothing_done choices.Switch
   good_switch (Some orders.Star) = called choices.Switch (acts.Switch (own_words deck n)) good_already
   good_switch (Some (orders.Vary t)) = nothing_done choices.Switch
+
+  good_target : (target : SysId) (o : Option Order) → Leads (carry_out deck w.medium c n (choices.Purge target) (purge_call n target o))
+  good_target target None = nothing_done (choices.Purge target)
+  good_target target (Some orders.Star) = nothing_done (choices.Purge target)
+  good_target target (Some (orders.Vary named)) = by_test (λ q. Leads (carry_out deck w.medium c n (choices.Purge target) q)) (named.0 == target.0) (Call (record { known = n.known; act = acts.Purge target })) Nothing
+      (λ h. called (choices.Purge target) (acts.Purge target) (good_purge target)) (λ h. nothing_done (choices.Purge target))
 
   pub good_choice : (choice : Choice) → IsStep deck w c n (chosen deck w.medium c n choice)
   unfolding chosen prepare
@@ -534,4 +558,4 @@ module _ (deck : Deck) (some : 0 < deck.entries) (w : World) (c : SysId) (few : 
   good_choice (choices.Tell e) = by_need (choices.Tell e) (good_tell e (to_tell p e))
   good_choice (choices.Leave e) = by_need (choices.Leave e) (by_test (Needs (choices.Leave e)) (may_leave p n.tasks e) (Asks (acts.Leave e)) Idle (λ h. called (choices.Leave e) (acts.Leave e) (good_leave e h)) (λ h. good_none (choices.Leave e)))
   good_choice choices.Switch = good_switch (next_order deck n)
-  good_choice (choices.Purge t) = by_need (choices.Purge t) (good_none (choices.Purge t))
+  good_choice (choices.Purge t) = good_target t (next_order deck n)

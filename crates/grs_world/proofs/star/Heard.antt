@@ -1,5 +1,5 @@
--- What is still to be heard in star mode: of each request that was sent, where it or its answer is; and of each owner, that
--- its system knows that it owns, or that this comes to it, or that its manager has still to tell it. So nothing is lost.
+-- What is still to be heard by live systems in star mode: of each request that was sent, where it or its answer is; and of each
+-- owner, that its system knows that it owns, or that this comes to it, or that its manager has still to tell it. So nothing is lost.
 use Rattle.std.specs.Prelude.{◌≡◌, ◌≢◌, ◌<◌, ◌≤◌, ◌⊎◌, ℕ, suc, Bool, true, false, cond, not, ◌&&◌, ◌||◌, nat_le, List, [], ◌∷◌, ◌++◌, length, filter, Some, slice_get}
 use Rattle.std.specs.List.{list_any}
 use Rattle.contention_mgr.specs.Manager.{Managed, is_of, items_of, managed_at, managed_of, entry_wanted}
@@ -33,6 +33,7 @@ use Rattle.grs_world.proofs.rest.Marks.{is_marked}
 use Rattle.grs_world.proofs.star.Members.{all_lists}
 use Rattle.grs_world.proofs.star.Worlds.{in_hands}
 use Rattle.grs_world.specs.World.{World, Turnout, fixed_by, placed}
+use Rattle.grs_wire.specs.Masks.{has}
 
 -- ---- how a system stands by itself
 -- whether a task of a system has sent its request, and whether its system told it control of a resource
@@ -73,21 +74,23 @@ AreAddressed deck [] = Unit {0}
 AreAddressed deck (m ∷ ms) = IsAddressed deck m × AreAddressed deck ms
 
 -- ---- where it is
--- A task's request is in the hands of some system, or on its way there.
+-- A task's request is in the hands of some live system, or on its way there.
 pub record IsInHands (w : World) (t : TaskId) : Type 0 where
   pub system : ℕ
   pub node : NodeState
   pub part : StarPart
   pub at : slice_get w.nodes system ≡ Some node
+  pub live : has w.medium.removed system ≡ false
   pub star : node.star ≡ Some part
   pub among : is_among t (askers (in_hands part (inbox w.medium system))) ≡ true
 
--- A manager of another system than s has still to tell a task that it owns.
+-- A manager, a live system and another than s, has still to tell a task that it owns.
 pub record IsUntold (w : World) (s : ℕ) (t : TaskId) (r : Res) : Type 0 where
   pub system : ℕ
   pub node : NodeState
   pub part : StarPart
   pub at : slice_get w.nodes system ≡ Some node
+  pub live : has w.medium.removed system ≡ false
   pub star : node.star ≡ Some part
   pub apart : system ≢ s
   pub untold : list_any (λ y. is_of r t y && y.untold) (items_of (managed_of part.manager r)) ≡ true
@@ -111,17 +114,17 @@ enq_count T = length (filter (λ x. is_enq x.fixed) T)
 -- who was told control of what.
 pub record IsHeard (deck : Deck) (w : World) (sent : ℕ → TaskId → Bool) (had : ℕ → TaskId → Res → Bool) : Type 0 where
   -- a request that was sent is in somebody's hands, or its answer comes
-  pub requests : (s : ℕ) (n : NodeState) (t : TaskId) → slice_get w.nodes s ≡ Some n → is_home_at deck s t ≡ true → sent s t ≡ true →
+  pub requests : (s : ℕ) (n : NodeState) (t : TaskId) → slice_get w.nodes s ≡ Some n → has w.medium.removed s ≡ false → is_home_at deck s t ≡ true → sent s t ≡ true →
       IsInHands w t ⊎ (list_any (is_timely t) (inbox w.medium s) ≡ true)
   -- an owner was told so, or hears it, or is still to be told
-  pub owners : (s : ℕ) (n : NodeState) (t : TaskId) (r : Res) → slice_get w.nodes s ≡ Some n → is_home_at deck s t ≡ true → is_systems r ≡ true → owns (list_of (all_lists w) r) t ≡ true →
+  pub owners : (s : ℕ) (n : NodeState) (t : TaskId) (r : Res) → slice_get w.nodes s ≡ Some n → has w.medium.removed s ≡ false → is_home_at deck s t ≡ true → is_systems r ≡ true → owns (list_of (all_lists w) r) t ≡ true →
       (had s t r ≡ true) ⊎ ((hears t r (has_res r (state_of n.tasks t).records) (inbox w.medium s) ≡ true) ⊎ IsUntold w s t r)
   -- an element is on record, or the answer comes that makes its record
-  pub recorded : (s : ℕ) (n : NodeState) (t : TaskId) (r : Res) → slice_get w.nodes s ≡ Some n → is_home_at deck s t ≡ true → is_systems r ≡ true → has_task (list_of (all_lists w) r) t ≡ true →
+  pub recorded : (s : ℕ) (n : NodeState) (t : TaskId) (r : Res) → slice_get w.nodes s ≡ Some n → has w.medium.removed s ≡ false → is_home_at deck s t ≡ true → is_systems r ≡ true → has_task (list_of (all_lists w) r) t ≡ true →
       (has_res r (state_of n.tasks t).records ≡ true) ⊎ (list_any (is_timely t) (inbox w.medium s) ≡ true)
   pub mails : (s : ℕ) → AreAddressed deck (inbox w.medium s)
   -- no rank is past the number of requests that could queue an element
-  pub ranks : (m : ℕ) (k : NodeState) (p : StarPart) (e : ℕ) (x : Managed) → slice_get w.nodes m ≡ Some k → k.star ≡ Some p → managed_at p.manager e ≡ Some x → x.next ≤ suc (enq_count (items w.fixed))
+  pub ranks : (m : ℕ) (k : NodeState) (p : StarPart) (e : ℕ) (x : Managed) → slice_get w.nodes m ≡ Some k → has w.medium.removed m ≡ false → k.star ≡ Some p → managed_at p.manager e ≡ Some x → x.next ≤ suc (enq_count (items w.fixed))
 
 -- where system c stands like this, and the others as said
 abbrev pub sent_with : (ℕ → TaskId → Bool) → SysId → NodeState → ℕ → TaskId → Bool

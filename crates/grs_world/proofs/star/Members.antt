@@ -1,12 +1,13 @@
--- What holds of the medium and of each system of a run in star mode, as far as words, roles and lists go; and how an
--- event of one system keeps it.
+-- What holds of the medium and of each live system of a run in star mode, as far as words, roles and lists go; and how an
+-- event of one system keeps it. In star mode no event removes a system.
 use Rattle.std.proofs.Common.{◌≡◌, ◌≢◌, ◌<◌, ◌≤◌, ℕ, Bool, true, false, List, [], ◌∷◌, ◌++◌, length, Option, Some, None, refl, ap, sym, ◌∙◌, subst, arith}
-use Rattle.std.specs.Prelude.{set, slice_get, ◌==◌}
+use Rattle.std.specs.Prelude.{set, slice_get, nat_lt, ◌==◌}
 use Rattle.std.specs.List.{All}
-use Rattle.std.proofs.lemmas.Bool.{eqb-true, eqb-false, eq-eqb}
+use Rattle.std.proofs.lemmas.Bool.{eqb-true, eqb-false, eq-eqb, lt-ltb}
 use Rattle.std.proofs.lemmas.List.{length-set}
 use Rattle.std.proofs.lemmas.Option.{slice_get_within, same_Some}
-use Rattle.grs_known.proofs.lists.Truths.{false_by}
+use Rattle.grs_known.proofs.lists.Truths.{false_by, no_truth}
+use Rattle.grs_wire.specs.Masks.{has, lives}
 use Rattle.contention_mgr.specs.Laws.{AreWellKept}
 use Rattle.contention_mgr.specs.Manager.{plain, items_of, managed_at}
 use Rattle.grs_base.specs.State.{State}
@@ -59,7 +60,6 @@ pub record IsMember (deck : Deck) (words : List ℕ) (L : State) (s : ℕ) (n : 
   pub part : StarPart
   pub star : n.star ≡ Some part
   pub outbox : n.outbox ≡ []
-  pub known : n.known ≡ 0
   pub fits : IsPart deck words L s part
 
 -- the lists after all that was fixed
@@ -78,19 +78,18 @@ pub lists-grown : (xs : List (SysId × Fixed)) (c : SysId) (fs : List Fixed) →
 lists-grown xs c fs =
     ap lists (items-append xs (fixed_by c fs)) ∙ lists_from-append [] (items xs) (items_from (lists (items xs)) (fixed_by c fs)) ∙ after-items (lists (items xs)) c fs
 
--- What holds of the medium and all systems.
+-- What holds of the medium and all live systems.
 pub record IsStar (deck : Deck) (w : World) : Type 0 where
   pub mode : w.medium.star ≡ true
-  pub removed : w.medium.removed ≡ 0
   pub words : length w.medium.words ≡ deck.entries
   pub inboxes : length w.medium.inboxes ≡ length deck.systems
   pub systems : length w.nodes ≡ length deck.systems
   pub managed : All IsManaged w.medium.words
-  -- nobody but a system has interest or manages
-  pub nobody : (e s : ℕ) → length w.nodes ≤ s → (is_interested w.medium.words e s ≡ false) × (has_manager w.medium.words e s ≡ false)
+  -- nobody but a live system has interest or manages
+  pub nobody : (e s : ℕ) → lives (length w.nodes) w.medium.removed s ≡ false → (is_interested w.medium.words e s ≡ false) × (has_manager w.medium.words e s ≡ false)
   -- where there is no manager nothing is queued
   pub free : (e : ℕ) → manager_at w.medium.words e ≡ None → under deck.entries e (all_lists w) ≡ []
-  pub node : (s : ℕ) (n : NodeState) → slice_get w.nodes s ≡ Some n → IsMember deck w.medium.words (all_lists w) s n
+  pub node : (s : ℕ) (n : NodeState) → slice_get w.nodes s ≡ Some n → has w.medium.removed s ≡ false → IsMember deck w.medium.words (all_lists w) s n
 
 -- What an event of system c does to words and lists: nothing to the others' interest and roles, and nothing to the lists
 -- of an entry that c doesn't manage.
@@ -105,7 +104,7 @@ pub record Moves (deck : Deck) (c : ℕ) (words words' : List ℕ) (L L' : State
 -- What an event of a system comes to.
 pub record IsStep (deck : Deck) (w : World) (c : SysId) (n : NodeState) (o : Turnout) : Type 0 where
   pub mode : o.medium.star ≡ true
-  pub removed : o.medium.removed ≡ 0
+  pub removed : o.medium.removed ≡ w.medium.removed
   pub inboxes : length o.medium.inboxes ≡ length w.medium.inboxes
   pub message : o.medium.message ≡ w.medium.message
   pub moves : Moves deck c.0 w.medium.words o.medium.words (all_lists w) (lists_after (all_lists w) o.step.fixed)
@@ -128,7 +127,6 @@ member-other deck c words words' L L' u n ne m k = record {
   part = k.part;
   star = k.star;
   outbox = k.outbox;
-  known = k.known;
   fits = record {
     home = k.fits.home;
     entries = k.fits.entries;
@@ -146,7 +144,7 @@ member-other deck c words words' L L' u n ne m k = record {
     alone ws e h = false_by (has_manager ws e c) (λ mine. absurd (ne (one-manages ws e u c h mine)))
 
 -- the world after the event
-module _ (deck : Deck) (w : World) (c : SysId) (n : NodeState) (at : slice_get w.nodes c.0 ≡ Some n) (g : IsStar deck w) (o : Turnout) (h : IsStep deck w c n o) where
+module _ (deck : Deck) (w : World) (c : SysId) (n : NodeState) (at : slice_get w.nodes c.0 ≡ Some n) (alive : has w.medium.removed c.0 ≡ false) (g : IsStar deck w) (o : Turnout) (h : IsStep deck w c n o) where
   grown : all_lists (placed w c n o) ≡ lists_after (all_lists w) o.step.fixed
   unfolding placed
   grown = lists-grown w.fixed c o.step.fixed
@@ -157,8 +155,8 @@ module _ (deck : Deck) (w : World) (c : SysId) (n : NodeState) (at : slice_get w
   here : c.0 < length w.nodes
   here = slice_get_within w.nodes c.0 n at
 
-  node_at : (s : ℕ) (k : NodeState) → slice_get (set w.nodes c.0 o.step.node) s ≡ Some k → IsMember deck o.medium.words (lists_after (all_lists w) o.step.fixed) s k
-  node_at s k f = go (s == c.0) refl
+  node_at : (s : ℕ) (k : NodeState) → slice_get (set w.nodes c.0 o.step.node) s ≡ Some k → has w.medium.removed s ≡ false → IsMember deck o.medium.words (lists_after (all_lists w) o.step.fixed) s k
+  node_at s k f live = go (s == c.0) refl
     where
       go : (b : Bool) → (s == c.0) ≡ b → IsMember deck o.medium.words (lists_after (all_lists w) o.step.fixed) s k
       go true e =
@@ -168,21 +166,24 @@ module _ (deck : Deck) (w : World) (c : SysId) (n : NodeState) (at : slice_get w
           (subst (λ (z : ℕ). IsMember deck o.medium.words (lists_after (all_lists w) o.step.fixed) z o.step.node) (sym same) h.member)
       go false e =
           let ne : s ≢ c.0 = eqb-false s c.0 e in
-          member-other deck c.0 w.medium.words o.medium.words (all_lists w) (lists_after (all_lists w) o.step.fixed) s k ne h.moves (g.node s k (sym (slice_get-set_other w.nodes c.0 s o.step.node ne) ∙ f))
+          member-other deck c.0 w.medium.words o.medium.words (all_lists w) (lists_after (all_lists w) o.step.fixed) s k ne h.moves (g.node s k (sym (slice_get-set_other w.nodes c.0 s o.step.node ne) ∙ f) live)
 
-  beyond : (s : ℕ) → length (set w.nodes c.0 o.step.node) ≤ s → (s ≢ c.0) × (length w.nodes ≤ s)
-  beyond s past = (λ e. absurd (omega (arith, past, count, here, e)), omega (arith, past, count))
+  -- who isn't live now wasn't before, and is another system
+  beyond : (s : ℕ) → lives (length (set w.nodes c.0 o.step.node)) o.medium.removed s ≡ false → (s ≢ c.0) × (lives (length w.nodes) w.medium.removed s ≡ false)
+  beyond s gone =
+      let was : lives (length w.nodes) w.medium.removed s ≡ false = ap (λ i. lives i w.medium.removed s) (sym count) ∙ (ap (λ i. lives (length (set w.nodes c.0 o.step.node)) i s) (sym h.removed) ∙ gone) in
+      let within : nat_lt c.0 (length w.nodes) ≡ true = lt-ltb c.0 (length w.nodes) here in
+      (λ e. no_truth (lives (length w.nodes) w.medium.removed c.0) (rw (within, alive) refl) (ap (lives (length w.nodes) w.medium.removed) (sym e) ∙ was), was)
 
   pub framed : IsStar deck (placed w c n o)
   unfolding placed
   framed = record {
     mode = h.mode;
-    removed = h.removed;
     words = h.moves.count ∙ g.words;
     inboxes = h.inboxes ∙ g.inboxes;
     systems = count ∙ g.systems;
     managed = h.moves.managed;
     nobody = λ e s past. (h.moves.interest e s (beyond s past).0 ∙ (g.nobody e s (beyond s past).1).0, h.moves.managers e s (beyond s past).0 ∙ (g.nobody e s (beyond s past).1).1);
     free = λ e none. ap (under deck.entries e) grown ∙ h.moves.free e none;
-    node = λ s k f. subst (λ L. IsMember deck o.medium.words L s k) (sym grown) (node_at s k f);
+    node = λ s k f live. subst (λ L. IsMember deck o.medium.words L s k) (sym grown) (node_at s k f (sym (ap (λ i. has i s) h.removed) ∙ live));
   }

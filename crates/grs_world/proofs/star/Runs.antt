@@ -1,6 +1,7 @@
 -- What holds of words, roles and lists at the start of star mode; and the lists that are kept in it.
-use Rattle.std.proofs.Common.{◌≡◌, ◌≤◌, ◌%◌, ℕ, zero, suc, true, false, cond, List, [], ◌∷◌, length, Option, Some, None, refl, ap, sym, ◌∙◌, subst, arith}
-use Rattle.std.specs.Prelude.{is_some, slice_get, replicate, slice_index_or}
+use Rattle.std.proofs.Common.{◌≡◌, ◌≤◌, ◌<◌, ◌%◌, ℕ, zero, suc, Bool, true, false, not, cond, List, [], ◌∷◌, length, Option, Some, None, refl, ap, sym, ◌∙◌, subst, arith}
+use Rattle.std.specs.Prelude.{is_some, nat_lt, slice_get, replicate, slice_index_or}
+use Rattle.std.proofs.lemmas.Bool.{and_parts, ltb-true, not-true}
 use Rattle.std.proofs.lemmas.List.{length-replicate}
 use Rattle.contention_mgr.specs.Manager.{plain, items_of, kept_at, kept_for}
 use Rattle.lock_structure.specs.Entries.{entry_of_res}
@@ -13,17 +14,18 @@ use Rattle.grs_base.specs.declared.resource.SysId.{SysId}
 use Rattle.grs_node.specs.Node.{NodeState, first_node}
 use Rattle.grs_node.specs.Star.{first_part, manages}
 use Rattle.grs_wire.specs.LockWords.{manager, is_manager}
-use Rattle.grs_wire.specs.Masks.{has}
+use Rattle.grs_wire.specs.Masks.{has, lives}
 use Rattle.grs_wire.specs.declared.deck.Deck.{Deck}
 use Rattle.grs_wire.proofs.MaskLaws.{has-zero}
 use Rattle.lock_structure.specs.Laws.{is_interested, manager_at}
 use Rattle.lock_structure.specs.Words.{word_at}
 use Rattle.lock_structure.proofs.LawProofs.{words_begin}
 use Rattle.grs_known.proofs.lists.Facts.{slice_get-past}
+use Rattle.grs_known.proofs.lists.Truths.{no_truth}
 use Rattle.grs_world.specs.Kept.{kept, kept_in, at_manager, at_node, managed_list, named_by}
 use Rattle.grs_world.specs.World.{World, first_world, counted}
 use Rattle.grs_world.proofs.run.Sound.{first_is}
-use Rattle.grs_world.proofs.star.Members.{IsPart, IsMember, IsStar, manager-here, all_lists}
+use Rattle.grs_world.proofs.star.Members.{IsPart, IsMember, IsStar, has_manager, manager-here, all_lists}
 use Rattle.grs_world.proofs.star.Under.{in_entry, under, entry-same, list-under}
 use Rattle.grs_known.proofs.lists.Alike.{Alike, alike-itself}
 use Rattle.grs_world.proofs.run.InRing.{count_first}
@@ -31,7 +33,7 @@ use Rattle.grs_world.proofs.run.InRing.{count_first}
 -- ---- one event
 -- an event that is only counted
 pub counted-star : (deck : Deck) (w : World) → IsStar deck w → IsStar deck (counted w)
-counted-star deck w g = record { mode = g.mode; removed = g.removed; words = g.words; inboxes = g.inboxes; systems = g.systems; managed = g.managed; nobody = g.nobody; free = g.free; node = g.node }
+counted-star deck w g = record { mode = g.mode; words = g.words; inboxes = g.inboxes; systems = g.systems; managed = g.managed; nobody = g.nobody; free = g.free; node = g.node }
 
 -- ---- the first world
 -- a word of the start
@@ -74,7 +76,6 @@ first_member deck s star = record {
   part = first_part (record { 0 = s }) deck.entries;
   star = ap (λ b. cond b (Some (first_part (record { 0 = s }) deck.entries)) None) star;
   outbox = refl;
-  known = refl;
   fits = first_fits deck s;
 }
 
@@ -82,14 +83,13 @@ pub first_star : (deck : Deck) → deck.star ≡ true → IsStar deck (first_wor
 unfolding first_world
 first_star deck star = record {
   mode = star;
-  removed = refl;
   words = length-replicate deck.entries 0;
   inboxes = length-replicate (length deck.systems) [];
   systems = count_first deck 0 deck.systems;
   managed = words_begin deck.entries;
   nobody = λ e s past. (no_interest deck.entries e s, ap (λ o. is_manager o (record { 0 = s })) (no_manager deck.entries e));
   free = λ e none. refl;
-  node = λ s n f. subst (λ (k : NodeState). IsMember deck (replicate deck.entries 0) [] s k) (sym (first_is deck s n f)) (first_member deck s star);
+  node = λ s n f live. subst (λ (k : NodeState). IsMember deck (replicate deck.entries 0) [] s k) (sym (first_is deck s n f)) (first_member deck s star);
 }
 
 -- ---- words
@@ -117,9 +117,17 @@ kept_lists deck w g s (Systems q r) all = ap (λ b. kept_in b deck w s res) g.mo
     listed : list_of (under deck.entries x (all_lists w)) (Systems q r) ≡ list_of (all_lists w) (Systems q r)
     listed = list-under deck.entries x (all_lists w) res here
 
+    -- who manages is there and live
+    lives_here : (m : SysId) → manager_at w.medium.words x ≡ Some m → lives (length w.nodes) w.medium.removed m.0 ≡ true
+    lives_here m is = go (lives (length w.nodes) w.medium.removed m.0) refl
+      where
+        go : (b : Bool) → lives (length w.nodes) w.medium.removed m.0 ≡ b → b ≡ true
+        go true e = refl
+        go false e = no_truth (has_manager w.medium.words x m.0) (manager-here w.medium.words x m is) (g.nobody x m.0 e).1
+
     at_member : (m : SysId) (n : NodeState) → slice_get w.nodes m.0 ≡ Some n → manager_at w.medium.words x ≡ Some m → at_node deck w m (Some n) (Systems q r) ≡ list_of (all_lists w) (Systems q r)
     at_member m n at is =
-        let k = g.node m.0 n at in
+        let k = g.node m.0 n at (not-true _ (and_parts (nat_lt m.0 (length w.nodes)) (not (has w.medium.removed m.0)) (lives_here m is)).1) in
         let mine : manages k.part x ≡ true = k.fits.roles x ∙ manager-here w.medium.words x m is in
         let entry : entry_of_res (length k.part.manager.entries) res ≡ Some x = ap (λ i. Some (entry_of (slice_of q r) i)) (k.fits.entries ∙ sym g.words) in
         ap (λ o. managed_list deck w m n o res) k.star
@@ -128,7 +136,7 @@ kept_lists deck w g s (Systems q r) all = ap (λ b. kept_in b deck w s res) g.mo
         ∙ listed
 
     by_system : (m : SysId) (o : Option NodeState) → slice_get w.nodes m.0 ≡ o → manager_at w.medium.words x ≡ Some m → at_node deck w m o (Systems q r) ≡ list_of (all_lists w) (Systems q r)
-    by_system m None at is = absurd (let f : false ≡ true = sym (g.nobody x m.0 (slice_get-past w.nodes m.0 at)).1 ∙ manager-here w.medium.words x m is in cc)
+    by_system m None at is = absurd (let past = slice_get-past w.nodes m.0 at in let here : m.0 < length w.nodes = ltb-true m.0 (length w.nodes) (and_parts (nat_lt m.0 (length w.nodes)) (not (has w.medium.removed m.0)) (lives_here m is)).0 in omega (arith, past, here))
     by_system m (Some n) at is = at_member m n at is
 
     by_word : (o : Option SysId) → manager_at w.medium.words x ≡ o → at_manager deck w (named_by w.medium.words (Some x)) (Systems q r) ≡ list_of (all_lists w) (Systems q r)

@@ -57,7 +57,7 @@ use Rattle.grs_world.proofs.star.OwnEvents.{may-follow, system-decided, system-s
 use Rattle.grs_world.proofs.star.Runs.{word_past}
 use Rattle.grs_world.proofs.star.Systems.{IsSystem, Keeps, Away, near_at, requests_in, system-other, system-requested, system-words}
 use Rattle.grs_world.proofs.star.Under.{res-entry}
-use Rattle.grs_world.proofs.star.Worlds.{IsIn, IsHand, AllHands, Hands, IsWhole, in_hands, items-none, items-one, whole-placed, none_fixed, fixes-own}
+use Rattle.grs_world.proofs.star.Worlds.{IsIn, IsHand, AllHands, Hands, IsWhole, are_live, in_hands, live-below, live-here, manager-live, items-none, items-one, whole-placed, none_fixed, fixes-own}
 use Rattle.grs_world.proofs.star.Heard.{StaysHeard}
 use Rattle.grs_world.proofs.star.hearing.Sent.{heard-sent}
 use Rattle.grs_world.proofs.star.steps.Outcome.{IsOutcome}
@@ -148,12 +148,12 @@ in-among q [] h = absurd h
 in-among q (x ∷ qs) (inl e) = or_left (same_task q.task x.task) (is_among q.task (askers qs)) (ap (λ (z : Req). same_task q.task z.task) (sym e) ∙ same_task-itself q.task)
 in-among q (x ∷ qs) (inr h) = or_right (same_task q.task x.task) (is_among q.task (askers qs)) (in-among q qs h)
 
-all-push : (deck : Deck) (words : List ℕ) (count : ℕ) (later : ℕ → List RunItem) (out : ℕ → List Req) (m : ℕ) (zs : List Req) (q : Req) → AllHands deck words count later out m zs → IsHand deck words count later out m q → AllHands deck words count later out m (zs ++ q ∷ [])
+all-push : (deck : Deck) (words : List ℕ) (live : ℕ → Bool) (later : ℕ → List RunItem) (out : ℕ → List Req) (m : ℕ) (zs : List Req) (q : Req) → AllHands deck words live later out m zs → IsHand deck words live later out m q → AllHands deck words live later out m (zs ++ q ∷ [])
 all-push deck words count later out m [] q h k = (k, tt)
 all-push deck words count later out m (z ∷ zs) q h k = (h.0, all-push deck words count later out m zs q h.1 k)
 
 -- of a task that sent nothing there is none
-not-handed : (deck : Deck) (words : List ℕ) (count : ℕ) (later : ℕ → List RunItem) (out : ℕ → List Req) (t : TaskId) → is_among t (askers (out t.system.0)) ≡ false → (m : ℕ) (zs : List Req) → AllHands deck words count later out m zs → is_among t (askers zs) ≡ false
+not-handed : (deck : Deck) (words : List ℕ) (live : ℕ → Bool) (later : ℕ → List RunItem) (out : ℕ → List Req) (t : TaskId) → is_among t (askers (out t.system.0)) ≡ false → (m : ℕ) (zs : List Req) → AllHands deck words live later out m zs → is_among t (askers zs) ≡ false
 not-handed deck words count later out t free m [] h = refl
 not-handed deck words count later out t free m (z ∷ zs) h = go (same_task t z.task) refl (not-handed deck words count later out t free m zs h.1)
   where
@@ -162,15 +162,15 @@ not-handed deck words count later out t free m (z ∷ zs) h = go (same_task t z.
     go true e more = no_truth (is_among z.task (askers (out z.task.system.0))) (in-among z (out z.task.system.0) h.0.among) (subst (λ (u : TaskId). is_among u (askers (out u.system.0)) ≡ false) (same_task-exact t z.task e) free)
 
 -- They stay what they are where the words grow, and more is sent.
-module _ (deck : Deck) (words words' : List ℕ) (grow : WordsGrow words words') (count : ℕ) (later : ℕ → List RunItem) (out out' : ℕ → List Req) (more : (u : ℕ) (q : Req) → IsIn q (out u) → IsIn q (out' u)) where
-  all-grow : (m : ℕ) (qs : List Req) → AllHands deck words count later out m qs → AllHands deck words' count later out' m qs
+module _ (deck : Deck) (words words' : List ℕ) (grow : WordsGrow words words') (live : ℕ → Bool) (later : ℕ → List RunItem) (out out' : ℕ → List Req) (more : (u : ℕ) (q : Req) → IsIn q (out u) → IsIn q (out' u)) where
+  all-grow : (m : ℕ) (qs : List Req) → AllHands deck words live later out m qs → AllHands deck words' live later out' m qs
   all-grow m [] h = tt
   all-grow m (q ∷ qs) h = (
     record { apart = h.0.apart; below = h.0.below; among = more q.task.system.0 q h.0.among; idle = h.0.idle; entry = h.0.entry; at = h.0.at; managed = grow.managed h.0.entry m h.0.managed },
     all-grow m qs h.1,
   )
 
-  pub hands-grow : (m : ℕ) (qs : List Req) → Hands deck words count later out m qs → Hands deck words' count later out' m qs
+  pub hands-grow : (m : ℕ) (qs : List Req) → Hands deck words live later out m qs → Hands deck words' live later out' m qs
   hands-grow m qs h = record { each = all-grow m qs h.each; apart = h.apart }
 
 requests-push : (ms : List Mail) (e : ℕ) (from : SysId) (q : Req) → requests_in (ms ++ Request e from q ∷ []) ≡ requests_in ms ++ q ∷ []
@@ -180,7 +180,7 @@ requests-push (Answered t a rank ∷ ms) e from q = requests-push ms e from q
 requests-push (Granted t r ∷ ms) e from q = requests-push ms e from q
 
 -- ---- A system c and a request of its task t, where the words become these.
-module _ (deck : Deck) (w : World) (g : IsWhole deck w) (c : SysId) (n : NodeState) (at : slice_get w.nodes c.0 ≡ Some n) (words : List ℕ) (grow : WordsGrow w.medium.words words) (flags : ℕ)
+module _ (deck : Deck) (w : World) (g : IsWhole deck w) (c : SysId) (n : NodeState) (at : slice_get w.nodes c.0 ≡ Some n) (alive : has w.medium.removed c.0 ≡ false) (words : List ℕ) (grow : WordsGrow w.medium.words words) (flags : ℕ)
     (t : TaskId) (ls : List Meaning) (ours : IsOurs deck c.0 n.tasks t ls) (home : is_home_at deck c.0 t ≡ true) (a : Asked) (is : (state_of n.tasks t).outstanding ≡ Some a) (free : is_among t (askers (g.out c.0)) ≡ false) (entry : ℕ) (of_entry : entry_wanted deck.entries a.req.want ≡ Some entry) where
   abbrev T : List RunItem
   T = items w.fixed
@@ -195,8 +195,8 @@ module _ (deck : Deck) (w : World) (g : IsWhole deck w) (c : SysId) (n : NodeSta
       by_entry u None h = refl
       by_entry u (Some e) h = (grow.keeps u.system.0).near e h
 
-  system-grown : (s : ℕ) (k : NodeState) → slice_get w.nodes s ≡ Some k → IsSystem deck words T s k (inbox w.medium s) (g.later s) (g.out s)
-  system-grown s k found = system-words deck w.medium.words words T s k (inbox w.medium s) (g.later s) (g.out s) (grow.keeps s) (g.system s k found)
+  system-grown : (s : ℕ) (k : NodeState) → slice_get w.nodes s ≡ Some k → has w.medium.removed s ≡ false → IsSystem deck words T s k (inbox w.medium s) (g.later s) (g.out s)
+  system-grown s k found lives = system-words deck w.medium.words words T s k (inbox w.medium s) (g.later s) (g.out s) (grow.keeps s) (g.system s k found lives)
 
   -- ---- it goes to the manager of its entry
   module _ (interested : is_interested words entry c.0 ≡ true) (s : SysId) (managing : has_manager w.medium.words entry s.0 ≡ true) (apart : s.0 ≢ c.0) where
@@ -210,11 +210,7 @@ module _ (deck : Deck) (w : World) (g : IsWhole deck w) (c : SysId) (n : NodeSta
     out' = put_at g.out c.0 (g.out c.0 ++ request_of t a ∷ [])
 
     below : s.0 < length w.nodes
-    below = go (slice_get w.nodes s.0) refl
-      where
-        go : (o : Option NodeState) → slice_get w.nodes s.0 ≡ o → s.0 < length w.nodes
-        go (Some k) e = slice_get_within w.nodes s.0 k e
-        go None e = no_truth (has_manager w.medium.words entry s.0) managing (g.roles.nobody entry s.0 (slice_get-past w.nodes s.0 e)).1
+    below = (live-below w s.0 (manager-live deck w g.roles entry s.0 managing)).0
 
     box_there : s.0 < length w.medium.inboxes
     box_there = let k = below in omega (arith, k, g.roles.systems, g.roles.inboxes)
@@ -242,43 +238,43 @@ module _ (deck : Deck) (w : World) (g : IsWhole deck w) (c : SysId) (n : NodeSta
 
     -- the system sent it
     sender : (o : Option StarPart) → IsSystem deck words T c.0 (record n { tasks = with_phase n.tasks t phases.Sent; star = o }) (inbox w.medium c.0) (g.later c.0) (g.out c.0 ++ q ∷ [])
-    sender o = system-sent deck w.medium.words T g.right c.0 n (inbox w.medium c.0) (g.later c.0) (g.out c.0) (g.system c.0 n at) t ls ours home a is free words o (grow.keeps c.0) (ap (near_at words c.0) of_entry ∙ interested)
+    sender o = system-sent deck w.medium.words T g.right c.0 n (inbox w.medium c.0) (g.later c.0) (g.out c.0) (g.system c.0 n at alive) t ls ours home a is free words o (grow.keeps c.0) (ap (near_at words c.0) of_entry ∙ interested)
 
     -- and it comes to the manager
-    others : (u : ℕ) (k : NodeState) → u ≢ c.0 → slice_get w.nodes u ≡ Some k → IsSystem deck words T u k (inbox sent_on u) (g.later u) (out' u)
-    others u k ne found = subst (λ qs. IsSystem deck words T u k (inbox sent_on u) (g.later u) qs) (sym (other_out u ne)) (go (u == s.0) refl)
+    others : (u : ℕ) (k : NodeState) → u ≢ c.0 → slice_get w.nodes u ≡ Some k → has w.medium.removed u ≡ false → IsSystem deck words T u k (inbox sent_on u) (g.later u) (out' u)
+    others u k ne found lives = subst (λ qs. IsSystem deck words T u k (inbox sent_on u) (g.later u) qs) (sym (other_out u ne)) (go (u == s.0) refl)
       where
         go : (b : Bool) → (u == s.0) ≡ b → IsSystem deck words T u k (inbox sent_on u) (g.later u) (g.out u)
-        go true e = subst (λ ms. IsSystem deck words T u k ms (g.later u) (g.out u)) (sym (its_box u (eqb-true u s.0 e))) (system-requested deck words T u k (inbox w.medium u) (g.later u) (g.out u) (system-grown u k found) entry c q)
-        go false e = subst (λ ms. IsSystem deck words T u k ms (g.later u) (g.out u)) (sym (other_box u (eqb-false u s.0 e))) (system-grown u k found)
+        go true e = subst (λ ms. IsSystem deck words T u k ms (g.later u) (g.out u)) (sym (its_box u (eqb-true u s.0 e))) (system-requested deck words T u k (inbox w.medium u) (g.later u) (g.out u) (system-grown u k found lives) entry c q)
+        go false e = subst (λ ms. IsSystem deck words T u k ms (g.later u) (g.out u)) (sym (other_box u (eqb-false u s.0 e))) (system-grown u k found lives)
 
     -- in whose hands it is now
-    hand : IsHand deck words (length w.nodes) g.later out' s.0 q
+    hand : IsHand deck words (are_live w) g.later out' s.0 q
     hand = record {
       apart = λ e. apart (sym e ∙ ours.home);
-      below = subst (λ i. i < length w.nodes) (sym ours.home) (slice_get_within w.nodes c.0 n at);
+      below = subst (λ i. are_live w i ≡ true) (sym ours.home) (live-here w c.0 n at alive);
       among = subst (λ i. IsIn q (out' i)) (sym ours.home) (subst (IsIn q) (sym own_out) (in-last q (g.out c.0)));
-      idle = subst (λ i. mine t (g.later i) ≡ []) (sym ours.home) ((g.system c.0 n at).sent t free);
+      idle = subst (λ i. mine t (g.later i) ≡ []) (sym ours.home) ((g.system c.0 n at alive).sent t free);
       entry = entry;
       at = of_entry;
       managed = grow.managed entry s.0 managing;
     }
 
-    hands_grown : (m : ℕ) (k : NodeState) (v : StarPart) → slice_get w.nodes m ≡ Some k → k.star ≡ Some v → Hands deck words (length w.nodes) g.later out' m (in_hands v (inbox w.medium m))
-    hands_grown m k v found star = hands-grow deck w.medium.words words grow (length w.nodes) g.later g.out out' more_out m (in_hands v (inbox w.medium m)) (g.hands m k v found star)
+    hands_grown : (m : ℕ) (k : NodeState) (v : StarPart) → slice_get w.nodes m ≡ Some k → has w.medium.removed m ≡ false → k.star ≡ Some v → Hands deck words (are_live w) g.later out' m (in_hands v (inbox w.medium m))
+    hands_grown m k v found lives star = hands-grow deck w.medium.words words grow (are_live w) g.later g.out out' more_out m (in_hands v (inbox w.medium m)) (g.hands m k v found lives star)
 
-    hands_others : (m : ℕ) (k : NodeState) (v : StarPart) → slice_get w.nodes m ≡ Some k → k.star ≡ Some v → Hands deck words (length w.nodes) g.later out' m (in_hands v (inbox sent_on m))
-    hands_others m k v found star = go (m == s.0) refl
+    hands_others : (m : ℕ) (k : NodeState) (v : StarPart) → slice_get w.nodes m ≡ Some k → has w.medium.removed m ≡ false → k.star ≡ Some v → Hands deck words (are_live w) g.later out' m (in_hands v (inbox sent_on m))
+    hands_others m k v found lives star = go (m == s.0) refl
       where
-        go : (b : Bool) → (m == s.0) ≡ b → Hands deck words (length w.nodes) g.later out' m (in_hands v (inbox sent_on m))
-        go false e = subst (λ ms. Hands deck words (length w.nodes) g.later out' m (in_hands v ms)) (sym (other_box m (eqb-false m s.0 e))) (hands_grown m k v found star)
+        go : (b : Bool) → (m == s.0) ≡ b → Hands deck words (are_live w) g.later out' m (in_hands v (inbox sent_on m))
+        go false e = subst (λ ms. Hands deck words (are_live w) g.later out' m (in_hands v ms)) (sym (other_box m (eqb-false m s.0 e))) (hands_grown m k v found lives star)
         go true e =
             let same : m ≡ s.0 = eqb-true m s.0 e in
-            let h = hands_grown m k v found star in
-            let none_there = not-handed deck w.medium.words (length w.nodes) g.later g.out t (subst (λ i. is_among t (askers (g.out i)) ≡ false) (sym ours.home) free) m (in_hands v (inbox w.medium m)) (g.hands m k v found star).each in
-            subst (Hands deck words (length w.nodes) g.later out' m) (sym (ap (in_hands v) (its_box m same) ∙ (ap (λ zs. v.held ++ zs) (requests-push (inbox w.medium m) entry c q) ∙ sym (append_assoc v.held (requests_in (inbox w.medium m)) (q ∷ [])))))
+            let h = hands_grown m k v found lives star in
+            let none_there = not-handed deck w.medium.words (are_live w) g.later g.out t (subst (λ i. is_among t (askers (g.out i)) ≡ false) (sym ours.home) free) m (in_hands v (inbox w.medium m)) (g.hands m k v found lives star).each in
+            subst (Hands deck words (are_live w) g.later out' m) (sym (ap (in_hands v) (its_box m same) ∙ (ap (λ zs. v.held ++ zs) (requests-push (inbox w.medium m) entry c q) ∙ sym (append_assoc v.held (requests_in (inbox w.medium m)) (q ∷ [])))))
             (record {
-              each = all-push deck words (length w.nodes) g.later out' m (in_hands v (inbox w.medium m)) q h.each (subst (λ i. IsHand deck words (length w.nodes) g.later out' i q) (sym same) hand);
+              each = all-push deck words (are_live w) g.later out' m (in_hands v (inbox w.medium m)) q h.each (subst (λ i. IsHand deck words (are_live w) g.later out' i q) (sym same) hand);
               apart = apart-push (in_hands v (inbox w.medium m)) q h.apart none_there;
             })
 
@@ -288,17 +284,17 @@ module _ (deck : Deck) (w : World) (g : IsWhole deck w) (c : SysId) (n : NodeSta
     outcome-sent p p' star held manager step = record {
       stays =
           let own_box : inbox sent_on c.0 ≡ inbox w.medium c.0 = other_box c.0 (λ e. apart (sym e)) in
-          whole-placed deck w g c n at (record { medium = sent_on; step = record { node = record n { tasks = with_phase n.tasks t phases.Sent; star = Some p' }; fixed = [] } }) step T (items-none w.fixed c) g.later out' other_out none_fixed
+          whole-placed deck w g c n at alive (record { medium = sent_on; step = record { node = record n { tasks = with_phase n.tasks t phases.Sent; star = Some p' }; fixed = [] } }) step T (items-none w.fixed c) g.later out' other_out none_fixed
           g.right near-grown
           (subst (λ ms. IsSystem deck words T c.0 (record n { tasks = with_phase n.tasks t phases.Sent; star = Some p' }) ms (g.later c.0) (out' c.0)) (sym own_box)
           (subst (λ qs. IsSystem deck words T c.0 (record n { tasks = with_phase n.tasks t phases.Sent; star = Some p' }) (inbox w.medium c.0) (g.later c.0) qs) (sym own_out) (sender (Some p'))))
           others
           (λ k found.
-          subst (λ (y : StarPart). Hands deck words (length w.nodes) g.later out' c.0 (in_hands y (inbox sent_on c.0))) (same_Some p' k found)
-          (subst (λ hs. Hands deck words (length w.nodes) g.later out' c.0 (hs ++ requests_in (inbox sent_on c.0))) (sym held) (hands_others c.0 n p at star)))
-          (λ m k v ne found known. hands_others m k v found known);
+          subst (λ (y : StarPart). Hands deck words (are_live w) g.later out' c.0 (in_hands y (inbox sent_on c.0))) (same_Some p' k found)
+          (subst (λ hs. Hands deck words (are_live w) g.later out' c.0 (hs ++ requests_in (inbox sent_on c.0))) (sym held) (hands_others c.0 n p at alive star)))
+          (λ m k v ne found lives known. hands_others m k v found lives known);
       news = tells_tasks (still-told (told-phase n.tasks t phases.Sent)) refl refl;
-      heard = heard-sent deck w g c n at words flags t home ours.here a entry of_entry s apart below p p' star held manager;
+      heard = heard-sent deck w g c n at alive words flags t home ours.here a entry of_entry s apart (manager-live deck w g.roles entry s.0 managing) p p' star held manager;
       dated = λ h. dated-by deck c.0 n (record n { tasks = with_phase n.tasks t phases.Sent; star = Some p' }) refl h (keeps-sent deck n.tasks t ours.here h.date);
     }
 
@@ -311,33 +307,33 @@ module _ (deck : Deck) (w : World) (g : IsWhole deck w) (c : SysId) (n : NodeSta
     decided = record n { tasks = tell_new (tell_answer_ranked n.tasks t a (answer_to (lists T) t a.req.want) rank) (res_wanted a.req.want) ts; star = Some p' }
 
     -- its item is another system's to the others
-    others-item : (m : MayFollow deck T item) (s : ℕ) (k : NodeState) → s ≢ c.0 → slice_get w.nodes s ≡ Some k → IsSystem deck words (T ++ item ∷ []) s k (inbox w.medium s) (g.later s) (g.out s)
-    others-item m s k ne found = system-other deck words T s k (inbox w.medium s) (g.later s) (g.out s) item m.ask (λ e. ne (sym e ∙ (ap (λ (z : Req). z.task.system.0) (sym asker) ∙ ours.home))) (system-grown s k found)
+    others-item : (m : MayFollow deck T item) (s : ℕ) (k : NodeState) → s ≢ c.0 → slice_get w.nodes s ≡ Some k → has w.medium.removed s ≡ false → IsSystem deck words (T ++ item ∷ []) s k (inbox w.medium s) (g.later s) (g.out s)
+    others-item m s k ne found lives = system-other deck words T s k (inbox w.medium s) (g.later s) (g.out s) item m.ask (λ e. ne (sym e ∙ (ap (λ (z : Req). z.task.system.0) (sym asker) ∙ ours.home))) (system-grown s k found lives)
       where
         asker : q ≡ m.ask.req
         asker = let e : fixing.Asked q ≡ fixing.Asked m.ask.req = m.ask.asked in cc
 
-    hands_same : (m : ℕ) (k : NodeState) (v : StarPart) → slice_get w.nodes m ≡ Some k → k.star ≡ Some v → Hands deck words (length w.nodes) g.later g.out m (in_hands v (inbox w.medium m))
-    hands_same m k v found known = hands-grow deck w.medium.words words grow (length w.nodes) g.later g.out g.out (λ u z h. h) m (in_hands v (inbox w.medium m)) (g.hands m k v found known)
+    hands_same : (m : ℕ) (k : NodeState) (v : StarPart) → slice_get w.nodes m ≡ Some k → has w.medium.removed m ≡ false → k.star ≡ Some v → Hands deck words (are_live w) g.later g.out m (in_hands v (inbox w.medium m))
+    hands_same m k v found lives known = hands-grow deck w.medium.words words grow (are_live w) g.later g.out g.out (λ u z h. h) m (in_hands v (inbox w.medium m)) (g.hands m k v found lives known)
 
     pub outcome-decided : ((u : TaskId) → is_among u ts ≡ true → owns (list_of (lists (T ++ item ∷ [])) r) u ≡ true) →
         (IsWhole deck (placed w c n (record { medium = record w.medium { words = words; rest = flags }; step = record { node = decided; fixed = fixing.Asked (request_of t a) ∷ [] } })) → StaysHeard deck w c n (record { medium = record w.medium { words = words; rest = flags }; step = record { node = decided; fixed = fixing.Asked (request_of t a) ∷ [] } })) →
         IsStep deck w c n (record { medium = record w.medium { words = words; rest = flags }; step = record { node = decided; fixed = fixing.Asked (request_of t a) ∷ [] } }) →
         IsOutcome deck w g c n (record { medium = record w.medium { words = words; rest = flags }; step = record { node = decided; fixed = fixing.Asked (request_of t a) ∷ [] } })
     outcome-decided owned heard step =
-        let h = system-grown c.0 n at in
+        let h = system-grown c.0 n at alive in
         let m = may-follow deck words T g.right c.0 n (inbox w.medium c.0) (g.later c.0) (g.out c.0) h t ls ours home a is free c in
         let z = system-decided deck words T g.right c.0 n (inbox w.medium c.0) (g.later c.0) (g.out c.0) h t ls ours home a is free c entry of_entry managing r wanted ts rank (Some p') owned in
         record {
           stays =
-              whole-placed deck w g c n at (record { medium = record w.medium { words = words; rest = flags }; step = record { node = decided; fixed = fixing.Asked q ∷ [] } }) step (T ++ item ∷ []) (items-one w.fixed c (fixing.Asked q)) g.later g.out (λ u ne. refl) (fixes-own deck c g.out T q m ours.home)
+              whole-placed deck w g c n at alive (record { medium = record w.medium { words = words; rest = flags }; step = record { node = decided; fixed = fixing.Asked q ∷ [] } }) step (T ++ item ∷ []) (items-one w.fixed c (fixing.Asked q)) g.later g.out (λ u ne. refl) (fixes-own deck c g.out T q m ours.home)
               (follows deck T item g.right m)
               (subst (AreNear deck words) (sym (lists-push T item)) (near-want deck words (lists T) t a.req.want (λ v e. near v e step.moves.managed) near-grown))
               z.system (others-item m)
               (λ k found.
-              subst (λ (y : StarPart). Hands deck words (length w.nodes) g.later g.out c.0 (in_hands y (inbox w.medium c.0))) (same_Some p' k found)
-              (subst (λ hs. Hands deck words (length w.nodes) g.later g.out c.0 (hs ++ requests_in (inbox w.medium c.0))) (sym held) (hands_same c.0 n p at star)))
-              (λ k y v ne found known. hands_same k y v found known);
+              subst (λ (y : StarPart). Hands deck words (are_live w) g.later g.out c.0 (in_hands y (inbox w.medium c.0))) (same_Some p' k found)
+              (subst (λ hs. Hands deck words (are_live w) g.later g.out c.0 (hs ++ requests_in (inbox w.medium c.0))) (sym held) (hands_same c.0 n p at alive star)))
+              (λ k y v ne found lives known. hands_same k y v found lives known);
           news = tells_tasks (subst (λ U. ToldNews deck c.0 (history U) n.tasks.told decided.tasks.told) (sym (items-one w.fixed c (fixing.Asked q))) (told-news z.told)) refl refl;
           heard = heard;
           dated = λ d. dated-by deck c.0 n decided refl d (keeps-decided deck n.tasks t a (lists T) rank ts (and_parts (t.system.0 == c.0) (is_some (lines_of deck t)) home).1 ours.here is d.date);

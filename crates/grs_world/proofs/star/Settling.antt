@@ -2,6 +2,7 @@
 use Rattle.grs_world.proofs.star.Elements.{AreNear, is_near_res, near-want}
 use Rattle.task_state.specs.View.{state_of}
 use Rattle.grs_known.proofs.known.ItemLaws.{lists-push}
+use Rattle.grs_wire.specs.Masks.{has}
 use Rattle.grs_wire.specs.declared.request.Answer.{Answer}
 use Rattle.grs_world.specs.World.{World, placed}
 use Rattle.grs_medium.specs.Inboxes.{with_mail}
@@ -46,7 +47,7 @@ use Rattle.grs_known.proofs.lists.Placed.{put_here, put_other}
 use Rattle.grs_world.proofs.star.Members.{has_manager, one-manages, IsStep}
 use Rattle.grs_world.proofs.star.OwnEvents.{Goes, late-calm}
 use Rattle.grs_world.proofs.star.Systems.{IsSystem, system-other, Away, near_at, is_near, gives_want, system-settled, requests_in, here}
-use Rattle.grs_world.proofs.star.Worlds.{IsIn, IsHand, AllHands, IsWhole, Hands, in_hands, items-one, whole-placed, Fixes, StaysWhole, one_fixed}
+use Rattle.grs_world.proofs.star.Worlds.{IsIn, IsHand, AllHands, IsWhole, Hands, are_live, in_hands, items-one, live-below, whole-placed, Fixes, StaysWhole, one_fixed}
 
 -- the manager: another system's item is fixed, and its own tasks that became owners are told
 pub system-manages : (deck : Deck) (words : List ℕ) (T : List RunItem) (s : ℕ) (n : NodeState) (ms : List Mail) (later : List RunItem) (out : List Req) (x : RunItem) (a : IsAsk deck x) → a.req.task.system.0 ≢ s → IsHistory deck (T ++ x ∷ []) →
@@ -115,8 +116,8 @@ module _ (deck : Deck) (words : List ℕ) (T : List RunItem) (right : IsHistory 
 abbrev pub later-with : (ℕ → List RunItem) → ℕ → RunItem → ℕ → List RunItem
 later-with later s x = put_at later s (later s ++ x ∷ [])
 
-module _ (deck : Deck) (words : List ℕ) (count : ℕ) (later : ℕ → List RunItem) (out : ℕ → List Req) (q : Req) (x : RunItem) (asked : x.fixed ≡ fixing.Asked q) where
-  hand-later : (m : ℕ) (z : Req) → same_task z.task q.task ≡ false → IsHand deck words count later out m z → IsHand deck words count (later-with later q.task.system.0 x) out m z
+module _ (deck : Deck) (words : List ℕ) (live : ℕ → Bool) (later : ℕ → List RunItem) (out : ℕ → List Req) (q : Req) (x : RunItem) (asked : x.fixed ≡ fixing.Asked q) where
+  hand-later : (m : ℕ) (z : Req) → same_task z.task q.task ≡ false → IsHand deck words live later out m z → IsHand deck words live (later-with later q.task.system.0 x) out m z
   hand-later m z apart h = record { apart = h.apart; below = h.below; among = h.among; idle = go (z.task.system.0 == q.task.system.0) refl; entry = h.entry; at = h.at; managed = h.managed }
     where
       go : (b : Bool) → (z.task.system.0 == q.task.system.0) ≡ b → mine z.task (cond b (later q.task.system.0 ++ x ∷ []) (later z.task.system.0)) ≡ []
@@ -127,16 +128,16 @@ module _ (deck : Deck) (words : List ℕ) (count : ℕ) (later : ℕ → List Ru
           ∙ (ap (λ ys. mine z.task (later q.task.system.0) ++ ys) (filter-cons_left (λ y. is_of z.task y.fixed) x [] (ap (is_of z.task) asked ∙ apart)) ∙ append-nil (mine z.task (later q.task.system.0)))
           ∙ (ap (λ u. mine z.task (later u)) (sym same) ∙ h.idle)
 
-  pub hands-later : (m : ℕ) (zs : List Req) → is_among q.task (askers zs) ≡ false → AllHands deck words count later out m zs → AllHands deck words count (later-with later q.task.system.0 x) out m zs
+  pub hands-later : (m : ℕ) (zs : List Req) → is_among q.task (askers zs) ≡ false → AllHands deck words live later out m zs → AllHands deck words live (later-with later q.task.system.0 x) out m zs
   hands-later m [] away h = tt
   hands-later m (z ∷ zs) away h =
       let both = or_parts (same_task q.task z.task) (is_among q.task (askers zs)) away in
       (hand-later m z (task_swap q.task z.task both.0) h.0, hands-later m zs both.1 h.1)
 
 -- no other system has it in its hands
-pub not-theirs : (deck : Deck) (words : List ℕ) (count : ℕ) (later : ℕ → List RunItem) (out : ℕ → List Req) (q : Req) (o : Option Asked) (m : ℕ) → IsHand deck words count later out m q → IsAskedBy q.task o (out q.task.system.0) → (k : ℕ) → k ≢ m → (zs : List Req) → AllHands deck words count later out k zs → is_among q.task (askers zs) ≡ false
-not-theirs deck words count later out q o m h asked k ne [] hands = refl
-not-theirs deck words count later out q o m h asked k ne (z ∷ zs) hands = go (same_task q.task z.task) refl (not-theirs deck words count later out q o m h asked k ne zs hands.1)
+pub not-theirs : (deck : Deck) (words : List ℕ) (live : ℕ → Bool) (later : ℕ → List RunItem) (out : ℕ → List Req) (q : Req) (o : Option Asked) (m : ℕ) → IsHand deck words live later out m q → IsAskedBy q.task o (out q.task.system.0) → (k : ℕ) → k ≢ m → (zs : List Req) → AllHands deck words live later out k zs → is_among q.task (askers zs) ≡ false
+not-theirs deck words live later out q o m h asked k ne [] hands = refl
+not-theirs deck words live later out q o m h asked k ne (z ∷ zs) hands = go (same_task q.task z.task) refl (not-theirs deck words live later out q o m h asked k ne zs hands.1)
   where
     go : (b : Bool) → same_task q.task z.task ≡ b → is_among q.task (askers zs) ≡ false → (b || is_among q.task (askers zs)) ≡ false
     go false e more = more
@@ -153,17 +154,17 @@ requests-answered (Answered u b n ∷ ms) t a rank = requests-answered ms t a ra
 requests-answered (Granted u r ∷ ms) t a rank = requests-answered ms t a rank
 
 -- ---- The world after a Settle.
-module _ (deck : Deck) (w : World) (g : IsWhole deck w) (c : SysId) (n : NodeState) (at : slice_get w.nodes c.0 ≡ Some n) (p : StarPart) (star : n.star ≡ Some p) (q : Req) (qs : List Req) (held : p.held ≡ q ∷ qs) where
+module _ (deck : Deck) (w : World) (g : IsWhole deck w) (c : SysId) (n : NodeState) (at : slice_get w.nodes c.0 ≡ Some n) (alive : has w.medium.removed c.0 ≡ false) (p : StarPart) (star : n.star ≡ Some p) (q : Req) (qs : List Req) (held : p.held ≡ q ∷ qs) where
   abbrev T : List RunItem
   T = items w.fixed
 
   abbrev item : RunItem
   item = made_item c T (fixing.Asked q)
 
-  pub mine_hands : Hands deck w.medium.words (length w.nodes) g.later g.out c.0 (q ∷ (qs ++ requests_in (inbox w.medium c.0)))
-  mine_hands = subst (λ zs. Hands deck w.medium.words (length w.nodes) g.later g.out c.0 (zs ++ requests_in (inbox w.medium c.0))) held (g.hands c.0 n p at star)
+  pub mine_hands : Hands deck w.medium.words (are_live w) g.later g.out c.0 (q ∷ (qs ++ requests_in (inbox w.medium c.0)))
+  mine_hands = subst (λ zs. Hands deck w.medium.words (are_live w) g.later g.out c.0 (zs ++ requests_in (inbox w.medium c.0))) held (g.hands c.0 n p at alive star)
 
-  pub hand : IsHand deck w.medium.words (length w.nodes) g.later g.out c.0 q
+  pub hand : IsHand deck w.medium.words (are_live w) g.later g.out c.0 q
   hand = mine_hands.each.0
 
   -- the asker's system
@@ -173,8 +174,12 @@ module _ (deck : Deck) (w : World) (g : IsWhole deck w) (c : SysId) (n : NodeSta
   abbrev other : NodeState
   other = get_or w.nodes s n
 
+  -- it is there, and live
+  it_is : (s < length w.nodes) × (has w.medium.removed s ≡ false)
+  it_is = live-below w s hand.below
+
   its : IsSystem deck w.medium.words T s other (inbox w.medium s) (g.later s) (g.out s)
-  its = g.system s other (slice_get-get_or w.nodes s n hand.below)
+  its = g.system s other (slice_get-get_or w.nodes s n it_is.0) it_is.1
 
   -- the request may be fixed now
   pub follows-now : MayFollow deck T item
@@ -187,7 +192,7 @@ module _ (deck : Deck) (w : World) (g : IsWhole deck w) (c : SysId) (n : NodeSta
   pub manager-after : (r : Res) (ts : List TaskId) → ((u : TaskId) → is_among u ts ≡ true → owns (list_of (lists (T ++ item ∷ [])) r) u ≡ true) → entry_of_res deck.entries r ≡ Some hand.entry → (o : Option StarPart) →
       Goes deck w.medium.words (T ++ item ∷ []) c.0 (record n { tasks = tell_all n.tasks r ts; star = o }) (inbox w.medium c.0) (g.later c.0) (g.out c.0) n.tasks.told
   manager-after r ts owned of_entry o =
-      system-manages deck w.medium.words T c.0 n (inbox w.medium c.0) (g.later c.0) (g.out c.0) item follows-now.ask (λ e. hand.apart (ap (λ (y : Req). y.task.system.0) same_req ∙ e)) (follows deck T item g.right follows-now) (g.system c.0 n at) r hand.entry of_entry hand.managed ts owned o
+      system-manages deck w.medium.words T c.0 n (inbox w.medium c.0) (g.later c.0) (g.out c.0) item follows-now.ask (λ e. hand.apart (ap (λ (y : Req). y.task.system.0) same_req ∙ e)) (follows deck T item g.right follows-now) (g.system c.0 n at alive) r hand.entry of_entry hand.managed ts owned o
 
   module _ (rank : ℕ) (plain : gives_want q.want ≡ true → rank ≡ 0) (flags : ℕ) where
     abbrev answer : Mail
@@ -197,7 +202,7 @@ module _ (deck : Deck) (w : World) (g : IsWhole deck w) (c : SysId) (n : NodeSta
     sent_on = record w.medium { inboxes = with_mail w.medium.inboxes s answer; rest = flags }
 
     box_there : s < length w.medium.inboxes
-    box_there = omega (arith, hand.below, g.roles.systems, g.roles.inboxes)
+    box_there = let there = it_is.0 in omega (arith, there, g.roles.systems, g.roles.inboxes)
 
     its_box : inbox sent_on s ≡ inbox w.medium s ++ answer ∷ []
     its_box = get_or-set_same w.medium.inboxes s (inbox w.medium s ++ answer ∷ []) [] box_there
@@ -212,13 +217,13 @@ module _ (deck : Deck) (w : World) (g : IsWhole deck w) (c : SysId) (n : NodeSta
     other_later u ne = put_other g.later s (g.later s ++ item ∷ []) u ne
 
     -- a system that isn't the asker's, nor the manager
-    others : (u : ℕ) (k : NodeState) → u ≢ c.0 → slice_get w.nodes u ≡ Some k → IsSystem deck w.medium.words (T ++ item ∷ []) u k (inbox sent_on u) (later-with g.later s item u) (g.out u)
-    others u k ne found = go (u == s) refl
+    others : (u : ℕ) (k : NodeState) → u ≢ c.0 → slice_get w.nodes u ≡ Some k → has w.medium.removed u ≡ false → IsSystem deck w.medium.words (T ++ item ∷ []) u k (inbox sent_on u) (later-with g.later s item u) (g.out u)
+    others u k ne found lives = go (u == s) refl
       where
         go : (b : Bool) → (u == s) ≡ b → IsSystem deck w.medium.words (T ++ item ∷ []) u k (inbox sent_on u) (later-with g.later s item u) (g.out u)
         go true e =
             let same : u ≡ s = eqb-true u s e in
-            let node : other ≡ k = same_Some other k (sym (slice_get-get_or w.nodes s n hand.below) ∙ (ap (slice_get w.nodes) (sym same) ∙ found)) in
+            let node : other ≡ k = same_Some other k (sym (slice_get-get_or w.nodes s n it_is.0) ∙ (ap (slice_get w.nodes) (sym same) ∙ found)) in
             subst (λ z. IsSystem deck w.medium.words (T ++ item ∷ []) z k (inbox sent_on z) (later-with g.later s item z) (g.out z)) (sym same)
             (subst (λ (z : NodeState). IsSystem deck w.medium.words (T ++ item ∷ []) s z (inbox sent_on s) (later-with g.later s item s) (g.out s)) node
             (subst (λ ms. IsSystem deck w.medium.words (T ++ item ∷ []) s other ms (later-with g.later s item s) (g.out s)) (sym its_box)
@@ -228,7 +233,7 @@ module _ (deck : Deck) (w : World) (g : IsWhole deck w) (c : SysId) (n : NodeSta
             let apart : u ≢ s = eqb-false u s e in
             subst (λ ms. IsSystem deck w.medium.words (T ++ item ∷ []) u k ms (later-with g.later s item u) (g.out u)) (sym (other_box u apart))
             (subst (λ xs. IsSystem deck w.medium.words (T ++ item ∷ []) u k (inbox w.medium u) xs (g.out u)) (sym (other_later u apart))
-            (system-other deck w.medium.words T u k (inbox w.medium u) (g.later u) (g.out u) item follows-now.ask (λ z. apart (sym z ∙ ap (λ (r : Req). r.task.system.0) (sym same_req))) (g.system u k found)))
+            (system-other deck w.medium.words T u k (inbox w.medium u) (g.later u) (g.out u) item follows-now.ask (λ z. apart (sym z ∙ ap (λ (r : Req). r.task.system.0) (sym same_req))) (g.system u k found lives)))
 
     pub whole-settled : (r : Res) → res_wanted q.want ≡ Some r → (ts : List TaskId) → ((u : TaskId) → is_among u ts ≡ true → owns (list_of (lists (T ++ item ∷ [])) r) u ≡ true) → entry_of_res deck.entries r ≡ Some hand.entry →
         (p' : StarPart) → p'.held ≡ qs → (n' : NodeState) → n' ≡ record n { tasks = tell_all n.tasks r ts; star = Some p' } →
@@ -237,7 +242,7 @@ module _ (deck : Deck) (w : World) (g : IsWhole deck w) (c : SysId) (n : NodeSta
         let away : c.0 ≢ s = λ e. hand.apart (sym e) in
         let z = manager-after r ts owned of_entry (Some p') in
         let asked = (here deck s T (g.later s) (g.out s) other its.at q.task (asker-home deck w.medium.words T g.right s other (inbox w.medium s) (g.later s) (g.out s) its q hand.among hand.idle c hand.entry hand.at hand.managed hand.apart)).asked in
-        whole-placed deck w g c n at (record { medium = sent_on; step = record { node = n'; fixed = fixing.Asked q ∷ [] } }) step (T ++ item ∷ []) (items-one w.fixed c (fixing.Asked q)) (later-with g.later s item) g.out (λ u ne. refl) asker_sent
+        whole-placed deck w g c n at alive (record { medium = sent_on; step = record { node = n'; fixed = fixing.Asked q ∷ [] } }) step (T ++ item ∷ []) (items-one w.fixed c (fixing.Asked q)) (later-with g.later s item) g.out (λ u ne. refl) asker_sent
         (follows deck T item g.right follows-now)
         (subst (AreNear deck w.medium.words) (sym (lists-push T item)) (near-want deck w.medium.words (lists T) q.task q.want (λ v e. near v (same_Some r v (sym wanted ∙ e)) of_entry) g.near))
         (subst (λ (y : NodeState). IsSystem deck w.medium.words (T ++ item ∷ []) c.0 y (inbox sent_on c.0) (later-with g.later s item c.0) (g.out c.0)) (sym node)
@@ -246,12 +251,12 @@ module _ (deck : Deck) (w : World) (g : IsWhole deck w) (c : SysId) (n : NodeSta
         others
         (λ k found.
         let same : p' ≡ k = same_Some p' k (sym (ap (λ (y : NodeState). y.star) node) ∙ found) in
-        subst (λ (y : StarPart). Hands deck w.medium.words (length w.nodes) (later-with g.later s item) g.out c.0 (y.held ++ requests_in (inbox sent_on c.0))) same
-        (subst (λ zs. Hands deck w.medium.words (length w.nodes) (later-with g.later s item) g.out c.0 (zs ++ requests_in (inbox sent_on c.0))) (sym kept)
-        (subst (λ ms. Hands deck w.medium.words (length w.nodes) (later-with g.later s item) g.out c.0 (qs ++ requests_in ms)) (sym (other_box c.0 away))
+        subst (λ (y : StarPart). Hands deck w.medium.words (are_live w) (later-with g.later s item) g.out c.0 (y.held ++ requests_in (inbox sent_on c.0))) same
+        (subst (λ zs. Hands deck w.medium.words (are_live w) (later-with g.later s item) g.out c.0 (zs ++ requests_in (inbox sent_on c.0))) (sym kept)
+        (subst (λ ms. Hands deck w.medium.words (are_live w) (later-with g.later s item) g.out c.0 (qs ++ requests_in ms)) (sym (other_box c.0 away))
         (let both = and_parts (not (is_among q.task (askers (qs ++ requests_in (inbox w.medium c.0))))) (stand_apart (askers (qs ++ requests_in (inbox w.medium c.0)))) mine_hands.apart in
-        record { each = hands-later deck w.medium.words (length w.nodes) g.later g.out q item refl c.0 (qs ++ requests_in (inbox w.medium c.0)) (not-true (is_among q.task (askers (qs ++ requests_in (inbox w.medium c.0)))) both.0) mine_hands.each.1; apart = both.1 }))))
-        (λ m k v ne found is. hands_others m k v ne found is asked)
+        record { each = hands-later deck w.medium.words (are_live w) g.later g.out q item refl c.0 (qs ++ requests_in (inbox w.medium c.0)) (not-true (is_among q.task (askers (qs ++ requests_in (inbox w.medium c.0)))) both.0) mine_hands.each.1; apart = both.1 }))))
+        (λ m k v ne found lives is. hands_others m k v ne found lives is asked)
       where
         -- a system whose tasks sent nothing isn't the asker's
         asker_sent : Fixes deck c.0 g.out T (T ++ item ∷ [])
@@ -263,12 +268,12 @@ module _ (deck : Deck) (w : World) (g : IsWhole deck w) (c : SysId) (n : NodeSta
         near : (v : Res) → r ≡ v → entry_of_res deck.entries r ≡ Some hand.entry → is_near_res deck w.medium.words v q.task ≡ true
         near v e f = ap (λ y. near_at w.medium.words s (entry_of_res deck.entries y)) (sym e) ∙ (ap (near_at w.medium.words s) f ∙ (asker-away deck w.medium.words T g.right s other (inbox w.medium s) (g.later s) (g.out s) its q hand.among hand.idle c hand.entry hand.at hand.managed hand.apart).1)
 
-        hands_others : (m : ℕ) (k : NodeState) (v : StarPart) → m ≢ c.0 → slice_get w.nodes m ≡ Some k → k.star ≡ Some v → IsAskedBy q.task (state_of other.tasks q.task).outstanding (g.out s ++ []) → Hands deck w.medium.words (length w.nodes) (later-with g.later s item) g.out m (in_hands v (inbox sent_on m))
-        hands_others m k v ne found is asked =
-            let h : Hands deck w.medium.words (length w.nodes) g.later g.out m (in_hands v (inbox w.medium m)) = g.hands m k v found is in
-            let none_there = not-theirs deck w.medium.words (length w.nodes) g.later g.out q (state_of other.tasks q.task).outstanding c.0 hand (subst (IsAskedBy q.task (state_of other.tasks q.task).outstanding) (append-nil (g.out s)) asked) m ne (in_hands v (inbox w.medium m)) h.each in
-            subst (Hands deck w.medium.words (length w.nodes) (later-with g.later s item) g.out m) (ap (λ zs. v.held ++ zs) (same_requests m (m == s) refl))
-            (record { each = hands-later deck w.medium.words (length w.nodes) g.later g.out q item refl m (in_hands v (inbox w.medium m)) none_there h.each; apart = h.apart })
+        hands_others : (m : ℕ) (k : NodeState) (v : StarPart) → m ≢ c.0 → slice_get w.nodes m ≡ Some k → has w.medium.removed m ≡ false → k.star ≡ Some v → IsAskedBy q.task (state_of other.tasks q.task).outstanding (g.out s ++ []) → Hands deck w.medium.words (are_live w) (later-with g.later s item) g.out m (in_hands v (inbox sent_on m))
+        hands_others m k v ne found lives is asked =
+            let h : Hands deck w.medium.words (are_live w) g.later g.out m (in_hands v (inbox w.medium m)) = g.hands m k v found lives is in
+            let none_there = not-theirs deck w.medium.words (are_live w) g.later g.out q (state_of other.tasks q.task).outstanding c.0 hand (subst (IsAskedBy q.task (state_of other.tasks q.task).outstanding) (append-nil (g.out s)) asked) m ne (in_hands v (inbox w.medium m)) h.each in
+            subst (Hands deck w.medium.words (are_live w) (later-with g.later s item) g.out m) (ap (λ zs. v.held ++ zs) (same_requests m (m == s) refl))
+            (record { each = hands-later deck w.medium.words (are_live w) g.later g.out q item refl m (in_hands v (inbox w.medium m)) none_there h.each; apart = h.apart })
           where
             same_requests : (u : ℕ) (b : Bool) → (u == s) ≡ b → requests_in (inbox w.medium u) ≡ requests_in (inbox sent_on u)
             same_requests u true e = let same : u ≡ s = eqb-true u s e in subst (λ z. requests_in (inbox w.medium z) ≡ requests_in (inbox sent_on z)) (sym same) (requests-answered (inbox w.medium s) q.task (answer_to (lists T) q.task q.want) rank ∙ ap requests_in (sym its_box))

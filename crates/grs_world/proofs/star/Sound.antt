@@ -1,5 +1,5 @@
 -- What any event comes to in star mode, and that the first world of a deck in star mode is as it should be.
-use Rattle.std.proofs.Common.{◌≡◌, ◌<◌, ℕ, zero, suc, true, cond, List, [], ◌++◌, length, Some, None, refl, ap, sym, ◌∙◌, subst}
+use Rattle.std.proofs.Common.{◌≡◌, ◌<◌, ℕ, zero, suc, true, cond, List, [], ◌++◌, length, Some, None, refl, ap, sym, ◌∙◌, subst, false}
 use Rattle.std.specs.Prelude.{replicate, slice_get, slice_index_or}
 use Rattle.std.proofs.lemmas.Option.{same_Some}
 use Rattle.grs_base.specs.Limits.{most_systems}
@@ -7,6 +7,7 @@ use Rattle.grs_base.specs.declared.resource.SysId.{SysId}
 use Rattle.grs_medium.specs.Medium.{first_medium, inbox}
 use Rattle.grs_node.specs.Node.{NodeState, first_node}
 use Rattle.grs_node.specs.Star.{StarPart, first_part}
+use Rattle.grs_wire.specs.Masks.{has}
 use Rattle.grs_wire.specs.declared.deck.Choice.{Choice}
 use Rattle.grs_wire.specs.declared.deck.Choice.TheVariants as choices
 use Rattle.grs_wire.specs.declared.deck.Deck.{Deck}
@@ -16,32 +17,32 @@ use Rattle.grs_world.proofs.run.Sound.{first_history, first_is}
 use Rattle.grs_world.proofs.system.Begun.{first_seen}
 use Rattle.grs_world.proofs.star.Ghosts.{without-box}
 use Rattle.grs_world.proofs.star.Systems.{IsSystem}
-use Rattle.grs_world.proofs.star.Worlds.{IsWhole, Hands, in_hands}
+use Rattle.grs_world.proofs.star.Worlds.{IsWhole, Hands, are_live, in_hands}
 use Rattle.grs_world.proofs.star.steps.Outcome.{Comes}
 use Rattle.grs_world.proofs.star.steps.Leave.{outcome-leave}
-use Rattle.grs_world.proofs.star.steps.Rest.{outcome-rest, outcome-turn, outcome-purge}
+use Rattle.grs_world.proofs.star.steps.Rest.{outcome-rest, outcome-turn}
 use Rattle.grs_world.proofs.star.steps.Send.{outcome-send}
 use Rattle.grs_world.proofs.star.steps.Settle.{outcome-settle}
 use Rattle.grs_world.proofs.star.steps.Take.{outcome-take}
 use Rattle.grs_world.proofs.star.steps.Task.{outcome-task}
 use Rattle.grs_world.proofs.star.steps.Tell.{outcome-tell}
 use Rattle.grs_world.proofs.star.Runs.{first_star}
-use Rattle.grs_world.proofs.star.steps.Desk.{outcome-switch}
+use Rattle.grs_world.proofs.star.steps.Desk.{outcome-purge, outcome-switch}
 
 -- ---- one event
 -- what an event of a system comes to, whichever it chooses
-module _ (deck : Deck) (some : 0 < deck.entries) (w : World) (g : IsWhole deck w) (c : SysId) (inside : c.0 < most_systems) (n : NodeState) (at : slice_get w.nodes c.0 ≡ Some n) where
+module _ (deck : Deck) (some : 0 < deck.entries) (w : World) (g : IsWhole deck w) (c : SysId) (inside : c.0 < most_systems) (n : NodeState) (at : slice_get w.nodes c.0 ≡ Some n) (alive : has w.medium.removed c.0 ≡ false) where
   pub outcome : (choice : Choice) → Comes deck w g c n (chosen deck w.medium c n choice)
-  outcome (choices.Task t) = outcome-task deck w g c n at t
-  outcome choices.Turn = outcome-turn deck w g c n at
-  outcome choices.Rest = outcome-rest deck w g c n at
-  outcome (choices.Send t) = outcome-send deck some w g c inside n at t
-  outcome choices.Take = outcome-take deck w g c n at
-  outcome choices.Settle = outcome-settle deck w g c n at
-  outcome (choices.Tell e) = outcome-tell deck w g c n at e
-  outcome (choices.Leave e) = outcome-leave deck some w g c inside n at e
-  outcome choices.Switch = outcome-switch deck w g c n at
-  outcome (choices.Purge target) = outcome-purge deck w g c n at target
+  outcome (choices.Task t) = outcome-task deck w g c n at alive t
+  outcome choices.Turn = outcome-turn deck w g c n at alive
+  outcome choices.Rest = outcome-rest deck w g c n at alive
+  outcome (choices.Send t) = outcome-send deck some w g c inside n at alive t
+  outcome choices.Take = outcome-take deck w g c n at alive
+  outcome choices.Settle = outcome-settle deck w g c n at alive
+  outcome (choices.Tell e) = outcome-tell deck w g c n at alive e
+  outcome (choices.Leave e) = outcome-leave deck some w g c inside n at alive e
+  outcome choices.Switch = outcome-switch deck w g c n at alive
+  outcome (choices.Purge target) = outcome-purge deck w g c n at alive target
 
 -- ---- the first world
 pub no_mail : (k s : ℕ) → slice_index_or (replicate {A = List Mail} k []) s [] ≡ []
@@ -78,12 +79,12 @@ first_whole deck star = record {
   later = λ s. [];
   out = λ s. [];
   near = refl;
-  system = λ s n h. subst (λ ms. IsSystem deck (replicate deck.entries 0) [] s n ms [] []) (sym (first_inbox deck s))
+  system = λ s n h live. subst (λ ms. IsSystem deck (replicate deck.entries 0) [] s n ms [] []) (sym (first_inbox deck s))
       (subst (λ (k : NodeState). IsSystem deck (replicate deck.entries 0) [] s k [] [] []) (sym (first_is deck s n h)) (first_system deck s));
   hands = first_hands;
 }
   where
-    first_hands : (m : ℕ) (n : NodeState) (p : StarPart) → slice_get (first_nodes deck 0 deck.systems) m ≡ Some n → n.star ≡ Some p →
-        Hands deck (replicate deck.entries 0) (length (first_nodes deck 0 deck.systems)) (λ s. []) (λ s. []) m (in_hands p (inbox (first_medium (length deck.systems) deck.entries deck.star) m))
-    first_hands m n p h is = subst (λ ms. Hands deck (replicate deck.entries 0) (length (first_nodes deck 0 deck.systems)) (λ s. []) (λ s. []) m (in_hands p ms)) (sym (first_inbox deck m))
-        (subst (λ hs. Hands deck (replicate deck.entries 0) (length (first_nodes deck 0 deck.systems)) (λ s. []) (λ s. []) m (hs ++ [])) (sym (none_held deck star m n p (first_is deck m n h) is)) (record { each = tt; apart = refl }))
+    first_hands : (m : ℕ) (n : NodeState) (p : StarPart) → slice_get (first_nodes deck 0 deck.systems) m ≡ Some n → has 0 m ≡ false → n.star ≡ Some p →
+        Hands deck (replicate deck.entries 0) (are_live (first_world deck)) (λ s. []) (λ s. []) m (in_hands p (inbox (first_medium (length deck.systems) deck.entries deck.star) m))
+    first_hands m n p h live is = subst (λ ms. Hands deck (replicate deck.entries 0) (are_live (first_world deck)) (λ s. []) (λ s. []) m (in_hands p ms)) (sym (first_inbox deck m))
+        (subst (λ hs. Hands deck (replicate deck.entries 0) (are_live (first_world deck)) (λ s. []) (λ s. []) m (hs ++ [])) (sym (none_held deck star m n p (first_is deck m n h) is)) (record { each = tt; apart = refl }))

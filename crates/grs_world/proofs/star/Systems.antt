@@ -37,7 +37,7 @@ use Rattle.grs_known.proofs.known.Histories.{IsHistory, IsAsk, made_item, stays-
 use Rattle.grs_known.proofs.lists.Facts.{list_any-push, filter-cons_kept, filter-cons_left, any-more, any-last}
 use Rattle.grs_known.proofs.lists.Owners.{is_among}
 use Rattle.grs_known.proofs.lists.Truths.{no_truth, false_by, or_off}
-use Rattle.grs_world.proofs.system.AtNode.{not-ours, opens_of}
+use Rattle.grs_world.proofs.system.AtNode.{not-ours, opens_of, seen-known}
 use Rattle.grs_known.proofs.system.Ours.{IsOurs, IsHere}
 use Rattle.grs_world.proofs.system.Puts.{home-task}
 use Rattle.grs_known.proofs.system.Says.{is_home_at, askers}
@@ -139,6 +139,10 @@ pub record IsSystem (deck : Deck) (words : List ℕ) (T : List RunItem) (s : ℕ
   -- an answer to what gives something up isn't lost
   pub answered : (t : TaskId) (x : RunItem) → is_home_at deck s t ≡ true → mine t later ≡ x ∷ [] → gives x.fixed ≡ true → list_any (is_plain_answer t) ms ≡ true
   pub fits : AllFit deck words s ms
+
+-- what a system knows of removed ones says nothing of its tasks
+pub system-known : (deck : Deck) (words : List ℕ) (T : List RunItem) (s : ℕ) (n : NodeState) (ms : List Mail) (later : List RunItem) (out : List Req) (known : ℕ) → IsSystem deck words T s n ms later out → IsSystem deck words T s (record n { known = known }) ms later out
+system-known deck words T s n ms later out known h = record { at = seen-known deck s T [] later out (ghosted n) known h.at; late = h.late; sent = h.sent; near = h.near; coming = h.coming; answered = h.answered; fits = h.fits }
 
 -- ---- the words change, or another system's item is fixed
 -- what the words say of a system stays, as far as it matters to it

@@ -1,9 +1,10 @@
 -- The systems of a run in star mode together: whose hands each request is in, and how an event of one system is placed.
 use Rattle.std.proofs.Common.{◌≡◌, ◌≢◌, ◌⊎◌, ◌<◌, ℕ, Bool, true, false, List, [], ◌∷◌, ◌++◌, length, Some, refl, ap, sym, ◌∙◌, subst, append-nil, None, Option}
-use Rattle.std.specs.Prelude.{set, slice_get, ◌==◌}
-use Rattle.std.proofs.lemmas.Bool.{eqb-true, eqb-false}
+use Rattle.std.specs.Prelude.{not, nat_lt, set, slice_get, ◌==◌}
+use Rattle.grs_wire.specs.Masks.{has, lives}
+use Rattle.std.proofs.lemmas.Bool.{and_parts, eqb-true, eqb-false, lt-ltb, ltb-true, not-true}
 use Rattle.std.proofs.lemmas.List.{length-set}
-use Rattle.std.proofs.lemmas.Option.{same_Some}
+use Rattle.std.proofs.lemmas.Option.{same_Some, slice_get_within}
 use Rattle.contention_mgr.specs.Manager.{entry_wanted}
 use Rattle.grs_base.specs.State.{list_of, is_systems}
 use Rattle.grs_base.specs.declared.resource.Res.{Res}
@@ -28,6 +29,7 @@ use Rattle.grs_known.proofs.lists.Facts.{slice_get-set, slice_get-set_other}
 use Rattle.grs_world.specs.Kept.{kept}
 use Rattle.grs_world.specs.World.{World, Turnout, fixed_by, placed, counted}
 use Rattle.grs_known.proofs.system.Says.{askers, stand_apart}
+use Rattle.grs_known.proofs.lists.Truths.{no_truth}
 use Rattle.grs_world.proofs.star.Elements.{AreNear, is_near_res, near-want}
 use Rattle.grs_world.proofs.star.OwnEvents.{Task, idle_task, local_task, system-task, want-round}
 use Rattle.grs_world.proofs.star.Tasks.{task-quiet}
@@ -44,29 +46,48 @@ abbrev pub IsIn : Req → List Req → Type 0
 IsIn q [] = ⊥
 IsIn q (x ∷ xs) = (q ≡ x) ⊎ IsIn q xs
 
--- A request in the hands of system m is the one that a task of another system sent and that isn't settled; it is of an
+-- A request in the hands of system m is the one that a task of another live system sent and that isn't settled; it is of an
 -- entry that m manages.
-pub record IsHand (deck : Deck) (words : List ℕ) (count : ℕ) (later : ℕ → List RunItem) (out : ℕ → List Req) (m : ℕ) (q : Req) : Type 0 where
+pub record IsHand (deck : Deck) (words : List ℕ) (live : ℕ → Bool) (later : ℕ → List RunItem) (out : ℕ → List Req) (m : ℕ) (q : Req) : Type 0 where
   pub apart : q.task.system.0 ≢ m
-  pub below : q.task.system.0 < count
+  pub below : live q.task.system.0 ≡ true
   pub among : IsIn q (out q.task.system.0)
   pub idle : mine q.task (later q.task.system.0) ≡ []
   pub entry : ℕ
   pub at : entry_wanted deck.entries q.want ≡ Some entry
   pub managed : has_manager words entry m ≡ true
 
-abbrev pub AllHands : Deck → List ℕ → ℕ → (ℕ → List RunItem) → (ℕ → List Req) → ℕ → List Req → Type 0
-AllHands deck words count later out m [] = Unit {0}
-AllHands deck words count later out m (q ∷ qs) = IsHand deck words count later out m q × AllHands deck words count later out m qs
+abbrev pub AllHands : Deck → List ℕ → (ℕ → Bool) → (ℕ → List RunItem) → (ℕ → List Req) → ℕ → List Req → Type 0
+AllHands deck words live later out m [] = Unit {0}
+AllHands deck words live later out m (q ∷ qs) = IsHand deck words live later out m q × AllHands deck words live later out m qs
 
 -- The requests in its hands are such, each of another task.
-pub record Hands (deck : Deck) (words : List ℕ) (count : ℕ) (later : ℕ → List RunItem) (out : ℕ → List Req) (m : ℕ) (qs : List Req) : Type 0 where
-  pub each : AllHands deck words count later out m qs
+pub record Hands (deck : Deck) (words : List ℕ) (live : ℕ → Bool) (later : ℕ → List RunItem) (out : ℕ → List Req) (m : ℕ) (qs : List Req) : Type 0 where
+  pub each : AllHands deck words live later out m qs
   pub apart : stand_apart (askers qs) ≡ true
 
 -- What is in a system's hands: what it holds, and then what comes.
 abbrev pub in_hands : StarPart → List Mail → List Req
 in_hands p ms = p.held ++ requests_in ms
+
+-- the live systems of a world
+abbrev pub are_live : World → ℕ → Bool
+are_live w s = lives (length w.nodes) w.medium.removed s
+
+-- one of them is there, and wasn't removed; and back
+pub live-below : (w : World) (s : ℕ) → are_live w s ≡ true → (s < length w.nodes) × (has w.medium.removed s ≡ false)
+live-below w s h = let both = and_parts (nat_lt s (length w.nodes)) (not (has w.medium.removed s)) h in (ltb-true s (length w.nodes) both.0, not-true (has w.medium.removed s) both.1)
+
+pub live-here : (w : World) (s : ℕ) (n : NodeState) → slice_get w.nodes s ≡ Some n → has w.medium.removed s ≡ false → are_live w s ≡ true
+live-here w s n at alive = let within : nat_lt s (length w.nodes) ≡ true = lt-ltb s (length w.nodes) (slice_get_within w.nodes s n at) in rw (within, alive) refl
+
+-- who manages is one of them
+pub manager-live : (deck : Deck) (w : World) → IsStar deck w → (e s : ℕ) → has_manager w.medium.words e s ≡ true → are_live w s ≡ true
+manager-live deck w g e s managing = go (are_live w s) refl
+  where
+    go : (b : Bool) → are_live w s ≡ b → b ≡ true
+    go true h = refl
+    go false h = no_truth (has_manager w.medium.words e s) managing (g.nobody e s h).1
 
 -- What holds of the world.
 pub record IsWhole (deck : Deck) (w : World) : Type 0 where
@@ -76,8 +97,8 @@ pub record IsWhole (deck : Deck) (w : World) : Type 0 where
   pub out : ℕ → List Req
   -- each element is of a system with interest in its entry
   pub near : AreNear deck w.medium.words (all_lists w)
-  pub system : (s : ℕ) (n : NodeState) → slice_get w.nodes s ≡ Some n → IsSystem deck w.medium.words (items w.fixed) s n (inbox w.medium s) (later s) (out s)
-  pub hands : (m : ℕ) (n : NodeState) (p : StarPart) → slice_get w.nodes m ≡ Some n → n.star ≡ Some p → Hands deck w.medium.words (length w.nodes) later out m (in_hands p (inbox w.medium m))
+  pub system : (s : ℕ) (n : NodeState) → slice_get w.nodes s ≡ Some n → has w.medium.removed s ≡ false → IsSystem deck w.medium.words (items w.fixed) s n (inbox w.medium s) (later s) (out s)
+  pub hands : (m : ℕ) (n : NodeState) (p : StarPart) → slice_get w.nodes m ≡ Some n → has w.medium.removed m ≡ false → n.star ≡ Some p → Hands deck w.medium.words (are_live w) later out m (in_hands p (inbox w.medium m))
 
 -- ---- what an event leaves
 -- Behind these items an event of system c fixed nothing, or one item: of no other system whose tasks had sent nothing.
@@ -99,7 +120,7 @@ pub items-none : (xs : List (SysId × Fixed)) (c : SysId) → items (xs ++ fixed
 items-none xs c = ap items (append-nil xs)
 
 -- ---- the world after an event of system c, where the items become these
-module _ (deck : Deck) (w : World) (g : IsWhole deck w) (c : SysId) (n : NodeState) (at : slice_get w.nodes c.0 ≡ Some n) (o : Turnout) (step : IsStep deck w c n o) (T : List RunItem) (grown : items (w.fixed ++ fixed_by c o.step.fixed) ≡ T) (later : ℕ → List RunItem) (out : ℕ → List Req) (sent : (u : ℕ) → u ≢ c.0 → out u ≡ g.out u) (fixes : Fixes deck c.0 g.out (items w.fixed) T) where
+module _ (deck : Deck) (w : World) (g : IsWhole deck w) (c : SysId) (n : NodeState) (at : slice_get w.nodes c.0 ≡ Some n) (alive : has w.medium.removed c.0 ≡ false) (o : Turnout) (step : IsStep deck w c n o) (T : List RunItem) (grown : items (w.fixed ++ fixed_by c o.step.fixed) ≡ T) (later : ℕ → List RunItem) (out : ℕ → List Req) (sent : (u : ℕ) → u ≢ c.0 → out u ≡ g.out u) (fixes : Fixes deck c.0 g.out (items w.fixed) T) where
   abbrev words : List ℕ
   words = o.medium.words
 
@@ -116,25 +137,31 @@ module _ (deck : Deck) (w : World) (g : IsWhole deck w) (c : SysId) (n : NodeSta
 
   pub whole-placed : IsHistory deck T → AreNear deck o.medium.words (lists T) →
       IsSystem deck o.medium.words T c.0 o.step.node (inbox o.medium c.0) (later c.0) (out c.0) →
-      ((s : ℕ) (k : NodeState) → s ≢ c.0 → slice_get w.nodes s ≡ Some k → IsSystem deck o.medium.words T s k (inbox o.medium s) (later s) (out s)) →
-      ((p : StarPart) → o.step.node.star ≡ Some p → Hands deck o.medium.words (length w.nodes) later out c.0 (in_hands p (inbox o.medium c.0))) →
-      ((m : ℕ) (k : NodeState) (p : StarPart) → m ≢ c.0 → slice_get w.nodes m ≡ Some k → k.star ≡ Some p → Hands deck o.medium.words (length w.nodes) later out m (in_hands p (inbox o.medium m))) →
+      ((s : ℕ) (k : NodeState) → s ≢ c.0 → slice_get w.nodes s ≡ Some k → has w.medium.removed s ≡ false → IsSystem deck o.medium.words T s k (inbox o.medium s) (later s) (out s)) →
+      ((p : StarPart) → o.step.node.star ≡ Some p → Hands deck o.medium.words (are_live w) later out c.0 (in_hands p (inbox o.medium c.0))) →
+      ((m : ℕ) (k : NodeState) (p : StarPart) → m ≢ c.0 → slice_get w.nodes m ≡ Some k → has w.medium.removed m ≡ false → k.star ≡ Some p → Hands deck o.medium.words (are_live w) later out m (in_hands p (inbox o.medium m))) →
       StaysWhole deck w g c (placed w c n o)
   unfolding placed
   whole-placed right near own others hands_own hands_others = record {
     whole = record {
-      roles = framed deck w c n at g.roles o step;
+      roles = framed deck w c n at alive g.roles o step;
       right = subst (IsHistory deck) (sym grown) right;
       later = later;
       out = out;
       near = subst (λ U. AreNear deck o.medium.words (lists U)) (sym grown) near;
-      system = λ s k f. subst (λ U. IsSystem deck o.medium.words U s k (inbox o.medium s) (later s) (out s)) (sym grown) (by_system (λ u z. IsSystem deck o.medium.words T u z (inbox o.medium u) (later u) (out u)) own others s k f);
-      hands = λ m k p f is. subst (λ count. Hands deck o.medium.words count later out m (in_hands p (inbox o.medium m))) (sym (length-set w.nodes c.0 o.step.node))
-          (by_system (λ u z. (q : StarPart) → z.star ≡ Some q → Hands deck o.medium.words (length w.nodes) later out u (in_hands q (inbox o.medium u))) hands_own (λ u z ne found q star. hands_others u z q ne found star) m k f p is);
+      system = λ s k f live. subst (λ U. IsSystem deck o.medium.words U s k (inbox o.medium s) (later s) (out s)) (sym grown) (by_system (λ u z. has w.medium.removed u ≡ false → IsSystem deck o.medium.words T u z (inbox o.medium u) (later u) (out u)) (λ l. own) others s k f (was_live s live));
+      hands = λ m k p f live is. subst (λ alive. Hands deck o.medium.words alive later out m (in_hands p (inbox o.medium m))) (sym same_live)
+          (by_system (λ u z. has w.medium.removed u ≡ false → (q : StarPart) → z.star ≡ Some q → Hands deck o.medium.words (are_live w) later out u (in_hands q (inbox o.medium u))) (λ l. hands_own) (λ u z ne found l q star. hands_others u z q ne found l star) m k f (was_live m live) p is);
     };
     sent = sent;
     fixes = subst (Fixes deck c.0 g.out (items w.fixed)) (sym grown) fixes;
   }
+    where
+      was_live : (s : ℕ) → has o.medium.removed s ≡ false → has w.medium.removed s ≡ false
+      was_live s live = sym (ap (λ i. has i s) step.removed) ∙ live
+
+      same_live : are_live (placed w c n o) ≡ are_live w
+      same_live = ap (λ (i : ℕ). λ (s : ℕ). lives i o.medium.removed s) (length-set w.nodes c.0 o.step.node) ∙ ap (λ (i : ℕ). λ (s : ℕ). lives (length w.nodes) i s) step.removed
 
 -- an event that is only counted
 pub whole-counted : (deck : Deck) (w : World) (g : IsWhole deck w) → (h : IsWhole deck (counted w)) × ((u : ℕ) → h.out u ≡ g.out u)
@@ -158,20 +185,19 @@ whole-still deck w g message flags events fixed told same = (
   record {
     roles = record {
       mode = g.roles.mode;
-      removed = g.roles.removed;
       words = g.roles.words;
       inboxes = g.roles.inboxes;
       systems = g.roles.systems;
       managed = g.roles.managed;
       nobody = g.roles.nobody;
       free = λ e none. subst (λ T. under deck.entries e (lists T) ≡ []) (sym same) (g.roles.free e none);
-      node = λ s k f. subst (λ T. IsMember deck w.medium.words (lists T) s k) (sym same) (g.roles.node s k f);
+      node = λ s k f live. subst (λ T. IsMember deck w.medium.words (lists T) s k) (sym same) (g.roles.node s k f live);
     };
     right = subst (IsHistory deck) (sym same) g.right;
     later = g.later;
     out = g.out;
     near = subst (λ T. AreNear deck w.medium.words (lists T)) (sym same) g.near;
-    system = λ s k f. subst (λ T. IsSystem deck w.medium.words T s k (inbox w.medium s) (g.later s) (g.out s)) (sym same) (g.system s k f);
+    system = λ s k f live. subst (λ T. IsSystem deck w.medium.words T s k (inbox w.medium s) (g.later s) (g.out s)) (sym same) (g.system s k f live);
     hands = g.hands;
   },
   λ u. refl,
@@ -205,14 +231,14 @@ under-local deck T c q away e = ap (under deck.entries e) (lists-push T (made_it
     none (Some x) at = absurd (want-round deck q.want x away at)
 
 -- ---- events of a system c
-module _ (deck : Deck) (w : World) (g : IsWhole deck w) (c : SysId) (n : NodeState) (at : slice_get w.nodes c.0 ≡ Some n) where
+module _ (deck : Deck) (w : World) (g : IsWhole deck w) (c : SysId) (n : NodeState) (at : slice_get w.nodes c.0 ≡ Some n) (alive : has w.medium.removed c.0 ≡ false) where
   abbrev T : List RunItem
   T = items w.fixed
 
   -- its own item is another system's to the others
-  pub others-item : (f : Req) (m : MayFollow deck T (made_item c T (fixing.Asked f))) → f.task.system.0 ≡ c.0 → (s : ℕ) (k : NodeState) → s ≢ c.0 → slice_get w.nodes s ≡ Some k →
+  pub others-item : (f : Req) (m : MayFollow deck T (made_item c T (fixing.Asked f))) → f.task.system.0 ≡ c.0 → (s : ℕ) (k : NodeState) → s ≢ c.0 → slice_get w.nodes s ≡ Some k → has w.medium.removed s ≡ false →
       IsSystem deck w.medium.words (T ++ made_item c T (fixing.Asked f) ∷ []) s k (inbox w.medium s) (g.later s) (g.out s)
-  others-item f m home s k ne found = system-other deck w.medium.words T s k (inbox w.medium s) (g.later s) (g.out s) (made_item c T (fixing.Asked f)) m.ask (λ e. ne (sym e ∙ (ap (λ (q : Req). q.task.system.0) (sym asker) ∙ home))) (g.system s k found)
+  others-item f m home s k ne found live = system-other deck w.medium.words T s k (inbox w.medium s) (g.later s) (g.out s) (made_item c T (fixing.Asked f)) m.ask (λ e. ne (sym e ∙ (ap (λ (q : Req). q.task.system.0) (sym asker) ∙ home))) (g.system s k found live)
     where
       asker : f ≡ m.ask.req
       asker = let e : fixing.Asked f ≡ fixing.Asked m.ask.req = m.ask.asked in cc
@@ -220,20 +246,20 @@ module _ (deck : Deck) (w : World) (g : IsWhole deck w) (c : SysId) (n : NodeSta
   -- a task goes on by itself
   pub whole-task : (t : TaskId) → may_go deck n t ≡ true → IsStep deck w c n (record { medium = w.medium; step = finish_quiet deck n (choices.Task t) }) → StaysWhole deck w g c (placed w c n (record { medium = w.medium; step = finish_quiet deck n (choices.Task t) }))
   unfolding finish_quiet
-  whole-task t goes step = by_task (system-task deck w.medium.words T g.right c.0 n (inbox w.medium c.0) (g.later c.0) (g.out c.0) (g.system c.0 n at) c t goes)
+  whole-task t goes step = by_task (system-task deck w.medium.words T g.right c.0 n (inbox w.medium c.0) (g.later c.0) (g.out c.0) (g.system c.0 n at alive) c t goes)
     where
       same_star : (finish_quiet deck n (choices.Task t)).node.star ≡ n.star
-      same_star = by_part (g.roles.node c.0 n at)
+      same_star = by_part (g.roles.node c.0 n at alive)
         where
           by_part : IsMember deck w.medium.words (all_lists w) c.0 n → (finish_quiet deck n (choices.Task t)).node.star ≡ n.star
           by_part m = (task-quiet m.part n m.star deck.limit t (lines_of deck t)).star
 
-      by_task : Task deck w.medium.words T g.right c.0 n (inbox w.medium c.0) (g.later c.0) (g.out c.0) (g.system c.0 n at) c (finish_quiet deck n (choices.Task t)) → StaysWhole deck w g c (placed w c n (record { medium = w.medium; step = finish_quiet deck n (choices.Task t) }))
+      by_task : Task deck w.medium.words T g.right c.0 n (inbox w.medium c.0) (g.later c.0) (g.out c.0) (g.system c.0 n at alive) c (finish_quiet deck n (choices.Task t)) → StaysWhole deck w g c (placed w c n (record { medium = w.medium; step = finish_quiet deck n (choices.Task t) }))
       by_task (idle_task nothing z) =
-          whole-placed deck w g c n at (record { medium = w.medium; step = finish_quiet deck n (choices.Task t) }) step T (ap (λ fs. items (w.fixed ++ fixed_by c fs)) nothing ∙ items-none w.fixed c) g.later g.out (λ u ne. refl) none_fixed
-          g.right g.near z.system (λ s k ne found. g.system s k found) (λ p is. g.hands c.0 n p at (sym same_star ∙ is)) (λ m k p ne found is. g.hands m k p found is)
+          whole-placed deck w g c n at alive (record { medium = w.medium; step = finish_quiet deck n (choices.Task t) }) step T (ap (λ fs. items (w.fixed ++ fixed_by c fs)) nothing ∙ items-none w.fixed c) g.later g.out (λ u ne. refl) none_fixed
+          g.right g.near z.system (λ s k ne found lives. g.system s k found lives) (λ p is. g.hands c.0 n p at alive (sym same_star ∙ is)) (λ m k p ne found lives is. g.hands m k p found lives is)
       by_task (local_task q is_item mine_q away m z) =
           let item : RunItem = made_item c T (fixing.Asked q) in
           let home : q.task.system.0 ≡ c.0 = eqb-true q.task.system.0 c.0 mine_q in
-          whole-placed deck w g c n at (record { medium = w.medium; step = finish_quiet deck n (choices.Task t) }) step (T ++ item ∷ []) (ap (λ fs. items (w.fixed ++ fixed_by c fs)) is_item ∙ items-one w.fixed c (fixing.Asked q)) g.later g.out (λ u ne. refl) (fixes-own deck c g.out T q m home)
-          (follows deck T item g.right m) (near-local deck w.medium.words T c q away g.near) z.system (others-item q m home) (λ p is. g.hands c.0 n p at (sym same_star ∙ is)) (λ k j p ne found is. g.hands k j p found is)
+          whole-placed deck w g c n at alive (record { medium = w.medium; step = finish_quiet deck n (choices.Task t) }) step (T ++ item ∷ []) (ap (λ fs. items (w.fixed ++ fixed_by c fs)) is_item ∙ items-one w.fixed c (fixing.Asked q)) g.later g.out (λ u ne. refl) (fixes-own deck c g.out T q m home)
+          (follows deck T item g.right m) (near-local deck w.medium.words T c q away g.near) z.system (others-item q m home) (λ p is. g.hands c.0 n p at alive (sym same_star ∙ is)) (λ k j p ne found lives is. g.hands k j p found lives is)

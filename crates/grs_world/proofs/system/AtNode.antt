@@ -2,7 +2,7 @@
 use Rattle.std.proofs.Common.{◌≡◌, ◌≢◌, ℕ, Bool, true, false, cond, List, [], ◌∷◌, ◌++◌, Some, refl, ap, sym, ◌∙◌, append-nil}
 use Rattle.std.specs.Prelude.{◌==◌}
 use Rattle.std.specs.List.{list_all}
-use Rattle.std.proofs.lemmas.Bool.{eqb-true}
+use Rattle.std.proofs.lemmas.Bool.{eqb-true, ne_eqb}
 use Rattle.std.proofs.lemmas.List.Elements.{filter-append}
 use Rattle.grs_base.specs.Same.{same_task}
 use Rattle.grs_base.specs.State.{State, is_systems}
@@ -19,11 +19,11 @@ use Rattle.grs_wire.specs.declared.deck.Deck.{Deck}
 use Rattle.grs_wire.specs.declared.request.Fixed.TheVariants as fixing
 use Rattle.grs_wire.specs.declared.request.Req.{Req}
 use Rattle.task_state.specs.View.{TasksView}
-use Rattle.grs_known.specs.Items.{RunItem, is_of, goes_round, rounds, mine, lists, history}
+use Rattle.grs_known.specs.Items.{RunItem, is_of, removes_system_of, goes_round, rounds, mine, lists, history}
 use Rattle.grs_known.proofs.known.Histories.{IsAsk, MayFollow, made_item, stays-ask}
 use Rattle.grs_known.proofs.known.ItemLaws.{lists-push}
 use Rattle.grs_known.proofs.lists.Facts.{filter-cons_left}
-use Rattle.grs_known.proofs.lists.Parts.{part, is_res_of, own-one_system, after_want-part, part-want_other}
+use Rattle.grs_known.proofs.lists.Parts.{part, part-removed, is_res_of, own-one_system, after_want-part, part-want_other}
 use Rattle.grs_known.proofs.lists.Truths.{false_by, or_other}
 use Rattle.grs_known.proofs.system.Asking.{Opens}
 use Rattle.grs_known.proofs.system.Good.{IsGood, here-kept, here-other}
@@ -101,3 +101,32 @@ module _ (deck : Deck) (s : ℕ) (P before later : List RunItem) (out : List Req
         here-kept deck (opens_of later out n) (opens_of (later ++ rounds (x ∷ [])) out n) (P ++ x ∷ []) n.tasks.told n.tasks.told u ls _ (mine-left u later x apart) (λ k. k) (λ k. k) (λ p leaving y j. j)
         (here-other deck (opens_of later out n) P x n.tasks.told u ls _ apart (stays-ask deck u x a) (seen.good.tasks.each u ls o));
   })
+
+-- ---- the removal of another system
+-- leaves it too: it has still to process the removal
+pub seen-removal : (deck : Deck) (s : ℕ) (P before later : List RunItem) (out : List Req) (n : NodeState) (x : RunItem) (target : SysId) → x.fixed ≡ fixing.Purged target → target.0 ≢ s → Seen deck s P before later out n → Seen deck s (P ++ x ∷ []) before (later ++ rounds (x ∷ [])) out n
+seen-removal deck s P before later out n x target purged ne seen = record {
+  good = record {
+    tasks = record {
+      each = λ u ls o.
+          here-kept deck (opens_of later out n) (opens_of (later ++ rounds (x ∷ [])) out n) (P ++ x ∷ []) n.tasks.told n.tasks.told u ls _ (mine-left u later x (none u)) (λ k. k) (λ k. k) (λ p leaving y j. j)
+          (here-other deck (opens_of later out n) P x n.tasks.told u ls _ (none u) (stays u ls o) (seen.good.tasks.each u ls o));
+    };
+    here = seen.good.here;
+    system = seen.good.system;
+  };
+  own = seen.own ∙ (sym (part-removed s (lists P) target.0) ∙ ap (part (is_res_of s)) (sym (lists-push P x ∙ ap (after_fixed (lists P)) purged)));
+  shared = seen.shared;
+  homes = seen.homes;
+  apart = seen.apart;
+}
+  where
+    none : (u : TaskId) → is_of u x.fixed ≡ false
+    none u = ap (is_of u) purged
+
+    stays : (u : TaskId) (ls : List Meaning) → IsOurs deck s n.tasks u ls → removes_system_of u x.fixed ≡ false
+    stays u ls o = ap (removes_system_of u) purged ∙ ne_eqb target.0 u.system.0 (λ e. ne (e ∙ o.home))
+
+-- ---- what a system knows of removed ones says nothing of its tasks and its lists
+pub seen-known : (deck : Deck) (s : ℕ) (P before later : List RunItem) (out : List Req) (n : NodeState) (known : ℕ) → Seen deck s P before later out n → Seen deck s P before later out (record n { known = known })
+seen-known deck s P before later out n known h = record { good = h.good; own = h.own; shared = h.shared; homes = h.homes; apart = h.apart }

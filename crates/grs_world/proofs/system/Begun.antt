@@ -61,7 +61,7 @@ first_here deck s t h =
 new_here : (deck : Deck) (t : TaskId) (ls : List Meaning) → IsHere deck (record { later = []; out = []; all = [] }) [] [] t ls new_task
 new_here deck t ls = record {
   known = record { behind = false; owns = λ r. false };
-  knows = record { right = record { waits = λ e. absurd (cc); owned = λ r e. absurd (cc); given = tt }; request = tt };
+  knows = record { right = record { waits = λ e. absurd (cc); owned = λ r e. absurd (cc); given = tt }; request = tt; live = refl };
   due = refl;
   task = record {
     keys = refl;

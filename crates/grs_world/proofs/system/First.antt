@@ -20,6 +20,11 @@ length-repeat (suc n) = ap suc (length-repeat n)
 pub words-first : (systems entries : ℕ) (star : Bool) → length (first_medium systems entries star).words ≡ entries
 words-first systems entries star = length-repeat entries
 
+-- each system has its number
+pub system-first : (deck : Deck) (s : ℕ) → (first_node deck s).tasks.system ≡ s
+unfolding first_node
+system-first deck s = refl
+
 -- nothing is told
 pub first_told : (deck : Deck) (s : ℕ) → (first_node deck s).tasks.told ≡ []
 unfolding first_node
@@ -38,4 +43,4 @@ pub nodes_of-push : (vs : List NodeView) (v : NodeView) → nodes_of (vs ++ v �
 nodes_of-push [] v = refl
 nodes_of-push (w ∷ vs) v = ap (λ ns. w.node ∷ ns) (nodes_of-push vs v)
 
-pub ruleset first = (systems_of-first, words-first, first_nodes-more, nodes_of-push)
+pub ruleset first = (systems_of-first, words-first, system-first, first_nodes-more, nodes_of-push)

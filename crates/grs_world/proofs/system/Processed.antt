@@ -108,12 +108,12 @@ module _ (deck : Deck) (s : ℕ) (P before : List RunItem) (right : IsHistory de
     decides : (r : Res) (b : ReadBy deck P before x later q r) (h : HistEntry) → x.entries ≡ h ∷ [] → Decides deck os os' P P q.task p h r (new_owners (lists before) q.task q.want)
     decides r b h one = record {
       right = right;
-      learns = entry-learned deck P x q.task here.known h right here.knows.right is_due.0 one;
+      learns = entry-learned deck P x q.task here.known h right here.knows.live here.knows.right is_due.0 one;
       due = is_due.1;
       leaves = λ u ms T T' y apart told k. here-kept deck os os' P T T' u ms y (sym (filter-cons_left (λ z. is_of u z.fixed) x later (others u ∙ apart))) (λ a. a.1) (λ a. (and_parts _ _ a).1) told k;
       away = away;
       away_out = among-front q.task out n.outbox away;
-      owners = λ u e. ((b.owners u e).0, λ T ms y k. (b.owners u e).1 k.known k.knows.right k.due);
+      owners = λ u e. ((b.owners u e).0, λ T ms y k. (b.owners u e).1 k.known k.knows.live k.knows.right k.due);
     }
 
     -- it asks and its request is decided, in one
@@ -197,7 +197,7 @@ module _ (deck : Deck) (s : ℕ) (P before : List RunItem) (right : IsHistory de
         tasks = record { each = λ u ls o. here-kept deck (opens_of (x ∷ later) out n) (opens_of later out n) P n.tasks.told n.tasks.told u ls _ (sym (filter-cons_left (λ z. is_of u z.fixed) x later (not-ours deck s n.tasks x a ne u ls o))) (λ k. k) (λ k. k) (λ p leaving y j. j) (seen.good.tasks.each u ls o) };
         here = seen.good.here;
         system = seen.good.system;
-      }) none a.res (new_owners (lists before) q.task q.want) (λ u e. ((b.owners u e).0, λ T ls y k. (b.owners u e).1 k.known k.knows.right k.due)))
+      }) none a.res (new_owners (lists before) q.task q.want) (λ u e. ((b.owners u e).0, λ T ls y k. (b.owners u e).1 k.known k.knows.live k.knows.right k.due)))
 
   pub read : (out : List Req) (a : IsAsk deck x) → is_systems a.res ≡ true → Seen deck s P before (x ∷ later) (own_asked s (fixing.Asked a.req) ++ out) n → Reads deck s P before x later out n a.req
   read out a wide = go (a.req.task.system.0 == s) refl

@@ -167,7 +167,7 @@ module _ (deck : Deck) (s : ℕ) (P before later : List RunItem) (out : List Req
     none_open = one-none (outstanding t here.known P) (sym idle ∙ here.due)
 
     speaks : Speaks deck.limit t p (history P)
-    speaks = speaks-known deck P t here.known right here.knows.right none_open
+    speaks = speaks-known deck P t here.known right here.knows.live here.knows.right none_open
 
     is_asked : IsReq q (state_of n.tasks q.task).outstanding
     is_asked = asked-middle q.task _ (out ++ box0) q box1 (subst (λ qs. IsAskedBy q.task (state_of n.tasks q.task).outstanding qs) all_is here.asked) (same_task-itself q.task)
@@ -180,21 +180,21 @@ module _ (deck : Deck) (s : ℕ) (P before later : List RunItem) (out : List Req
         let x : TaskState = state_of n.tasks t in
         record {
           round = a.2;
-          follow = λ by. may_follow deck P right t p speaks ls task_is.1.lines by (Enq r c ret full) r refl (or_left _ _ a.2) (a.3 ∙ is_full-known deck P right t p speaks x.records k.keys) (AsksEnq r c ret) refl
+          follow = λ by. may_follow deck P right t p speaks ls task_is.1.lines here.knows.live by (Enq r c ret full) r refl (or_left _ _ a.2) (a.3 ∙ is_full-known deck P right t p speaks x.records k.keys) (AsksEnq r c ret) refl
               (next-asked ls p n.tasks.told (λ q. false) t (x.line - 1) x.code x.records None x.rows (lines.Enq r c ret unit) (AsksEnq r c ret) (record { before = k; at = a.1; asks = refl }));
         }
     by_want (Deq r have) unit k a =
         let x : TaskState = state_of n.tasks t in
         record {
           round = a.2;
-          follow = λ by. may_follow deck P right t p speaks ls task_is.1.lines by (Deq r have) r refl (or_left _ _ a.2) tt (AsksDeq r have) refl
+          follow = λ by. may_follow deck P right t p speaks ls task_is.1.lines here.knows.live by (Deq r have) r refl (or_left _ _ a.2) tt (AsksDeq r have) refl
               (next-asked ls p n.tasks.told (λ q. same_res q r) t (x.line - 1) x.code x.records None x.rows (lines.Deq r have) (AsksDeq r have) (record { before = k; at = a.1; asks = refl }));
         }
     by_want (Release r) unit k a =
         let x : TaskState = state_of n.tasks t in
         record {
           round = a.1;
-          follow = λ by. may_follow deck P right t p speaks ls task_is.1.lines by (Release r) r refl (or_left _ _ a.1) tt (AsksRelease r) refl (next-ending ls p n.tasks.told (λ q. same_res q r) t x.line x.code x.code x.records None x.rows k r a.0);
+          follow = λ by. may_follow deck P right t p speaks ls task_is.1.lines here.knows.live by (Release r) r refl (or_left _ _ a.1) tt (AsksRelease r) refl (next-ending ls p n.tasks.told (λ q. same_res q r) t x.line x.code x.code x.records None x.rows k r a.0);
         }
     by_want (Look first count f) unit k a = absurd a
 
@@ -237,7 +237,7 @@ module _ (deck : Deck) (s : ℕ) (P before later : List RunItem) (out : List Req
         where
           by_open : (o : Option Asked) → IsReq q o → Knows (P ++ x ∷ []) t o (falls_behind here.known)
           by_open None is = absurd is
-          by_open (Some a) is = knows-behind P x t here.known own now a (ap fixing.Asked (sym is)) m.made here.knows.right
+          by_open (Some a) is = knows-behind P x t here.known own now a (ap fixing.Asked (sym is)) m.made here.knows.live here.knows.right
 
       pub seen-put : Seen deck s (P ++ x ∷ []) before (later ++ rounds (x ∷ [])) out n
       seen-put = seen-more deck s P before later out n x m.ask seen (systems-other s m.ask.res (sym (goes-ask deck x m.ask) ∙ round)) (record { each = λ u ms o. go u ms o (same_task u t) refl })

@@ -48,7 +48,7 @@ use Rattle.grs_known.specs.Past.{has_own, Past, past_of, Speaks}
 use Rattle.grs_known.specs.Told.{LineAgrees, TellsWait, tells_control}
 use Rattle.grs_known.proofs.known.Knowing.{one}
 use Rattle.grs_known.proofs.known.Following.{has-known, is_full-known, may_follow}
-use Rattle.grs_known.proofs.known.Histories.{IsHistory, MayFollow, made_item, follows, wants-round, has-may, owns-may}
+use Rattle.grs_known.proofs.known.Histories.{IsHistory, MayFollow, made_item, follows, live-push, wants-round, has-may, owns-may}
 use Rattle.grs_known.proofs.known.Knows.{IsOutstanding, known-all, knows-closed, speaks-known, owns-still, entry-decided}
 use Rattle.grs_known.proofs.ring.Reading.{owner-behind}
 use Rattle.grs_known.proofs.lists.Facts.{all-more}
@@ -102,7 +102,7 @@ module _ (deck : Deck) (s : ℕ) (c : SysId) (P before later : List RunItem) (ri
     none_open = knows-closed P t (state_of n.tasks t).outstanding here.known closed here.knows
 
     speaks : Speaks deck.limit t p (history P)
-    speaks = speaks-known deck P t here.known right here.knows.right none_open
+    speaks = speaks-known deck P t here.known right here.knows.live here.knows.right none_open
 
     unasked_here : IsAskedBy t None (out ++ n.outbox)
     unasked_here = subst (λ o. IsAskedBy t o (out ++ n.outbox)) closed here.asked
@@ -124,7 +124,7 @@ module _ (deck : Deck) (s : ℕ) (c : SysId) (P before later : List RunItem) (ri
       decides : MayFollow deck P x → Decides deck os os P (P ++ x ∷ []) t p h r (new_owners n.own t w)
       decides m = record {
         right = follows deck P x right m;
-        learns = entry-decided deck P x t here.known h (follows deck P x right m) (same_task-itself t) refl here.knows.right (known-all P t here.known here.knows.right none_open) entry;
+        learns = entry-decided deck P x t here.known h (follows deck P x right m) (same_task-itself t) refl (live-push t P x here.knows.live refl) here.knows.right (known-all P t here.known here.knows.right none_open) entry;
         due = here.due ∙ ap one none_open;
         leaves = λ u ls T T' y apart told k. here-kept deck os os (P ++ x ∷ []) T T' u ls y refl (λ a. a) (λ a. a) told (here-other deck os P x T u ls y apart refl k);
         away = free;
@@ -173,7 +173,7 @@ module _ (deck : Deck) (s : ℕ) (c : SysId) (P before later : List RunItem) (ri
         let done = quiet_good deck s os os' P n.tasks seen.good t ls ours (with_outstanding (with_phase v1 t phases.ToSend) t (Some a)) z n.tasks.told did2
         (record {
           known = here.known;
-          knows = record { right = here.knows.right; request = subst (IsOutstanding (Some a)) (sym none_open) tt };
+          knows = record { right = here.knows.right; request = subst (IsOutstanding (Some a)) (sym none_open) tt; live = here.knows.live };
           due = here.due;
           task = task;
           opened = (refl, refl, asked);
@@ -196,7 +196,7 @@ module _ (deck : Deck) (s : ℕ) (c : SysId) (P before later : List RunItem) (ri
     still_here : (T : List ToldLine) (x : TaskState) → x.outstanding ≡ None → IsAtLines x.phase x.code → IsTask ls p T (λ q. false) t x → IsHere deck os P T t ls x
     still_here T x o at k = record {
       known = here.known;
-      knows = record { right = here.knows.right; request = subst (IsOutstanding x.outstanding) (sym none_open) tt };
+      knows = record { right = here.knows.right; request = subst (IsOutstanding x.outstanding) (sym none_open) tt; live = here.knows.live };
       due = here.due;
       task = task-closed ls p T t x o k;
       opened = subst (λ z. IsOpenBy deck.limit ls t x z) (sym o) at;
@@ -229,7 +229,7 @@ module _ (deck : Deck) (s : ℕ) (c : SysId) (P before later : List RunItem) (ri
           (λ alone.
           let own : is_res_of s y.res ≡ true = or_other (is_systems y.res) (is_res_of s y.res) proper alone in
           decided (Release y.res) y.res refl own (entries.Release t y.res) refl v None (answers.Coded C00) refl
-          (may_follow deck P right t p speaks ls ours.lines c (Release y.res) y.res refl (place y.res proper) tt (AsksRelease y.res) refl (next-ending ls p n.tasks.told (λ q. false) t m d code xs None ws k y.res first))
+          (may_follow deck P right t p speaks ls ours.lines here.knows.live c (Release y.res) y.res refl (place y.res proper) tt (AsksRelease y.res) refl (next-ending ls p n.tasks.told (λ q. false) t m d code xs None ws k y.res first))
           (λ z. release-good deck s os os P _ n.tasks seen.good t ls ours p y.res _ m d code xs ws v did coded (λ q. false) (λ q apart. refl) k z None))
         where
           first : slice_get (map (λ (z : Rec). z.res) xs) 0 ≡ Some y.res
@@ -358,7 +358,7 @@ module _ (deck : Deck) (s : ℕ) (c : SysId) (P before later : List RunItem) (ri
           (λ alone.
           let k : Asks ls p n.tasks.told (λ q. false) t x.line x.code x.records None x.rows (lines.Enq r ctl ret unit) (AsksEnq r ctl ret) = record { before = is_ready; at = at; asks = refl } in
           decided (Enq r ctl ret full) r refl (or_other (is_systems r) (is_res_of s r) proper alone) (entries.Enq t r ctl ret (enq_code (lists P) r t ctl ret full)) refl (with_line n.tasks t) unit (answers.Coded (enq_code (lists P) r t ctl ret full)) refl
-          (may_follow deck P right t p speaks ls ours.lines c (Enq r ctl ret full) r refl (place r proper) full_is (AsksEnq r ctl ret) refl (next-asked ls p n.tasks.told (λ q. false) t x.line x.code x.records None x.rows (lines.Enq r ctl ret unit) (AsksEnq r ctl ret) k))
+          (may_follow deck P right t p speaks ls ours.lines here.knows.live c (Enq r ctl ret full) r refl (place r proper) full_is (AsksEnq r ctl ret) refl (next-asked ls p n.tasks.told (λ q. false) t x.line x.code x.records None x.rows (lines.Enq r ctl ret unit) (AsksEnq r ctl ret) k))
           (λ z. enq-good deck s os os P _ n.tasks seen.good t ls ours p r _ x.line x.code x.records x.rows (with_line n.tasks t) taken (lines.Enq r ctl ret unit) (enq_code (lists P) r t ctl ret full) ctl unit ret full z k))
       line_outcome (lines.Deq r have) at =
           let x : TaskState = state_of n.tasks t in
@@ -368,7 +368,7 @@ module _ (deck : Deck) (s : ℕ) (c : SysId) (P before later : List RunItem) (ri
           (λ alone.
           let k : Asks ls p n.tasks.told (λ q. false) t x.line x.code x.records None x.rows (lines.Deq r have) (AsksDeq r have) = record { before = is_ready; at = at; asks = refl } in
           decided (Deq r have) r refl (or_other (is_systems r) (is_res_of s r) proper alone) (entries.Deq t r have (deq_reply (lists P) r t have)) refl (with_line n.tasks t) None (answers.Coded (deq_reply (lists P) r t have)) refl
-          (may_follow deck P right t p speaks ls ours.lines c (Deq r have) r refl (place r proper) tt (AsksDeq r have) refl (next-asked ls p n.tasks.told (λ q. false) t x.line x.code x.records None x.rows (lines.Deq r have) (AsksDeq r have) k))
+          (may_follow deck P right t p speaks ls ours.lines here.knows.live c (Deq r have) r refl (place r proper) tt (AsksDeq r have) refl (next-asked ls p n.tasks.told (λ q. false) t x.line x.code x.records None x.rows (lines.Deq r have) (AsksDeq r have) k))
           (λ z. deq-good deck s os os P _ n.tasks seen.good t ls ours p r _ x.line x.code x.records x.rows (with_line n.tasks t) taken (lines.Deq r have) (deq_reply (lists P) r t have) have (λ q. false) (λ q apart. refl) z k None))
       line_outcome (lines.Wait r) at = wait_outcome r at
       line_outcome lines.Nothing at = skipped lines.Nothing at refl refl

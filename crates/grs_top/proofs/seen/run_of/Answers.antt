@@ -9,7 +9,7 @@ pub returns-clause-told : goal.returns-clause-told
 returns-clause-told c = rw (c.into_log-log.ensures.told, c.in_ok-world.ensures, c.as_slice.ensures) refl
 
 pub returns-clause-ended : goal.returns-clause-ended
-returns-clause-ended c = rw (c.in_ok-ended.ensures, c.nodes.ensures, c.in_ok-world.ensures, c.as_slice.ensures) refl
+returns-clause-ended c = rw (c.in_ok-ended.ensures, c.removed.ensures, c.medium-3.ensures, c.nodes.ensures.nodes, c.in_ok-world.ensures, c.as_slice.ensures) refl
 
 pub returns-clause-units : goal.returns-clause-units
 returns-clause-units c = rw (c.in_ok-units.ensures, c.in_ok-world.ensures, c.as_slice.ensures) refl

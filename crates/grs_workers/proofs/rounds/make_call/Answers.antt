@@ -1,11 +1,11 @@
 use Rattle.std.proofs.Common.{Some, sym}
 use Rattle.grs_workers.specs.Stands.{stand}
 use Rattle.grs_workers.proofs.DeedLaws.{may_finish, agrees-done}
-use Rattle.grs_workers.proofs.Fits.{act-fits}
+use Rattle.grs_workers.proofs.Fits.{act-fits, home-addressed}
 use Rattle.grs_workers.proofs.rounds.make_call.Goals as goal
 
 pub call-requires-clause-call : goal.call-requires-clause-call
-call-requires-clause-call g c = (c.requires.on.caller, act-fits c.args.bus.now.first c.args.worker.now.seat.system c.args.worker.now.node.deck c.args.call.act c.requires.addressed c.requires.on.systems c.requires.on.entries)
+call-requires-clause-call g c = (c.requires.on.caller, act-fits c.args.bus.now.first c.args.worker.now.seat.system c.args.worker.now.node.deck c.args.call.act (home-addressed c.args.worker.now.seat.system.0 c.args.worker.now.node.node.tasks.system c.args.worker.now.node.deck c.args.call.act c.requires.agrees.system c.requires.addressed) c.requires.on.systems c.requires.on.entries)
 
 pub finish-requires : goal.finish-requires
 finish-requires g c = may_finish c.args.worker.now.node c.args.worker.now.seat c.call.new.seat c.args.choice c.args.call (c.in_ok-reply.reply, c.in_ok-reply.entered) c.requires.prepared c.in_ok-reply.ensures.ok

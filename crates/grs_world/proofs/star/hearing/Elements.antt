@@ -128,7 +128,7 @@ module _ (deck : Deck) (words : List ℕ) (T : List RunItem) (right : IsHistory 
     -- each resource on record is that of an element
     pub idle-element : (r : Res) → has_res r (state_of n.tasks t).records ≡ true → has_task (list_of (lists T) r) t ≡ true
     idle-element r has =
-        has-known deck T right t (past_of t (here deck s T later out n h.at t home).known T) (speaks-known deck T t (here deck s T later out n h.at t home).known right (here deck s T later out n h.at t home).knows.right idle-is) r
+        has-known deck T right t (past_of t (here deck s T later out n h.at t home).known T) (speaks-known deck T t (here deck s T later out n h.at t home).known right (here deck s T later out n h.at t home).knows.live (here deck s T later out n h.at t home).knows.right idle-is) r
         ∙ (sym (has_res-own r (state_of n.tasks t).records (past_of t (here deck s T later out n h.at t home).known T).own (ap (map key) (sym (records-unasked (state_of n.tasks t))) ∙ (here deck s T later out n h.at t home).task.keys)) ∙ has)
 
     -- and no answer comes to it

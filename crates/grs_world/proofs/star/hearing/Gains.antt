@@ -14,7 +14,7 @@ use Rattle.contention_mgr.proofs.ItemLemmas.{holds-list}
 use Rattle.contention_mgr.proofs.OwnLemmas.{gainers_are_untold, telling_tells, untold_follow}
 use Rattle.lock_structure.specs.Entries.{entry_of_res, is_entry}
 use Rattle.grs_base.specs.Limits.{last_number}
-use Rattle.grs_base.specs.Lists.{can_have, decide_enq, enq_decision, has_task, is_owner, list_after, list_without, owners, owns, standing_of}
+use Rattle.grs_base.specs.Lists.{can_have, decide_enq, enq_decision, has_task, is_owner, list_after, list_without, owns, standing_of}
 use Rattle.grs_base.specs.Same.{same_res, same_task}
 use Rattle.grs_base.specs.State.{State, list_of, without}
 use Rattle.grs_base.specs.declared.decision.Effect.{Effect}

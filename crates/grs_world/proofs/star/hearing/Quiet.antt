@@ -35,20 +35,21 @@ use Rattle.grs_world.proofs.star.hearing.Gentle.{Gentle, gentle-none, gentle-tas
 use Rattle.grs_world.proofs.star.hearing.Own.{Holds, heard-calm}
 use Rattle.grs_world.proofs.star.hearing.Passing.{enq_count-grown}
 use Rattle.grs_world.specs.World.{World, fixed_by, placed}
+use Rattle.grs_wire.specs.Masks.{has}
 
 -- the same part
 pub holds-same : (p : StarPart) (T T' : List RunItem) → enq_count T ≤ enq_count T' → ((e : ℕ) (x : Managed) → managed_at p.manager e ≡ Some x → x.next ≤ suc (enq_count T)) → Holds p p T'
 holds-same p T T' more ranks = record { held = refl; untold = λ t r h. h; ranks = λ e x managed. let low = ranks e x managed in omega (arith, low, more) }
 
-module _ (deck : Deck) (w : World) (g : IsWhole deck w) (c : SysId) (n : NodeState) (at : slice_get w.nodes c.0 ≡ Some n) where
+module _ (deck : Deck) (w : World) (g : IsWhole deck w) (c : SysId) (n : NodeState) (at : slice_get w.nodes c.0 ≡ Some n) (alive : has w.medium.removed c.0 ≡ false) where
   abbrev me : IsMember deck w.medium.words (all_lists w) c.0 n
-  me = g.roles.node c.0 n at
+  me = g.roles.node c.0 n at alive
 
   -- ---- nothing happens to mail, tasks and the part, whatever happens to the medium else
-  pub heard-still : (m : MediumState) → m.inboxes ≡ w.medium.inboxes → (k : NodeState) → Gentle n.tasks k.tasks → k.star ≡ n.star →
+  pub heard-still : (m : MediumState) → m.inboxes ≡ w.medium.inboxes → m.removed ≡ w.medium.removed → (k : NodeState) → Gentle n.tasks k.tasks → k.star ≡ n.star →
       IsWhole deck (placed w c n (record { medium = m; step = record { node = k; fixed = [] } })) → StaysHeard deck w c n (record { medium = m; step = record { node = k; fixed = [] } })
-  heard-still m boxes k gentle star =
-      heard-calm deck w g c n at (record { medium = m; step = record { node = k; fixed = [] } })
+  heard-still m boxes removed k gentle star =
+      heard-calm deck w g c n at alive (record { medium = m; step = record { node = k; fixed = [] } }) removed
       (λ u. ap (λ bs. inbox_of bs u) boxes) gentle
       (λ r wide. ap (λ T. list_of (lists T) r) (items-none w.fixed c))
       me.part me.part me.star (star ∙ me.star)
@@ -70,16 +71,16 @@ module _ (deck : Deck) (w : World) (g : IsWhole deck w) (c : SysId) (n : NodeSta
   unfolding finish_quiet
   task_star t = (task-quiet me.part n me.star deck.limit t (lines_of deck t)).star ∙ me.star
 
-  pub heard-task : (t : TaskId) → may_go deck n t ≡ true → Task deck w.medium.words (items w.fixed) g.right c.0 n (inbox w.medium c.0) (g.later c.0) (g.out c.0) (g.system c.0 n at) c (finish_quiet deck n (choices.Task t)) →
+  pub heard-task : (t : TaskId) → may_go deck n t ≡ true → Task deck w.medium.words (items w.fixed) g.right c.0 n (inbox w.medium c.0) (g.later c.0) (g.out c.0) (g.system c.0 n at alive) c (finish_quiet deck n (choices.Task t)) →
       IsWhole deck (placed w c n (record { medium = w.medium; step = finish_quiet deck n (choices.Task t) })) → StaysHeard deck w c n (record { medium = w.medium; step = finish_quiet deck n (choices.Task t) })
   heard-task t goes z =
-      heard-calm deck w g c n at (record { medium = w.medium; step = finish_quiet deck n (choices.Task t) })
+      heard-calm deck w g c n at alive (record { medium = w.medium; step = finish_quiet deck n (choices.Task t) }) refl
       (λ u. refl) (task_gentle t goes)
       (λ r wide. (by-fixed z).0 r wide)
       me.part me.part me.star (task_star t)
       (λ ranks. holds-same me.part (items w.fixed) (items (w.fixed ++ fixed_by c (finish_quiet deck n (choices.Task t)).fixed)) (by-fixed z).1 ranks)
     where
-      by-fixed : Task deck w.medium.words (items w.fixed) g.right c.0 n (inbox w.medium c.0) (g.later c.0) (g.out c.0) (g.system c.0 n at) c (finish_quiet deck n (choices.Task t)) →
+      by-fixed : Task deck w.medium.words (items w.fixed) g.right c.0 n (inbox w.medium c.0) (g.later c.0) (g.out c.0) (g.system c.0 n at alive) c (finish_quiet deck n (choices.Task t)) →
           ((r : Res) → is_systems r ≡ true → list_of (lists (items (w.fixed ++ fixed_by c (finish_quiet deck n (choices.Task t)).fixed))) r ≡ list_of (lists (items w.fixed)) r) × (enq_count (items w.fixed) ≤ enq_count (items (w.fixed ++ fixed_by c (finish_quiet deck n (choices.Task t)).fixed)))
       by-fixed (idle_task nothing y) =
           let same : items (w.fixed ++ fixed_by c (finish_quiet deck n (choices.Task t)).fixed) ≡ items w.fixed = ap (λ fs. items (w.fixed ++ fixed_by c fs)) nothing ∙ items-none w.fixed c in
@@ -92,11 +93,11 @@ module _ (deck : Deck) (w : World) (g : IsWhole deck w) (c : SysId) (n : NodeSta
           )
 
   -- ---- a system gives up its interest in an entry
-  pub heard-left : (x : ℕ) → is_done_with me.part x ≡ true → (m : MediumState) → m.inboxes ≡ w.medium.inboxes →
+  pub heard-left : (x : ℕ) → is_done_with me.part x ≡ true → (m : MediumState) → m.inboxes ≡ w.medium.inboxes → m.removed ≡ w.medium.removed →
       IsWhole deck (placed w c n (record { medium = m; step = record { node = record n { star = Some (left_at me.part x) }; fixed = [] } })) → StaysHeard deck w c n (record { medium = m; step = record { node = record n { star = Some (left_at me.part x) }; fixed = [] } })
-  heard-left x done m boxes =
+  heard-left x done m boxes removed =
       let empty = (and_parts (length (items_of (managed_at me.part.manager x)) == 0) _ done).0 in
-      heard-calm deck w g c n at (record { medium = m; step = record { node = record n { star = Some (left_at me.part x) }; fixed = [] } })
+      heard-calm deck w g c n at alive (record { medium = m; step = record { node = record n { star = Some (left_at me.part x) }; fixed = [] } }) removed
       (λ u. ap (λ bs. inbox_of bs u) boxes) (gentle-none n.tasks)
       (λ r wide. ap (λ T. list_of (lists T) r) (items-none w.fixed c))
       me.part (left_at me.part x) me.star refl

@@ -34,15 +34,16 @@ use Rattle.grs_world.proofs.rest.Marks.{is_marked}
 use Rattle.grs_world.proofs.star.Heard.{IsInHands, StaysHeard, enq_count}
 use Rattle.grs_world.proofs.star.Members.{all_lists}
 use Rattle.grs_world.proofs.star.Systems.{ours, requests_in}
-use Rattle.grs_world.proofs.star.Worlds.{IsWhole, in_hands, items-none}
+use Rattle.grs_world.proofs.star.Worlds.{IsWhole, in_hands, items-none, are_live, live-below}
 use Rattle.grs_world.proofs.star.hearing.Gentle.{phase-others, phase-records}
 use Rattle.grs_world.proofs.star.hearing.Mails.{among-last, requests-grown}
 use Rattle.grs_world.proofs.star.hearing.Own.{hands-kept, own-addressed, owner-by, request-kept}
 use Rattle.grs_world.proofs.star.hearing.Passing.{Grown, Requested, heard-placed, is_untold_by, untold-here}
 use Rattle.grs_world.specs.World.{World, Turnout, fixed_by, placed}
+use Rattle.grs_wire.specs.Masks.{has}
 
-module _ (deck : Deck) (w : World) (g : IsWhole deck w) (c : SysId) (n : NodeState) (at : slice_get w.nodes c.0 ≡ Some n) (words : List ℕ) (flags : ℕ) (t : TaskId) (home : is_home_at deck c.0 t ≡ true) (here : is_task n.tasks t ≡ true) (a : Asked) (entry : ℕ) (of_entry : entry_wanted deck.entries a.req.want ≡ Some entry)
-    (s : SysId) (apart : s.0 ≢ c.0) (inside : s.0 < length w.nodes) (p p' : StarPart) (star : n.star ≡ Some p) (held : p'.held ≡ p.held) (manager : p'.manager ≡ p.manager) where
+module _ (deck : Deck) (w : World) (g : IsWhole deck w) (c : SysId) (n : NodeState) (at : slice_get w.nodes c.0 ≡ Some n) (alive : has w.medium.removed c.0 ≡ false) (words : List ℕ) (flags : ℕ) (t : TaskId) (home : is_home_at deck c.0 t ≡ true) (here : is_task n.tasks t ≡ true) (a : Asked) (entry : ℕ) (of_entry : entry_wanted deck.entries a.req.want ≡ Some entry)
+    (s : SysId) (apart : s.0 ≢ c.0) (lives : are_live w s.0 ≡ true) (p p' : StarPart) (star : n.star ≡ Some p) (held : p'.held ≡ p.held) (manager : p'.manager ≡ p.manager) where
   abbrev mail : Mail
   mail = Request entry c (request_of t a)
 
@@ -51,6 +52,9 @@ module _ (deck : Deck) (w : World) (g : IsWhole deck w) (c : SysId) (n : NodeSta
 
   abbrev o : Turnout
   o = record { medium = record w.medium { words = words; inboxes = with_mail w.medium.inboxes s.0 (Request entry c (request_of t a)); rest = flags }; step = record { node = record n { tasks = with_phase n.tasks t phases.Sent; star = Some p' }; fixed = [] } }
+
+  inside : s.0 < length w.nodes
+  inside = (live-below w s.0 lives).0
 
   its_box : inbox sent_on s.0 ≡ inbox w.medium s.0 ++ mail ∷ []
   its_box = get_or-set_same w.medium.inboxes s.0 (inbox w.medium s.0 ++ mail ∷ []) [] (omega (arith, inside, g.roles.systems, g.roles.inboxes))
@@ -80,28 +84,29 @@ module _ (deck : Deck) (w : World) (g : IsWhole deck w) (c : SysId) (n : NodeSta
   in-manager =
       let k : NodeState = get_or w.nodes s.0 n in
       let found : slice_get w.nodes s.0 ≡ Some k = slice_get-get_or w.nodes s.0 n inside in
-      let m = g.roles.node s.0 k found in
+      let m = g.roles.node s.0 k found (live-below w s.0 lives).1 in
       record {
         system = s.0;
         node = k;
         part = m.part;
         at = slice_get-set_other w.nodes c.0 s.0 (record n { tasks = with_phase n.tasks t phases.Sent; star = Some p' }) apart ∙ found;
+        live = (live-below w s.0 lives).1;
         star = m.star;
         among = among-last t m.part.held (requests_in (inbox sent_on s.0)) (ap (λ ms. is_among t (askers (requests_in ms))) its_box ∙ (ap (λ qs. is_among t (askers qs)) (requests-grown (inbox w.medium s.0) (mail ∷ []))
             ∙ among-last t (requests_in (inbox w.medium s.0)) (request_of t a ∷ []) (or_left (same_task t t) false (same_task-itself t))));
       }
 
   pub heard-sent : IsWhole deck (placed w c n o) → StaysHeard deck w c n o
-  heard-sent g' sent had few h = heard-placed deck w g c n at o sent had h g' (record {
+  heard-sent g' sent had few h = heard-placed deck w g c n at alive o refl sent had h g' (record {
     boxes = grown;
-    own_box = own-addressed deck w g c n at o sent had h grown same_box;
+    own_box = own-addressed deck w g c n at alive o refl sent had h grown same_box;
     requests = λ u own is. sends u own is (u.task == t.task) refl;
-    passed = λ i u v ne own known among. hands-kept deck w g c n at o sent had h grown same_box i u p p' refl held (ap (λ z. is_among u (askers (in_hands z (inbox w.medium c.0)))) (part v known) ∙ among);
-    owners = λ u q own wide owned. owner-by deck w g c n at o sent had h grown same_box u q own wide (before u q owned) (λ marked. ap (is_marked q) (phase-records n.tasks t phases.Sent here u) ∙ marked) (ap (has_res q) (phase-records n.tasks t phases.Sent here u));
-    told = λ i y u q v ne found own wide owned known untold. inr (untold-here deck w g c n at o i u q p' ne refl (keeps u q (ap (λ z. is_untold_by z u q) (part v known) ∙ untold)));
-    gained = λ i y u q ne found own wide absent present. no_truth (owns (list_of (all_lists w) q) u) (before u q present) absent;
-    queued = λ i y u q ne found own wide absent present. no_truth (has_task (list_of (all_lists w) q) u) (sym (ap (λ T. has_task (list_of (lists T) q) u) same_items) ∙ present) absent;
-    ranks = λ v e x known managed. subst (λ T. x.next ≤ suc (enq_count T)) (sym same_items) (h.ranks c.0 n p e x at star (sym (ap (λ (z : ManagerView). managed_at z e) manager) ∙ (ap (λ (z : StarPart). managed_at z.manager e) (same_Some p' v known) ∙ managed)));
+    passed = λ i u v ne own known among. hands-kept deck w g c n at alive o refl sent had h grown same_box i u p p' refl held (ap (λ z. is_among u (askers (in_hands z (inbox w.medium c.0)))) (part v known) ∙ among);
+    owners = λ u q own wide owned. owner-by deck w g c n at alive o refl sent had h grown same_box u q own wide (before u q owned) (λ marked. ap (is_marked q) (phase-records n.tasks t phases.Sent here u) ∙ marked) (ap (has_res q) (phase-records n.tasks t phases.Sent here u));
+    told = λ i y u q v ne found l own wide owned known untold. inr (untold-here deck w g c n at alive o refl i u q p' ne refl (keeps u q (ap (λ z. is_untold_by z u q) (part v known) ∙ untold)));
+    gained = λ i y u q ne found l own wide absent present. no_truth (owns (list_of (all_lists w) q) u) (before u q present) absent;
+    queued = λ i y u q ne found l own wide absent present. no_truth (has_task (list_of (all_lists w) q) u) (sym (ap (λ T. has_task (list_of (lists T) q) u) same_items) ∙ present) absent;
+    ranks = λ v e x known managed. subst (λ T. x.next ≤ suc (enq_count T)) (sym same_items) (h.ranks c.0 n p e x at alive star (sym (ap (λ (z : ManagerView). managed_at z e) manager) ∙ (ap (λ (z : StarPart). managed_at z.manager e) (same_Some p' v known) ∙ managed)));
   })
     where
       part : (v : StarPart) → n.star ≡ Some v → p ≡ v
@@ -114,9 +119,9 @@ module _ (deck : Deck) (w : World) (g : IsWhole deck w) (c : SysId) (n : NodeSta
       before u q owned = sym (ap (λ T. owns (list_of (lists T) q) u) same_items) ∙ owned
 
       sends : (u : TaskId) → is_home_at deck c.0 u ≡ true → is_sent (state_of (with_phase n.tasks t phases.Sent) u).phase ≡ true → (b : Bool) → (u.task == t.task) ≡ b → Requested (placed w c n o) c.0 u
-      sends u own is false e = request-kept deck w g c n at o sent had h grown same_box u own (sym (ap (λ (y : TaskState). is_sent y.phase) (phase-others n.tasks t phases.Sent here u (eqb-false u.task t.task e))) ∙ is)
+      sends u own is false e = request-kept deck w g c n at alive o refl sent had h grown same_box u own (sym (ap (λ (y : TaskState). is_sent y.phase) (phase-others n.tasks t phases.Sent here u (eqb-false u.task t.task e))) ∙ is)
       sends u own is true e =
-          let k = (g.system c.0 n at).at in
+          let k = (g.system c.0 n at alive).at in
           let x = ours deck c.0 (items w.fixed) (g.later c.0) (g.out c.0) n k u own in
           let y = ours deck c.0 (items w.fixed) (g.later c.0) (g.out c.0) n k t home in
           let same : u ≡ t = same_task-exact u t (same_place deck c.0 n.tasks u t x.0 y.0 x.1 y.1 (eqb-true u.task t.task e)) in

@@ -52,7 +52,7 @@ use Rattle.grs_world.proofs.star.Heard.{AreAddressed, IsAddressed, StaysHeard, e
 use Rattle.grs_world.proofs.star.Members.{IsPart, all_lists, has_manager}
 use Rattle.grs_world.proofs.star.Settling.{asker-home}
 use Rattle.grs_world.proofs.star.Systems.{IsSystem, requests_in}
-use Rattle.grs_world.proofs.star.Worlds.{AllHands, IsHand, IsWhole, in_hands, items-none}
+use Rattle.grs_world.proofs.star.Worlds.{AllHands, IsHand, IsWhole, in_hands, items-none, are_live, live-below}
 use Rattle.grs_world.proofs.star.hearing.Decided.{coded-answer, one-place}
 use Rattle.grs_world.proofs.star.hearing.Elements.{IsAnswered, IsDueOn, answer-awaited, recorded-or-due, records-distinct}
 use Rattle.grs_world.proofs.star.hearing.Gentle.{Answered as AnsweredBy, Gentle, answered, control-marks, gentle-control, gentle-none}
@@ -60,6 +60,7 @@ use Rattle.grs_world.proofs.star.hearing.Mails.{hears-behind, hears-first, hears
 use Rattle.grs_world.proofs.star.hearing.Own.{own-owner, own-request}
 use Rattle.grs_world.proofs.star.hearing.Passing.{Grown, Hearable, Requested, handed-here, handed-own, heard-placed, is_untold_by, own-recorded-ready, untold-here, untold-own}
 use Rattle.grs_world.specs.World.{World, Turnout, fixed_by, placed}
+use Rattle.grs_wire.specs.Masks.{has}
 
 -- ---- what a task can be answered
 same-code : (c : Code) → same_code c c ≡ true
@@ -97,7 +98,7 @@ gets s t (Release q) r wanted = refl
 gets s t (Look first count f) r wanted = absurd (cc)
 
 -- ---- the first mail is taken
-module _ (deck : Deck) (w : World) (g : IsWhole deck w) (c : SysId) (n : NodeState) (at : slice_get w.nodes c.0 ≡ Some n) (p : StarPart) (star : n.star ≡ Some p) (mail : Mail) (rest : List Mail) (is : inbox w.medium c.0 ≡ mail ∷ rest) (flags : ℕ) where
+module _ (deck : Deck) (w : World) (g : IsWhole deck w) (c : SysId) (n : NodeState) (at : slice_get w.nodes c.0 ≡ Some n) (alive : has w.medium.removed c.0 ≡ false) (p : StarPart) (star : n.star ≡ Some p) (mail : Mail) (rest : List Mail) (is : inbox w.medium c.0 ≡ mail ∷ rest) (flags : ℕ) where
   abbrev took : MediumState
   took = record w.medium { inboxes = without_first w.medium.inboxes c.0; rest = flags }
 
@@ -118,7 +119,7 @@ module _ (deck : Deck) (w : World) (g : IsWhole deck w) (c : SysId) (n : NodeSta
   same_items = items-none w.fixed c
 
   sys : IsSystem deck w.medium.words (items w.fixed) c.0 n (mail ∷ rest) (g.later c.0) (g.out c.0)
-  sys = subst (λ ms. IsSystem deck w.medium.words (items w.fixed) c.0 n ms (g.later c.0) (g.out c.0)) is (g.system c.0 n at)
+  sys = subst (λ ms. IsSystem deck w.medium.words (items w.fixed) c.0 n ms (g.later c.0) (g.out c.0)) is (g.system c.0 n at alive)
 
   -- What it does to the system's own tasks and to the requests in its hands.
   pub record Takes (v : TasksView) (q : StarPart) : Type 0 where
@@ -131,17 +132,17 @@ module _ (deck : Deck) (w : World) (g : IsWhole deck w) (c : SysId) (n : NodeSta
 
   heard-by : (v : TasksView) (q : StarPart) → (IsWhole deck (placed w c n (to v q)) → Takes v q) → IsWhole deck (placed w c n (to v q)) → StaysHeard deck w c n (to v q)
   unfolding placed
-  heard-by v q takes g' sent had few h = heard-placed deck w g c n at (to v q) sent had h g' (record {
+  heard-by v q takes g' sent had few h = heard-placed deck w g c n at alive (to v q) refl sent had h g' (record {
     boxes = grown;
     own_box = subst (AreAddressed deck) (sym own_box) addressed.1;
-    requests = λ u home e. request u home (k.sent u home e) (own-request deck w g c n at (to v q) sent had h u home (k.sent u home e).0);
-    passed = λ s u x ne home known among. inl (handed-here deck w g c n at (to v q) u q refl (ap (λ ms. is_among u (askers (in_hands q ms))) own_box
+    requests = λ u home e. request u home (k.sent u home e) (own-request deck w g c n at alive (to v q) refl sent had h u home (k.sent u home e).0);
+    passed = λ s u x ne home known among. inl (handed-here deck w g c n at alive (to v q) refl u q refl (ap (λ ms. is_among u (askers (in_hands q ms))) own_box
         ∙ k.hands addressed.0 u (sym (ap (λ ms. is_among u (askers (in_hands p ms))) is) ∙ (ap (λ z. is_among u (askers (in_hands z (inbox w.medium c.0)))) (part x known) ∙ among))));
-    owners = λ u r home wide owned. owner u r home wide (before u r owned) (own-owner deck w g c n at (to v q) sent had h u r home wide (before u r owned));
-    told = λ s y u r x ne found home wide owned known untold. inr (untold-here deck w g c n at (to v q) s u r q ne refl (keeps u r (ap (λ z. is_untold_by z u r) (part x known) ∙ untold)));
-    gained = λ s y u r ne found home wide absent present. no_truth (owns (list_of (all_lists w) r) u) (before u r present) absent;
-    queued = λ s y u r ne found home wide absent present. no_truth (has_task (list_of (all_lists w) r) u) (sym (ap (λ T. has_task (list_of (lists T) r) u) same_items) ∙ present) absent;
-    ranks = λ x e z known managed. subst (λ T. z.next ≤ suc (enq_count T)) (sym same_items) (h.ranks c.0 n p e z at star (sym (ap (λ (m : ManagerView). managed_at m e) k.manager) ∙ (ap (λ (m : StarPart). managed_at m.manager e) (same_Some q x known) ∙ managed)));
+    owners = λ u r home wide owned. owner u r home wide (before u r owned) (own-owner deck w g c n at alive (to v q) refl sent had h u r home wide (before u r owned));
+    told = λ s y u r x ne found lives home wide owned known untold. inr (untold-here deck w g c n at alive (to v q) refl s u r q ne refl (keeps u r (ap (λ z. is_untold_by z u r) (part x known) ∙ untold)));
+    gained = λ s y u r ne found lives home wide absent present. no_truth (owns (list_of (all_lists w) r) u) (before u r present) absent;
+    queued = λ s y u r ne found lives home wide absent present. no_truth (has_task (list_of (all_lists w) r) u) (sym (ap (λ T. has_task (list_of (lists T) r) u) same_items) ∙ present) absent;
+    ranks = λ x e z known managed. subst (λ T. z.next ≤ suc (enq_count T)) (sym same_items) (h.ranks c.0 n p e z at alive star (sym (ap (λ (m : ManagerView). managed_at m e) k.manager) ∙ (ap (λ (m : StarPart). managed_at m.manager e) (same_Some q x known) ∙ managed)));
   })
     where
       k : Takes v q
@@ -160,12 +161,12 @@ module _ (deck : Deck) (w : World) (g : IsWhole deck w) (c : SysId) (n : NodeSta
       before u r owned = sym (ap (λ T. owns (list_of (lists T) r) u) same_items) ∙ owned
 
       request : (u : TaskId) → is_home_at deck c.0 u ≡ true → (is_sent (state_of n.tasks u).phase ≡ true) × (list_any (is_timely u) (mail ∷ rest) ≡ true → list_any (is_timely u) rest ≡ true) → Requested w c.0 u → Requested (placed w c n (to v q)) c.0 u
-      request u home z (inl i) = inl (handed-own deck w g c n at (to v q) grown u home i)
+      request u home z (inl i) = inl (handed-own deck w g c n at alive (to v q) refl grown u home i)
       request u home z (inr e) = inr (ap (list_any (is_timely u)) own_box ∙ z.1 (sym (ap (list_any (is_timely u)) is) ∙ e))
 
       owner : (u : TaskId) (r : Res) → is_home_at deck c.0 u ≡ true → is_systems r ≡ true → owns (list_of (all_lists w) r) u ≡ true → (had_by n u r ≡ true) ⊎ Hearable w c.0 n u r → (had_by (record n { tasks = v; star = Some q }) u r ≡ true) ⊎ Hearable (placed w c n (to v q)) c.0 (record n { tasks = v; star = Some q }) u r
       owner u r home wide owned (inl e) = inl (k.marked u r home wide owned e)
-      owner u r home wide owned (inr (inr z)) = inr (inr (untold-own deck w g c n at (to v q) u r z))
+      owner u r home wide owned (inr (inr z)) = inr (inr (untold-own deck w g c n at alive (to v q) refl u r z))
       owner u r home wide owned (inr (inl e)) = by-heard (k.heard u r home wide owned (sym (ap (hears u r (has_res r (state_of n.tasks u).records)) is) ∙ e))
         where
           by-heard : (is_marked r (state_of v u).records ≡ true) ⊎ (hears u r (has_res r (state_of v u).records) rest ≡ true) → (had_by (record n { tasks = v; star = Some q }) u r ≡ true) ⊎ Hearable (placed w c n (to v q)) c.0 (record n { tasks = v; star = Some q }) u r
@@ -173,22 +174,22 @@ module _ (deck : Deck) (w : World) (g : IsWhole deck w) (c : SysId) (n : NodeSta
           by-heard (inr f) = inr (inl (ap (hears u r (has_res r (state_of v u).records)) own_box ∙ f))
 
 -- ---- by the mail
-module _ (deck : Deck) (w : World) (g : IsWhole deck w) (c : SysId) (n : NodeState) (at : slice_get w.nodes c.0 ≡ Some n) (p : StarPart) (star : n.star ≡ Some p) (fits : IsPart deck w.medium.words (all_lists w) c.0 p) (rest : List Mail) (flags : ℕ) where
+module _ (deck : Deck) (w : World) (g : IsWhole deck w) (c : SysId) (n : NodeState) (at : slice_get w.nodes c.0 ≡ Some n) (alive : has w.medium.removed c.0 ≡ false) (p : StarPart) (star : n.star ≡ Some p) (fits : IsPart deck w.medium.words (all_lists w) c.0 p) (rest : List Mail) (flags : ℕ) where
   -- a request is of this system's hands, of an entry that it manages, and of a task of the deck
   module _ (e : ℕ) (from : SysId) (q : Req) (is : inbox w.medium c.0 ≡ Request e from q ∷ rest) where
-    its : IsHand deck w.medium.words (length w.nodes) g.later g.out c.0 q
-    its = behind p.held (subst (λ ms. AllHands deck w.medium.words (length w.nodes) g.later g.out c.0 (in_hands p ms)) is (g.hands c.0 n p at star).each)
+    its : IsHand deck w.medium.words (are_live w) g.later g.out c.0 q
+    its = behind p.held (subst (λ ms. AllHands deck w.medium.words (are_live w) g.later g.out c.0 (in_hands p ms)) is (g.hands c.0 n p at alive star).each)
       where
-        behind : (xs : List Req) → AllHands deck w.medium.words (length w.nodes) g.later g.out c.0 (xs ++ q ∷ requests_in rest) → IsHand deck w.medium.words (length w.nodes) g.later g.out c.0 q
+        behind : (xs : List Req) → AllHands deck w.medium.words (are_live w) g.later g.out c.0 (xs ++ q ∷ requests_in rest) → IsHand deck w.medium.words (are_live w) g.later g.out c.0 q
         behind [] h = h.0
         behind (x ∷ xs) h = behind xs h.1
 
     known : is_of_deck deck q.task ≡ true
     known =
         let k : NodeState = get_or w.nodes q.task.system.0 n in
-        let found : slice_get w.nodes q.task.system.0 ≡ Some k = slice_get-get_or w.nodes q.task.system.0 n its.below in
+        let found : slice_get w.nodes q.task.system.0 ≡ Some k = slice_get-get_or w.nodes q.task.system.0 n (live-below w q.task.system.0 its.below).0 in
         (and_parts (q.task.system.0 == q.task.system.0) (is_some (lines_of deck q.task))
-        (asker-home deck w.medium.words (items w.fixed) g.right q.task.system.0 k (inbox w.medium q.task.system.0) (g.later q.task.system.0) (g.out q.task.system.0) (g.system q.task.system.0 k found) q its.among its.idle c its.entry its.at its.managed its.apart)).1
+        (asker-home deck w.medium.words (items w.fixed) g.right q.task.system.0 k (inbox w.medium q.task.system.0) (g.later q.task.system.0) (g.out q.task.system.0) (g.system q.task.system.0 k found (live-below w q.task.system.0 its.below).1) q its.among its.idle c its.entry its.at its.managed its.apart)).1
 
     for-deck : IsAddressed deck (Request e from q) → is_for_deck deck (Request e from q) ≡ true
     for-deck h = let low = h.1 in and_from (nat_lt from.0 (length deck.systems)) (is_of_deck deck q.task) (grind (arith, nat_tests, low)) known
@@ -202,22 +203,22 @@ module _ (deck : Deck) (w : World) (g : IsWhole deck w) (c : SysId) (n : NodeSta
 
     -- the tasks stay
     takes-request : (x : StarPart) → x.manager ≡ p.manager → (IsAddressed deck (Request e from q) → (u : TaskId) → is_among u (askers (in_hands p (Request e from q ∷ rest))) ≡ true → is_among u (askers (in_hands x rest)) ≡ true) →
-        Takes deck w g c n at p star (Request e from q) rest is flags n.tasks x
+        Takes deck w g c n at alive p star (Request e from q) rest is flags n.tasks x
     takes-request x manager hands = record { manager = manager; hands = hands; sent = λ u home sent. (sent, λ h. h); marked = λ u r home wide owned h. h; heard = λ u r home wide owned h. inr h }
 
-    pub heard-held : IsWhole deck (placed w c n (to deck w g c n at p star (Request e from q) rest is flags n.tasks (record p { held = p.held ++ q ∷ [] }))) → StaysHeard deck w c n (to deck w g c n at p star (Request e from q) rest is flags n.tasks (record p { held = p.held ++ q ∷ [] }))
-    heard-held = heard-by deck w g c n at p star (Request e from q) rest is flags n.tasks (record p { held = p.held ++ q ∷ [] })
+    pub heard-held : IsWhole deck (placed w c n (to deck w g c n at alive p star (Request e from q) rest is flags n.tasks (record p { held = p.held ++ q ∷ [] }))) → StaysHeard deck w c n (to deck w g c n at alive p star (Request e from q) rest is flags n.tasks (record p { held = p.held ++ q ∷ [] }))
+    heard-held = heard-by deck w g c n at alive p star (Request e from q) rest is flags n.tasks (record p { held = p.held ++ q ∷ [] })
         (λ g'. takes-request (record p { held = p.held ++ q ∷ [] }) refl (λ h u among. ap (λ qs. is_among u (askers qs)) (append_assoc p.held (q ∷ []) (requests_in rest)) ∙ among))
 
     -- it is never dropped
-    pub heard-dropped : (is_for_deck deck (Request e from q) ≡ true → (is_entry e (entry_for p q.want) && manages p e) ≡ false) → IsWhole deck (placed w c n (to deck w g c n at p star (Request e from q) rest is flags n.tasks p)) → StaysHeard deck w c n (to deck w g c n at p star (Request e from q) rest is flags n.tasks p)
-    heard-dropped never = heard-by deck w g c n at p star (Request e from q) rest is flags n.tasks p
+    pub heard-dropped : (is_for_deck deck (Request e from q) ≡ true → (is_entry e (entry_for p q.want) && manages p e) ≡ false) → IsWhole deck (placed w c n (to deck w g c n at alive p star (Request e from q) rest is flags n.tasks p)) → StaysHeard deck w c n (to deck w g c n at alive p star (Request e from q) rest is flags n.tasks p)
+    heard-dropped never = heard-by deck w g c n at alive p star (Request e from q) rest is flags n.tasks p
         (λ g'. takes-request p refl (λ h u among. no_truth (is_entry e (entry_for p q.want) && manages p e) (for-entry h) (never (for-deck h))))
 
   -- ---- control
   module _ (t : TaskId) (q : Res) (is : inbox w.medium c.0 ≡ Granted t q ∷ rest) where
     takes-gently : (v : TasksView) → Gentle n.tasks v → ((u : TaskId) (r : Res) → is_home_at deck c.0 u ≡ true → is_systems r ≡ true → has_res r (state_of n.tasks u).records ≡ true → same_task u t ≡ true → same_res r q ≡ true → is_marked r (state_of v u).records ≡ true) →
-        Takes deck w g c n at p star (Granted t q) rest is flags v p
+        Takes deck w g c n at alive p star (Granted t q) rest is flags v p
     takes-gently v gentle marks = record {
       manager = refl;
       hands = λ h u among. among;
@@ -231,25 +232,25 @@ module _ (deck : Deck) (w : World) (g : IsWhole deck w) (c : SysId) (n : NodeSta
         by-heard u r home wide (inl z) = inl (marks u r home wide z.0 z.1 z.2)
         by-heard u r home wide (inr e) = inr (ap (λ b. hears u r b rest) ((gentle.each u).has r wide) ∙ e)
 
-    pub heard-control : IsWhole deck (placed w c n (to deck w g c n at p star (Granted t q) rest is flags (tell_control n.tasks q t) p)) → StaysHeard deck w c n (to deck w g c n at p star (Granted t q) rest is flags (tell_control n.tasks q t) p)
-    heard-control = heard-by deck w g c n at p star (Granted t q) rest is flags (tell_control n.tasks q t) p (λ g'. takes-gently (tell_control n.tasks q t) (gentle-control n.tasks q t) marks)
+    pub heard-control : IsWhole deck (placed w c n (to deck w g c n at alive p star (Granted t q) rest is flags (tell_control n.tasks q t) p)) → StaysHeard deck w c n (to deck w g c n at alive p star (Granted t q) rest is flags (tell_control n.tasks q t) p)
+    heard-control = heard-by deck w g c n at alive p star (Granted t q) rest is flags (tell_control n.tasks q t) p (λ g'. takes-gently (tell_control n.tasks q t) (gentle-control n.tasks q t) marks)
       where
         marks : (u : TaskId) (r : Res) → is_home_at deck c.0 u ≡ true → is_systems r ≡ true → has_res r (state_of n.tasks u).records ≡ true → same_task u t ≡ true → same_res r q ≡ true → is_marked r (state_of (tell_control n.tasks q t) u).records ≡ true
         marks u r home wide has task res =
             subst (λ z. is_marked r (state_of (tell_control n.tasks z t) u).records ≡ true) (same_res-exact r q res)
-            (subst (λ z. is_marked r (state_of (tell_control n.tasks r z) u).records ≡ true) (same_task-exact u t task) (control-marks n.tasks r u ((g.system c.0 n at).at.good.here u home) has))
+            (subst (λ z. is_marked r (state_of (tell_control n.tasks r z) u).records ≡ true) (same_task-exact u t task) (control-marks n.tasks r u ((g.system c.0 n at alive).at.good.here u home) has))
 
-    pub heard-strange : is_of_deck deck t ≡ false → IsWhole deck (placed w c n (to deck w g c n at p star (Granted t q) rest is flags n.tasks p)) → StaysHeard deck w c n (to deck w g c n at p star (Granted t q) rest is flags n.tasks p)
-    heard-strange strange = heard-by deck w g c n at p star (Granted t q) rest is flags n.tasks p (λ g'. takes-gently n.tasks (gentle-none n.tasks)
+    pub heard-strange : is_of_deck deck t ≡ false → IsWhole deck (placed w c n (to deck w g c n at alive p star (Granted t q) rest is flags n.tasks p)) → StaysHeard deck w c n (to deck w g c n at alive p star (Granted t q) rest is flags n.tasks p)
+    heard-strange strange = heard-by deck w g c n at alive p star (Granted t q) rest is flags n.tasks p (λ g'. takes-gently n.tasks (gentle-none n.tasks)
         (λ u r home wide has task res. no_truth (is_of_deck deck t) (ap (is_of_deck deck) (sym (same_task-exact u t task)) ∙ (and_parts (u.system.0 == c.0) (is_of_deck deck u) home).1) strange))
 
   -- ---- an answer
   module _ (t : TaskId) (answer : Answer) (rank : ℕ) (is : inbox w.medium c.0 ≡ Answered t answer rank ∷ rest) where
     now : IsSystem deck w.medium.words (items w.fixed) c.0 n (Answered t answer rank ∷ rest) (g.later c.0) (g.out c.0)
-    now = subst (λ ms. IsSystem deck w.medium.words (items w.fixed) c.0 n ms (g.later c.0) (g.out c.0)) is (g.system c.0 n at)
+    now = subst (λ ms. IsSystem deck w.medium.words (items w.fixed) c.0 n ms (g.later c.0) (g.out c.0)) is (g.system c.0 n at alive)
 
     here : (u : TaskId) → is_home_at deck c.0 u ≡ true → is_task n.tasks u ≡ true
-    here u home = (g.system c.0 n at).at.good.here u home
+    here u home = (g.system c.0 n at alive).at.good.here u home
 
     -- one of a task of this system that has a rank in time has an effect
     effect : is_home_at deck c.0 t ≡ true → nat_le rank last_number ≡ true → has_effect n.tasks t answer rank ≡ true
@@ -260,7 +261,7 @@ module _ (deck : Deck) (w : World) (g : IsWhole deck w) (c : SysId) (n : NodeSta
         (and_from (nat_le rank last_number) (is_awaited answer (state_of n.tasks t).outstanding) low (ap (is_awaited answer) z.is ∙ (ap (can_get z.asked.req.want) z.reply ∙ gets z.lists t z.asked.req.want z.res z.wanted)))
 
     -- it has none: it has a rank out of time, or is of no task of the system
-    takes-nothing : (is_home_at deck c.0 t ≡ true → has_effect n.tasks t answer rank ≡ false) → Takes deck w g c n at p star (Answered t answer rank) rest is flags n.tasks p
+    takes-nothing : (is_home_at deck c.0 t ≡ true → has_effect n.tasks t answer rank ≡ false) → Takes deck w g c n at alive p star (Answered t answer rank) rest is flags n.tasks p
     takes-nothing nothing = record {
       manager = refl;
       hands = λ h u among. among;
@@ -303,14 +304,14 @@ module _ (deck : Deck) (w : World) (g : IsWhole deck w) (c : SysId) (n : NodeSta
       v = tell_answer_ranked n.tasks t z.asked answer rank
 
       abbrev o : Turnout
-      o = to deck w g c n at p star (Answered t answer rank) rest is flags (tell_answer_ranked n.tasks t z.asked answer rank) p
+      o = to deck w g c n at alive p star (Answered t answer rank) rest is flags (tell_answer_ranked n.tasks t z.asked answer rank) p
 
       unsent : is_sent (state_of v t).phase ≡ false
       unsent = ap (λ (y : TaskState). is_sent y.phase) k.did.state ∙ k.unsent
 
       -- an owner has a record then
       recorded : IsWhole deck (placed w c n o) → (r : Res) → owns (list_of (all_lists w) r) t ≡ true → has_res r (state_of v t).records ≡ true
-      recorded g' r owned = own-recorded-ready deck w g c n at o g' t own r (ap (λ T. has_task (list_of (lists T) r) t) (items-none w.fixed c) ∙ owns-has (list_of (all_lists w) r) t owned) unsent
+      recorded g' r owned = own-recorded-ready deck w g c n at alive o refl g' t own r (ap (λ T. has_task (list_of (lists T) r) t) (items-none w.fixed c) ∙ owns-has (list_of (all_lists w) r) t owned) unsent
 
       stands : (r : Res) → has_res r (state_of v t).records ≡ has_res r k.state.records
       stands r = ap (λ (y : TaskState). has_res r y.records) k.did.state
@@ -326,13 +327,13 @@ module _ (deck : Deck) (w : World) (g : IsWhole deck w) (c : SysId) (n : NodeSta
           go (inl e) = no_truth (has_res r (state_of n.tasks t).records) e none
           go (inr d) = ap (λ (y : Asked). res_wanted y.req.want) (same_Some z.asked d.asked (sym z.is ∙ d.is)) ∙ d.wanted
 
-      takes-answered : IsWhole deck (placed w c n o) → Takes deck w g c n at p star (Answered t answer rank) rest is flags (tell_answer_ranked n.tasks t z.asked answer rank) p
+      takes-answered : IsWhole deck (placed w c n o) → Takes deck w g c n at alive p star (Answered t answer rank) rest is flags (tell_answer_ranked n.tasks t z.asked answer rank) p
       takes-answered g' = record {
         manager = refl;
         hands = λ h u among. among;
-        sent = λ u home sent. by-sent u home sent (one-place deck w g c.0 n at t u own home);
-        marked = λ u r home wide owned h. by-mark u r owned h (one-place deck w g c.0 n at t u own home);
-        heard = λ u r home wide owned h. by-heard u r owned h (one-place deck w g c.0 n at t u own home);
+        sent = λ u home sent. by-sent u home sent (one-place deck w g c.0 n at alive t u own home);
+        marked = λ u r home wide owned h. by-mark u r owned h (one-place deck w g c.0 n at alive t u own home);
+        heard = λ u r home wide owned h. by-heard u r owned h (one-place deck w g c.0 n at alive t u own home);
       }
         where
           other : (u : TaskId) → u.task ≢ t.task → same_task u t ≡ false
@@ -360,23 +361,23 @@ module _ (deck : Deck) (w : World) (g : IsWhole deck w) (c : SysId) (n : NodeSta
 
     -- whichever it is
     abbrev Stays : TasksView → Type 0
-    Stays v = IsWhole deck (placed w c n (to deck w g c n at p star (Answered t answer rank) rest is flags v p)) → StaysHeard deck w c n (to deck w g c n at p star (Answered t answer rank) rest is flags v p)
+    Stays v = IsWhole deck (placed w c n (to deck w g c n at alive p star (Answered t answer rank) rest is flags v p)) → StaysHeard deck w c n (to deck w g c n at alive p star (Answered t answer rank) rest is flags v p)
 
-    pub heard-answered : is_of_deck deck t ≡ true → IsWhole deck (placed w c n (to deck w g c n at p star (Answered t answer rank) rest is flags (after_mail n.tasks (Answered t answer rank)) p)) → StaysHeard deck w c n (to deck w g c n at p star (Answered t answer rank) rest is flags (after_mail n.tasks (Answered t answer rank)) p)
+    pub heard-answered : is_of_deck deck t ≡ true → IsWhole deck (placed w c n (to deck w g c n at alive p star (Answered t answer rank) rest is flags (after_mail n.tasks (Answered t answer rank)) p)) → StaysHeard deck w c n (to deck w g c n at alive p star (Answered t answer rank) rest is flags (after_mail n.tasks (Answered t answer rank)) p)
     unfolding after_mail
     heard-answered of_deck = go (has_effect n.tasks t answer rank) refl
       where
         go : (b : Bool) → has_effect n.tasks t answer rank ≡ b → Stays (cond (has_effect n.tasks t answer rank) (tell_answer_any_ranked n.tasks t answer rank (state_of n.tasks t).outstanding) n.tasks)
         go false e = subst (λ b. Stays (cond b (tell_answer_any_ranked n.tasks t answer rank (state_of n.tasks t).outstanding) n.tasks)) (sym e)
-            (heard-by deck w g c n at p star (Answered t answer rank) rest is flags n.tasks p (λ g'. takes-nothing (λ home. e)))
+            (heard-by deck w g c n at alive p star (Answered t answer rank) rest is flags n.tasks p (λ g'. takes-nothing (λ home. e)))
         go true e =
             let both = and_parts (has_sent n.tasks t) (nat_le rank last_number && is_awaited answer (state_of n.tasks t).outstanding) e in
             let there = (and_parts (is_task n.tasks t) (is_sent (state_of n.tasks t).phase) both.0).0 in
             let low = (and_parts (nat_le rank last_number) (is_awaited answer (state_of n.tasks t).outstanding) both.1).0 in
-            let own : is_home_at deck c.0 t ≡ true = and_from (t.system.0 == c.0) (is_some (lines_of deck t)) (eq-eqb t.system.0 c.0 (sym (is_task-system n.tasks t there) ∙ (g.system c.0 n at).at.good.system)) of_deck in
+            let own : is_home_at deck c.0 t ≡ true = and_from (t.system.0 == c.0) (is_some (lines_of deck t)) (eq-eqb t.system.0 c.0 (sym (is_task-system n.tasks t there) ∙ (g.system c.0 n at alive).at.good.system)) of_deck in
             subst (λ b. Stays (cond b (tell_answer_any_ranked n.tasks t answer rank (state_of n.tasks t).outstanding) n.tasks)) (sym e)
             (subst (λ x. Stays (tell_answer_any_ranked n.tasks t answer rank x)) (sym (z own low).is)
-            (heard-by deck w g c n at p star (Answered t answer rank) rest is flags (tell_answer_ranked n.tasks t (z own low).asked answer rank) p (takes-answered own low)))
+            (heard-by deck w g c n at alive p star (Answered t answer rank) rest is flags (tell_answer_ranked n.tasks t (z own low).asked answer rank) p (takes-answered own low)))
 
-    pub heard-missed : is_of_deck deck t ≡ false → IsWhole deck (placed w c n (to deck w g c n at p star (Answered t answer rank) rest is flags n.tasks p)) → StaysHeard deck w c n (to deck w g c n at p star (Answered t answer rank) rest is flags n.tasks p)
-    heard-missed strange = heard-by deck w g c n at p star (Answered t answer rank) rest is flags n.tasks p (λ g'. takes-nothing (λ home. no_truth (is_of_deck deck t) (and_parts (t.system.0 == c.0) (is_of_deck deck t) home).1 strange))
+    pub heard-missed : is_of_deck deck t ≡ false → IsWhole deck (placed w c n (to deck w g c n at alive p star (Answered t answer rank) rest is flags n.tasks p)) → StaysHeard deck w c n (to deck w g c n at alive p star (Answered t answer rank) rest is flags n.tasks p)
+    heard-missed strange = heard-by deck w g c n at alive p star (Answered t answer rank) rest is flags n.tasks p (λ g'. takes-nothing (λ home. no_truth (is_of_deck deck t) (and_parts (t.system.0 == c.0) (is_of_deck deck t) home).1 strange))

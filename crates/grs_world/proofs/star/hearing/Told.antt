@@ -34,8 +34,9 @@ use Rattle.grs_world.proofs.star.hearing.Mails.{hears-granted}
 use Rattle.grs_world.proofs.star.hearing.Own.{hands-kept, own-addressed, owner-kept, request-kept}
 use Rattle.grs_world.proofs.star.hearing.Passing.{Grown, Hearable, heard-placed, is_untold_by, untold-here}
 use Rattle.grs_world.specs.World.{World, Turnout, fixed_by, placed}
+use Rattle.grs_wire.specs.Masks.{has}
 
-module _ (deck : Deck) (w : World) (g : IsWhole deck w) (c : SysId) (n : NodeState) (at : slice_get w.nodes c.0 ≡ Some n) (p : StarPart) (star : n.star ≡ Some p) (t : TaskId) (r : Res) (apart : t.system.0 ≢ c.0) (inside : t.system.0 < length w.nodes) (flags : ℕ) where
+module _ (deck : Deck) (w : World) (g : IsWhole deck w) (c : SysId) (n : NodeState) (at : slice_get w.nodes c.0 ≡ Some n) (alive : has w.medium.removed c.0 ≡ false) (p : StarPart) (star : n.star ≡ Some p) (t : TaskId) (r : Res) (apart : t.system.0 ≢ c.0) (inside : t.system.0 < length w.nodes) (flags : ℕ) where
   abbrev sent_on : MediumState
   sent_on = record w.medium { inboxes = with_mail w.medium.inboxes t.system.0 (Granted t r); rest = flags }
 
@@ -66,17 +67,17 @@ module _ (deck : Deck) (w : World) (g : IsWhole deck w) (c : SysId) (n : NodeSta
 
   pub heard-told : IsWhole deck (placed w c n o) → StaysHeard deck w c n o
   unfolding placed
-  heard-told g' sent had few h = heard-placed deck w g c n at o sent had h g' (record {
+  heard-told g' sent had few h = heard-placed deck w g c n at alive o refl sent had h g' (record {
     boxes = grown;
-    own_box = own-addressed deck w g c n at o sent had h grown same_box;
-    requests = λ u home is. request-kept deck w g c n at o sent had h grown same_box u home is;
-    passed = λ s u v ne home known among. hands-kept deck w g c n at o sent had h grown same_box s u p p' refl refl (ap (λ z. is_among u (askers (in_hands z (inbox w.medium c.0)))) (part v known) ∙ among);
-    owners = λ u q home wide owned. owner-kept deck w g c n at o sent had h grown same_box u q home wide (before u q owned) ((gentle-none n.tasks).each u);
-    told = λ s y u q v ne found home wide owned known untold. tells s y u q ne found home wide (before u q owned) (ap (λ z. is_untold_by z u q) (part v known) ∙ untold) (same_res r q && same_task t u) refl;
-    gained = λ s y u q ne found home wide absent present. no_truth (owns (list_of (all_lists w) q) u) (before u q present) absent;
-    queued = λ s y u q ne found home wide absent present. no_truth (has_task (list_of (all_lists w) q) u) (sym (ap (λ T. has_task (list_of (lists T) q) u) same_items) ∙ present) absent;
+    own_box = own-addressed deck w g c n at alive o refl sent had h grown same_box;
+    requests = λ u home is. request-kept deck w g c n at alive o refl sent had h grown same_box u home is;
+    passed = λ s u v ne home known among. hands-kept deck w g c n at alive o refl sent had h grown same_box s u p p' refl refl (ap (λ z. is_among u (askers (in_hands z (inbox w.medium c.0)))) (part v known) ∙ among);
+    owners = λ u q home wide owned. owner-kept deck w g c n at alive o refl sent had h grown same_box u q home wide (before u q owned) ((gentle-none n.tasks).each u);
+    told = λ s y u q v ne found lives home wide owned known untold. tells s y u q ne found lives home wide (before u q owned) (ap (λ z. is_untold_by z u q) (part v known) ∙ untold) (same_res r q && same_task t u) refl;
+    gained = λ s y u q ne found lives home wide absent present. no_truth (owns (list_of (all_lists w) q) u) (before u q present) absent;
+    queued = λ s y u q ne found lives home wide absent present. no_truth (has_task (list_of (all_lists w) q) u) (sym (ap (λ T. has_task (list_of (lists T) q) u) same_items) ∙ present) absent;
     ranks = λ v e x known managed. subst (λ T. x.next ≤ suc (enq_count T)) (sym same_items)
-        (telling-next p.manager t r (suc (enq_count (items w.fixed))) (λ i z is. h.ranks c.0 n p i z at star is) e x (ap (λ (z : StarPart). managed_at z.manager e) (same_Some p' v known) ∙ managed));
+        (telling-next p.manager t r (suc (enq_count (items w.fixed))) (λ i z is. h.ranks c.0 n p i z at alive star is) e x (ap (λ (z : StarPart). managed_at z.manager e) (same_Some p' v known) ∙ managed));
   })
     where
       part : (v : StarPart) → n.star ≡ Some v → p ≡ v
@@ -85,10 +86,10 @@ module _ (deck : Deck) (w : World) (g : IsWhole deck w) (c : SysId) (n : NodeSta
       before : (u : TaskId) (q : Res) → owns (list_of (lists (items (w.fixed ++ fixed_by c []))) q) u ≡ true → owns (list_of (all_lists w) q) u ≡ true
       before u q owned = sym (ap (λ T. owns (list_of (lists T) q) u) same_items) ∙ owned
 
-      tells : (s : ℕ) (y : NodeState) (u : TaskId) (q : Res) → s ≢ c.0 → slice_get w.nodes s ≡ Some y → is_home_at deck s u ≡ true → is_systems q ≡ true → owns (list_of (all_lists w) q) u ≡ true → is_untold_by p u q ≡ true →
+      tells : (s : ℕ) (y : NodeState) (u : TaskId) (q : Res) → s ≢ c.0 → slice_get w.nodes s ≡ Some y → has w.medium.removed s ≡ false → is_home_at deck s u ≡ true → is_systems q ≡ true → owns (list_of (all_lists w) q) u ≡ true → is_untold_by p u q ≡ true →
           (b : Bool) → (same_res r q && same_task t u) ≡ b → Hearable (placed w c n o) s y u q
-      tells s y u q ne found home wide owned untold false e = inr (untold-here deck w g c n at o s u q p' ne refl (telling-untold p.manager t r q u e untold))
-      tells s y u q ne found home wide owned untold true e =
+      tells s y u q ne found lives home wide owned untold false e = inr (untold-here deck w g c n at alive o refl s u q p' ne refl (telling-untold p.manager t r q u e untold))
+      tells s y u q ne found lives home wide owned untold true e =
           let both = and_parts (same_res r q) (same_task t u) e in
           let task : t ≡ u = same_task-exact t u both.1 in
           let res : r ≡ q = same_res-exact r q both.0 in
@@ -96,4 +97,4 @@ module _ (deck : Deck) (w : World) (g : IsWhole deck w) (c : SysId) (n : NodeSta
           let box : inbox sent_on s ≡ inbox w.medium s ++ Granted u q ∷ [] =
           ap (inbox sent_on) there ∙ (its_box ∙ (ap (λ i. inbox w.medium i ++ Granted t r ∷ []) (sym there) ∙ (ap (λ z. inbox w.medium s ++ Granted z r ∷ []) task ∙ ap (λ z. inbox w.medium s ++ Granted u z ∷ []) res))) in
           inl (ap (hears u q (has_res q (state_of y.tasks u).records)) box
-          ∙ hears-granted u q (has_res q (state_of y.tasks u).records) (inbox w.medium s) (h.recorded s y u q found home wide (owns-has (list_of (all_lists w) q) u owned)))
+          ∙ hears-granted u q (has_res q (state_of y.tasks u).records) (inbox w.medium s) (h.recorded s y u q found lives home wide (owns-has (list_of (all_lists w) q) u owned)))

@@ -19,6 +19,7 @@ use Rattle.grs_node.specs.Node.{NodeState, prepare, may_send, is_of_deck, is_to_
 use Rattle.grs_node.specs.Star.{StarPart, request_of, entry_for, entry_asked, manages, with_interest, send_to, send_of, decide_own, own_step, begun, begin_at, sent_to, lists_for, answer_for, owners_by, rank_of}
 use Rattle.lock_structure.specs.Entries.{is_entry}
 use Rattle.grs_node.specs.declared.star.Need.TheVariants.{Alone, Asks, Idle}
+use Rattle.grs_wire.specs.Masks.{has}
 use Rattle.grs_wire.specs.LockWords.{is_manager}
 use Rattle.grs_wire.specs.Wants.{answer_to, new_owners, res_wanted}
 use Rattle.grs_wire.specs.declared.deck.Choice.TheVariants as choices
@@ -107,7 +108,7 @@ module _ (deck : Deck) (words : List ℕ) (L : State) (s : ℕ) (p : StarPart) (
       ∙ ap (λ z. tell_new (tell_answer_ranked v t a (answer_to L t a.req.want) (rank_of p (request_of t a))) (res_wanted a.req.want) z) (owners-under deck.entries x L t a.req.want r wanted here_at)
       )
 
-module _ (deck : Deck) (some : 0 < deck.entries) (w : World) (g : IsWhole deck w) (c : SysId) (inside : c.0 < 8) (n : NodeState) (at : slice_get w.nodes c.0 ≡ Some n) where
+module _ (deck : Deck) (some : 0 < deck.entries) (w : World) (g : IsWhole deck w) (c : SysId) (inside : c.0 < 8) (n : NodeState) (at : slice_get w.nodes c.0 ≡ Some n) (alive : has w.medium.removed c.0 ≡ false) where
   abbrev words : List ℕ
   words = w.medium.words
 
@@ -118,13 +119,13 @@ module _ (deck : Deck) (some : 0 < deck.entries) (w : World) (g : IsWhole deck w
   T = items w.fixed
 
   abbrev me : IsMember deck w.medium.words (all_lists w) c.0 n
-  me = g.roles.node c.0 n at
+  me = g.roles.node c.0 n at alive
 
   abbrev p : StarPart
-  p = (g.roles.node c.0 n at).part
+  p = (g.roles.node c.0 n at alive).part
 
   abbrev h : IsSystem deck w.medium.words (items w.fixed) c.0 n (inbox w.medium c.0) (g.later c.0) (g.out c.0)
-  h = g.system c.0 n at
+  h = g.system c.0 n at alive
 
   -- ---- a task whose request waits to be sent
   module _ (t : TaskId) (may : may_send deck n t ≡ true) where
@@ -171,11 +172,11 @@ module _ (deck : Deck) (some : 0 < deck.entries) (w : World) (g : IsWhole deck w
         decided ws flags grow q fits mine held begins low =
             subst (λ (v : TasksView). Comes deck w g c n (record { medium = record w.medium { words = ws; rest = flags }; step = with_star n (record { tasks = v; part = record q { manager = after_request q.manager t a.req.want }; fixed = fixing.Asked (request_of t a) ∷ [] }) }))
             (decides-as deck ws L c.0 q fits x mine n.tasks t a resource.0 resource.1 of_entry)
-            (outcome-decided deck w g c n at ws grow flags t lines.0 lines.1 home a is free x of_entry (sym (fits.roles x) ∙ mine) resource.0 resource.1 (new_owners L t a.req.want) (rank_of q (request_of t a)) p (record q { manager = after_request q.manager t a.req.want }) me.star held owned
-            (heard-decided deck w g c n at ws flags t home a free x of_entry (sym (fits.roles x) ∙ mine) resource.0 resource.1 (rank_of q (request_of t a)) p q me.star fits held begins low))
+            (outcome-decided deck w g c n at alive ws grow flags t lines.0 lines.1 home a is free x of_entry (sym (fits.roles x) ∙ mine) resource.0 resource.1 (new_owners L t a.req.want) (rank_of q (request_of t a)) p (record q { manager = after_request q.manager t a.req.want }) me.star held owned
+            (heard-decided deck w g c n at alive ws flags t home a free x of_entry (sym (fits.roles x) ∙ mine) resource.0 resource.1 (rank_of q (request_of t a)) p q me.star fits held begins low))
 
         -- the system manages the entry itself
-        alone : manages p x ≡ true → ComesBy deck w g c n at (choices.Send t) Alone
+        alone : manages p x ≡ true → ComesBy deck w g c n at alive (choices.Send t) Alone
         unfolding carry_out finish finish_quiet
         alone mine =
             subst (λ o. Comes deck w g c n (record { medium = w.medium; step = send_own n t o })) (sym me.star)
@@ -207,7 +208,7 @@ module _ (deck : Deck) (some : 0 < deck.entries) (w : World) (g : IsWhole deck w
           sole : manager_at w.medium.words x ≡ None → Comes deck w g c n (record { medium = record w.medium { words = submitted_words w.medium.words x c; rest = awake w.medium c }; step = finish_star deck n (Some p) (choices.Send t) replies.Sole })
           unfolding finish_star
           sole nobody =
-              let fits = begun_part deck some w c inside n at g.roles me x (want-within deck.entries a.req.want x some of_entry) nobody in
+              let fits = begun_part deck some w c inside n at alive g.roles me x (want-within deck.entries a.req.want x some of_entry) nobody in
               subst (λ o. Comes deck w g c n (record { medium = record w.medium { words = now; rest = awake w.medium c }; step = with_star n (begin_at n.tasks p t o (entry_asked p o)) })) (sym is)
               (subst (λ o. Comes deck w g c n (record { medium = record w.medium { words = now; rest = awake w.medium c }; step = with_star n (begin_at n.tasks p t (Some a) o) })) (sym asks)
               (decided now (awake w.medium c) grow (begun p x) fits (fits.roles x ∙ submit-first words x c inside_words inside g.roles.managed nobody) refl
@@ -218,37 +219,37 @@ module _ (deck : Deck) (some : 0 < deck.entries) (w : World) (g : IsWhole deck w
           unfolding finish_star
           sends s manager apart =
               subst (λ o. Comes deck w g c n (record { medium = record w.medium { words = now; inboxes = with_mail w.medium.inboxes s.0 (mails.Request x c (request_of t a)); rest = awake w.medium c }; step = with_star n (sent_to n.tasks p t o) })) (sym (ap (entry_asked p) is ∙ asks))
-              (outcome-sent deck w g c n at now grow (awake w.medium c) t lines.0 lines.1 home a is free x of_entry (submit-near words x c inside_words inside g.roles.managed) s (manager-here words x s manager) (eqb-false s.0 c.0 apart) p (with_interest p x true) me.star refl refl)
+              (outcome-sent deck w g c n at alive now grow (awake w.medium c) t lines.0 lines.1 home a is free x of_entry (submit-near words x c inside_words inside g.roles.managed) s (manager-here words x s manager) (eqb-false s.0 c.0 apart) p (with_interest p x true) me.star refl refl)
 
-          by_route : (o : Option SysId) → manager_at w.medium.words x ≡ o → ComesOf deck w g c n at (choices.Send t) (submit_on w.medium c x (request_of t a) (route_by o c))
+          by_route : (o : Option SysId) → manager_at w.medium.words x ≡ o → ComesOf deck w g c n at alive (choices.Send t) (submit_on w.medium c x (request_of t a) (route_by o c))
           unfolding finish finish_call
           by_route None nobody =
               subst (λ (m : MediumState). Comes deck w g c n (record { medium = m; step = finish deck n (choices.Send t) (Some replies.Sole) })) (sym (joined-is (ap (λ o. is_manager o c) nobody)))
-              (comes-finished deck w g c n at (record w.medium { words = now; rest = awake w.medium c }) (choices.Send t) replies.Sole (sole nobody))
+              (comes-finished deck w g c n at alive (record w.medium { words = now; rest = awake w.medium c }) (choices.Send t) replies.Sole (sole nobody))
           by_route (Some s) manager =
               let apart : (s.0 == c.0) ≡ false = sym (ap (λ o. is_manager o (record { 0 = c.0 })) manager) ∙ (sym (me.fits.roles x) ∙ not_mine) in
               let boxes = with_mail w.medium.inboxes s.0 (mails.Request x c (request_of t a)) in
-              subst (λ (b : Bool). ComesOf deck w g c n at (choices.Send t) (submit_on w.medium c x (request_of t a) (cond b routes.Sole (routes.To s)))) (sym apart)
+              subst (λ (b : Bool). ComesOf deck w g c n at alive (choices.Send t) (submit_on w.medium c x (request_of t a) (cond b routes.Sole (routes.To s)))) (sym apart)
               (subst (λ (m : MediumState). Comes deck w g c n (record { medium = record m { inboxes = boxes }; step = finish deck n (choices.Send t) (Some replies.Sent) })) (sym (joined-is (ap (λ o. is_manager o c) manager ∙ apart)))
-              (comes-finished deck w g c n at (record w.medium { words = now; inboxes = boxes; rest = awake w.medium c }) (choices.Send t) replies.Sent (sends s manager apart)))
+              (comes-finished deck w g c n at alive (record w.medium { words = now; inboxes = boxes; rest = awake w.medium c }) (choices.Send t) replies.Sent (sends s manager apart)))
 
-          submitted : ComesOf deck w g c n at (choices.Send t) (row w.medium c (acts.Submit x (request_of t a)))
+          submitted : ComesOf deck w g c n at alive (choices.Send t) (row w.medium c (acts.Submit x (request_of t a)))
           unfolding row submit_row route
           submitted = by_route (manager_at words x) refl
 
-      by_entry : (o : Option ℕ) → entry_for p a.req.want ≡ o → ComesBy deck w g c n at (choices.Send t) (send_to p (request_of t a) o)
-      by_entry None e = comes-none deck w g c n at (choices.Send t)
-      by_entry (Some x) e = by_test (ComesBy deck w g c n at (choices.Send t)) (manages p x) Alone (Asks (acts.Submit x (request_of t a)))
+      by_entry : (o : Option ℕ) → entry_for p a.req.want ≡ o → ComesBy deck w g c n at alive (choices.Send t) (send_to p (request_of t a) o)
+      by_entry None e = comes-none deck w g c n at alive (choices.Send t)
+      by_entry (Some x) e = by_test (ComesBy deck w g c n at alive (choices.Send t)) (manages p x) Alone (Asks (acts.Submit x (request_of t a)))
           (λ mine. alone x e mine)
-          (λ not_mine. comes-called deck w g c n at (choices.Send t) (acts.Submit x (request_of t a)) (submitted x e not_mine))
+          (λ not_mine. comes-called deck w g c n at alive (choices.Send t) (acts.Submit x (request_of t a)) (submitted x e not_mine))
 
-    by_asked : (o : Option Asked) → (state_of n.tasks t).outstanding ≡ o → ComesBy deck w g c n at (choices.Send t) (send_of p t o)
-    by_asked None e = comes-none deck w g c n at (choices.Send t)
+    by_asked : (o : Option Asked) → (state_of n.tasks t).outstanding ≡ o → ComesBy deck w g c n at alive (choices.Send t) (send_of p t o)
+    by_asked None e = comes-none deck w g c n at alive (choices.Send t)
     by_asked (Some a) e = by_entry a e (entry_for p a.req.want) refl
 
   pub outcome-send : (t : TaskId) → Comes deck w g c n (chosen deck w.medium c n (choices.Send t))
   unfolding chosen prepare
-  outcome-send t = comes-needs deck w g c n at (choices.Send t)
-      (by_test (ComesBy deck w g c n at (choices.Send t)) (may_send deck n t) (send_of p t (state_of n.tasks t).outstanding) Idle
+  outcome-send t = comes-needs deck w g c n at alive (choices.Send t)
+      (by_test (ComesBy deck w g c n at alive (choices.Send t)) (may_send deck n t) (send_of p t (state_of n.tasks t).outstanding) Idle
       (λ may. by_asked t may (state_of n.tasks t).outstanding refl)
-      (λ e. comes-none deck w g c n at (choices.Send t)))
+      (λ e. comes-none deck w g c n at alive (choices.Send t)))

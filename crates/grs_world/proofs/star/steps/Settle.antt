@@ -1,5 +1,5 @@
 -- A manager settles the request that it holds first: it answers by its own lists of the entry, which are the history's.
-use Rattle.std.proofs.Common.{◌≡◌, ◌++◌, true, cond, List, [], ◌∷◌, length, Option, Some, None, refl, ap, sym, ◌∙◌, subst}
+use Rattle.std.proofs.Common.{◌≡◌, ◌++◌, true, cond, List, [], ◌∷◌, Option, Some, None, refl, ap, sym, ◌∙◌, subst, false}
 use Rattle.std.specs.Prelude.{drop, slice_get}
 use Rattle.std.proofs.lemmas.Option.{same_Some}
 use Rattle.contention_mgr.specs.Manager.{Managed, plain, items_of, kept_for, entry_wanted, after_request, rank_for}
@@ -18,6 +18,7 @@ use Rattle.grs_medium.specs.Medium.{MediumState, awake}
 use Rattle.grs_node.specs.Node.{NodeState, prepare, finish, finish_call, finish_star, with_star}
 use Rattle.grs_node.specs.Star.{StarPart, answer_for, first_held, lists_for, owners_by, fixing_none, rank_of, serves, settle_by, settled_by, settled_first}
 use Rattle.grs_node.specs.declared.star.Need.TheVariants.{Asks, Idle}
+use Rattle.grs_wire.specs.Masks.{has}
 use Rattle.grs_wire.specs.Wants.{answer_to, new_owners, res_wanted}
 use Rattle.grs_wire.specs.declared.deck.Choice.TheVariants as choices
 use Rattle.grs_wire.specs.declared.deck.Deck.{Deck}
@@ -37,7 +38,7 @@ use Rattle.grs_world.proofs.star.Members.{IsMember, all_lists}
 use Rattle.grs_world.proofs.star.Settling.{follows-now, hand, manager-after, same_req, whole-settled}
 use Rattle.grs_world.proofs.star.Systems.{gives_want}
 use Rattle.grs_world.proofs.star.Under.{under, answer-under, entry-same, owners-under, res-entry}
-use Rattle.grs_world.proofs.star.Worlds.{IsHand, IsWhole, items-one}
+use Rattle.grs_world.proofs.star.Worlds.{IsHand, IsWhole, are_live, items-one}
 use Rattle.grs_world.proofs.star.hearing.Settled.{heard-settled}
 use Rattle.grs_world.proofs.star.steps.Outcome.{Comes, ComesBy, ComesOf, comes-called, comes-finished, comes-needs, comes-none}
 use Rattle.grs_known.proofs.lists.Alike.{Alike, answer-alike, owners-alike}
@@ -56,9 +57,9 @@ first-of : (qs : List Req) (q : Req) → slice_get qs 0 ≡ Some q → qs ≡ q 
 first-of [] q is = absurd (cc)
 first-of (z ∷ qs) q is = ap (λ y. y ∷ qs) (same_Some z q is)
 
-module _ (deck : Deck) (w : World) (g : IsWhole deck w) (c : SysId) (n : NodeState) (at : slice_get w.nodes c.0 ≡ Some n) where
+module _ (deck : Deck) (w : World) (g : IsWhole deck w) (c : SysId) (n : NodeState) (at : slice_get w.nodes c.0 ≡ Some n) (alive : has w.medium.removed c.0 ≡ false) where
   abbrev me : IsMember deck w.medium.words (all_lists w) c.0 n
-  me = g.roles.node c.0 n at
+  me = g.roles.node c.0 n at alive
 
   abbrev p : StarPart
   p = me.part
@@ -74,14 +75,14 @@ module _ (deck : Deck) (w : World) (g : IsWhole deck w) (c : SysId) (n : NodeSta
     held : p.held ≡ q ∷ drop 1 p.held
     held = first-of p.held q first
 
-    abbrev its : IsHand deck w.medium.words (length w.nodes) g.later g.out c.0 q
-    its = hand deck w g c n at p me.star q (drop 1 p.held) held
+    abbrev its : IsHand deck w.medium.words (are_live w) g.later g.out c.0 q
+    its = hand deck w g c n at alive p me.star q (drop 1 p.held) held
 
     abbrev follow : MayFollow deck T item
-    follow = follows-now deck w g c n at p me.star q (drop 1 p.held) held
+    follow = follows-now deck w g c n at alive p me.star q (drop 1 p.held) held
 
     wanted : res_wanted q.want ≡ Some follow.ask.res
-    wanted = ap (λ (z : Req). res_wanted z.want) (same_req deck w g c n at p me.star q (drop 1 p.held) held) ∙ follow.ask.wanted
+    wanted = ap (λ (z : Req). res_wanted z.want) (same_req deck w g c n at alive p me.star q (drop 1 p.held) held) ∙ follow.ask.wanted
 
     of_entry : entry_of_res deck.entries follow.ask.res ≡ Some its.entry
     of_entry = res-entry deck.entries q.want follow.ask.res its.entry wanted its.at
@@ -114,7 +115,7 @@ module _ (deck : Deck) (w : World) (g : IsWhole deck w) (c : SysId) (n : NodeSta
     news =
         subst (λ xs. ToldNews deck c.0 (history xs) n.tasks.told (tell_new n.tasks (res_wanted q.want) (owners_by p q)).told) (sym (items-one w.fixed c (fixes.Asked q)))
         (subst (λ (k : NodeState). ToldNews deck c.0 (history (T ++ item ∷ [])) n.tasks.told k.tasks.told) (sym node-is)
-        (told-news (manager-after deck w g c n at p me.star q (drop 1 p.held) held follow.ask.res (owners_by p q) own of_entry (Some after)).told))
+        (told-news (manager-after deck w g c n at alive p me.star q (drop 1 p.held) held follow.ask.res (owners_by p q) own of_entry (Some after)).told))
 
     -- the medium, where this answer is sent
     abbrev answered : Answer → MediumState
@@ -122,27 +123,27 @@ module _ (deck : Deck) (w : World) (g : IsWhole deck w) (c : SysId) (n : NodeSta
 
     by-history : Comes deck w g c n (record { medium = answered (answer_to (lists T) q.task q.want); step = with_star n (settled_first n.tasks p q) })
     by-history step = record {
-      stays = whole-settled deck w g c n at p me.star q (drop 1 p.held) held (rank_of p q) (rank-plain _ q.task q.want) (awake w.medium c) follow.ask.res wanted (owners_by p q) own of_entry after refl _ node-is step;
+      stays = whole-settled deck w g c n at alive p me.star q (drop 1 p.held) held (rank_of p q) (rank-plain _ q.task q.want) (awake w.medium c) follow.ask.res wanted (owners_by p q) own of_entry after refl _ node-is step;
       news = tells_tasks news refl refl;
-      heard = heard-settled deck w g c n at p me.star me.fits q (drop 1 p.held) held its follow.ask.res wanted same-owners (awake w.medium c);
+      heard = heard-settled deck w g c n at alive p me.star me.fits q (drop 1 p.held) held its follow.ask.res wanted same-owners (awake w.medium c);
       dated = λ h. dated-by deck c.0 n (with_star n (settled_first n.tasks p q)).node refl h (keeps-new deck n.tasks (res_wanted q.want) (owners_by p q) h.date);
     }
 
-    comes-settled : serves p q ≡ true → ComesOf deck w g c n at choices.Settle (row w.medium c (acts.Settle q.task.system (mails.Answered q.task (answer_for p q) (rank_of p q))))
+    comes-settled : serves p q ≡ true → ComesOf deck w g c n at alive choices.Settle (row w.medium c (acts.Settle q.task.system (mails.Answered q.task (answer_for p q) (rank_of p q))))
     unfolding row mail_row finish finish_call finish_star
     comes-settled serving =
-        comes-finished deck w g c n at (answered (answer_for p q)) choices.Settle replies.Settled
+        comes-finished deck w g c n at alive (answered (answer_for p q)) choices.Settle replies.Settled
         (subst (λ o. Comes deck w g c n (record { medium = answered (answer_for p q); step = with_star n (settled_by n.tasks p o) })) (sym first)
         (subst (λ b. Comes deck w g c n (record { medium = answered (answer_for p q); step = with_star n (cond b (settled_first n.tasks p q) (fixing_none n.tasks p)) })) (sym serving)
         (subst (λ a. Comes deck w g c n (record { medium = answered a; step = with_star n (settled_first n.tasks p q) })) (sym same-answer) by-history)))
 
-  by_first : (o : Option Req) → first_held p ≡ o → ComesBy deck w g c n at choices.Settle (settle_by p o)
-  by_first None e = comes-none deck w g c n at choices.Settle
+  by_first : (o : Option Req) → first_held p ≡ o → ComesBy deck w g c n at alive choices.Settle (settle_by p o)
+  by_first None e = comes-none deck w g c n at alive choices.Settle
   by_first (Some q) e =
-      by_test (ComesBy deck w g c n at choices.Settle) (serves p q) (Asks (acts.Settle q.task.system (mails.Answered q.task (answer_for p q) (rank_of p q)))) Idle
-      (λ h. comes-called deck w g c n at choices.Settle (acts.Settle q.task.system (mails.Answered q.task (answer_for p q) (rank_of p q))) (comes-settled q e h))
-      (λ h. comes-none deck w g c n at choices.Settle)
+      by_test (ComesBy deck w g c n at alive choices.Settle) (serves p q) (Asks (acts.Settle q.task.system (mails.Answered q.task (answer_for p q) (rank_of p q)))) Idle
+      (λ h. comes-called deck w g c n at alive choices.Settle (acts.Settle q.task.system (mails.Answered q.task (answer_for p q) (rank_of p q))) (comes-settled q e h))
+      (λ h. comes-none deck w g c n at alive choices.Settle)
 
   pub outcome-settle : Comes deck w g c n (chosen deck w.medium c n choices.Settle)
   unfolding chosen prepare
-  outcome-settle = comes-needs deck w g c n at choices.Settle (by_first (first_held p) refl)
+  outcome-settle = comes-needs deck w g c n at alive choices.Settle (by_first (first_held p) refl)

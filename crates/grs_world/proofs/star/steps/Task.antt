@@ -1,11 +1,12 @@
 -- A task of a system in star mode goes on by itself.
-use Rattle.std.proofs.Common.{◌≡◌, [], ◌++◌, Some, ap, sym, ◌∙◌, subst, true, refl}
+use Rattle.std.proofs.Common.{◌≡◌, [], ◌++◌, Some, ap, sym, ◌∙◌, subst, true, refl, false}
 use Rattle.std.specs.Prelude.{slice_get}
 use Rattle.grs_base.specs.declared.resource.SysId.{SysId}
 use Rattle.grs_base.specs.declared.resource.TaskId.{TaskId}
 use Rattle.grs_medium.specs.Medium.{inbox}
 use Rattle.grs_node.specs.Node.{NodeState, Step, prepare, finish, finish_quiet, may_go}
 use Rattle.grs_node.specs.declared.prepared.Prepared.TheVariants.{Quiet, Nothing}
+use Rattle.grs_wire.specs.Masks.{has}
 use Rattle.grs_wire.specs.declared.deck.Choice.TheVariants as choices
 use Rattle.grs_wire.specs.declared.deck.Deck.{Deck}
 use Rattle.grs_wire.specs.declared.request.Fixed.TheVariants as fixing
@@ -24,23 +25,23 @@ use Rattle.grs_world.proofs.rest.Ring.{distinct-at}
 use Rattle.grs_world.proofs.rest.StarTasks.{IsDated, dated-task}
 use Rattle.grs_world.proofs.star.Ghosts.{ghosted}
 
-module _ (deck : Deck) (w : World) (g : IsWhole deck w) (c : SysId) (n : NodeState) (at : slice_get w.nodes c.0 ≡ Some n) where
+module _ (deck : Deck) (w : World) (g : IsWhole deck w) (c : SysId) (n : NodeState) (at : slice_get w.nodes c.0 ≡ Some n) (alive : has w.medium.removed c.0 ≡ false) where
   -- what it tells agrees
-  task-news : (st : Step) → Task deck w.medium.words (items w.fixed) g.right c.0 n (inbox w.medium c.0) (g.later c.0) (g.out c.0) (g.system c.0 n at) c st → ToldNews deck c.0 (history (items (w.fixed ++ fixed_by c st.fixed))) n.tasks.told st.node.tasks.told
+  task-news : (st : Step) → Task deck w.medium.words (items w.fixed) g.right c.0 n (inbox w.medium c.0) (g.later c.0) (g.out c.0) (g.system c.0 n at alive) c st → ToldNews deck c.0 (history (items (w.fixed ++ fixed_by c st.fixed))) n.tasks.told st.node.tasks.told
   task-news st (idle_task none_fixed z) = subst (λ U. ToldNews deck c.0 (history U) n.tasks.told st.node.tasks.told) (sym (ap (λ fs. items (w.fixed ++ fixed_by c fs)) none_fixed ∙ items-none w.fixed c)) (told-news z.told)
   task-news st (local_task q one_fixed mine_q away m z) =
       subst (λ U. ToldNews deck c.0 (history U) n.tasks.told st.node.tasks.told) (sym (ap (λ fs. items (w.fixed ++ fixed_by c fs)) one_fixed ∙ items-one w.fixed c (fixing.Asked q))) (told-news z.told)
 
   -- and its tasks stay up to date
   own-dated : (t : TaskId) → may_go deck n t ≡ true → IsDated deck c.0 n → IsDated deck c.0 (finish_quiet deck n (choices.Task t)).node
-  own-dated t goes = dated-task deck c.0 n (g.system c.0 n at).at.good.system (λ u ls o. distinct-at deck c.0 (items w.fixed) [] (g.later c.0) (g.out c.0) (ghosted n) (g.system c.0 n at).at u ls o) t goes
+  own-dated t goes = dated-task deck c.0 n (g.system c.0 n at alive).at.good.system (λ u ls o. distinct-at deck c.0 (items w.fixed) [] (g.later c.0) (g.out c.0) (ghosted n) (g.system c.0 n at alive).at u ls o) t goes
 
   goes-on : (t : TaskId) → may_go deck n t ≡ true → Comes deck w g c n (record { medium = w.medium; step = finish_quiet deck n (choices.Task t) })
   unfolding finish_quiet
   goes-on t goes step = record {
-    stays = whole-task deck w g c n at t goes step;
-    news = tells_tasks (task-news (finish_quiet deck n (choices.Task t)) (system-task deck w.medium.words (items w.fixed) g.right c.0 n (inbox w.medium c.0) (g.later c.0) (g.out c.0) (g.system c.0 n at) c t goes)) (stays-task deck.limit n t (lines_of deck t)).done refl;
-    heard = heard-task deck w g c n at t goes (system-task deck w.medium.words (items w.fixed) g.right c.0 n (inbox w.medium c.0) (g.later c.0) (g.out c.0) (g.system c.0 n at) c t goes);
+    stays = whole-task deck w g c n at alive t goes step;
+    news = tells_tasks (task-news (finish_quiet deck n (choices.Task t)) (system-task deck w.medium.words (items w.fixed) g.right c.0 n (inbox w.medium c.0) (g.later c.0) (g.out c.0) (g.system c.0 n at alive) c t goes)) (stays-task deck.limit n t (lines_of deck t)).done refl;
+    heard = heard-task deck w g c n at alive t goes (system-task deck w.medium.words (items w.fixed) g.right c.0 n (inbox w.medium c.0) (g.later c.0) (g.out c.0) (g.system c.0 n at alive) c t goes);
     dated = own-dated t goes;
   }
 
@@ -50,4 +51,4 @@ module _ (deck : Deck) (w : World) (g : IsWhole deck w) (c : SysId) (n : NodeSta
 
   pub outcome-task : (t : TaskId) → Comes deck w g c n (chosen deck w.medium c n (choices.Task t))
   unfolding chosen prepare
-  outcome-task t = by_test (λ p. Comes deck w g c n (carry_out deck w.medium c n (choices.Task t) p)) (may_go deck n t) Quiet Nothing (λ h. by_itself t h) (λ h. comes-none deck w g c n at (choices.Task t))
+  outcome-task t = by_test (λ p. Comes deck w g c n (carry_out deck w.medium c n (choices.Task t) p)) (may_go deck n t) Quiet Nothing (λ h. by_itself t h) (λ h. comes-none deck w g c n at alive (choices.Task t))

@@ -20,6 +20,7 @@ use Rattle.grs_medium.specs.Inboxes.{with_mail}
 use Rattle.grs_medium.specs.Medium.{MediumState, inbox, awake}
 use Rattle.grs_node.specs.Node.{NodeState, prepare, finish, finish_call, finish_star, with_star}
 use Rattle.grs_node.specs.Star.{StarPart, to_tell, told_by, tell_by, fixing_none}
+use Rattle.grs_wire.specs.Masks.{has}
 use Rattle.grs_wire.specs.declared.deck.Choice.TheVariants as choices
 use Rattle.grs_wire.specs.declared.deck.Deck.{Deck}
 use Rattle.grs_wire.specs.declared.medium.Act.TheVariants as acts
@@ -30,7 +31,6 @@ use Rattle.lock_structure.specs.Laws.{is_interested}
 use Rattle.grs_known.specs.Items.{RunItem, lists, items}
 use Rattle.grs_known.proofs.known.Histories.{owns-may}
 use Rattle.grs_known.proofs.lists.All.{owns-has}
-use Rattle.grs_known.proofs.lists.Facts.{slice_get-past}
 use Rattle.grs_known.proofs.lists.Truths.{false_by, no_truth}
 use Rattle.grs_world.specs.World.{World, Turnout, chosen, placed}
 use Rattle.grs_known.proofs.system.Says.{is_home_at}
@@ -39,7 +39,7 @@ use Rattle.grs_world.proofs.star.Elements.{near-has}
 use Rattle.grs_world.proofs.star.Members.{IsPart, has_manager, one-manages}
 use Rattle.grs_world.proofs.star.Systems.{IsSystem, IsAway, near_at, requests_in, system-granted}
 use Rattle.grs_world.proofs.star.Under.{under, in_entry, entry-is, list-under, under-has}
-use Rattle.grs_world.proofs.star.Worlds.{IsWhole, Hands, in_hands, items-none, whole-placed, none_fixed}
+use Rattle.grs_world.proofs.star.Worlds.{IsWhole, Hands, are_live, in_hands, items-none, whole-placed, none_fixed, live-below}
 use Rattle.grs_world.proofs.star.Heard.{StaysHeard}
 use Rattle.grs_world.proofs.star.hearing.Told.{heard-told}
 use Rattle.grs_world.proofs.star.steps.Outcome.{Comes, ComesBy, ComesOf, part, comes-called, comes-finished, comes-needs, comes-none}
@@ -95,7 +95,7 @@ requests-granted (Request e from q ∷ ms) t r = ap (λ zs. q ∷ zs) (requests-
 requests-granted (Answered u a rank ∷ ms) t r = requests-granted ms t r
 requests-granted (Granted u q ∷ ms) t r = requests-granted ms t r
 
-module _ (deck : Deck) (w : World) (g : IsWhole deck w) (c : SysId) (n : NodeState) (at : slice_get w.nodes c.0 ≡ Some n) where
+module _ (deck : Deck) (w : World) (g : IsWhole deck w) (c : SysId) (n : NodeState) (at : slice_get w.nodes c.0 ≡ Some n) (alive : has w.medium.removed c.0 ≡ false) where
   abbrev T : List RunItem
   T = items w.fixed
 
@@ -103,7 +103,7 @@ module _ (deck : Deck) (w : World) (g : IsWhole deck w) (c : SysId) (n : NodeSta
   words = w.medium.words
 
   abbrev p : StarPart
-  p = part deck w g c n at
+  p = part deck w g c n at alive
 
   -- ---- the world once control was sent to an owner
   module _ (entry : ℕ) (t : TaskId) (r : Res) (owner : IsOwner deck w.medium.words (lists (items w.fixed)) c.0 entry t r) (flags : ℕ) where
@@ -130,27 +130,27 @@ module _ (deck : Deck) (w : World) (g : IsWhole deck w) (c : SysId) (n : NodeSta
 
     -- so it is of one of the systems
     below : t.system.0 < length w.nodes
-    below = go (slice_get w.nodes t.system.0) refl
+    below = go (are_live w t.system.0) refl
       where
-        go : (b : Option NodeState) → slice_get w.nodes t.system.0 ≡ b → t.system.0 < length w.nodes
-        go (Some k) e = slice_get_within w.nodes t.system.0 k e
-        go None e = no_truth (is_interested w.medium.words entry t.system.0) interested (g.roles.nobody entry t.system.0 (slice_get-past w.nodes t.system.0 e)).0
+        go : (b : Bool) → are_live w t.system.0 ≡ b → t.system.0 < length w.nodes
+        go true e = (live-below w t.system.0 e).0
+        go false e = no_truth (is_interested w.medium.words entry t.system.0) interested (g.roles.nobody entry t.system.0 e).0
 
     away : IsAway deck w.medium.words t.system.0 t r
     away = record { home = home; entry = entry; at = owner.at; away = (false_by (has_manager words entry t.system.0) (λ mine. absurd (owner.apart (one-manages words entry t.system.0 c.0 mine owner.managed))), interested) }
 
-    granted : (k : NodeState) → slice_get w.nodes t.system.0 ≡ Some k → IsSystem deck w.medium.words (items w.fixed) t.system.0 k (inbox sent_on t.system.0) (g.later t.system.0) (g.out t.system.0)
-    granted k found = subst (λ ms. IsSystem deck words T t.system.0 k ms (g.later t.system.0) (g.out t.system.0)) (sym (its_box k found))
-        (system-granted deck words T t.system.0 k (inbox w.medium t.system.0) (g.later t.system.0) (g.out t.system.0) (g.system t.system.0 k found) g.right t r home owner.owned away)
+    granted : (k : NodeState) → slice_get w.nodes t.system.0 ≡ Some k → has w.medium.removed t.system.0 ≡ false → IsSystem deck w.medium.words (items w.fixed) t.system.0 k (inbox sent_on t.system.0) (g.later t.system.0) (g.out t.system.0)
+    granted k found lives = subst (λ ms. IsSystem deck words T t.system.0 k ms (g.later t.system.0) (g.out t.system.0)) (sym (its_box k found))
+        (system-granted deck words T t.system.0 k (inbox w.medium t.system.0) (g.later t.system.0) (g.out t.system.0) (g.system t.system.0 k found lives) g.right t r home owner.owned away)
 
-    others : (u : ℕ) (k : NodeState) → slice_get w.nodes u ≡ Some k → IsSystem deck w.medium.words (items w.fixed) u k (inbox sent_on u) (g.later u) (g.out u)
-    others u k found = go (u == t.system.0) refl
+    others : (u : ℕ) (k : NodeState) → slice_get w.nodes u ≡ Some k → has w.medium.removed u ≡ false → IsSystem deck w.medium.words (items w.fixed) u k (inbox sent_on u) (g.later u) (g.out u)
+    others u k found lives = go (u == t.system.0) refl
       where
         go : (b : Bool) → (u == t.system.0) ≡ b → IsSystem deck w.medium.words (items w.fixed) u k (inbox sent_on u) (g.later u) (g.out u)
         go true e =
             let same : u ≡ t.system.0 = eqb-true u t.system.0 e in
-            subst (λ z. IsSystem deck words T z k (inbox sent_on z) (g.later z) (g.out z)) (sym same) (granted k (ap (slice_get w.nodes) (sym same) ∙ found))
-        go false e = subst (λ ms. IsSystem deck words T u k ms (g.later u) (g.out u)) (sym (other_box u (eqb-false u t.system.0 e))) (g.system u k found)
+            subst (λ z. IsSystem deck words T z k (inbox sent_on z) (g.later z) (g.out z)) (sym same) (granted k (ap (slice_get w.nodes) (sym same) ∙ found) (ap (has w.medium.removed) (sym same) ∙ lives))
+        go false e = subst (λ ms. IsSystem deck words T u k ms (g.later u) (g.out u)) (sym (other_box u (eqb-false u t.system.0 e))) (g.system u k found lives)
 
     same_requests : (u : ℕ) (k : NodeState) → slice_get w.nodes u ≡ Some k → requests_in (inbox w.medium u) ≡ requests_in (inbox sent_on u)
     same_requests u k found = go (u == t.system.0) refl
@@ -167,42 +167,42 @@ module _ (deck : Deck) (w : World) (g : IsWhole deck w) (c : SysId) (n : NodeSta
       after = record { medium = sent_on; step = with_star n (fixing_none n.tasks q) }
 
       own : IsSystem deck w.medium.words (items w.fixed) c.0 (with_star n (fixing_none n.tasks q)).node (inbox sent_on c.0) (g.later c.0) (g.out c.0)
-      own = subst (λ ms. IsSystem deck words T c.0 (record n { star = Some q }) ms (g.later c.0) (g.out c.0)) (sym own_box) (with_part (g.system c.0 n at))
+      own = subst (λ ms. IsSystem deck words T c.0 (record n { star = Some q }) ms (g.later c.0) (g.out c.0)) (sym own_box) (with_part (g.system c.0 n at alive))
         where
           with_part : IsSystem deck w.medium.words (items w.fixed) c.0 n (inbox w.medium c.0) (g.later c.0) (g.out c.0) → IsSystem deck w.medium.words (items w.fixed) c.0 (record n { star = Some q }) (inbox w.medium c.0) (g.later c.0) (g.out c.0)
           with_part h = record { at = h.at; late = h.late; sent = h.sent; near = h.near; coming = h.coming; answered = h.answered; fits = h.fits }
 
-      hands_own : (k : StarPart) → Some q ≡ Some k → Hands deck w.medium.words (length w.nodes) g.later g.out c.0 (in_hands k (inbox sent_on c.0))
+      hands_own : (k : StarPart) → Some q ≡ Some k → Hands deck w.medium.words (are_live w) g.later g.out c.0 (in_hands k (inbox sent_on c.0))
       hands_own k is =
-          subst (Hands deck words (length w.nodes) g.later g.out c.0) (ap (λ ms. p.held ++ requests_in ms) (sym own_box) ∙ (ap (λ qs. qs ++ requests_in (inbox sent_on c.0)) (sym held) ∙ ap (λ (z : StarPart). in_hands z (inbox sent_on c.0)) (same_Some q k is)))
-          (g.hands c.0 n p at (g.roles.node c.0 n at).star)
+          subst (Hands deck words (are_live w) g.later g.out c.0) (ap (λ ms. p.held ++ requests_in ms) (sym own_box) ∙ (ap (λ qs. qs ++ requests_in (inbox sent_on c.0)) (sym held) ∙ ap (λ (z : StarPart). in_hands z (inbox sent_on c.0)) (same_Some q k is)))
+          (g.hands c.0 n p at alive (g.roles.node c.0 n at alive).star)
 
       tells : (IsWhole deck (placed w c n after) → StaysHeard deck w c n after) → Comes deck w g c n after
       tells heard step = record {
-        stays = whole-placed deck w g c n at after step T (items-none w.fixed c) g.later g.out (λ u ne. refl) none_fixed g.right g.near own
-            (λ u k ne found. others u k found)
+        stays = whole-placed deck w g c n at alive after step T (items-none w.fixed c) g.later g.out (λ u ne. refl) none_fixed g.right g.near own
+            (λ u k ne found lives. others u k found lives)
             hands_own
-            (λ m k v ne found is. subst (Hands deck words (length w.nodes) g.later g.out m) (ap (λ zs. v.held ++ zs) (same_requests m k found)) (g.hands m k v found is));
+            (λ m k v ne found lives is. subst (Hands deck words (are_live w) g.later g.out m) (ap (λ zs. v.held ++ zs) (same_requests m k found)) (g.hands m k v found lives is));
         news = tells_tasks (still-told refl) refl refl;
         heard = heard;
         dated = λ h. record { date = h.date; own = h.own };
       }
 
   -- ---- the event
-  sends : (entry : ℕ) (x : TaskId × Res) → to_tell (part deck w g c n at) entry ≡ Some x → ComesOf deck w g c n at (choices.Tell entry) (row w.medium c (acts.Tell x.0.system (Granted x.0 x.1)))
+  sends : (entry : ℕ) (x : TaskId × Res) → to_tell (part deck w g c n at alive) entry ≡ Some x → ComesOf deck w g c n at alive (choices.Tell entry) (row w.medium c (acts.Tell x.0.system (Granted x.0 x.1)))
   unfolding row mail_row finish finish_call finish_star
   sends entry x is =
-      comes-finished deck w g c n at (sent_on entry x.0 x.1 owner (awake w.medium c)) (choices.Tell entry) replies.Told
+      comes-finished deck w g c n at alive (sent_on entry x.0 x.1 owner (awake w.medium c)) (choices.Tell entry) replies.Told
       (subst (λ o. Comes deck w g c n (record { medium = sent_on entry x.0 x.1 owner (awake w.medium c); step = with_star n (fixing_none n.tasks (told_by p o)) })) (sym is)
-      (tells entry x.0 x.1 owner (awake w.medium c) (told_by p (Some x)) refl (heard-told deck w g c n at p (g.roles.node c.0 n at).star x.0 x.1 owner.apart (below entry x.0 x.1 owner (awake w.medium c)) (awake w.medium c))))
+      (tells entry x.0 x.1 owner (awake w.medium c) (told_by p (Some x)) refl (heard-told deck w g c n at alive p (g.roles.node c.0 n at alive).star x.0 x.1 owner.apart (below entry x.0 x.1 owner (awake w.medium c)) (awake w.medium c))))
     where
       owner : IsOwner deck w.medium.words (lists (items w.fixed)) c.0 entry x.0 x.1
-      owner = first-owns deck words (lists T) c.0 p (g.roles.node c.0 n at).fits entry x is
+      owner = first-owns deck words (lists T) c.0 p (g.roles.node c.0 n at alive).fits entry x is
 
-  by_owner : (entry : ℕ) (o : Option (TaskId × Res)) → to_tell (part deck w g c n at) entry ≡ o → ComesBy deck w g c n at (choices.Tell entry) (tell_by o)
-  by_owner entry None is = comes-none deck w g c n at (choices.Tell entry)
-  by_owner entry (Some x) is = comes-called deck w g c n at (choices.Tell entry) (acts.Tell x.0.system (Granted x.0 x.1)) (sends entry x is)
+  by_owner : (entry : ℕ) (o : Option (TaskId × Res)) → to_tell (part deck w g c n at alive) entry ≡ o → ComesBy deck w g c n at alive (choices.Tell entry) (tell_by o)
+  by_owner entry None is = comes-none deck w g c n at alive (choices.Tell entry)
+  by_owner entry (Some x) is = comes-called deck w g c n at alive (choices.Tell entry) (acts.Tell x.0.system (Granted x.0 x.1)) (sends entry x is)
 
   pub outcome-tell : (entry : ℕ) → Comes deck w g c n (chosen deck w.medium c n (choices.Tell entry))
   unfolding chosen prepare
-  outcome-tell entry = comes-needs deck w g c n at (choices.Tell entry) (by_owner entry (to_tell p entry) refl)
+  outcome-tell entry = comes-needs deck w g c n at alive (choices.Tell entry) (by_owner entry (to_tell p entry) refl)

@@ -1,5 +1,5 @@
 -- The words change for one system alone: what is said of the others, and of the requests in a system's hands, stays.
-use Rattle.std.proofs.Common.{◌≡◌, ◌≢◌, ℕ, true, List, [], ◌∷◌, ◌∙◌}
+use Rattle.std.proofs.Common.{◌≡◌, ◌≢◌, ℕ, true, List, [], ◌∷◌, ◌∙◌, Bool}
 use Rattle.grs_base.specs.State.{State}
 use Rattle.grs_known.specs.Items.{RunItem}
 use Rattle.grs_wire.specs.declared.deck.Deck.{Deck}
@@ -16,10 +16,10 @@ others-keep deck c words words' L L' m s ne = record {
 }
 
 -- The requests in the hands of a system, where it still manages the entry of each.
-module _ (deck : Deck) (words words' : List ℕ) (count : ℕ) (later : ℕ → List RunItem) (out : ℕ → List Req) (m : ℕ) (still : (q : Req) (h : IsHand deck words count later out m q) → has_manager words' h.entry m ≡ true) where
-  each-words : (qs : List Req) → AllHands deck words count later out m qs → AllHands deck words' count later out m qs
+module _ (deck : Deck) (words words' : List ℕ) (live : ℕ → Bool) (later : ℕ → List RunItem) (out : ℕ → List Req) (m : ℕ) (still : (q : Req) (h : IsHand deck words live later out m q) → has_manager words' h.entry m ≡ true) where
+  each-words : (qs : List Req) → AllHands deck words live later out m qs → AllHands deck words' live later out m qs
   each-words [] h = tt
   each-words (q ∷ qs) h = (record { apart = h.0.apart; below = h.0.below; among = h.0.among; idle = h.0.idle; entry = h.0.entry; at = h.0.at; managed = still q h.0 }, each-words qs h.1)
 
-  pub hands-words : (qs : List Req) → Hands deck words count later out m qs → Hands deck words' count later out m qs
+  pub hands-words : (qs : List Req) → Hands deck words live later out m qs → Hands deck words' live later out m qs
   hands-words qs h = record { each = each-words qs h.each; apart = h.apart }

@@ -1,6 +1,6 @@
 use Rattle.std.proofs.Common.{◌≡◌, true, ap, sym, ◌∙◌, subst}
 use Rattle.grs_legal.specs.Asks.{scripts_of}
-use Rattle.grs_node.proofs.Fits.{call-fits-after, entries-there}
+use Rattle.grs_node.proofs.Fits.{call-fits-after, entries-there, target-fits}
 use Rattle.grs_node.specs.Finish.{may_come}
 use Rattle.grs_node.specs.Log.{NodeView}
 use Rattle.grs_node.specs.Node.{prepare}
@@ -22,3 +22,8 @@ finish_call-requires-clause-desk c = c.self.invariant.2.desk
 
 pub finish_call-requires-clause-apart : goal.finish_call-requires-clause-apart
 finish_call-requires-clause-apart c = c.self.invariant.2.apart
+
+pub finish_call-requires-clause-target : goal.finish_call-requires-clause-target
+finish_call-requires-clause-target c =
+    let comes = subst (λ (v : NodeView). may_come (prepare v.deck v.node c.args.choice) c.args.reply ≡ true) (sym c.self.view_is) c.requires in
+    target-fits c.self.inside.deck.now c.self.inside.state c.args.choice c.args.reply c.self.invariant.2 comes

@@ -1,0 +1,5 @@
+use Rattle.grs_world.proofs.laws.answers_have_causes.Goals as goal
+use Rattle.grs_world.proofs.run.Causes.{answers_causes}
+
+pub returns : goal.returns
+returns c = answers_causes

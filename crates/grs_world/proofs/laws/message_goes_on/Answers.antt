@@ -1,0 +1,5 @@
+use Rattle.grs_world.proofs.laws.message_goes_on.Goals as goal
+use Rattle.grs_world.proofs.run.GoesOn.{message_waits}
+
+pub returns : goal.returns
+returns c = message_waits
